@@ -1,0 +1,114 @@
+-- Which arguments each predicate takes, and its name.
+use Rattle.std.specs.Prelude.{ℕ, List, [], ◌∷◌, codes}
+use Rattle.qc_model.specs.declared.problem.Pred.{Pred}
+use Rattle.qc_model.specs.declared.problem.Pred.TheVariants.{IntEq, IntNe, IntLe, IntLt, IntLinEq, IntLinNe, IntLinLe, IntPlus, IntTimes, IntAbs, IntMin, IntMax, IntDiv, IntMod, BoolEq, Bool2int, BoolNot, BoolLe, BoolLt, ArrayIntElement, ArrayBoolElement, ArrayVarIntElement, ArrayVarBoolElement, ArrayIntMinimum, ArrayIntMaximum, SetIn, BoolAnd, BoolOr, BoolXor, ArrayBoolAnd, ArrayBoolOr, ArrayBoolXor, BoolClause, AllDifferentInt, TableInt, IntEqReif, IntNeReif, IntLeReif, IntLtReif, IntLinEqReif, IntLinNeReif, IntLinLeReif, SetInReif, BoolEqReif, BoolLeReif, BoolLtReif, BoolClauseReif}
+
+-- an argument: an integer variable or a number; a Boolean variable or a truth value; an array of either; an array of
+-- numbers or of truth values alone; a set of numbers
+pub data Sort : Type 0 where
+  integer : Sort
+  boolean : Sort
+  integers : Sort
+  booleans : Sort
+  numbers : Sort
+  truths : Sort
+  members : Sort
+
+abbrev pub sorts_of : Pred → List Sort
+sorts_of IntEq = integer ∷ integer ∷ []
+sorts_of IntNe = integer ∷ integer ∷ []
+sorts_of IntLe = integer ∷ integer ∷ []
+sorts_of IntLt = integer ∷ integer ∷ []
+sorts_of IntLinEq = numbers ∷ integers ∷ integer ∷ []
+sorts_of IntLinNe = numbers ∷ integers ∷ integer ∷ []
+sorts_of IntLinLe = numbers ∷ integers ∷ integer ∷ []
+sorts_of IntPlus = integer ∷ integer ∷ integer ∷ []
+sorts_of IntTimes = integer ∷ integer ∷ integer ∷ []
+sorts_of IntAbs = integer ∷ integer ∷ []
+sorts_of IntMin = integer ∷ integer ∷ integer ∷ []
+sorts_of IntMax = integer ∷ integer ∷ integer ∷ []
+sorts_of IntDiv = integer ∷ integer ∷ integer ∷ []
+sorts_of IntMod = integer ∷ integer ∷ integer ∷ []
+sorts_of BoolEq = boolean ∷ boolean ∷ []
+sorts_of Bool2int = boolean ∷ integer ∷ []
+sorts_of BoolNot = boolean ∷ boolean ∷ []
+sorts_of BoolLe = boolean ∷ boolean ∷ []
+sorts_of BoolLt = boolean ∷ boolean ∷ []
+sorts_of ArrayIntElement = integer ∷ numbers ∷ integer ∷ []
+sorts_of ArrayBoolElement = integer ∷ truths ∷ boolean ∷ []
+sorts_of ArrayVarIntElement = integer ∷ integers ∷ integer ∷ []
+sorts_of ArrayVarBoolElement = integer ∷ booleans ∷ boolean ∷ []
+sorts_of ArrayIntMinimum = integer ∷ integers ∷ []
+sorts_of ArrayIntMaximum = integer ∷ integers ∷ []
+sorts_of SetIn = integer ∷ members ∷ []
+sorts_of BoolAnd = boolean ∷ boolean ∷ boolean ∷ []
+sorts_of BoolOr = boolean ∷ boolean ∷ boolean ∷ []
+sorts_of BoolXor = boolean ∷ boolean ∷ boolean ∷ []
+sorts_of ArrayBoolAnd = booleans ∷ boolean ∷ []
+sorts_of ArrayBoolOr = booleans ∷ boolean ∷ []
+sorts_of ArrayBoolXor = booleans ∷ []
+sorts_of BoolClause = booleans ∷ booleans ∷ []
+sorts_of AllDifferentInt = integers ∷ []
+sorts_of TableInt = integers ∷ numbers ∷ []
+sorts_of IntEqReif = integer ∷ integer ∷ boolean ∷ []
+sorts_of IntNeReif = integer ∷ integer ∷ boolean ∷ []
+sorts_of IntLeReif = integer ∷ integer ∷ boolean ∷ []
+sorts_of IntLtReif = integer ∷ integer ∷ boolean ∷ []
+sorts_of IntLinEqReif = numbers ∷ integers ∷ integer ∷ boolean ∷ []
+sorts_of IntLinNeReif = numbers ∷ integers ∷ integer ∷ boolean ∷ []
+sorts_of IntLinLeReif = numbers ∷ integers ∷ integer ∷ boolean ∷ []
+sorts_of SetInReif = integer ∷ members ∷ boolean ∷ []
+sorts_of BoolEqReif = boolean ∷ boolean ∷ boolean ∷ []
+sorts_of BoolLeReif = boolean ∷ boolean ∷ boolean ∷ []
+sorts_of BoolLtReif = boolean ∷ boolean ∷ boolean ∷ []
+sorts_of BoolClauseReif = booleans ∷ booleans ∷ boolean ∷ []
+
+-- as the problem text writes it
+abbrev pub pred_name : Pred → List ℕ
+pred_name IntEq = codes "int_eq"
+pred_name IntNe = codes "int_ne"
+pred_name IntLe = codes "int_le"
+pred_name IntLt = codes "int_lt"
+pred_name IntLinEq = codes "int_lin_eq"
+pred_name IntLinNe = codes "int_lin_ne"
+pred_name IntLinLe = codes "int_lin_le"
+pred_name IntPlus = codes "int_plus"
+pred_name IntTimes = codes "int_times"
+pred_name IntAbs = codes "int_abs"
+pred_name IntMin = codes "int_min"
+pred_name IntMax = codes "int_max"
+pred_name IntDiv = codes "int_div"
+pred_name IntMod = codes "int_mod"
+pred_name BoolEq = codes "bool_eq"
+pred_name Bool2int = codes "bool2int"
+pred_name BoolNot = codes "bool_not"
+pred_name BoolLe = codes "bool_le"
+pred_name BoolLt = codes "bool_lt"
+pred_name ArrayIntElement = codes "array_int_element"
+pred_name ArrayBoolElement = codes "array_bool_element"
+pred_name ArrayVarIntElement = codes "array_var_int_element"
+pred_name ArrayVarBoolElement = codes "array_var_bool_element"
+pred_name ArrayIntMinimum = codes "array_int_minimum"
+pred_name ArrayIntMaximum = codes "array_int_maximum"
+pred_name SetIn = codes "set_in"
+pred_name BoolAnd = codes "bool_and"
+pred_name BoolOr = codes "bool_or"
+pred_name BoolXor = codes "bool_xor"
+pred_name ArrayBoolAnd = codes "array_bool_and"
+pred_name ArrayBoolOr = codes "array_bool_or"
+pred_name ArrayBoolXor = codes "array_bool_xor"
+pred_name BoolClause = codes "bool_clause"
+pred_name AllDifferentInt = codes "all_different_int"
+pred_name TableInt = codes "table_int"
+pred_name IntEqReif = codes "int_eq_reif"
+pred_name IntNeReif = codes "int_ne_reif"
+pred_name IntLeReif = codes "int_le_reif"
+pred_name IntLtReif = codes "int_lt_reif"
+pred_name IntLinEqReif = codes "int_lin_eq_reif"
+pred_name IntLinNeReif = codes "int_lin_ne_reif"
+pred_name IntLinLeReif = codes "int_lin_le_reif"
+pred_name SetInReif = codes "set_in_reif"
+pred_name BoolEqReif = codes "bool_eq_reif"
+pred_name BoolLeReif = codes "bool_le_reif"
+pred_name BoolLtReif = codes "bool_lt_reif"
+pred_name BoolClauseReif = codes "bool_clause_reif"
