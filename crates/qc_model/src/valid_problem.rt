@@ -1,7 +1,9 @@
 //! A problem: a draft that is valid, behind calls that keep it so.
-ghost use Rattle.std.specs.Prelude.{◌≡◌, ◌<◌, length, slice_get};
+ghost use Rattle.std.specs.Prelude.{◌≡◌, ◌<◌, ◌≤◌, ◌^◌, length, slice_get};
+ghost use Rattle.qc_model.specs.Game.{before, restriction as restriction_of};
 ghost use Rattle.qc_model.specs.Valid.{IsValid};
 
+use crate::order::{constraints_below, variables_below};
 use crate::problem::{ConId, Constraint, Draft, Scope, ScopeId, VarId, Variable};
 use std::marker::Model;
 
@@ -97,5 +99,29 @@ impl Problem {
         ensures { slice_get self.now.constraints c.0 ≡ Some result.now }
     {
         &self.draft.constraints[c.0 as usize]
+    }
+
+    /// How many variables stand in scopes before i. Variables stand in the order of their scopes, so
+    /// those of scope i begin at that place.
+    pub fn variables_before(&self, i: usize) -> usize
+        ensures count { result ≡ before self.now i }
+        ensures bound { result ≤ length self.now.variables }
+    {
+        self.known();
+        variables_below(self.all_variables(), i)
+    }
+
+    /// The constraints of scope i, or of the goal where i is the number of scopes.
+    pub fn restriction(&self, i: usize) -> &[Constraint]
+        requires { i < 2 ^ 63 }
+        ensures { result.now ≡ restriction_of self.now i }
+    {
+        self.known();
+        let all = self.all_constraints();
+        let from = constraints_below(all, i);
+        let to = constraints_below(all, i + 1);
+        let (_earlier, rest) = all.split_at(from);
+        let (here, _later) = rest.split_at(to - from);
+        here
     }
 }
