@@ -4,8 +4,8 @@
 //! constraints, and then the goal. The text is made in one pass.
 #![tactic(auto)]
 
-
+mod arguments;
 mod parts;
+mod problem;
 
-
-
+pub use problem::print_problem;
