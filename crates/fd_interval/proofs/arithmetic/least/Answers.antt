@@ -1,0 +1,12 @@
+use Rattle.std.proofs.Common.{◌≡◌, ◌≤ℤ◌, ◌+ℤ◌, ◌*ℤ◌, arith, ℤ, pos}
+use Rattle.std.specs.Int.{int_min, int_max}
+use Rattle.std.proofs.lemmas.Int.{ints, clamps}
+use Rattle.fd_interval.specs.Spans.{IsResult, IsAbsolute, IsLeastSpan, ShareNumber}
+use Rattle.fd_interval.proofs.Sums.{smaller_is_least}
+use Rattle.fd_interval.proofs.arithmetic.least.Goals as goal
+
+pub span_of-requires-clause-ordered : goal.span_of-requires-clause-ordered
+span_of-requires-clause-ordered c = omega (arith, ints, clamps, c.args.a.ordered, c.args.b.ordered)
+
+pub returns-clause-least : goal.returns-clause-least
+returns-clause-least c = smaller_is_least c.args.a c.args.b c.span_of.result ? ?
