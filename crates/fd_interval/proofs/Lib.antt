@@ -1,3 +1,4 @@
 pub mod Ends
+pub mod ProductSteps
 pub mod Products
 pub mod Sums

@@ -1,5 +1,5 @@
 -- What a span holds, and the least span that holds a set of numbers.
-use Rattle.std.specs.Prelude.{◌≡◌, ℤ, pos, unsigned_abs, ◌≤ℤ◌}
+use Rattle.std.specs.Prelude.{◌≡◌, ℤ, pos, unsigned_abs, ◌≤ℤ◌, int_le, cond}
 use Rattle.std.specs.Int.{int_min, int_max}
 use Rattle.fd_interval.specs.declared.span.Span.{Span}
 
@@ -33,6 +33,13 @@ pub record IsAbsolute (a : Span) (n : ℤ) : Type 0 where
   pub member : ℤ
   pub member_in : IsIn a member
   pub is : n ≡ absolute member
+
+-- where the absolute values of a span's members begin and where they end
+abbrev pub absolute_lo : Span → ℤ
+absolute_lo a = cond (int_le (pos 0) a.lo) a.lo (cond (int_le a.hi (pos 0)) (absolute a.hi) (pos 0))
+
+abbrev pub absolute_hi : Span → ℤ
+absolute_hi a = int_max (absolute a.lo) (absolute a.hi)
 
 -- the span holds each of the numbers, and no smaller range of numbers does
 pub record IsLeastSpan (IsOne : ℤ → Type 0) (s : Span) : Type 0 where

@@ -2,7 +2,7 @@
 ghost use Rattle.std.specs.Prelude.{◌≡◌, ◌≤ℤ◌, ◌+ℤ◌, ◌*ℤ◌, ◌↔◌, IsTrue};
 ghost use Rattle.std.specs.Int.{int_min, int_max};
 ghost use Rattle.fd_interval.specs.Limit.{IsWithinLimit};
-ghost use Rattle.fd_interval.specs.Spans.{IsResult, IsAbsolute, IsLeastSpan, ShareNumber, least_of_four, greatest_of_four};
+ghost use Rattle.fd_interval.specs.Spans.{IsResult, IsAbsolute, absolute_lo, absolute_hi, IsLeastSpan, ShareNumber, least_of_four, greatest_of_four};
 
 use crate::span::Span;
 
@@ -50,6 +50,8 @@ pub fn mul(a: Span, b: Span) -> Span
 /// The least span that holds each member of `a` without its sign.
 pub fn abs(a: Span) -> Span
     ensures least { IsLeastSpan (IsAbsolute a) result }
+    ensures lo { result.lo ≡ absolute_lo a }
+    ensures hi { result.hi ≡ absolute_hi a }
 {
     span_of(a.lo.max(-a.hi).max(0), a.hi.max(-a.lo))
 }
