@@ -2,3 +2,4 @@ pub mod Ends
 pub mod ProductSteps
 pub mod Products
 pub mod Sums
+pub mod Divisors

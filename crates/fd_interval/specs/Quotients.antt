@@ -13,12 +13,20 @@ pub record IsQuotient (a b : Span) (n : ℤ) : Type 0 where
   pub nonzero : divisor ≢ pos 0
   pub is : n ≡ int_div dividend divisor
 
+-- the quotient by one of two divisors, which the dividend's sign picks
+abbrev pub quotient_by_sign : ℤ → ℤ → ℤ → ℤ
+quotient_by_sign x if_negative otherwise = int_div x (cond (int_lt x (pos 0)) if_negative otherwise)
+
+-- the least member above 0 of a span that reaches above 0
+abbrev pub least_positive : Span → ℤ
+least_positive s = int_max s.lo (pos 1)
+
 -- the ends of the part of a span below 0, and of the part above 0
 abbrev pub negative_ends : Span → List ℤ
 negative_ends s = cond (int_lt s.lo (pos 0)) (s.lo ∷ int_min s.hi (negsuc 0) ∷ []) []
 
 abbrev pub positive_ends : Span → List ℤ
-positive_ends s = cond (int_lt (pos 0) s.hi) (int_max s.lo (pos 1) ∷ s.hi ∷ []) []
+positive_ends s = cond (int_lt (pos 0) s.hi) (least_positive s ∷ s.hi ∷ []) []
 
 -- the quotients of the ends of a by the ends of both parts of b
 abbrev pub end_quotients : Span → Span → List ℤ

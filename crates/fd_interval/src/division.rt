@@ -1,0 +1,79 @@
+//! Quotients truncated towards 0, and remainders.
+ghost use Rattle.std.specs.Prelude.{◌≡◌, ℤ, neg_ℤ, ◌↔◌, pos, ◌≤ℤ◌, ◌<ℤ◌, unsigned_abs, ◌≤◌, IsNone, IfSome};
+ghost use Rattle.fd_interval.specs.Spans.{IsLeastSpan, IsIn};
+ghost use Rattle.fd_interval.specs.Quotients.{IsQuotient, quotient_by_sign, least_positive, end_quotients, least_listed, greatest_listed};
+ghost use Rattle.fd_interval.specs.Remainders.{IsRemainder, remainder_lo, remainder_hi};
+
+use crate::arithmetic::span_of;
+use crate::span::Span;
+
+/// The quotient by one of two divisors above 0, by the sign of `x`.
+fn quotient(x: i128, if_negative: i128, otherwise: i128) -> i128
+    requires negative_case { pos 0 <ℤ if_negative }
+    requires other_case { pos 0 <ℤ otherwise }
+    ensures value { result ≡ quotient_by_sign x if_negative otherwise }
+    ensures smaller { unsigned_abs result ≤ unsigned_abs x }
+{
+    let divisor = if x < 0 { if_negative } else { otherwise };
+    x / divisor
+}
+
+/// The quotients by the divisors of `b` above 0. The greater the divisor, the nearer to 0 is the
+/// quotient.
+fn by_positive(a: Span, b: Span) -> Span
+    requires no_negative { pos 0 ≤ℤ b.lo }
+    requires some { pos 0 <ℤ b.hi }
+    ensures lo { result.lo ≡ quotient_by_sign a.lo (least_positive b) b.hi }
+    ensures hi { result.hi ≡ quotient_by_sign a.hi b.hi (least_positive b) }
+{
+    let least = b.lo.max(1);
+    span_of(quotient(a.lo, least, b.hi), quotient(a.hi, b.hi, least))
+}
+
+/// The members of `a` with the other sign.
+fn opposite(a: Span) -> Span
+    ensures lo { result.lo ≡ neg_ℤ a.hi }
+    ensures hi { result.hi ≡ neg_ℤ a.lo }
+{
+    span_of(-a.hi, -a.lo)
+}
+
+/// The least span that holds each quotient of a member of `a` by a member of `b` other than 0,
+/// truncated towards 0. None comes exactly where `b` is 0 to 0.
+pub fn div(a: Span, b: Span) -> Option<Span>
+    ensures none { IsNone result ↔ ((b.lo ≡ pos 0) × (b.hi ≡ pos 0)) }
+    ensures least { IfSome result (IsLeastSpan (IsQuotient a b)) }
+    ensures lo { IfSome result (λ s. s.lo ≡ least_listed (end_quotients a b)) }
+    ensures hi { IfSome result (λ s. s.hi ≡ greatest_listed (end_quotients a b)) }
+{
+    if b.lo < 0 && 0 < b.hi {
+        // 1 and -1 are divisors, so the end farther from 0 is a quotient with either sign.
+        let far = a.hi.max(-a.lo);
+        Some(span_of(-far, far))
+    } else if 0 < b.hi {
+        Some(by_positive(a, b))
+    } else if b.lo < 0 {
+        Some(by_positive(opposite(a), opposite(b)))
+    } else {
+        None
+    }
+}
+
+/// The span of the remainders: the one remainder where `a` and `b` hold one number each, otherwise as
+/// far from 0 as the members of `a` and the divisors allow. None comes exactly where `b` is 0 to 0.
+pub fn rem(a: Span, b: Span) -> Option<Span>
+    ensures none { IsNone result ↔ ((b.lo ≡ pos 0) × (b.hi ≡ pos 0)) }
+    ensures lo { IfSome result (λ s. s.lo ≡ remainder_lo a b) }
+    ensures hi { IfSome result (λ s. s.hi ≡ remainder_hi a b) }
+    ensures holds { IfSome result (λ s. (n : ℤ) → IsRemainder a b n → IsIn s n) }
+{
+    if b.lo == 0 && b.hi == 0 {
+        return None;
+    }
+    if a.lo == a.hi && b.lo == b.hi {
+        let only = a.lo % b.lo;
+        return Some(span_of(only, only));
+    }
+    let far = b.hi.max(-b.lo) - 1;
+    Some(span_of(a.lo.min(0).max(-far), a.hi.max(0).min(far)))
+}
