@@ -3,3 +3,4 @@ pub mod ProductSteps
 pub mod Products
 pub mod Sums
 pub mod Divisors
+pub mod Quotients
