@@ -4,3 +4,5 @@ pub mod Products
 pub mod Sums
 pub mod Divisors
 pub mod Quotients
+pub mod Listed
+pub mod ListedEnds

@@ -1,5 +1,6 @@
 //! Quotients truncated towards 0, and remainders.
 ghost use Rattle.std.specs.Prelude.{◌≡◌, ℤ, neg_ℤ, ◌↔◌, pos, ◌≤ℤ◌, ◌<ℤ◌, unsigned_abs, ◌≤◌, IsNone, IfSome};
+ghost use Rattle.std.specs.Int.{int_max};
 ghost use Rattle.fd_interval.specs.Spans.{IsLeastSpan, IsIn};
 ghost use Rattle.fd_interval.specs.Quotients.{IsQuotient, quotient_by_sign, least_positive, end_quotients, least_listed, greatest_listed};
 ghost use Rattle.fd_interval.specs.Remainders.{IsRemainder, remainder_lo, remainder_hi};
@@ -38,6 +39,16 @@ fn opposite(a: Span) -> Span
     span_of(-a.hi, -a.lo)
 }
 
+/// The quotients by divisors on both sides of 0. Since 1 and -1 are among them, the end of `a` that is
+/// farther from 0 is a quotient with either sign.
+fn by_both_signs(a: Span) -> Span
+    ensures lo { result.lo ≡ neg_ℤ (int_max a.hi (neg_ℤ a.lo)) }
+    ensures hi { result.hi ≡ int_max a.hi (neg_ℤ a.lo) }
+{
+    let far = a.hi.max(-a.lo);
+    span_of(-far, far)
+}
+
 /// The least span that holds each quotient of a member of `a` by a member of `b` other than 0,
 /// truncated towards 0. None comes exactly where `b` is 0 to 0.
 pub fn div(a: Span, b: Span) -> Option<Span>
@@ -46,12 +57,8 @@ pub fn div(a: Span, b: Span) -> Option<Span>
     ensures lo { IfSome result (λ s. s.lo ≡ least_listed (end_quotients a b)) }
     ensures hi { IfSome result (λ s. s.hi ≡ greatest_listed (end_quotients a b)) }
 {
-    if b.lo < 0 && 0 < b.hi {
-        // 1 and -1 are divisors, so the end farther from 0 is a quotient with either sign.
-        let far = a.hi.max(-a.lo);
-        Some(span_of(-far, far))
-    } else if 0 < b.hi {
-        Some(by_positive(a, b))
+    if 0 < b.hi {
+        Some(if b.lo < 0 { by_both_signs(a) } else { by_positive(a, b) })
     } else if b.lo < 0 {
         Some(by_positive(opposite(a), opposite(b)))
     } else {
