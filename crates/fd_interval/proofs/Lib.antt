@@ -6,3 +6,4 @@ pub mod Divisors
 pub mod Quotients
 pub mod Listed
 pub mod ListedEnds
+pub mod Remainders

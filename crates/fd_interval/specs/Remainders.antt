@@ -14,6 +14,11 @@ pub record IsRemainder (a b : Span) (n : ℤ) : Type 0 where
   pub nonzero : divisor ≢ pos 0
   pub is : n ≡ int_rem dividend divisor
 
+-- it holds 0 alone
+abbrev pub IsZero : Span → Type 0
+IsZero s = (s.lo ≡ pos 0) × (s.hi ≡ pos 0)
+
+-- it holds one number
 abbrev pub is_single : Span → Bool
 is_single s = int_eq s.lo s.hi
 
@@ -21,13 +26,18 @@ is_single s = int_eq s.lo s.hi
 abbrev pub farthest_remainder : Span → ℤ
 farthest_remainder b = int_max (absolute b.lo) (absolute b.hi) -ℤ pos 1
 
--- where the span of the remainders begins and where it ends
+-- how far the remainders may reach below 0 and above 0: no farther than the members of a, nor than
+-- the divisors let them
+abbrev pub lowest_by_size : Span → Span → ℤ
+lowest_by_size a b = cond (int_le (pos 0) a.lo) (pos 0) (int_max a.lo (pos 0 -ℤ farthest_remainder b))
+
+abbrev pub highest_by_size : Span → Span → ℤ
+highest_by_size a b = cond (int_le a.hi (pos 0)) (pos 0) (int_min a.hi (farthest_remainder b))
+
+-- where the span of the remainders begins and where it ends: at the one remainder where both spans
+-- hold one number
 abbrev pub remainder_lo : Span → Span → ℤ
-remainder_lo a b =
-    cond (is_single a && is_single b) (int_rem a.lo b.lo)
-    (cond (int_le (pos 0) a.lo) (pos 0) (int_max a.lo (pos 0 -ℤ farthest_remainder b)))
+remainder_lo a b = cond (is_single a && is_single b) (int_rem a.lo b.lo) (lowest_by_size a b)
 
 abbrev pub remainder_hi : Span → Span → ℤ
-remainder_hi a b =
-    cond (is_single a && is_single b) (int_rem a.lo b.lo)
-    (cond (int_le a.hi (pos 0)) (pos 0) (int_min a.hi (farthest_remainder b)))
+remainder_hi a b = cond (is_single a && is_single b) (int_rem a.lo b.lo) (highest_by_size a b)

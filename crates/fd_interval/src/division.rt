@@ -1,9 +1,9 @@
 //! Quotients truncated towards 0, and remainders.
-ghost use Rattle.std.specs.Prelude.{◌≡◌, ℤ, neg_ℤ, ◌↔◌, pos, ◌≤ℤ◌, ◌<ℤ◌, unsigned_abs, ◌≤◌, IsNone, IfSome};
+ghost use Rattle.std.specs.Prelude.{◌≡◌, ◌≢◌, ◌&&◌, IsTrue, int_rem, ℤ, neg_ℤ, ◌↔◌, pos, ◌≤ℤ◌, ◌<ℤ◌, unsigned_abs, ◌≤◌, IsNone, IfSome};
 ghost use Rattle.std.specs.Int.{int_max};
 ghost use Rattle.fd_interval.specs.Spans.{IsLeastSpan, IsIn};
 ghost use Rattle.fd_interval.specs.Quotients.{IsQuotient, quotient_by_sign, least_positive, end_quotients, least_listed, greatest_listed};
-ghost use Rattle.fd_interval.specs.Remainders.{IsRemainder, remainder_lo, remainder_hi};
+ghost use Rattle.fd_interval.specs.Remainders.{IsRemainder, IsZero, is_single, lowest_by_size, highest_by_size, remainder_lo, remainder_hi};
 
 use crate::arithmetic::span_of;
 use crate::span::Span;
@@ -52,7 +52,7 @@ fn by_both_signs(a: Span) -> Span
 /// The least span that holds each quotient of a member of `a` by a member of `b` other than 0,
 /// truncated towards 0. None comes exactly where `b` is 0 to 0.
 pub fn div(a: Span, b: Span) -> Option<Span>
-    ensures none { IsNone result ↔ ((b.lo ≡ pos 0) × (b.hi ≡ pos 0)) }
+    ensures none { IsNone result ↔ IsZero b }
     ensures least { IfSome result (IsLeastSpan (IsQuotient a b)) }
     ensures lo { IfSome result (λ s. s.lo ≡ least_listed (end_quotients a b)) }
     ensures hi { IfSome result (λ s. s.hi ≡ greatest_listed (end_quotients a b)) }
@@ -66,21 +66,53 @@ pub fn div(a: Span, b: Span) -> Option<Span>
     }
 }
 
+/// Whether `b` is 0 to 0.
+fn is_zero(b: Span) -> bool
+    ensures { IsTrue result ↔ IsZero b }
+{
+    b.lo == 0 && b.hi == 0
+}
+
+/// Whether each of both holds one number.
+fn are_single(a: Span, b: Span) -> bool
+    ensures { result ≡ (is_single a && is_single b) }
+{
+    a.lo == a.hi && b.lo == b.hi
+}
+
+/// The one remainder, where each of both holds one number.
+fn only_remainder(a: Span, b: Span) -> Span
+    requires { b.lo ≢ pos 0 }
+    ensures lo { result.lo ≡ int_rem a.lo b.lo }
+    ensures hi { result.hi ≡ int_rem a.lo b.lo }
+{
+    let only = a.lo % b.lo;
+    span_of(only, only)
+}
+
+/// The remainders as far from 0 as the members of `a` and the divisors let them be.
+fn by_size(a: Span, b: Span) -> Span
+    requires { ¬ IsZero b }
+    ensures lo { result.lo ≡ lowest_by_size a b }
+    ensures hi { result.hi ≡ highest_by_size a b }
+{
+    let far = b.hi.max(-b.lo) - 1;
+    span_of(a.lo.min(0).max(-far), a.hi.max(0).min(far))
+}
+
 /// The span of the remainders: the one remainder where `a` and `b` hold one number each, otherwise as
-/// far from 0 as the members of `a` and the divisors allow. None comes exactly where `b` is 0 to 0.
+/// far from 0 as the members of `a` and the divisors let it be. None comes exactly where `b` is 0 to 0.
 pub fn rem(a: Span, b: Span) -> Option<Span>
-    ensures none { IsNone result ↔ ((b.lo ≡ pos 0) × (b.hi ≡ pos 0)) }
+    ensures none { IsNone result ↔ IsZero b }
     ensures lo { IfSome result (λ s. s.lo ≡ remainder_lo a b) }
     ensures hi { IfSome result (λ s. s.hi ≡ remainder_hi a b) }
     ensures holds { IfSome result (λ s. (n : ℤ) → IsRemainder a b n → IsIn s n) }
 {
-    if b.lo == 0 && b.hi == 0 {
-        return None;
+    if is_zero(b) {
+        None
+    } else if are_single(a, b) {
+        Some(only_remainder(a, b))
+    } else {
+        Some(by_size(a, b))
     }
-    if a.lo == a.hi && b.lo == b.hi {
-        let only = a.lo % b.lo;
-        return Some(span_of(only, only));
-    }
-    let far = b.hi.max(-b.lo) - 1;
-    Some(span_of(a.lo.min(0).max(-far), a.hi.max(0).min(far)))
 }
