@@ -5,7 +5,7 @@ use Rattle.std.specs.Int.{int_min, int_max}
 use Rattle.std.proofs.lemmas.Int.{ints, clamps, by_lt_z, rem_below}
 use Rattle.fd_interval.specs.declared.span.Span.{Span}
 use Rattle.fd_interval.specs.Spans.{IsBetween, IsIn, absolute}
-use Rattle.fd_interval.specs.Remainders.{IsRemainder, IsZero, farthest_remainder, lowest_by_size, highest_by_size}
+use Rattle.fd_interval.specs.Remainders.{IsRemainder, IsZero, farthest_remainder, lower_end, upper_end}
 
 above : (x y : ℤ) → pos 0 ≤ℤ x → IsBetween (pos 0) x (int_rem x y)
 above (pos a) y h = record { from = omega (arith, ints); to = omega (arith, ints, mod-le a (unsigned_abs y)) }
@@ -22,7 +22,7 @@ size y z = omega (arith, ints)
 near : (b : Span) (x y : ℤ) → IsIn b y → y ≢ pos 0 → IsBetween (pos 0 -ℤ farthest_remainder b) (farthest_remainder b) (int_rem x y)
 near b x y p z = let k = rem_below x y (size y z) in record { from = omega (arith, ints, clamps, k); to = omega (arith, ints, clamps, k) }
 
-lowest_holds : (a b : Span) (x y : ℤ) → IsIn a x → IsIn b y → y ≢ pos 0 → lowest_by_size a b ≤ℤ int_rem x y
+lowest_holds : (a b : Span) (x y : ℤ) → IsIn a x → IsIn b y → y ≢ pos 0 → lower_end a.lo (farthest_remainder b) ≤ℤ int_rem x y
 lowest_holds a b x y p q z = by (int_le (pos 0) a.lo) refl
   where
     far : IsBetween (pos 0 -ℤ farthest_remainder b) (farthest_remainder b) (int_rem x y)
@@ -33,7 +33,7 @@ lowest_holds a b x y p q z = by (int_le (pos 0) a.lo) refl
         (λ h. let k = below x y (omega (arith, ints)) in omega (arith, ints, clamps, k.from, far.from))
         (λ h. let k = above x y h in omega (arith, ints, clamps, k.from, far.from))
 
-highest_holds : (a b : Span) (x y : ℤ) → IsIn a x → IsIn b y → y ≢ pos 0 → int_rem x y ≤ℤ highest_by_size a b
+highest_holds : (a b : Span) (x y : ℤ) → IsIn a x → IsIn b y → y ≢ pos 0 → int_rem x y ≤ℤ upper_end a.hi (farthest_remainder b)
 highest_holds a b x y p q z = by (int_le a.hi (pos 0)) refl
   where
     far : IsBetween (pos 0 -ℤ farthest_remainder b) (farthest_remainder b) (int_rem x y)
@@ -44,7 +44,7 @@ highest_holds a b x y p q z = by (int_le a.hi (pos 0)) refl
         (λ h. let k = below x y (omega (arith, ints)) in omega (arith, ints, clamps, k.to, far.to))
         (λ h. let k = above x y h in omega (arith, ints, clamps, k.to, far.to))
 
-pub size_holds : (a b s : Span) → s.lo ≡ lowest_by_size a b → s.hi ≡ highest_by_size a b → (n : ℤ) → IsRemainder a b n → IsIn s n
+pub size_holds : (a b s : Span) → s.lo ≡ lower_end a.lo (farthest_remainder b) → s.hi ≡ upper_end a.hi (farthest_remainder b) → (n : ℤ) → IsRemainder a b n → IsIn s n
 size_holds a b s e f n r = subst (IsIn s) (sym r.is) record {
   from = subst (λ l. l ≤ℤ int_rem r.dividend r.divisor) (sym e) (lowest_holds a b r.dividend r.divisor r.dividend_in r.divisor_in r.nonzero);
   to = subst (λ l. int_rem r.dividend r.divisor ≤ℤ l) (sym f) (highest_holds a b r.dividend r.divisor r.dividend_in r.divisor_in r.nonzero);
@@ -58,36 +58,19 @@ only_holds a b s p q e f n r =
     record { from = omega (arith, ints, e, is); to = omega (arith, ints, f, is) }
 
 -- the code's comparisons give the ends
-far_is : (b : Span) (far : ℤ) → far ≡ (int_max b.hi (neg_ℤ b.lo) -ℤ pos 1) → far ≡ farthest_remainder b
-far_is b far e = omega (arith, ints, clamps, b.ordered)
-
-far_above : (b : Span) → ¬ IsZero b → pos 0 ≤ℤ farthest_remainder b
+pub far_above : (b : Span) → ¬ IsZero b → pos 0 ≤ℤ farthest_remainder b
 far_above b z = by_lt_z b.lo (pos 0) (λ h. omega (arith, ints, clamps)) (λ h. by_lt_z (pos 0) b.hi (λ k. omega (arith, ints, clamps)) (λ k. absurd (z (omega (arith, ints, b.ordered), omega (arith, ints, b.ordered)))))
 
-pub lowest_is : (a b : Span) (far n : ℤ) → ¬ IsZero b → far ≡ (int_max b.hi (neg_ℤ b.lo) -ℤ pos 1) → n ≡ int_max (int_min a.lo (pos 0)) (neg_ℤ far) → n ≡ lowest_by_size a b
-lowest_is a b far n z f e = by (int_le (pos 0) a.lo) refl
+pub lower_is : (lo far n : ℤ) → pos 0 ≤ℤ far → n ≡ int_max (int_min lo (pos 0)) (neg_ℤ far) → n ≡ lower_end lo far
+lower_is lo far n h e = by (int_le (pos 0) lo) refl
   where
-    g : far ≡ farthest_remainder b
-    g = far_is b far f
-    up : pos 0 ≤ℤ farthest_remainder b
-    up = far_above b z
-    by : (t : Bool) → int_le (pos 0) a.lo ≡ t → n ≡ cond t (pos 0) (int_max a.lo (pos 0 -ℤ farthest_remainder b))
-    by true k = omega (arith, ints, clamps, g, up)
-    by false k = plain a.lo far (farthest_remainder b) n g (omega (arith, ints)) e
-      where
-        plain : (x far w n : ℤ) → far ≡ w → x ≤ℤ pos 0 → n ≡ int_max (int_min x (pos 0)) (neg_ℤ far) → n ≡ int_max x (pos 0 -ℤ w)
-        plain x far w n g h e = omega (arith, ints, clamps)
+    by : (t : Bool) → int_le (pos 0) lo ≡ t → n ≡ cond t (pos 0) (int_max lo (pos 0 -ℤ far))
+    by true k = omega (arith, ints, clamps)
+    by false k = omega (arith, ints, clamps)
 
-pub highest_is : (a b : Span) (far n : ℤ) → ¬ IsZero b → far ≡ (int_max b.hi (neg_ℤ b.lo) -ℤ pos 1) → n ≡ int_min (int_max a.hi (pos 0)) far → n ≡ highest_by_size a b
-highest_is a b far n z f e = by (int_le a.hi (pos 0)) refl
+pub upper_is : (hi far n : ℤ) → pos 0 ≤ℤ far → n ≡ int_min (int_max hi (pos 0)) far → n ≡ upper_end hi far
+upper_is hi far n h e = by (int_le hi (pos 0)) refl
   where
-    g : far ≡ farthest_remainder b
-    g = far_is b far f
-    up : pos 0 ≤ℤ farthest_remainder b
-    up = far_above b z
-    by : (t : Bool) → int_le a.hi (pos 0) ≡ t → n ≡ cond t (pos 0) (int_min a.hi (farthest_remainder b))
-    by true k = omega (arith, ints, clamps, g, up)
-    by false k = plain a.hi far (farthest_remainder b) n g (omega (arith, ints)) e
-      where
-        plain : (x far w n : ℤ) → far ≡ w → pos 0 ≤ℤ x → n ≡ int_min (int_max x (pos 0)) far → n ≡ int_min x w
-        plain x far w n g h e = omega (arith, ints, clamps)
+    by : (t : Bool) → int_le hi (pos 0) ≡ t → n ≡ cond t (pos 0) (int_min hi far)
+    by true k = omega (arith, ints, clamps)
+    by false k = omega (arith, ints, clamps)

@@ -28,16 +28,16 @@ farthest_remainder b = int_max (absolute b.lo) (absolute b.hi) -ℤ pos 1
 
 -- how far the remainders may reach below 0 and above 0: no farther than the members of a, nor than
 -- the divisors let them
-abbrev pub lowest_by_size : Span → Span → ℤ
-lowest_by_size a b = cond (int_le (pos 0) a.lo) (pos 0) (int_max a.lo (pos 0 -ℤ farthest_remainder b))
+abbrev pub lower_end : ℤ → ℤ → ℤ
+lower_end lo far = cond (int_le (pos 0) lo) (pos 0) (int_max lo (pos 0 -ℤ far))
 
-abbrev pub highest_by_size : Span → Span → ℤ
-highest_by_size a b = cond (int_le a.hi (pos 0)) (pos 0) (int_min a.hi (farthest_remainder b))
+abbrev pub upper_end : ℤ → ℤ → ℤ
+upper_end hi far = cond (int_le hi (pos 0)) (pos 0) (int_min hi far)
 
 -- where the span of the remainders begins and where it ends: at the one remainder where both spans
 -- hold one number
 abbrev pub remainder_lo : Span → Span → ℤ
-remainder_lo a b = cond (is_single a && is_single b) (int_rem a.lo b.lo) (lowest_by_size a b)
+remainder_lo a b = cond (is_single a && is_single b) (int_rem a.lo b.lo) (lower_end a.lo (farthest_remainder b))
 
 abbrev pub remainder_hi : Span → Span → ℤ
-remainder_hi a b = cond (is_single a && is_single b) (int_rem a.lo b.lo) (highest_by_size a b)
+remainder_hi a b = cond (is_single a && is_single b) (int_rem a.lo b.lo) (upper_end a.hi (farthest_remainder b))

@@ -3,7 +3,7 @@ ghost use Rattle.std.specs.Prelude.{◌≡◌, ◌≢◌, ◌&&◌, IsTrue, int_
 ghost use Rattle.std.specs.Int.{int_max};
 ghost use Rattle.fd_interval.specs.Spans.{IsLeastSpan, IsIn};
 ghost use Rattle.fd_interval.specs.Quotients.{IsQuotient, quotient_by_sign, least_positive, end_quotients, least_listed, greatest_listed};
-ghost use Rattle.fd_interval.specs.Remainders.{IsRemainder, IsZero, is_single, lowest_by_size, highest_by_size, remainder_lo, remainder_hi};
+ghost use Rattle.fd_interval.specs.Remainders.{IsRemainder, IsZero, is_single, lower_end, upper_end, farthest_remainder as farthest, remainder_lo, remainder_hi};
 
 use crate::arithmetic::span_of;
 use crate::span::Span;
@@ -90,14 +90,43 @@ fn only_remainder(a: Span, b: Span) -> Span
     span_of(only, only)
 }
 
+/// The greater absolute value of the ends of `b`, less one.
+fn farthest_remainder(b: Span) -> i128
+    requires { ¬ IsZero b }
+    ensures value { result ≡ farthest b }
+    ensures not_negative { pos 0 ≤ℤ result }
+{
+    b.hi.max(-b.lo) - 1
+}
+
+/// How far remainders reach below 0, for dividends from `lo` and remainders at most `far` from 0.
+fn least_remainder(lo: i128, far: i128) -> i128
+    requires { pos 0 ≤ℤ far }
+    ensures value { result ≡ lower_end lo far }
+    ensures smaller { unsigned_abs result ≤ unsigned_abs lo }
+    ensures not_positive { result ≤ℤ pos 0 }
+{
+    lo.min(0).max(-far)
+}
+
+/// How far remainders reach above 0, for dividends to `hi` and remainders at most `far` from 0.
+fn greatest_remainder(hi: i128, far: i128) -> i128
+    requires { pos 0 ≤ℤ far }
+    ensures value { result ≡ upper_end hi far }
+    ensures smaller { unsigned_abs result ≤ unsigned_abs hi }
+    ensures not_negative { pos 0 ≤ℤ result }
+{
+    hi.max(0).min(far)
+}
+
 /// The remainders as far from 0 as the members of `a` and the divisors let them be.
 fn by_size(a: Span, b: Span) -> Span
     requires { ¬ IsZero b }
-    ensures lo { result.lo ≡ lowest_by_size a b }
-    ensures hi { result.hi ≡ highest_by_size a b }
+    ensures lo { result.lo ≡ lower_end a.lo (farthest b) }
+    ensures hi { result.hi ≡ upper_end a.hi (farthest b) }
 {
-    let far = b.hi.max(-b.lo) - 1;
-    span_of(a.lo.min(0).max(-far), a.hi.max(0).min(far))
+    let far = farthest_remainder(b);
+    span_of(least_remainder(a.lo, far), greatest_remainder(a.hi, far))
 }
 
 /// The span of the remainders: the one remainder where `a` and `b` hold one number each, otherwise as

@@ -1,7 +1,0 @@
-use Rattle.std.proofs.Common.{arith}
-use Rattle.std.proofs.lemmas.Int.{ints, clamps}
-use Rattle.fd_interval.proofs.Remainders.{lowest_is, highest_is}
-use Rattle.fd_interval.proofs.division.by_size.Goals as goal
-
-pub returns-clause-lo : goal.returns-clause-lo
-returns-clause-lo c = ?
