@@ -1,6 +1,6 @@
 -- Quotients truncated towards 0: how they move with the dividend and with a divisor above 0.
-use Rattle.std.proofs.Common.{◌≡◌, ℕ, zero, suc, ◌+◌, ◌*◌, ◌/◌, ◌≤◌, ◌<◌, ℤ, pos, negsuc, ◌≤ℤ◌, ◌<ℤ◌, neg_ℤ, int_div, int_lt, Bool, true, false, cond, refl, arith, unsigned_abs}
-use Rattle.std.proofs.Math.Nat.{div-le_self, mul-div-le, div-le_of_le-mul, mul-le-mul_left, zero-div, div-one}
+use Rattle.std.proofs.Common.{◌≡◌, ℕ, zero, suc, ◌*◌, ◌/◌, ◌≤◌, ◌<◌, ℤ, pos, negsuc, ◌≤ℤ◌, ◌<ℤ◌, neg_ℤ, int_div, int_lt, Bool, true, false, cond, refl, arith, unsigned_abs}
+use Rattle.std.proofs.Math.Nat.{div-le_self, mul-div-le, mul-le-mul_left, zero-div, div-one}
 use Rattle.std.proofs.lemmas.Nat.{le-div}
 use Rattle.std.proofs.lemmas.Int.{ints}
 use Rattle.fd_interval.specs.Quotients.{quotient_by_sign}
@@ -42,8 +42,10 @@ at_least l c d x y h p from to = by (int_lt l (pos 0)) refl
   where
     positive : pos 0 <ℤ y
     positive = omega (arith, ints)
+
     above : int_div l y ≤ℤ int_div x y
     above = up_with_dividend l x y h positive
+
     by : (t : Bool) → int_lt l (pos 0) ≡ t → int_div l (cond t c d) ≤ℤ int_div x y
     by true e = let k = up_with_divisor l c y (omega (arith, ints)) p from in omega (arith, ints, above)
     by false e = let k = down_with_divisor l y d (omega (arith, ints)) positive to in omega (arith, ints, above)
@@ -53,8 +55,10 @@ at_most h c d x y k p from to = by (int_lt h (pos 0)) refl
   where
     positive : pos 0 <ℤ y
     positive = omega (arith, ints)
+
     below : int_div x y ≤ℤ int_div h y
     below = up_with_dividend x h y k positive
+
     by : (t : Bool) → int_lt h (pos 0) ≡ t → int_div x y ≤ℤ int_div h (cond t d c)
     by true e = let m = up_with_divisor h y d (omega (arith, ints)) positive to in omega (arith, ints, below)
     by false e = let m = down_with_divisor h c y (omega (arith, ints)) p from in omega (arith, ints, below)

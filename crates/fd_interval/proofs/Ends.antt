@@ -2,7 +2,7 @@
 use Rattle.std.proofs.Common.{ℤ, ◌≤ℤ◌, arith}
 use Rattle.std.proofs.lemmas.Int.{ints, by_lt_z}
 use Rattle.fd_interval.specs.declared.span.Span.{Span}
-use Rattle.fd_interval.specs.Spans.{IsBetween, IsIn, IsLeastSpan, ShareNumber}
+use Rattle.fd_interval.specs.Spans.{IsIn, IsLeastSpan, ShareNumber}
 
 pub lo_in : (s : Span) → IsIn s s.lo
 lo_in s = record { from = omega (arith, ints); to = s.ordered }

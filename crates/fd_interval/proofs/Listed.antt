@@ -1,14 +1,13 @@
 -- The least and the greatest of the quotients of ends are the ends of the least span.
-use Rattle.std.proofs.Common.{◌≡◌, ◌≢◌, ◌∙◌, ◌⊎◌, inl, inr, List, [], ◌∷◌, ◌++◌, flat_map, ℤ, pos, negsuc, ◌≤ℤ◌, ◌<ℤ◌, neg_ℤ, int_div, int_lt, Bool, true, false, cond, refl, sym, ap, subst, arith}
-use Rattle.std.specs.Int.{int_min, int_max}
-use Rattle.std.proofs.lemmas.Int.{ints, clamps, by_lt_z}
+use Rattle.std.proofs.Common.{◌≡◌, ◌≢◌, ◌⊎◌, inl, inr, List, [], ◌∷◌, ◌++◌, flat_map, ℤ, pos, negsuc, ◌≤ℤ◌, int_div, int_lt, Bool, true, false, cond, refl, sym, subst, arith}
+use Rattle.std.specs.Int.{int_min}
+use Rattle.std.proofs.lemmas.Int.{ints, clamps}
 use Rattle.std.proofs.lemmas.Bool.{cases_cond}
 use Rattle.fd_interval.specs.declared.span.Span.{Span}
-use Rattle.fd_interval.specs.Spans.{IsBetween, IsIn, IsLeastSpan}
-use Rattle.fd_interval.specs.Quotients.{IsQuotient, quotient_by_sign, least_positive, negative_ends, positive_ends, end_quotients, least_from, least_listed, greatest_from, greatest_listed}
+use Rattle.fd_interval.specs.Spans.{IsIn, IsLeastSpan}
+use Rattle.fd_interval.specs.Quotients.{IsQuotient, least_positive, negative_ends, positive_ends, end_quotients, least_from, least_listed, greatest_from, greatest_listed}
 use Rattle.fd_interval.proofs.Ends.{lo_in, hi_in}
-use Rattle.fd_interval.proofs.Divisors.{flip, by_one, by_minus_one}
-use Rattle.fd_interval.proofs.Quotients.{quotient_at, IsPositive, IsOpposite}
+use Rattle.fd_interval.proofs.Quotients.{quotient_at}
 
 -- n is on the list
 abbrev pub IsAmong : ℤ → List ℤ → Type 0
@@ -19,8 +18,9 @@ IsAmong n (m ∷ ms) = (n ≡ m) ⊎ IsAmong n ms
 least_among : (n : ℤ) (ns : List ℤ) → IsAmong (least_from n ns) (n ∷ ns)
 least_among n [] = inl refl
 least_among n (m ∷ ms) = elim (cases_cond (int_lt (least_from m ms) n) (least_from m ms) n (least_from n (m ∷ ms)) refl) [
-    inl e ↦ inr (subst (λ x. IsAmong x (m ∷ ms)) (sym e) (least_among m ms))
-  | inr e ↦ inl e ]
+  | inl e ↦ inr (subst (λ x. IsAmong x (m ∷ ms)) (sym e) (least_among m ms))
+  | inr e ↦ inl e
+]
 
 least_below : (x n : ℤ) (ns : List ℤ) → IsAmong x (n ∷ ns) → least_from n ns ≤ℤ x
 least_below x n [] (inl e) = omega (arith, ints)
@@ -31,8 +31,9 @@ least_below x n (m ∷ ms) (inr h) = let k = least_below x m ms h in omega (arit
 greatest_among : (n : ℤ) (ns : List ℤ) → IsAmong (greatest_from n ns) (n ∷ ns)
 greatest_among n [] = inl refl
 greatest_among n (m ∷ ms) = elim (cases_cond (int_lt (greatest_from m ms) n) n (greatest_from m ms) (greatest_from n (m ∷ ms)) refl) [
-    inl e ↦ inl e
-  | inr e ↦ inr (subst (λ x. IsAmong x (m ∷ ms)) (sym e) (greatest_among m ms)) ]
+  | inl e ↦ inl e
+  | inr e ↦ inr (subst (λ x. IsAmong x (m ∷ ms)) (sym e) (greatest_among m ms))
+]
 
 greatest_above : (x n : ℤ) (ns : List ℤ) → IsAmong x (n ∷ ns) → x ≤ℤ greatest_from n ns
 greatest_above x n [] (inl e) = omega (arith, ints)

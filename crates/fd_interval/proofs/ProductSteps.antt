@@ -25,7 +25,6 @@ coded x y = back (back x *ℤ back y)
 pub coded_is : (x y : ℤ) → IsWithinLimit x → IsWithinLimit y → IsWithinLimit (x *ℤ y) → coded x y ≡ (x *ℤ y)
 coded_is x y p q r = (λ i. back (back_is x p i *ℤ back_is y q i)) ∙ back_is (x *ℤ y) r
 
-
 least_within : (p q r s l : ℤ) → l ≡ least_of_four p q r s → IsWithinLimit p → IsWithinLimit q → IsWithinLimit r → IsWithinLimit s → IsWithinLimit l
 least_within p q r s l e hp hq hr hs = omega (arith, ints, clamps)
 

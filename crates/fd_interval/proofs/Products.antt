@@ -1,8 +1,8 @@
 -- A product of members lies between products of ends.
-use Rattle.std.proofs.Common.{refl, sym, subst, ◌≡◌, ℤ, pos, negsuc, ◌*ℤ◌, ◌≤ℤ◌, ◌<ℤ◌, arith, ◌+◌, ◌≤◌, suc}
+use Rattle.std.proofs.Common.{refl, sym, subst, ◌≡◌, ℤ, pos, negsuc, ◌*ℤ◌, ◌≤ℤ◌, arith, ◌+◌, ◌≤◌, suc}
 use Rattle.std.specs.Int.{int_min, int_max}
 use Rattle.std.proofs.Math.Nat.{mul-le-mul_right}
-use Rattle.std.proofs.lemmas.Int.{ints, clamps, by_lt_z}
+use Rattle.std.proofs.lemmas.Int.{ints, clamps}
 use borrow.Author.Differences.{up, down}
 use Rattle.fd_interval.specs.declared.span.Span.{Span}
 use Rattle.fd_interval.specs.Spans.{IsBetween, IsIn, IsResult, IsLeastSpan, least_of_four, greatest_of_four}
@@ -44,6 +44,7 @@ product_in a b s x y e f p q =
   where
     at_least : (p q r s u v n l : ℤ) → l ≡ least_of_four p q r s → int_min u v ≤ℤ n → int_min p q ≤ℤ u → int_min r s ≤ℤ v → l ≤ℤ n
     at_least p q r s u v n l e h j k = omega (arith, ints, clamps)
+
     at_most : (p q r s u v n l : ℤ) → l ≡ greatest_of_four p q r s → n ≤ℤ int_max u v → u ≤ℤ int_max p q → v ≤ℤ int_max r s → n ≤ℤ l
     at_most p q r s u v n l e h j k = omega (arith, ints, clamps)
 

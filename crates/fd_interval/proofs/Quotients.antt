@@ -1,10 +1,10 @@
 -- The least span of the quotients, for divisors above 0, below 0 and on both sides.
 use lib.IntN.{neg_ℤ-neg_ℤ}
-use Rattle.std.proofs.Common.{◌≡◌, ◌≢◌, ◌∙◌, zero, suc, ◌≤◌, ℤ, pos, negsuc, ◌≤ℤ◌, ◌<ℤ◌, neg_ℤ, int_div, int_lt, Bool, true, false, cond, refl, sym, ap, subst, arith, unsigned_abs}
-use Rattle.std.specs.Int.{int_min, int_max}
+use Rattle.std.proofs.Common.{◌≡◌, ◌≢◌, ◌∙◌, zero, suc, ℤ, pos, negsuc, ◌≤ℤ◌, ◌<ℤ◌, neg_ℤ, int_div, int_lt, Bool, true, false, cond, refl, sym, subst, arith}
+use Rattle.std.specs.Int.{int_max}
 use Rattle.std.proofs.lemmas.Int.{ints, clamps, by_lt_z}
 use Rattle.fd_interval.specs.declared.span.Span.{Span}
-use Rattle.fd_interval.specs.Spans.{IsBetween, IsIn, IsLeastSpan}
+use Rattle.fd_interval.specs.Spans.{IsIn, IsLeastSpan}
 use Rattle.fd_interval.specs.Quotients.{IsQuotient, quotient_by_sign, least_positive}
 use Rattle.fd_interval.proofs.Ends.{lo_in, hi_in, from_ends}
 use Rattle.fd_interval.proofs.Divisors.{at_least, at_most, flip, no_farther, by_one, by_minus_one}
@@ -113,7 +113,9 @@ both_is_least a b s far p q d e f = from_ends (IsQuotient a b) s
   where
     one_in : IsIn b (pos 1)
     one_in = record { from = omega (arith, ints); to = omega (arith, ints) }
+
     minus_one_in : IsIn b (negsuc 0)
     minus_one_in = record { from = omega (arith, ints); to = omega (arith, ints) }
+
     inside : (x y : ℤ) → IsIn a x → IsIn s (int_div x y)
     inside x y h = let near = no_farther x y in record { from = omega (arith, ints, clamps, a.ordered); to = omega (arith, ints, clamps, a.ordered) }

@@ -1,10 +1,10 @@
 -- A remainder has its dividend's sign, and is no farther from 0 than the dividend and nearer than the divisor.
-use Rattle.std.proofs.Common.{◌≡◌, ◌≢◌, ◌∙◌, ℕ, zero, suc, ◌+◌, ◌<◌, ◌≤◌, ℤ, pos, negsuc, ◌≤ℤ◌, ◌<ℤ◌, ◌-ℤ◌, neg_ℤ, int_rem, int_le, Bool, true, false, cond, refl, sym, ap, subst, arith, unsigned_abs}
+use Rattle.std.proofs.Common.{◌≡◌, ◌≢◌, ◌∙◌, zero, suc, ◌<◌, ℤ, pos, negsuc, ◌≤ℤ◌, ◌-ℤ◌, neg_ℤ, int_rem, int_le, Bool, true, false, cond, refl, sym, subst, arith, unsigned_abs}
 use Rattle.std.proofs.Math.Nat.{mod-le}
 use Rattle.std.specs.Int.{int_min, int_max}
 use Rattle.std.proofs.lemmas.Int.{ints, clamps, by_lt_z, rem_below}
 use Rattle.fd_interval.specs.declared.span.Span.{Span}
-use Rattle.fd_interval.specs.Spans.{IsBetween, IsIn, absolute}
+use Rattle.fd_interval.specs.Spans.{IsBetween, IsIn}
 use Rattle.fd_interval.specs.Remainders.{IsRemainder, IsZero, farthest_remainder, lower_end, upper_end}
 
 above : (x y : ℤ) → pos 0 ≤ℤ x → IsBetween (pos 0) x (int_rem x y)
@@ -27,6 +27,7 @@ lowest_holds a b x y p q z = by (int_le (pos 0) a.lo) refl
   where
     far : IsBetween (pos 0 -ℤ farthest_remainder b) (farthest_remainder b) (int_rem x y)
     far = near b x y q z
+
     by : (t : Bool) → int_le (pos 0) a.lo ≡ t → cond t (pos 0) (int_max a.lo (pos 0 -ℤ farthest_remainder b)) ≤ℤ int_rem x y
     by true e = (above x y (omega (arith, ints))).from
     by false e = by_lt_z x (pos 0)
@@ -38,6 +39,7 @@ highest_holds a b x y p q z = by (int_le a.hi (pos 0)) refl
   where
     far : IsBetween (pos 0 -ℤ farthest_remainder b) (farthest_remainder b) (int_rem x y)
     far = near b x y q z
+
     by : (t : Bool) → int_le a.hi (pos 0) ≡ t → int_rem x y ≤ℤ cond t (pos 0) (int_min a.hi (farthest_remainder b))
     by true e = (below x y (omega (arith, ints))).to
     by false e = by_lt_z x (pos 0)

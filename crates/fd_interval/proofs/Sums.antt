@@ -1,9 +1,9 @@
 -- The least spans of sums, of the smaller and the greater of two numbers and of absolute values.
-use Rattle.std.proofs.Common.{refl, sym, subst, Bool, true, false, cond, int_le, ◌≡◌, ℤ, pos, ◌+ℤ◌, ◌-ℤ◌, ◌≤ℤ◌, ◌<ℤ◌, neg_ℤ, unsigned_abs, arith}
+use Rattle.std.proofs.Common.{refl, sym, subst, Bool, true, false, cond, int_le, ◌≡◌, ℤ, pos, ◌+ℤ◌, ◌≤ℤ◌, ◌<ℤ◌, neg_ℤ, arith}
 use Rattle.std.specs.Int.{int_min, int_max}
 use Rattle.std.proofs.lemmas.Int.{ints, clamps, by_lt_z}
 use Rattle.fd_interval.specs.declared.span.Span.{Span}
-use Rattle.fd_interval.specs.Spans.{IsBetween, IsIn, IsResult, IsAbsolute, IsLeastSpan, absolute, absolute_lo, absolute_hi}
+use Rattle.fd_interval.specs.Spans.{IsIn, IsResult, IsAbsolute, IsLeastSpan, absolute, absolute_lo, absolute_hi}
 use Rattle.fd_interval.proofs.Ends.{lo_in, hi_in, from_ends}
 
 pub result_at : (f : ℤ → ℤ → ℤ) (a b : Span) (x y n : ℤ) → IsIn a x → IsIn b y → n ≡ f x y → IsResult f a b n
@@ -37,6 +37,7 @@ lo_is a n e = first (int_le (pos 0) a.lo) refl
     second : a.lo <ℤ pos 0 → (t : Bool) → int_le a.hi (pos 0) ≡ t → n ≡ cond t (absolute a.hi) (pos 0)
     second p true q = omega (arith, ints, clamps, a.ordered)
     second p false q = omega (arith, ints, clamps, a.ordered)
+
     first : (t : Bool) → int_le (pos 0) a.lo ≡ t → n ≡ cond t a.lo (cond (int_le a.hi (pos 0)) (absolute a.hi) (pos 0))
     first true q = omega (arith, ints, clamps, a.ordered)
     first false q = second (omega (arith, ints)) (int_le a.hi (pos 0)) refl
@@ -50,6 +51,7 @@ lowest a n e = first (int_le (pos 0) a.lo) refl e
     second : a.lo <ℤ pos 0 → (t : Bool) → int_le a.hi (pos 0) ≡ t → n ≡ cond t (absolute a.hi) (pos 0) → IsAbsolute a n
     second p true q k = absolute_at a a.hi n (hi_in a) k
     second p false q k = absolute_at a (pos 0) n (record { from = omega (arith, ints); to = omega (arith, ints) }) k
+
     first : (t : Bool) → int_le (pos 0) a.lo ≡ t → n ≡ cond t a.lo (cond (int_le a.hi (pos 0)) (absolute a.hi) (pos 0)) → IsAbsolute a n
     first true q k = absolute_at a a.lo n (lo_in a) (omega (arith, ints))
     first false q k = second (omega (arith, ints)) (int_le a.hi (pos 0)) refl k
@@ -65,6 +67,7 @@ lower a n m e k = first (int_le (pos 0) a.lo) refl e
     second : (t : Bool) → int_le a.hi (pos 0) ≡ t → n ≡ cond t (absolute a.hi) (pos 0) → n ≤ℤ absolute m
     second true q f = omega (arith, ints)
     second false q f = omega (arith, ints)
+
     first : (t : Bool) → int_le (pos 0) a.lo ≡ t → n ≡ cond t a.lo (cond (int_le a.hi (pos 0)) (absolute a.hi) (pos 0)) → n ≤ℤ absolute m
     first true q f = omega (arith, ints)
     first false q f = second (int_le a.hi (pos 0)) refl f

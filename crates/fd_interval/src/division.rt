@@ -58,7 +58,11 @@ pub fn div(a: Span, b: Span) -> Option<Span>
     ensures hi { IfSome result (λ s. s.hi ≡ greatest_listed (end_quotients a b)) }
 {
     if 0 < b.hi {
-        Some(if b.lo < 0 { by_both_signs(a) } else { by_positive(a, b) })
+        Some(if b.lo < 0 {
+            by_both_signs(a)
+        } else {
+            by_positive(a, b)
+        })
     } else if b.lo < 0 {
         Some(by_positive(opposite(a), opposite(b)))
     } else {

@@ -1,7 +1,6 @@
 //! Values worked out by hand.
-use std::test::Fail;
-
 use crate::{Span, abs, add, div, greatest, least, meets, mul, rem, span_of};
+use std::test::Fail;
 
 #[test]
 fn sums_and_products(rt: HostRuntime) -> Result<(), Fail> {

@@ -1,7 +1,5 @@
-use Rattle.std.proofs.Common.{◌≡◌, ◌≤ℤ◌, ◌+ℤ◌, ◌*ℤ◌, arith, ℤ, pos}
-use Rattle.std.specs.Int.{int_min, int_max}
-use Rattle.std.proofs.lemmas.Int.{ints, clamps}
-use Rattle.fd_interval.specs.Spans.{IsResult, IsAbsolute, IsLeastSpan, ShareNumber}
+use Rattle.std.proofs.Common.{arith}
+use Rattle.std.proofs.lemmas.Int.{ints}
 use Rattle.fd_interval.proofs.Sums.{sum_is_least}
 use Rattle.fd_interval.proofs.arithmetic.add.Goals as goal
 

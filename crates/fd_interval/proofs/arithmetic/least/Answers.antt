@@ -1,7 +1,6 @@
-use Rattle.std.proofs.Common.{◌≡◌, ◌≤ℤ◌, ◌<ℤ◌, ◌+ℤ◌, ◌*ℤ◌, neg_ℤ, arith, ℤ, pos, IsTrue}
-use Rattle.std.specs.Int.{int_min, int_max}
-use Rattle.std.proofs.lemmas.Int.{ints, clamps, by_lt_z}
-use Rattle.fd_interval.specs.Spans.{IsIn, IsResult, IsAbsolute, IsLeastSpan, ShareNumber}
+use Rattle.std.proofs.Common.{◌≡◌, arith}
+use Rattle.std.specs.Int.{int_min}
+use Rattle.std.proofs.lemmas.Int.{ints, clamps}
 use Rattle.fd_interval.proofs.Sums.{smaller_is_least}
 use Rattle.fd_interval.proofs.arithmetic.least.Goals as goal
 

@@ -1,8 +1,8 @@
 use Rattle.std.proofs.Common.{arith, ◌≡◌, ◌≤ℤ◌}
-use Rattle.std.proofs.lemmas.Int.{ints, to_z-of_z}
+use Rattle.std.proofs.lemmas.Int.{ints}
 use Rattle.std.proofs.lemmas.Grind.{common_steps}
 use Rattle.fd_interval.specs.Quotients.{quotient_by_sign, least_positive}
-use Rattle.fd_interval.proofs.Quotients.{quotients_ordered, positive_is_least}
+use Rattle.fd_interval.proofs.Quotients.{quotients_ordered}
 use Rattle.fd_interval.proofs.division.by_positive.Goals as goal
 
 pub span_of-requires-clause-ordered : goal.span_of-requires-clause-ordered

@@ -1,4 +1,4 @@
-use Rattle.std.proofs.Common.{arith, ◌≡◌, ◌≤ℤ◌, ◌<ℤ◌, ℤ, pos, refl}
+use Rattle.std.proofs.Common.{arith, ◌≤ℤ◌, ◌<ℤ◌, pos, refl}
 use Rattle.std.proofs.lemmas.Int.{ints}
 use Rattle.fd_interval.specs.declared.span.Span.{Span}
 use Rattle.fd_interval.proofs.Quotients.{IsPositive, IsOpposite, both_is_least, positive_is_least, negative_is_least}

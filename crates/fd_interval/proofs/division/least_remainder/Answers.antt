@@ -1,5 +1,5 @@
 use mir.Syntax.{w128}
-use Rattle.std.proofs.Common.{arith, ◌≡◌, ◌∙◌, ◌≤ℤ◌, ◌-ℤ◌, neg_ℤ, pos, refl, ap}
+use Rattle.std.proofs.Common.{arith, ◌≡◌, ◌∙◌, neg_ℤ, pos, ap}
 use Rattle.std.specs.Int.{int_min, int_max}
 use Rattle.std.proofs.lemmas.Int.{ints, clamps, to_z-of_z}
 use Rattle.fd_interval.proofs.Remainders.{lower_is}

@@ -1,5 +1,4 @@
 use Rattle.std.proofs.Common.{arith, ◌≡◌}
-use Rattle.std.proofs.lemmas.Int.{ints}
 use Rattle.std.proofs.lemmas.Grind.{common_steps}
 use Rattle.fd_interval.proofs.Remainders.{only_holds, size_holds}
 use Rattle.fd_interval.proofs.division.rem.Goals as goal
