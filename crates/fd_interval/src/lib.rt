@@ -8,8 +8,8 @@
 //! in 128 bits.
 //!
 //! - `add`, `mul`, `abs`, `least`, `greatest` and `div` give the least span that holds each result of
-//!   the operation over members: nothing is lost, and nothing could be cut off. Beside this each says
-//!   exactly where its result begins and ends.
+//!   the operation over members, so no smaller one would do. Beside this each says exactly where its
+//!   result begins and ends.
 //! - `div` truncates towards 0 and leaves the divisor 0 out. `rem` goes with it, and gives a span that
 //!   holds each remainder, by a rule that its contract states. Both answer None exactly where 0 is the
 //!   only divisor.
