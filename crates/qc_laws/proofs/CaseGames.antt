@@ -59,7 +59,7 @@ priced follower = record {
   variables = variable 0 (pos 0) (pos 1) ∷ variable 1 (pos 0) (pos 1) ∷ variable 1 (pos 0) (pos 9) ∷ variable 1 (pos 0) (pos 0) ∷ [];
   aggregates = [];
   constraints =
-    rule 1 IntLinEq (Numbers (pos 4 ∷ pos 1 ∷ negsuc 0 ∷ []) ∷ Many (var 1 ∷ var 0 ∷ var 2 ∷ []) ∷ One (Num (pos 0)) ∷ []) ∷ [];
+      rule 1 IntLinEq (Numbers (pos 4 ∷ pos 1 ∷ negsuc 0 ∷ []) ∷ Many (var 1 ∷ var 0 ∷ var 2 ∷ []) ∷ One (Num (pos 0)) ∷ []) ∷ [];
 }
 
 -- the follower minimises d, which is 0 whatever it does; or it maximises y
@@ -78,7 +78,7 @@ summed = record {
   variables = variable 0 (pos 0) (pos 2) ∷ variable 1 (pos 1) (pos 3) ∷ variable 2 (pos 0) (pos 3) ∷ [];
   aggregates = record { name = []; scope = record { 0 = 1 }; fold = Sum; target = of_variable 2 } ∷ [];
   constraints =
-    rule 3 IntLinLe (Numbers (pos 1 ∷ negsuc 0 ∷ negsuc 0 ∷ []) ∷ Many (var 1 ∷ var 0 ∷ var 2 ∷ []) ∷ One (Num (pos 0)) ∷ []) ∷ [];
+      rule 3 IntLinLe (Numbers (pos 1 ∷ negsuc 0 ∷ negsuc 0 ∷ []) ∷ Many (var 1 ∷ var 0 ∷ var 2 ∷ []) ∷ One (Num (pos 0)) ∷ []) ∷ [];
 }
 
 -- exists CONDITION on g; var 0..1: x; forall; var 1..2: t; aggregate g = FOLD of t else 7; constraint int_le(t,x);

@@ -8,16 +8,17 @@ use Rattle.qc_model.specs.declared.problem.Scope.{Scope}
 use Rattle.qc_model.specs.declared.problem.Condition.{Condition}
 use Rattle.qc_model.specs.Content.{Game}
 use Rattle.qc_model.specs.Lists.{Among}
-use Rattle.qc_model.specs.Game.{allows, IsMove, moves}
+use Rattle.qc_model.specs.Game.{allows, moves}
 use Rattle.qc_model.specs.Plan.{Plan, finish, choose, answer, IsFinish}
 use Rattle.qc_model.specs.Value.{value}
 use Rattle.qc_model.specs.Optimal.{Optimal}
-use Rattle.qc_model.specs.Demands.{vector, is_better_vector, IsBestVector, demands, demands_after, aggregate_of}
+use Rattle.qc_model.specs.Demands.{vector, is_better_vector, demands, demands_after, aggregate_of}
 use Rattle.qc_model.specs.ForallVerdict.{entry_value, entry_values, goal_verdict, stuck_verdict}
 use Rattle.qc_model.specs.Sees.{IsVisibleAtEnd, AllVisible}
 use Rattle.qc_model.specs.Valid.{IsValid}
 use Rattle.qc_model.proofs.Moves.{moves_to}
-use Rattle.qc_laws.specs.Branches.{AllOwn, BestAfter, Chosen}
+use Rattle.qc_laws.specs.Positions.{Chosen}
+use Rattle.qc_laws.specs.Branches.{AllOwn, BestAfter}
 use Rattle.qc_laws.specs.Verdicts.{Means, HasNoMove}
 use Rattle.qc_laws.proofs.Better.{vector_false}
 use Rattle.qc_laws.proofs.Universal.{vector_not_self, optimal_universal}

@@ -1,5 +1,5 @@
 -- The value that an existential scope's own condition has, as the table of verdicts finds it.
-use Rattle.std.proofs.Common.{◌≡◌, inl, ℕ, suc, Bool, true, false, not, ◌&&◌, List, [], ◌∷◌, ◌++◌, map, refl, sym, ap, ◌∙◌, subst, ℤ, Option, Some, None, cond, drop}
+use Rattle.std.proofs.Common.{◌≡◌, ℕ, suc, Bool, true, false, not, ◌&&◌, List, [], ◌∷◌, ◌++◌, map, refl, ◌∙◌, ℤ, Some, None, cond, drop}
 use Rattle.std.specs.List.{list_all}
 use Rattle.qc_model.specs.declared.problem.Kind.TheVariants.{Exists}
 use Rattle.qc_model.specs.declared.problem.Scope.{Scope}
@@ -11,7 +11,7 @@ use Rattle.qc_model.specs.Optimal.{Optimal}
 use Rattle.qc_model.specs.Demands.{vector, IsBestVector}
 use Rattle.qc_model.specs.Verdict.{lost, exact, unknown, is_lost, is_exact, each_node, exact_vectors, bounds, is_none_of, first_value}
 use Rattle.qc_model.specs.ExistsVerdict.{best_vector, beats, some_open, exists_own}
-use Rattle.qc_laws.specs.Branches.{Chosen}
+use Rattle.qc_laws.specs.Positions.{Chosen}
 use Rattle.qc_laws.specs.Verdicts.{Claim, seen_in, EachChoice, IsCovered}
 use Rattle.qc_laws.proofs.Better.{and_first, and_second}
 use Rattle.qc_laws.proofs.Choices.{own_value_is}
@@ -42,5 +42,5 @@ own_mean g later c i a d ls n h k e p o =
     let beaten = list_all (beats c.sense (is_none_of d) (first_value w)) bs in
     let r = found_by (each_node is_lost (map seen_in ls) && is_none_of bs) (some_open (map seen_in ls)) (not (is_none_of vs) && beaten) w n e in
     let best = exact_mean g c d a (λ t s. Optimal g later (suc i) (a ++ t) s) (Chosen g i a (Optimal g later (suc i))) ls h k r.0
-        (and_first (not (is_none_of vs)) beaten r.1.0) (and_second (not (is_none_of vs)) beaten r.1.0) in
+    (and_first (not (is_none_of vs)) beaten r.1.0) (and_second (not (is_none_of vs)) beaten r.1.0) in
     first_is_own g later i a c d w best p o ∙ r.1.1

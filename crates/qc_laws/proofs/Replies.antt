@@ -45,9 +45,13 @@ once_by Exists g i a W P C d f = elim (all_or_some (λ t. Once (C (a ++ t))) (λ
 
     replies : ((t : List ℤ) → Among t (moves g i a) → Once (C (a ++ t))) → Once (λ p. Turn Forall p (Chooses g i a C) (RepliesTo g i a P C))
     replies h =
-        let r = entries_exist (λ t s. C (a ++ t) s × AnswersOnce s) (moves g i a) h in
-        (answer r.0, (λ t m. inl (entry_found C a t r.0 (first_parts (λ t s. C (a ++ t) s) r.0 r.2) (subst (Among t) (sym r.1) (moves_from g i a t m))),
-            (subst Distinct (sym r.1) d, second_parts (λ t s. C (a ++ t) s) r.0 r.2)))
+        let r = entries_exist (λ t s. C (a ++ t) s × AnswersOnce s) (moves g i a) h in (
+          answer r.0,
+          (
+            λ t m. inl (entry_found C a t r.0 (first_parts (λ t s. C (a ++ t) s) r.0 r.2) (subst (Among t) (sym r.1) (moves_from g i a t m))),
+            (subst Distinct (sym r.1) d, second_parts (λ t s. C (a ++ t) s) r.0 r.2),
+          ),
+        )
 
 once_decided : (g : Game) (later : List Scope) (i : ℕ) (a : List ℤ) → IsValid g → Wins g later i a ⊎ Once (CounterWins g later i a)
 once_decided g [] i a v = goal (allows g i a)

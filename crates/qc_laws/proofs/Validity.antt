@@ -1,6 +1,6 @@
 -- What a valid game has that the laws of its scopes ask for.
-use Rattle.std.proofs.Common.{◌≡◌, inl, inr, ℕ, zero, suc, ◌≤◌, length, Bool, true, false, not, ◌&&◌, List, [], ◌∷◌, drop, refl, sym, ap, ◌∙◌, subst, ℤ, ◌<ℤ◌, Option, arith}
-use Rattle.std.specs.Prelude.{nat_le, int_lt, ◌≤ℤ◌, ⊤}
+use Rattle.std.proofs.Common.{◌≡◌, inl, inr, ℕ, zero, suc, ◌≤◌, length, true, not, ◌&&◌, List, [], ◌∷◌, drop, refl, sym, subst, ℤ, ◌<ℤ◌, Option, arith}
+use Rattle.std.specs.Prelude.{nat_le, int_lt}
 use Rattle.std.specs.List.{list_all}
 use Rattle.std.proofs.lemmas.Int.{ints}
 use Rattle.qc_model.specs.declared.problem.Kind.TheVariants.{Forall}
@@ -17,9 +17,9 @@ use Rattle.qc_model.specs.Demands.{demands, aggregate_of}
 use Rattle.qc_model.specs.Sees.{AllVisible}
 use Rattle.qc_model.specs.Valid.{is_listed, has_gap, width_of, is_number, is_domain, IsValid}
 use Rattle.qc_laws.specs.Branches.{AllOwn}
-use Rattle.qc_laws.specs.Distinct.{Distinct, ListedDiffer, EachListedDiffers}
+use Rattle.qc_laws.specs.Distinct.{Distinct}
 use Rattle.qc_laws.proofs.Better.{and_first, and_second}
-use Rattle.qc_laws.proofs.Domains.{domains_differ}
+use Rattle.qc_laws.proofs.Domains.{ListedDiffer, EachListedDiffers, domains_differ}
 use Rattle.qc_laws.proofs.Order.{moves_distinct}
 use Rattle.qc_laws.proofs.Seen.{demands_visible, visible_own}
 

@@ -1,5 +1,5 @@
 -- Counterstrategies that say one thing to each tuple.
-use Rattle.std.specs.Prelude.{List, ⊤}
+use Rattle.std.specs.Prelude.{⊤}
 use Rattle.qc_model.specs.Plan.{Plan, finish, choose, answer, Entries, no_entries, entry, entry_tuples}
 use Rattle.qc_laws.specs.Distinct.{Distinct}
 
