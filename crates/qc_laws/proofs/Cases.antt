@@ -1,10 +1,12 @@
 -- Worked cases: games small enough to compute all their optimal strategies.
 use Rattle.std.proofs.Common.{◌≡◌, refl, inl, [], ◌∷◌, None, drop}
 use Rattle.std.specs.Prelude.{pos}
-use Rattle.qc_model.specs.Game.{moves}
+use Rattle.qc_model.specs.Game.{moves, IsWon}
 use Rattle.qc_model.specs.Plan.{Plan, finish, choose, answer, no_entries, entry}
 use Rattle.qc_model.specs.Optimal.{Optimal}
+use Rattle.qc_model.specs.Counter.{CounterWins}
 use Rattle.qc_model.specs.Demands.{IsBestVector}
+use Rattle.qc_model.proofs.Moves.{moves_from}
 use Rattle.qc_laws.specs.Strategies.{optimal_strategies}
 use Rattle.qc_laws.proofs.Computed.{IsOptimum, only_strategy, none_optimal, computed_best}
 use Rattle.qc_laws.proofs.CaseGames.{of_variable, of_aggregate, minimise, exists, forall_scope, indifferent, opposed, summed, greatest_of_none, least_of_none, blocked}
@@ -54,9 +56,18 @@ least_over_no_branch : IsOptimum least_of_none (of_aggregate 0) (choose (pos 0 �
 least_over_no_branch = only_strategy least_of_none (of_aggregate 0) (choose (pos 0 ∷ []) (answer no_entries)) (pos 7) refl refl
 
 -- WHO IS STUCK LOSES. Nobody can pass the scope: where it is the opponent's, the player has won by saying nothing;
--- where it is the player's, no strategy is optimal, and the empty counterstrategy wins.
+-- where it is the player's, the game isn't won, no strategy is optimal, and the empty counterstrategy wins.
+stuck_opponent_loses : IsWon (blocked forall_scope)
+stuck_opponent_loses = λ t m. absurd (moves_from (blocked forall_scope) 0 [] t m)
+
 opponent_is_stuck : optimal_strategies (blocked forall_scope) (forall_scope ∷ []) 0 [] ≡ answer no_entries ∷ []
 opponent_is_stuck = refl
 
+stuck_player_loses : ¬ IsWon (blocked (exists None))
+stuck_player_loses = λ w. moves_from (blocked (exists None)) 0 [] w.0 w.1
+
 player_is_stuck : (p : Plan) → ¬ Optimal (blocked (exists None)) (exists None ∷ []) 0 [] p
 player_is_stuck = none_optimal (blocked (exists None)) refl
+
+nothing_to_reply : CounterWins (blocked (exists None)) (exists None ∷ []) 0 [] (answer no_entries)
+nothing_to_reply = λ t m. absurd (moves_from (blocked (exists None)) 0 [] t m)
