@@ -34,8 +34,12 @@ leader_by_tie = refl
 wish_by_value : exists_verdict (Some (maximise (of_variable 1))) (maximise (of_variable 1) ∷ cost ∷ []) (leaf (pos 0 ∷ pos 0 ∷ []) ∷ leaf (pos 1 ∷ pos 4 ∷ []) ∷ []) ≡ exact (pos 4 ∷ [])
 wish_by_value = refl
 
-leader_by_wish : exists_own (Some cost) (cost ∷ []) (leaf (pos 4 ∷ []) ∷ leaf (pos 5 ∷ []) ∷ []) ≡ Some (pos 4)
+leader_by_wish : exists_own (Some cost) (cost ∷ []) (leaf (pos 5 ∷ []) ∷ leaf (pos 4 ∷ []) ∷ []) ≡ Some (pos 4)
 leader_by_wish = refl
+
+-- a choice that wasn't looked at may be better
+skipped_choice : exists_verdict (Some cost) (cost ∷ []) (leaf (pos 4 ∷ []) ∷ seen_skipped ∷ []) ≡ unknown
+skipped_choice = refl
 
 -- a follower that is only bounded, and may be better than what was found, leaves the position unknown
 bound_not_beaten : exists_verdict (Some (maximise (of_variable 1))) (maximise (of_variable 1) ∷ cost ∷ []) (leaf (pos 1 ∷ pos 4 ∷ []) ∷ seen_bound (pos 1) ∷ []) ≡ unknown
