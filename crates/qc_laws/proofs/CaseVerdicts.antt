@@ -79,6 +79,12 @@ greatest_of_one_leaf = refl
 leader_by_no_branch : exists_own (Some (maximise (of_aggregate 0))) (maximise (of_aggregate 0) ∷ []) (leaf (pos 7 ∷ []) ∷ leaf (pos 1 ∷ []) ∷ []) ≡ Some (pos 7)
 leader_by_no_branch = refl
 
--- the player is stuck
+-- THE PLAYER IS STUCK, seen by its leaves or by a horizon
+no_choice_left : exists_verdict None [] (seen_barred ∷ seen_barred ∷ []) ≡ lost
+no_choice_left = refl
+
+no_choice_to_optimise : exists_verdict (Some cost) (cost ∷ []) (seen_barred ∷ seen_barred ∷ []) ≡ lost
+no_choice_to_optimise = refl
+
 player_stuck : stuck_verdict indifferent Exists [] [] ≡ lost
 player_stuck = refl
