@@ -1,5 +1,5 @@
 -- The worked cases again, as the tables of verdicts see them: leaves, and what they come to.
-use Rattle.std.proofs.Common.{◌≡◌, refl, List, [], ◌∷◌, Some}
+use Rattle.std.proofs.Common.{◌≡◌, refl, List, [], ◌∷◌, Some, None}
 use Rattle.std.specs.Prelude.{pos, ℤ}
 use Rattle.qc_model.specs.declared.problem.Kind.TheVariants.{Exists, Forall}
 use Rattle.qc_model.specs.declared.problem.Condition.{Condition}
