@@ -92,7 +92,7 @@ unopposed c fold = record {
   constraints = rule 1 IntLe (one_var 1 ∷ one_var 0 ∷ []) ∷ [];
 }
 
--- the greatest t as great as can be; the least t as small as can be
+-- the greatest t, or the least, as great as can be
 abbrev pub greatest_of_none : Game
 greatest_of_none = unopposed (maximise (of_aggregate 0)) (Greatest (pos 7))
 
