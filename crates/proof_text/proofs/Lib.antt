@@ -4,3 +4,6 @@ pub mod Digits
 pub mod Choices
 pub mod Forward
 pub mod Backward
+pub mod Numbers
+pub mod Owed
+pub mod Verdicts
