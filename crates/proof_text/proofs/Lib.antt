@@ -7,3 +7,5 @@ pub mod Backward
 pub mod Numbers
 pub mod Owed
 pub mod Verdicts
+pub mod Parts
+pub mod StepLines

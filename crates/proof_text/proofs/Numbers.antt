@@ -13,10 +13,10 @@ use Rattle.proof_text.proofs.Choices.{Enters}
 tests : (a b d : Bool) → a ≡ true → b ≡ true → d ≡ true → (a && b && d) ≡ true
 tests a b d h g f = and_from (a && b) d (and_from a b h g) f
 
-first_is : (most end c : ℕ) → 49 ≤ c → c ≤ 57 → c - 48 ≤ most → first_digit most end c ≡ Some (digits most (c - 48) end ∷ [])
+pub first_is : (most end c : ℕ) → 49 ≤ c → c ≤ 57 → c - 48 ≤ most → first_digit most end c ≡ Some (digits most (c - 48) end ∷ [])
 first_is most end c l h g = ap (λ (t : Bool). cond t (Some (digits most (c - 48) end ∷ [])) None) (tests _ _ _ (le-leb 49 c l) (le-leb c 57 h) (le-leb (c - 48) most g))
 
-next_is : (most v end c : ℕ) → 48 ≤ c → c ≤ 57 → 10 * v + (c - 48) ≤ most → next_digit most v end c ≡ Some (digits most (10 * v + (c - 48)) end ∷ [])
+pub next_is : (most v end c : ℕ) → 48 ≤ c → c ≤ 57 → 10 * v + (c - 48) ≤ most → next_digit most v end c ≡ Some (digits most (10 * v + (c - 48)) end ∷ [])
 next_is most v end c l h g = ap (λ (t : Bool). cond t (Some (digits most (10 * v + (c - 48)) end ∷ [])) None) (tests _ _ _ (le-leb 48 c l) (le-leb c 57 h) (le-leb (10 * v + (c - 48)) most g))
 
 pub number_enters : (m most end n : ℕ) (b : List ℕ) → 1 ≤ n → n ≤ most → most ≤ 2 ^ 62 → Enters m (first_digit most end) (decimal n ++ end ∷ b) b
@@ -52,7 +52,7 @@ is_first most end c owed h =
     record { low = leb-true _ _ q.0; high = leb-true _ _ q.1; within = leb-true _ _ p.1; is = sym t.1 }
 
 -- a digit that isn't 0 is neither 0 nor the sign
-plain_digit : (most end c : ℕ) → 49 ≤ c → after (signed most end) c ≡ first_digit most end c
+pub plain_digit : (most end c : ℕ) → 49 ≤ c → after (signed most end) c ≡ first_digit most end c
 plain_digit most end c l = rw (ne_eqb c 45 (λ e. omega arith), ne_eqb c 48 (λ e. omega arith))
 
 as_signed : (m most end : ℕ) (u b : List ℕ) → Enters m (first_digit most end) u b → Enters m (after (signed most end)) u b

@@ -31,12 +31,16 @@ bytes cs = map byte cs
 abbrev pub Choices : Type 0
 Choices = List (ℕ × List Symbol)
 
+-- a variable and a range of its values, and then a byte
+abbrev pub removed_part : ℕ → List Symbol
+removed_part end = byte 32 ∷ number 500 32 ∷ signed 1000000000 32 ∷ signed 1000000000 end ∷ []
+
 -- the rest of a line
 abbrev pub prune_line : List Symbol
-prune_line = byte 32 ∷ number 500 32 ∷ signed 1000000000 32 ∷ signed 1000000000 32 ∷ number 20000 10 ∷ []
+prune_line = removed_part 32 ++ number 20000 10 ∷ []
 
 abbrev pub bound_line : List Symbol
-bound_line = byte 32 ∷ number 500 32 ∷ signed 1000000000 32 ∷ signed 1000000000 10 ∷ []
+bound_line = removed_part 10
 
 abbrev pub outcome_choices : Choices
 outcome_choices = (116, bytes (codes "rue") ++ optimum ∷ []) ∷ (102, bytes (codes "alse\n")) ∷ (111, bytes (codes "pen ") ++ number 10000000 10 ∷ []) ∷ []

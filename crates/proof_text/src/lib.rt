@@ -4,6 +4,9 @@
 //! a letter. Each certificate has one text.
 #![tactic(auto)]
 
+mod flaw;
+mod lines;
+mod scan;
 mod write;
 
 pub use write::write_cert;
