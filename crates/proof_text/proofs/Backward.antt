@@ -174,7 +174,7 @@ go_pieces_back : (s e r d : List ℕ) → (s ++ e) ++ (r ++ d) ≡ (s ++ e ++ r)
 go_pieces_back s e r d = append_assoc s e (r ++ d) ∙ sym (go_pieces s e r d)
 
 -- n + max a b within a limit
-max_within : (m n a b : ℕ) → n + a ≤ m → n + b ≤ m → n + max a b ≤ m
+pub max_within : (m n a b : ℕ) → n + a ≤ m → n + b ≤ m → n + max a b ≤ m
 max_within m n a b h g = grind (arith)
 
 pub branch_back : (m n : ℕ) (u b : List ℕ) → n ≤ m → Choice m (branch_choices n) u b → AreBranches m n u b

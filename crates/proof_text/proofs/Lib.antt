@@ -7,5 +7,7 @@ pub mod Backward
 pub mod Numbers
 pub mod Owed
 pub mod Verdicts
-pub mod Parts
+pub mod Sequences
 pub mod StepLines
+pub mod TreeParts
+pub mod PlacesFound

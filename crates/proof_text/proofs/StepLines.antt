@@ -15,7 +15,7 @@ use Rattle.proof_text.specs.Symbols.{Symbol, byte, bytes, prune_line, bound_line
 use Rattle.proof_text.specs.Running.{run, onward}
 use Rattle.proof_text.specs.Reading.{Passes, Fails, BeginsNot, PassesSteps, GoesOn, FailsSteps}
 use Rattle.proof_text.proofs.Forward.{step_is}
-use Rattle.proof_text.proofs.Parts.{Leads, fails_by}
+use Rattle.proof_text.proofs.Sequences.{Leads, fails_by}
 
 pub to_prune : (n : ℕ) (k : List Symbol) (text line : List ℕ) → n ≤ 1000 → text ≡ 112 ∷ line → run (cases n ∷ k) text ≡ run (prune_line ++ cases n ∷ k) line
 to_prune n k text line h is = rw (is, le-leb n 1000 h) refl

@@ -1,5 +1,7 @@
 -- Where bytes stop being the text of a certificate.
 use Rattle.std.specs.Prelude.{ℕ, ◌+◌, ◌<◌, ◌≤◌, ◌≡◌, ◌⊎◌, List, ◌++◌, length, take, slice_index, Option, ℤ, IsTrue}
+use Rattle.proof_text.specs.declared.fault.CertFault.{CertFault}
+use Rattle.proof_text.specs.declared.fault.CertFault.TheVariants.{NotACertificate, TooDeep, Memory}
 use Rattle.proof_tree.specs.declared.tree.Outcome.{Outcome}
 use Rattle.proof_tree.specs.Tree.{Tree}
 use Rattle.proof_tree.specs.Counts.{depth_of}
@@ -30,3 +32,15 @@ pub record IsTooDeep (at : ℕ) (bytes : List ℕ) : Type 0 where
   pub opens : BeginsText 1001 (take (at + 1) bytes)
   pub deeper : BeginsText 1000 (take (at + 1) bytes) → ⊥
   pub letter : (slice_index bytes at ≡ 118) ⊎ (slice_index bytes at ≡ 110)
+
+-- the fault is the bytes' first
+abbrev pub IsFault : CertFault → List ℕ → Type 0
+IsFault (NotACertificate at) bytes = IsNotACertificate at bytes
+IsFault (TooDeep at) bytes = IsTooDeep at bytes
+IsFault (Memory e) bytes = Unit {0}
+
+-- want of memory
+abbrev pub IsWant : CertFault → Type 0
+IsWant (NotACertificate at) = ⊥
+IsWant (TooDeep at) = ⊥
+IsWant (Memory e) = Unit {0}

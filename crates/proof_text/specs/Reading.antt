@@ -1,8 +1,8 @@
 -- What reading a part of a text says.
-use Rattle.std.specs.Prelude.{ℕ, ◌≤◌, ◌≡◌, List, [], ◌∷◌, ◌++◌}
+use Rattle.std.specs.Prelude.{ℕ, ◌≤◌, ◌≡◌, List, [], ◌∷◌, ◌++◌, length, Bool, IsTrue}
 use Rattle.proof_text.specs.declared.flaw.Flaw.{Flaw}
 use Rattle.proof_text.specs.declared.flaw.Flaw.TheVariants.{Wrong, Deep, Memory}
-use Rattle.proof_text.specs.Symbols.{Symbol, cases, ending}
+use Rattle.proof_text.specs.Symbols.{Symbol, byte, node, body, cases, ending, branches}
 use Rattle.proof_text.specs.Running.{run, wrong, deep}
 
 -- what was owed was had, and the rest follows it
@@ -28,3 +28,28 @@ GoesOn bytes rest = (n : ℕ) → n ≤ 1000 → (k : List Symbol) → run (case
 
 abbrev pub FailsSteps : List ℕ → Flaw → Type 0
 FailsSteps bytes flaw = (n : ℕ) → n ≤ 1000 → Fails (cases n ∷ []) bytes flaw
+
+-- perhaps a horizon was read, and then comes a body
+abbrev pub PassesHorizon : List ℕ → List ℕ → Type 0
+PassesHorizon bytes rest = (n : ℕ) → n ≤ 1000 → (k : List Symbol) → run (node n ∷ k) bytes ≡ run (body n ∷ k) rest
+
+abbrev pub FailsHorizon : List ℕ → Flaw → Type 0
+FailsHorizon bytes flaw = (n : ℕ) → n ≤ 1000 → Fails (node n ∷ []) bytes flaw
+
+-- a case of a branch was read, and perhaps more come
+abbrev pub PassesCase : ℕ → List ℕ → List ℕ → Type 0
+PassesCase n bytes rest = (k : List Symbol) → run (branches n ∷ k) bytes ≡ run (branches n ∷ k) rest
+
+-- the end of a branch comes
+abbrev pub EndsCases : ℕ → List ℕ → Type 0
+EndsCases n bytes = (k : List Symbol) → run (branches n ∷ k) bytes ≡ run (byte 46 ∷ byte 10 ∷ k) bytes
+
+-- the bytes begin with this text, whose numbers fit and which nests so deep
+abbrev pub Spells : List ℕ → Bool → ℕ → List ℕ → List ℕ → Type 0
+Spells text fits depth bytes rest = (bytes ≡ text ++ rest) × IsTrue fits × (depth ≤ 1000) × (length rest ≤ length bytes)
+
+-- reading what is owed stops so
+abbrev pub Stops : List Symbol → List ℕ → Flaw → Type 0
+Stops owed bytes (Wrong left) = run owed bytes ≡ wrong left
+Stops owed bytes (Deep left) = run owed bytes ≡ deep left
+Stops owed bytes (Memory e) = Unit {0}

@@ -1,8 +1,9 @@
 // Why reading a part stopped. Places are told by the number of bytes from there on.
 ghost use Rattle.std.specs.Prelude.{◌≡◌};
+ghost use Rattle.proof_text.specs.Refusals.{IsMemory};
 ghost use Rattle.proof_text.specs.declared.flaw.Flaw.TheVariants.{Memory};
 
-use std::alloc::AllocError;
+use std::alloc::{AllocError, AllocFailed};
 
 #[derive(Clone, Copy, PartialEq, Eq)]
 pub enum Flaw {
@@ -18,5 +19,13 @@ impl From<AllocError> for Flaw {
 
     fn from(error: AllocError) -> Flaw {
         Flaw::Memory(error)
+    }
+}
+
+impl<T: Drop> From<AllocFailed<T>> for Flaw {
+    ghost from_gives = { λ _ e. IsMemory e };
+
+    fn from(error: AllocFailed<T>) -> Flaw {
+        Flaw::Memory(AllocError::from(error))
     }
 }

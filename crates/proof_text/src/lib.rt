@@ -4,9 +4,14 @@
 //! a letter. Each certificate has one text.
 #![tactic(auto)]
 
+mod fault;
 mod flaw;
 mod lines;
+mod parts;
+mod read;
 mod scan;
 mod write;
 
+pub use fault::CertFault;
+pub use read::read_cert;
 pub use write::write_cert;

@@ -1,5 +1,5 @@
 use Rattle.std.proofs.Common.{◌≡◌, ◌∙◌, ◌≤◌, ◌<◌, ◌^◌, arith}
-use Rattle.proof_text.proofs.Parts.{digit_goes, digit_told}
+use Rattle.proof_text.proofs.Sequences.{digit_goes, digit_told}
 use Rattle.proof_text.proofs.scan.digits.Goals as goal
 
 pub loop-byte-preserved : goal.loop-byte-preserved

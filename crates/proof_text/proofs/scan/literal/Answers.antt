@@ -1,7 +1,7 @@
 use Rattle.std.proofs.Common.{◌≡◌, ◌∷◌, [], get_or}
 use Rattle.std.proofs.lemmas.Result.{err_from_is_err_and}
 use Rattle.proof_text.specs.Symbols.{byte, bytes}
-use Rattle.proof_text.proofs.Parts.{fails_by, literal_leads, literal_told, literal_goes}
+use Rattle.proof_text.proofs.Sequences.{fails_by, literal_leads, literal_told, literal_goes}
 use Rattle.proof_text.proofs.scan.literal.Goals as goal
 
 pub returns-in_err-rest-clause-err : goal.returns-in_err-rest-clause-err

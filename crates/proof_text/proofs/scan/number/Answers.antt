@@ -1,5 +1,5 @@
 use Rattle.std.proofs.Common.{◌≡◌, ◌∙◌, ◌≤◌, ◌<◌, ◌^◌, ◌-◌, ap, arith}
-use Rattle.proof_text.proofs.Parts.{if_ok, first_goes, first_told}
+use Rattle.proof_text.proofs.Sequences.{if_ok, first_goes, first_told}
 use Rattle.proof_text.proofs.scan.number.Goals as goal
 
 pub returns-in-Some-49-to-57-default-clause-ok : goal.returns-in-Some-49-to-57-default-clause-ok

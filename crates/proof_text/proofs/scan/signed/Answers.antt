@@ -1,7 +1,7 @@
 use Rattle.std.proofs.Common.{◌≡◌, ◌∙◌, ◌≤◌, ◌<◌, ◌∷◌, [], arith, le-leb}
 use Rattle.std.proofs.lemmas.Result.{err_from_is_err_and}
 use Rattle.proof_text.specs.Symbols.{signed, number}
-use Rattle.proof_text.proofs.Parts.{fails_by, plain_goes, zero_goes, zero_told}
+use Rattle.proof_text.proofs.Sequences.{fails_by, plain_goes, zero_goes, zero_told}
 use Rattle.proof_text.proofs.scan.signed.Goals as goal
 
 pub returns-in_err-size-in-Some-49-to-57-default-clause-err : goal.returns-in_err-size-in-Some-49-to-57-default-clause-err
