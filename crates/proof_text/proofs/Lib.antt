@@ -11,3 +11,4 @@ pub mod Sequences
 pub mod StepLines
 pub mod TreeParts
 pub mod PlacesFound
+pub mod Prefixes

@@ -6,6 +6,7 @@
 
 mod fault;
 mod flaw;
+mod laws;
 mod lines;
 mod parts;
 mod read;
@@ -13,5 +14,6 @@ mod scan;
 mod write;
 
 pub use fault::CertFault;
+pub use laws::no_text_begins_another;
 pub use read::read_cert;
 pub use write::write_cert;
