@@ -12,3 +12,5 @@ pub mod StepLines
 pub mod TreeParts
 pub mod PlacesFound
 pub mod Prefixes
+pub mod Unique
+pub mod UniqueTrees

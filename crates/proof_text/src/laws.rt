@@ -8,3 +8,8 @@ ghost use Rattle.proof_tree.specs.Text.{certificate_text, has_text};
 pub fn no_text_begins_another()
     ensures { (o p : Outcome) (v w : Option ℤ) (t u : Tree) (rest : List ℕ) → IsTrue (has_text o v t) → IsTrue (has_text p w u) → certificate_text o v t ++ rest ≡ certificate_text p w u → rest ≡ [] }
 {}
+
+/// Each text is one certificate's.
+pub fn each_text_is_of_one_certificate()
+    ensures { (o p : Outcome) (v w : Option ℤ) (t u : Tree) → IsTrue (has_text o v t) → IsTrue (has_text p w u) → certificate_text o v t ≡ certificate_text p w u → (o ≡ p) × (v ≡ w) × (t ≡ u) }
+{}

@@ -14,6 +14,6 @@ mod scan;
 mod write;
 
 pub use fault::CertFault;
-pub use laws::no_text_begins_another;
+pub use laws::{each_text_is_of_one_certificate, no_text_begins_another};
 pub use read::read_cert;
 pub use write::write_cert;
