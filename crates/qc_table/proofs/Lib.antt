@@ -1,0 +1,4 @@
+pub mod Products
+pub mod Fits
+pub mod Typing
+pub mod Sums

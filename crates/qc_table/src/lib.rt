@@ -1,0 +1,4 @@
+// Laws of the table of predicates.
+#![tactic(auto)]
+
+pub fn nothing() {}
