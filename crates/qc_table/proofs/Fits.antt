@@ -126,3 +126,7 @@ pub any_from : {X : Type 0} (p : X → Bool) (xs : List X) (x : X) → Among x x
 any_from p [] x h e = absurd h
 any_from p (y ∷ xs) x h e =
     elim h [ inl q ↦ or_left (p y) (list_any p xs) (ap p (sym q) ∙ e) | inr m ↦ or_right (p y) (list_any p xs) (any_from p xs x m e) ]
+
+pub true_if : (b : Bool) → (b ≡ false → ⊥) → b ≡ true
+true_if true f = refl
+true_if false f = absurd (f refl)

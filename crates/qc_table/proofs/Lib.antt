@@ -6,3 +6,5 @@ pub mod Compared
 pub mod Truths
 pub mod Items
 pub mod Quotients
+pub mod Remainders
+pub mod Crowds
