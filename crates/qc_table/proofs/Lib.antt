@@ -8,3 +8,6 @@ pub mod Items
 pub mod Quotients
 pub mod Remainders
 pub mod Crowds
+pub mod Entails
+pub mod Refutes
+pub mod Typed
