@@ -11,3 +11,6 @@ pub mod Crowds
 pub mod Entails
 pub mod Refutes
 pub mod Typed
+pub mod Kinded
+pub mod Ordered
+pub mod Valid

@@ -55,7 +55,7 @@ module _ (xs : List Variable) (w : List ℤ) (b : InBox w (map (λ x. domain_val
       (arg_truth a l.0 p.0, arg_truths items l.1 p.1)
 
 -- a truth value, or an array of such, where the sort asks for it
-abbrev OfSort : Sort → Filled ℤ → Type 0
+abbrev pub OfSort : Sort → Filled ℤ → Type 0
 OfSort boolean (filled_one v) = IsTruth v
 OfSort booleans (filled_many vs) = AllTruths vs
 OfSort s v = ⊤
@@ -110,7 +110,7 @@ truths_at (s ∷ sorts) (v ∷ vs) zero o e = at v (subst (λ (t : Sort). OfSort
 truths_at (s ∷ sorts) (v ∷ vs) (suc k) o e = truths_at sorts vs k o.1 e
 
 -- the last argument is a truth value
-abbrev EndsBoolean : List Sort → Type 0
+abbrev pub EndsBoolean : List Sort → Type 0
 EndsBoolean [] = ⊥
 EndsBoolean (s ∷ []) = s ≡ boolean
 EndsBoolean (s ∷ t ∷ sorts) = EndsBoolean (t ∷ sorts)

@@ -1,4 +1,6 @@
-// Laws of the table of predicates.
+// Laws of the table of predicates: what a constraint may refute.
 #![tactic(auto)]
 
-pub fn nothing() {}
+mod laws;
+
+pub use laws::{refuted_has_none, valid_is_ordered};
