@@ -44,6 +44,9 @@ module _ (xs : List Variable) (w : List ℤ) (box : Box) (args : List Argument) 
   three_truths : (p : Pred) → slice_get (sorts_of p) 0 ≡ slice_get (sorts_of BoolAnd) 0 → slice_get (sorts_of p) 1 ≡ slice_get (sorts_of BoolAnd) 1 → slice_get (sorts_of p) 2 ≡ slice_get (sorts_of BoolAnd) 2 → Known p → Kinds (meaning_of BoolAnd) (given_of w args) (lefts_of box args)
   three_truths p a b c k = (truth_at (sorts_of p) (given_of w args) 0 k.values a, truth_at (sorts_of p) (given_of w args) 1 k.values b, truth_at (sorts_of p) (given_of w args) 2 k.values c)
 
+  two_arrays : (p : Pred) → slice_get (sorts_of p) 0 ≡ slice_get (sorts_of BoolClause) 0 → slice_get (sorts_of p) 1 ≡ slice_get (sorts_of BoolClause) 1 → Known p → Kinds (meaning_of BoolClause) (given_of w args) (lefts_of box args)
+  two_arrays p a b k = (truths_at (sorts_of p) (given_of w args) 0 k.values a, truths_at (sorts_of p) (given_of w args) 1 k.values b)
+
   kinds_by : (p : Pred) → Known p → Kinds (meaning_of p) (given_of w args) (lefts_of box args)
   kinds_by IntEq k = tt
   kinds_by IntNe k = tt
@@ -77,21 +80,21 @@ module _ (xs : List Variable) (w : List ℤ) (box : Box) (args : List Argument) 
   kinds_by ArrayBoolAnd k = (truths_at (sorts_of ArrayBoolAnd) (given_of w args) 0 k.values refl, truth_at (sorts_of ArrayBoolAnd) (given_of w args) 1 k.values refl)
   kinds_by ArrayBoolOr k = (truths_at (sorts_of ArrayBoolOr) (given_of w args) 0 k.values refl, truth_at (sorts_of ArrayBoolOr) (given_of w args) 1 k.values refl)
   kinds_by ArrayBoolXor k = tt
-  kinds_by BoolClause k = tt
+  kinds_by BoolClause k = two_arrays BoolClause refl refl k
   kinds_by AllDifferentInt k = tt
   kinds_by TableInt k = tt
-  kinds_by IntEqReif k = (last_of_reified IntEqReif refl k, tt)
-  kinds_by IntNeReif k = (last_of_reified IntNeReif refl k, tt)
-  kinds_by IntLeReif k = (last_of_reified IntLeReif refl k, tt)
-  kinds_by IntLtReif k = (last_of_reified IntLtReif refl k, tt)
-  kinds_by IntLinEqReif k = (last_of_reified IntLinEqReif refl k, sum_literal w box args k.lengths)
-  kinds_by IntLinNeReif k = (last_of_reified IntLinNeReif refl k, sum_literal w box args k.lengths)
-  kinds_by IntLinLeReif k = (last_of_reified IntLinLeReif refl k, sum_literal w box args k.lengths)
-  kinds_by SetInReif k = (last_of_reified SetInReif refl k, tt)
-  kinds_by BoolEqReif k = (last_of_reified BoolEqReif refl k, tt)
-  kinds_by BoolLeReif k = (last_of_reified BoolLeReif refl k, tt)
-  kinds_by BoolLtReif k = (last_of_reified BoolLtReif refl k, tt)
-  kinds_by BoolClauseReif k = (last_of_reified BoolClauseReif refl k, tt)
+  kinds_by IntEqReif k = (last_of_reified IntEqReif refl k, tt, tt)
+  kinds_by IntNeReif k = (last_of_reified IntNeReif refl k, tt, tt)
+  kinds_by IntLeReif k = (last_of_reified IntLeReif refl k, tt, tt)
+  kinds_by IntLtReif k = (last_of_reified IntLtReif refl k, tt, tt)
+  kinds_by IntLinEqReif k = (last_of_reified IntLinEqReif refl k, sum_literal w box args k.lengths, tt)
+  kinds_by IntLinNeReif k = (last_of_reified IntLinNeReif refl k, sum_literal w box args k.lengths, tt)
+  kinds_by IntLinLeReif k = (last_of_reified IntLinLeReif refl k, sum_literal w box args k.lengths, tt)
+  kinds_by SetInReif k = (last_of_reified SetInReif refl k, tt, tt)
+  kinds_by BoolEqReif k = (last_of_reified BoolEqReif refl k, tt, tt)
+  kinds_by BoolLeReif k = (last_of_reified BoolLeReif refl k, tt, tt)
+  kinds_by BoolLtReif k = (last_of_reified BoolLtReif refl k, tt, tt)
+  kinds_by BoolClauseReif k = (last_of_reified BoolClauseReif refl k, two_arrays BoolClauseReif refl refl k, tt)
 
 pub kinds_of : (xs : List Variable) (w : List ℤ) (box : Box) (c : Rule) → is_constraint xs c ≡ true → InBox w (map (λ x. domain_values x.domain) xs) → ArgumentsBelow (length w) c.args → Kinds (meaning_of c.pred) (given_of w c.args) (lefts_of box c.args)
 kinds_of xs w box c e b l =

@@ -14,3 +14,4 @@ pub mod Typed
 pub mod Kinded
 pub mod Ordered
 pub mod Valid
+pub mod Singles

@@ -1,7 +1,7 @@
 -- What the laws of the table ask of arguments besides: truth values are 0 or 1, and the like.
 use Rattle.std.proofs.Common.{◌≡◌, ◌⊎◌, inl, inr, ℕ, Bool, true, false, List, [], ◌∷◌, refl, sym, subst}
 use Rattle.std.specs.Prelude.{ℤ, pos, ⊤}
-use Rattle.qc_model.specs.Meaning.{Meaning, sum_equal, sum_different, sum_at_most, minimum, maximum, both, either, all_items, some_item, reified}
+use Rattle.qc_model.specs.Meaning.{Meaning, equal, different, at_most, below, sum_equal, sum_different, sum_at_most, minimum, maximum, member, both, either, all_items, some_item, clause, reified}
 use Rattle.qc_model.specs.Holds.{Given, value_at, values_at, last_value}
 use Rattle.qc_model.specs.Left.{Lefts, left_at}
 
@@ -25,6 +25,19 @@ abbrev pub HasItem : List ℤ → Type 0
 HasItem [] = ⊥
 HasItem (v ∷ vs) = ⊤
 
+-- the meanings that have a reified form
+abbrev pub IsReifiable : Meaning → Type 0
+IsReifiable equal = ⊤
+IsReifiable different = ⊤
+IsReifiable at_most = ⊤
+IsReifiable below = ⊤
+IsReifiable sum_equal = ⊤
+IsReifiable sum_different = ⊤
+IsReifiable sum_at_most = ⊤
+IsReifiable member = ⊤
+IsReifiable clause = ⊤
+IsReifiable _ = ⊥
+
 abbrev pub Kinds : Meaning → Given → Lefts → Type 0
 Kinds sum_equal vs ds = IsLiteral vs ds 2
 Kinds sum_different vs ds = IsLiteral vs ds 2
@@ -35,7 +48,8 @@ Kinds both vs ds = IsTruth (value_at vs 0) × IsTruth (value_at vs 1) × IsTruth
 Kinds either vs ds = IsTruth (value_at vs 0) × IsTruth (value_at vs 1) × IsTruth (value_at vs 2)
 Kinds all_items vs ds = AllTruths (values_at vs 0) × IsTruth (value_at vs 1)
 Kinds some_item vs ds = AllTruths (values_at vs 0) × IsTruth (value_at vs 1)
-Kinds (reified m) vs ds = IsTruth (last_value vs) × Kinds m vs ds
+Kinds clause vs ds = AllTruths (values_at vs 0) × AllTruths (values_at vs 1)
+Kinds (reified m) vs ds = IsTruth (last_value vs) × Kinds m vs ds × IsReifiable m
 Kinds _ vs ds = ⊤
 
 -- to show a fact of truth values, show it of 0 and 1
