@@ -115,7 +115,7 @@ greatest_low m r (v ∷ vs) (d ∷ ds) h k a =
     below a b m h k = omega (arith, ints, clamps)
 
 -- the tested item is one
-among_of : (m : ℤ) (vs : List ℤ) → list_any (int_eq m) vs ≡ true → Among m vs
+pub among_of : (m : ℤ) (vs : List ℤ) → list_any (int_eq m) vs ≡ true → Among m vs
 among_of m [] e = absurd (differ e)
 among_of m (v ∷ vs) e = elim (or_cases (int_eq m v) (list_any (int_eq m) vs) e) [ inl q ↦ inl (same_number m v q) | inr q ↦ inr (among_of m vs q) ]
 

@@ -15,3 +15,7 @@ pub mod Kinded
 pub mod Ordered
 pub mod Valid
 pub mod Singles
+pub mod SingleNumbers
+pub mod SingleItems
+pub mod SingleTruths
+pub mod Single

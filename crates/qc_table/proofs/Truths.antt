@@ -59,13 +59,13 @@ either_sound vs ds t f r h =
     (at_range vs ds 2 f)
 
 -- the smaller of two truth values is 1 where both are
-min_of_truths : (a b : Bool) → int_min (number_of a) (number_of b) ≡ number_of (is_one (number_of a) && b)
+pub min_of_truths : (a b : Bool) → int_min (number_of a) (number_of b) ≡ number_of (is_one (number_of a) && b)
 min_of_truths true true = refl
 min_of_truths true false = refl
 min_of_truths false true = refl
 min_of_truths false false = refl
 
-max_of_truths : (a b : Bool) → int_max (number_of a) (number_of b) ≡ number_of (is_one (number_of a) || b)
+pub max_of_truths : (a b : Bool) → int_max (number_of a) (number_of b) ≡ number_of (is_one (number_of a) || b)
 max_of_truths true true = refl
 max_of_truths true false = refl
 max_of_truths false true = refl
