@@ -19,3 +19,5 @@ pub mod SingleNumbers
 pub mod SingleItems
 pub mod SingleTruths
 pub mod Single
+pub mod CrowdEnds
+pub mod Parts
