@@ -21,3 +21,5 @@ pub mod SingleTruths
 pub mod Single
 pub mod CrowdEnds
 pub mod Parts
+pub mod Inside
+pub mod InsideQuotients
