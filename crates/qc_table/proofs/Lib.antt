@@ -23,3 +23,5 @@ pub mod CrowdEnds
 pub mod Parts
 pub mod Inside
 pub mod InsideQuotients
+pub mod SmallerItems
+pub mod Smaller
