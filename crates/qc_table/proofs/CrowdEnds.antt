@@ -8,7 +8,7 @@ use Rattle.qc_model.specs.Domains.{Values, least_value, greatest_value}
 use Rattle.qc_model.specs.Left.{is_crowded, has_crowd}
 use Rattle.qc_model.proofs.Sound.{differ, both, lo_of, hi_of}
 use Rattle.qc_table.proofs.Fits.{any_at, any_from, and_true, true_if}
-use Rattle.qc_table.proofs.Crowds.{count_step, ends_within}
+use Rattle.qc_table.proofs.Crowded.{count_step, ends_within}
 
 -- what passes the one test passes the other, so as many do
 pub count_more : {X : Type 0} (p q : X → Bool) (xs : List X) → ((x : X) → Among x xs → p x ≡ true → q x ≡ true) → count_by p xs ≤ count_by q xs

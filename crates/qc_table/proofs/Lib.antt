@@ -7,7 +7,7 @@ pub mod Truths
 pub mod Items
 pub mod Quotients
 pub mod Remainders
-pub mod Crowds
+pub mod Crowded
 pub mod Entails
 pub mod Refutes
 pub mod Typed
@@ -25,3 +25,4 @@ pub mod Inside
 pub mod InsideQuotients
 pub mod SmallerItems
 pub mod Smaller
+pub mod Reached

@@ -20,7 +20,7 @@ use Rattle.qc_model.specs.Visible.{ArgBelow, ArgsBelow, ArgumentBelow, Arguments
 use Rattle.qc_model.specs.Table.{IsOrdered}
 use Rattle.qc_model.proofs.Sound.{differ, both, is_false}
 use Rattle.qc_table.proofs.Fits.{all_at}
-use Rattle.qc_table.proofs.Crowds.{count_step}
+use Rattle.qc_table.proofs.Crowded.{count_step}
 use Rattle.qc_table.proofs.Kinded.{sees_all}
 
 pub among_place : {X : Type 0} (xs : List X) (k : ℕ) (x : X) → slice_get xs k ≡ Some x → Among x xs

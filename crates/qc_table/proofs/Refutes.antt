@@ -18,7 +18,7 @@ use Rattle.qc_table.proofs.Compared.{different_sound, times_sound, absolute_valu
 use Rattle.qc_table.proofs.Truths.{both_sound, either_sound, all_items_sound, some_item_sound, clause_sound}
 use Rattle.qc_table.proofs.Items.{element_sound, variable_element_sound, minimum_sound, maximum_sound, table_sound}
 use Rattle.qc_table.proofs.Remainders.{quotient_sound, remainder_sound}
-use Rattle.qc_table.proofs.Crowds.{all_different_sound}
+use Rattle.qc_table.proofs.Crowded.{all_different_sound}
 use Rattle.qc_table.proofs.Entails.{entails}
 
 -- a truth value r, which says whether h holds: 1 is left only where the plain meaning isn't refuted, 0 where it isn't entailed

@@ -17,7 +17,7 @@ use Rattle.qc_model.specs.Refuted.{refuted_as}
 use Rattle.qc_model.proofs.Sound.{differ, both}
 use Rattle.qc_table.proofs.Fits.{or_left, or_right, and_true, true_if, any_from, all_at}
 use Rattle.qc_table.proofs.Typing.{HasItem}
-use Rattle.qc_table.proofs.Crowds.{count_step, ends_within}
+use Rattle.qc_table.proofs.Crowded.{count_step, ends_within}
 use Rattle.qc_table.proofs.Items.{among_of}
 use Rattle.qc_table.proofs.Singles.{alone, singles, left_single, lefts_single, range_single, at_single, numbers_single}
 use Rattle.qc_table.proofs.SingleNumbers.{or_none, not_of, results_miss}

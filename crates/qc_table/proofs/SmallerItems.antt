@@ -12,7 +12,7 @@ use Rattle.qc_model.specs.Left.{span, are_one_value, some_item_in, some_item_mee
 use Rattle.qc_model.proofs.Sound.{differ, both, has_it}
 use Rattle.qc_table.proofs.Fits.{or_cases, or_left, or_right, and_true, any_at, any_from, all_at, not_unless, both_false, true_if}
 use Rattle.qc_table.proofs.Items.{among_of, meets_at}
-use Rattle.qc_table.proofs.Crowds.{count_step, ends_within}
+use Rattle.qc_table.proofs.Crowded.{count_step, ends_within}
 use Rattle.qc_table.proofs.CrowdEnds.{crowd_of_ends, crowd_has_ends}
 use Rattle.qc_table.proofs.Parts.{IsPart, AreParts, span_low, span_high}
 use Rattle.qc_table.proofs.Inside.{Within, within, span_inside, smaller_within, greater_within}

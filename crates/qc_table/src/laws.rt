@@ -1,12 +1,36 @@
-// The laws.
-ghost use Rattle.qc_table.specs.Laws.{RefutedHasNone, ValidIsOrdered};
+// The laws, each the contract of a function without parameters.
+ghost use Rattle.qc_table.specs.Laws.{RefutedHasNone, RefutedStays, SingleIsExact, ValidIsOrdered, ProductsLieWithin, ProductsReachEnds, QuotientsLieWithin, QuotientsReachEnds, RemaindersLieWithin, AbsolutesLieWithin, AbsolutesReachEnds, CrowdsByEnds, CrowdsRepeat};
 
-/// Where a constraint refutes a box, no declared values of the box satisfy it.
-pub fn refuted_has_none()
-    ensures { RefutedHasNone }
+/// What a constraint of a valid game refutes: a box with no declared values that satisfy it, and
+/// every smaller box without an empty domain; of boxes of single values exactly those on which it
+/// doesn't hold.
+pub fn refuted()
+    ensures has_none { RefutedHasNone }
+    ensures stays { RefutedStays }
+    ensures single { SingleIsExact }
 {}
 
-/// A valid game is in order, as proofs about certificates ask.
+/// A valid game is in order: each constraint sees only variables of its own scope and earlier ones,
+/// each declared domain has a value, and the goal has no variables of its own.
 pub fn valid_is_ordered()
     ensures { ValidIsOrdered }
+{}
+
+/// The ranges of products, quotients, remainders and absolute values hold each result of members.
+/// Those of products, quotients and absolute values are the least ranges that do.
+pub fn ranges()
+    ensures products { ProductsLieWithin }
+    ensures product_ends { ProductsReachEnds }
+    ensures quotients { QuotientsLieWithin }
+    ensures quotient_ends { QuotientsReachEnds }
+    ensures remainders { RemaindersLieWithin }
+    ensures absolutes { AbsolutesLieWithin }
+    ensures absolute_ends { AbsolutesReachEnds }
+{}
+
+/// Items that are to differ: a crowd between any two numbers is found at the ends of items, and
+/// crowded numbers aren't all different.
+pub fn crowds()
+    ensures by_ends { CrowdsByEnds }
+    ensures repeat { CrowdsRepeat }
 {}

@@ -3,4 +3,4 @@
 
 mod laws;
 
-pub use laws::{refuted_has_none, valid_is_ordered};
+pub use laws::{crowds, ranges, refuted, valid_is_ordered};
