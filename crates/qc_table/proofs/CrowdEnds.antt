@@ -1,5 +1,5 @@
 -- A crowd between any two numbers is one between a least and a greatest value of items.
-use Rattle.std.proofs.Common.{◌≡◌, ◌⊎◌, inl, inr, ℕ, zero, suc, ◌+◌, ◌≤◌, Bool, true, false, ◌&&◌, ◌||◌, not, cond, List, [], ◌∷◌, refl, sym, ap, ◌∙◌, subst, arith}
+use Rattle.std.proofs.Common.{◌≡◌, ◌⊎◌, inl, inr, ℕ, ◌+◌, ◌≤◌, Bool, true, false, ◌&&◌, cond, List, [], ◌∷◌, refl, sym, ap, ◌∙◌, subst, arith}
 use Rattle.std.specs.Prelude.{ℤ, pos, ◌+ℤ◌, ◌-ℤ◌, ◌≤ℤ◌, int_le, int_lt}
 use Rattle.std.specs.List.{list_any, count_by}
 use Rattle.std.proofs.lemmas.Int.{ints}
@@ -11,7 +11,7 @@ use Rattle.qc_table.proofs.Fits.{any_at, any_from, and_true, true_if}
 use Rattle.qc_table.proofs.Crowded.{count_step, ends_within}
 
 -- what passes the one test passes the other, so as many do
-pub count_more : {X : Type 0} (p q : X → Bool) (xs : List X) → ((x : X) → Among x xs → p x ≡ true → q x ≡ true) → count_by p xs ≤ count_by q xs
+count_more : {X : Type 0} (p q : X → Bool) (xs : List X) → ((x : X) → Among x xs → p x ≡ true → q x ≡ true) → count_by p xs ≤ count_by q xs
 count_more p q [] f = omega arith
 count_more p q (x ∷ xs) f =
     omega (arith, count_step p x xs, count_step q x xs, count_more p q xs (λ y m. f y (inr m)), by (p x) refl (q x) refl (f x (inl refl)))

@@ -1,5 +1,5 @@
 -- More different numbers than a range has don't fit into it: the first law for all_different.
-use Rattle.std.proofs.Common.{◌≡◌, ◌⊎◌, inl, inr, ℕ, zero, suc, ◌+◌, ◌≤◌, Bool, true, false, ◌&&◌, ◌||◌, not, cond, List, [], ◌∷◌, refl, sym, ap, ◌∙◌, subst, arith}
+use Rattle.std.proofs.Common.{◌≡◌, ℕ, zero, suc, ◌+◌, ◌≤◌, Bool, true, false, ◌&&◌, not, cond, List, [], ◌∷◌, refl, sym, ◌∙◌, subst, arith}
 use Rattle.std.specs.Prelude.{ℤ, pos, ◌+ℤ◌, ◌-ℤ◌, ◌≤ℤ◌, int_le, int_lt, nat_abs}
 use Rattle.std.specs.Ordering.{int_eq}
 use Rattle.std.specs.List.{list_any, count_by}
@@ -7,14 +7,14 @@ use Rattle.std.proofs.lemmas.Int.{ints}
 use Rattle.std.proofs.lemmas.Bool.Decides.{Decides-int_eq}
 use Rattle.std.proofs.lemmas.List.Sums.{sum_by-cons}
 use Rattle.qc_model.specs.Lists.{Among, LiesIn}
-use Rattle.qc_model.specs.Domains.{Values, least_value, greatest_value, is_within}
+use Rattle.qc_model.specs.Domains.{Values, least_value, greatest_value}
 use Rattle.qc_model.specs.Meaning.{all_different}
 use Rattle.qc_model.specs.Holds.{Given, values_at, holds_as, all_differ}
-use Rattle.qc_model.specs.Left.{Lefts, lefts_at, span, is_crowded, has_crowd}
+use Rattle.qc_model.specs.Left.{Lefts, lefts_at, span, is_crowded}
 use Rattle.qc_model.specs.Refuted.{refuted_as}
 use Rattle.qc_model.proofs.Visible.{Fits}
 use Rattle.qc_model.proofs.Sound.{InRange, in_span, differ, both, not_true}
-use Rattle.qc_table.proofs.Fits.{many_fits, any_at, or_cases, or_left, or_right, and_true, true_if}
+use Rattle.qc_table.proofs.Fits.{many_fits, any_at, or_left, or_right}
 use Rattle.qc_table.proofs.Sums.{same_number}
 
 -- one more where the first passes

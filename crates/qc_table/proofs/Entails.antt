@@ -1,20 +1,20 @@
 -- Where a meaning is entailed by what is left, all values among those left have it.
-use Rattle.std.proofs.Common.{◌≡◌, ◌⊎◌, inl, inr, Bool, true, false, ◌&&◌, ◌||◌, not, List, [], ◌∷◌, refl, sym, ap, ◌∙◌, subst, arith}
+use Rattle.std.proofs.Common.{◌≡◌, inl, inr, Bool, true, List, [], ◌∷◌, refl, sym, ap, ◌∙◌, subst, arith}
 use Rattle.std.specs.Prelude.{ℤ, pos, int_lt, int_le}
 use Rattle.std.specs.Ordering.{int_eq}
-use Rattle.std.specs.List.{list_any, list_all}
+use Rattle.std.specs.List.{list_any}
 use Rattle.std.proofs.lemmas.Int.{ints}
 use Rattle.std.proofs.lemmas.Bool.Decides.{Decides-int_eq}
 use Rattle.qc_model.specs.declared.problem.Set.{Set}
-use Rattle.qc_model.specs.Lists.{Among, LiesIn}
-use Rattle.qc_model.specs.Domains.{Values, least_value, greatest_value, set_has}
+use Rattle.qc_model.specs.Lists.{LiesIn}
+use Rattle.qc_model.specs.Domains.{Values, least_value, set_has}
 use Rattle.qc_model.specs.Arguments.{members}
-use Rattle.qc_model.specs.Meaning.{Meaning, equal, different, at_most, below, sum_equal, sum_different, sum_at_most, plus, times, absolute_value, smaller, greater, quotient, remainder, element, variable_element, minimum, maximum, member, both, either, exactly_one, all_items, some_item, odd_items, clause, all_different, table, reified}
+use Rattle.qc_model.specs.Meaning.{Meaning, equal, different, at_most, below, sum_equal, sum_different, sum_at_most, member, clause}
 use Rattle.qc_model.specs.Holds.{Given, value_at, values_at, holds_as, is_one, is_zero}
-use Rattle.qc_model.specs.Left.{Lefts, left_at, lefts_at, sum_at, is_only}
+use Rattle.qc_model.specs.Left.{Lefts, left_at, lefts_at, is_only}
 use Rattle.qc_model.specs.Entailed.{entailed_as}
 use Rattle.qc_model.proofs.Visible.{Fits, one_fits}
-use Rattle.qc_model.proofs.Sound.{InRange, lo_of, hi_of, equal_sound, differ}
+use Rattle.qc_model.proofs.Sound.{lo_of, hi_of, equal_sound, differ}
 use Rattle.qc_table.proofs.Fits.{many_fits, members_fit, or_cases, or_left, or_right, all_at, not_unless, true_if}
 use Rattle.qc_table.proofs.Typing.{Kinds, IsLiteral}
 use Rattle.qc_table.proofs.Sums.{given_sum_in, sum_given, point_sum, sum_equal_sound}

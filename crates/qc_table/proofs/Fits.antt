@@ -1,11 +1,10 @@
 -- What fits a box, place by place; and tests on lists.
-use Rattle.std.proofs.Common.{◌≡◌, ◌⊎◌, inl, inr, ℕ, zero, suc, Bool, true, false, ◌&&◌, ◌||◌, not, List, [], ◌∷◌, length, map, refl, sym, ap, ◌∙◌, subst, Some}
-use Rattle.std.specs.Prelude.{ℤ, pos}
+use Rattle.std.proofs.Common.{◌≡◌, ◌⊎◌, inl, inr, ℕ, zero, suc, Bool, true, false, ◌&&◌, ◌||◌, not, List, [], ◌∷◌, length, map, refl, sym, ap, ◌∙◌, Some}
+use Rattle.std.specs.Prelude.{ℤ}
 use Rattle.std.specs.List.{list_any, list_all}
-use Rattle.qc_model.specs.declared.problem.Set.{Set}
 use Rattle.qc_model.specs.Lists.{Among, LiesIn}
 use Rattle.qc_model.specs.Domains.{Values, least_value, is_single}
-use Rattle.qc_model.specs.Arguments.{Filled, filled_one, filled_many, filled_numbers, filled_members, as_one, as_many, as_numbers, as_members, many, numbers, members, last_of}
+use Rattle.qc_model.specs.Arguments.{Filled, filled_one, filled_many, filled_numbers, filled_members, as_many, as_numbers, as_members, numbers, members}
 use Rattle.qc_model.specs.Holds.{Given, values_at, last_value}
 use Rattle.qc_model.specs.Left.{Lefts, lefts_at, last_left}
 use Rattle.qc_model.proofs.Visible.{FitsOne, Fits, as_one_fits}
@@ -101,10 +100,6 @@ and_true false b e f = e
 pub both_false : (b : Bool) → b ≡ true → not b ≡ true → ⊥
 both_false true e f = differ f
 both_false false e f = differ e
-
-pub true_unless : (b : Bool) → (not b ≡ true → ⊥) → b ≡ true
-true_unless true f = refl
-true_unless false f = absurd (f refl)
 
 pub not_unless : (b : Bool) → (b ≡ true → ⊥) → not b ≡ true
 not_unless true f = absurd (f refl)

@@ -1,22 +1,19 @@
 -- Narrower ranges give narrower results.
-use Rattle.std.proofs.Common.{◌≡◌, ◌⊎◌, inl, inr, Bool, true, false, ◌&&◌, ◌||◌, not, cond, List, [], ◌∷◌, ◌++◌, flat_map, refl, sym, ap, ap₂, ◌∙◌, subst, arith}
-use Rattle.std.specs.Prelude.{ℤ, pos, negsuc, ◌+ℤ◌, ◌-ℤ◌, ◌*ℤ◌, ◌≤ℤ◌, ◌<ℤ◌, int_lt, int_le, int_div, int_rem, nat_abs}
+use Rattle.std.proofs.Common.{◌≡◌, inl, inr, Bool, true, false, cond, List, [], ◌∷◌, refl, sym, subst, arith}
+use Rattle.std.specs.Prelude.{ℤ, pos, ◌*ℤ◌, ◌≤ℤ◌, int_lt, int_le}
 use Rattle.std.specs.Ordering.{int_eq}
 use Rattle.std.specs.Int.{int_min, int_max}
 use Rattle.std.proofs.lemmas.Int.{ints, clamps}
 use Rattle.std.proofs.lemmas.Bool.Decides.{Decides-int_eq}
 use Rattle.qc_model.specs.Lists.{Among}
 use Rattle.qc_model.specs.Domains.{Values}
-use Rattle.qc_model.specs.Ranges.{Range, range_of, range_from, range_of_list, point, is_point, ranges_miss, range_sum, product, absolute, absolute_range, smaller_range, greater_range, negative_ends, positive_ends, quotient_range, greatest_remainder, is_single_range, remainder_range}
-use Rattle.qc_model.specs.Left.{Lefts, left_at, lefts_at, range_at, span, sum_range, sum_at, is_zero_range}
+use Rattle.qc_model.specs.Ranges.{Range, range_of, range_from, range_of_list, point, is_point, ranges_miss, range_sum, product, absolute, absolute_range, smaller_range, greater_range}
+use Rattle.qc_model.specs.Left.{Lefts, left_at, lefts_at, range_at, span, sum_range, sum_at}
 use Rattle.qc_model.specs.Arguments.{numbers}
-use Rattle.qc_model.proofs.Sound.{InRange, differ, both}
-use Rattle.qc_model.proofs.Moves.{among_either, of_flat_map}
+use Rattle.qc_model.proofs.Sound.{InRange, both}
 use Rattle.qc_table.proofs.Fits.{or_cases, or_left, or_right, and_true, true_if}
-use Rattle.qc_table.proofs.Products.{times_in, in_hull, corners}
+use Rattle.qc_table.proofs.Products.{times_in, corners}
 use Rattle.qc_table.proofs.Sums.{same_number}
-use Rattle.qc_table.proofs.Quotients.{quotient_in, divisor_ends, quotients_by}
-use Rattle.qc_table.proofs.Remainders.{remainder_in}
 use Rattle.qc_table.proofs.Parts.{IsPart, AreParts, Parts, part_at, parts_at, same_numbers, span_low, span_high, span_order}
 
 -- a range within another
@@ -44,12 +41,6 @@ from_inside a b i = record { low = i.low; high = omega (arith, ints, i.high, i.o
 
 pub to_inside : (a b : Range) → Inside a b → InRange a.to b
 to_inside a b i = record { low = omega (arith, ints, i.low, i.order); high = i.high }
-
-pub own_from : (a b : Range) → Inside a b → InRange a.from a
-own_from a b i = record { low = omega (arith, ints); high = i.order }
-
-pub own_to : (a b : Range) → Inside a b → InRange a.to a
-own_to a b i = record { low = i.order; high = omega (arith, ints) }
 
 -- narrower ranges miss each other where the wider do
 pub still_miss : (a b c d : Range) → Within a b → Within c d → ranges_miss b d ≡ true → ranges_miss a c ≡ true
@@ -126,13 +117,14 @@ given_sums_inside ds es p =
     subst (λ (ns : List ℤ). Inside (sum_range ns (lefts_at ds 1)) (sum_at es)) (sym (same_numbers ds es 0 p))
     (sums_inside (numbers es 0) (lefts_at ds 1) (lefts_at es 1) (parts_at ds es 1 p))
 
+-- the range of the absolute value, by whether its member's range is at least 0 and at most 0
+abbrev absolute_by : Bool → Bool → Range → Range
+absolute_by p q a = cond p a (cond q (range_of (absolute a.to) (absolute a.from)) (range_of (pos 0) (int_max (absolute a.from) a.to)))
+
 pub absolute_within : (a b : Range) → Inside a b → Within (absolute_range a) (absolute_range b)
 absolute_within a b i = by (int_le (pos 0) a.from) refl (int_le a.to (pos 0)) refl (int_le (pos 0) b.from) refl (int_le b.to (pos 0)) refl
   where
-    choice : Bool → Bool → Range → Range
-    choice s t r = cond s r (cond t (range_of (absolute r.to) (absolute r.from)) (range_of (pos 0) (int_max (absolute r.from) r.to)))
-
-    by : (p : Bool) → int_le (pos 0) a.from ≡ p → (q : Bool) → int_le a.to (pos 0) ≡ q → (s : Bool) → int_le (pos 0) b.from ≡ s → (t : Bool) → int_le b.to (pos 0) ≡ t → Within (cond p a (cond q (range_of (absolute a.to) (absolute a.from)) (range_of (pos 0) (int_max (absolute a.from) a.to)))) (cond s b (cond t (range_of (absolute b.to) (absolute b.from)) (range_of (pos 0) (int_max (absolute b.from) b.to))))
+    by : (p : Bool) → int_le (pos 0) a.from ≡ p → (q : Bool) → int_le a.to (pos 0) ≡ q → (s : Bool) → int_le (pos 0) b.from ≡ s → (t : Bool) → int_le b.to (pos 0) ≡ t → Within (absolute_by p q a) (absolute_by s t b)
     by true p q u true s t v = record { low = i.low; high = i.high }
     by true p q u false s true v = record { low = omega (arith, ints, i.low, i.high, i.order); high = omega (arith, ints, i.low, i.high, i.order) }
     by true p q u false s false v = record { low = omega (arith, ints, i.low, i.high, i.order); high = omega (arith, ints, clamps, i.low, i.high, i.order) }

@@ -1,19 +1,19 @@
 -- Narrower ranges give narrower quotients and remainders.
-use Rattle.std.proofs.Common.{◌≡◌, ◌⊎◌, inl, inr, Bool, true, false, ◌&&◌, ◌||◌, not, cond, List, [], ◌∷◌, ◌++◌, flat_map, refl, sym, ap, ap₂, ◌∙◌, subst, arith}
-use Rattle.std.specs.Prelude.{ℤ, pos, negsuc, ◌-ℤ◌, ◌≤ℤ◌, ◌<ℤ◌, int_lt, int_le, int_div, int_rem, nat_abs}
+use Rattle.std.proofs.Common.{◌≡◌, inl, inr, Bool, true, false, ◌&&◌, ◌||◌, cond, List, [], ◌∷◌, ◌++◌, flat_map, refl, sym, ◌∙◌, subst, arith}
+use Rattle.std.specs.Prelude.{ℤ, pos, negsuc, ◌-ℤ◌, ◌≤ℤ◌, int_lt, int_le, int_div, int_rem}
 use Rattle.std.specs.Ordering.{int_eq}
 use Rattle.std.specs.Int.{int_min, int_max}
 use Rattle.std.proofs.lemmas.Int.{ints, clamps}
 use Rattle.std.proofs.lemmas.Bool.Decides.{Decides-int_eq}
 use Rattle.qc_model.specs.Lists.{Among}
-use Rattle.qc_model.specs.Ranges.{Range, range_of, range_of_list, point, is_point, ranges_miss, negative_ends, positive_ends, quotient_range, greatest_remainder, is_single_range, remainder_range}
+use Rattle.qc_model.specs.Ranges.{Range, range_of_list, point, ranges_miss, negative_ends, positive_ends, quotient_range, greatest_remainder, is_single_range, remainder_range}
 use Rattle.qc_model.specs.Left.{is_zero_range}
 use Rattle.qc_model.proofs.Sound.{InRange, differ, both}
 use Rattle.qc_model.proofs.Moves.{among_either, of_flat_map}
-use Rattle.qc_table.proofs.Fits.{or_cases, or_left, or_right, and_true, true_if}
+use Rattle.qc_table.proofs.Fits.{or_cases, or_left, or_right, and_true}
 use Rattle.qc_table.proofs.Sums.{same_number}
 use Rattle.qc_table.proofs.Quotients.{quotient_in, divisor_ends, quotients_by}
-use Rattle.qc_table.proofs.Remainders.{remainder_in}
+use Rattle.qc_table.proofs.Remainders.{wide_ends, remainder_in}
 use Rattle.qc_table.proofs.Inside.{Within, Inside, from_inside, to_inside, hull_inside, still_miss, still_point, within}
 
 -- an end of the divisor is in its range, and isn't 0
@@ -88,11 +88,8 @@ remainder_from_zero c d j z = by (int_eq c.from (pos 0)) refl (int_eq c.to (pos 
     by true p false q = let n = apart c.to q in omega (arith, ints, clamps, j.low, j.high, j.order)
     by false p t q = let n = apart c.from p in omega (arith, ints, clamps, j.low, j.high, j.order)
 
-lower_end : Bool → Range → ℤ → ℤ
-lower_end t a m = cond t (pos 0) (int_max a.from (pos 0 -ℤ m))
-
 -- the same ends, for ranges that aren't both one number
-wide_within : (a b : Range) (m n : ℤ) → Inside a b → m ≤ℤ n → pos 0 ≤ℤ n → Within (range_of (cond (int_le (pos 0) a.from) (pos 0) (int_max a.from (pos 0 -ℤ m))) (cond (int_le a.to (pos 0)) (pos 0) (int_min a.to m))) (range_of (cond (int_le (pos 0) b.from) (pos 0) (int_max b.from (pos 0 -ℤ n))) (cond (int_le b.to (pos 0)) (pos 0) (int_min b.to n)))
+wide_within : (a b : Range) (m n : ℤ) → Inside a b → m ≤ℤ n → pos 0 ≤ℤ n → Within (wide_ends a m) (wide_ends b n)
 wide_within a b m n i l z = record {
   low = low (int_le (pos 0) a.from) refl (int_le (pos 0) b.from) refl;
   high = high (int_le a.to (pos 0)) refl (int_le b.to (pos 0)) refl;
@@ -122,21 +119,18 @@ remainder_within a b c d i j z = by (is_single_range a && is_single_range c) ref
     around : (x : ℤ) (r : Range) → InRange x r → Within (point x) r
     around x r k = record { low = k.low; high = k.high }
 
-    wide : Range → Range → Range
-    wide x y = range_of (cond (int_le (pos 0) x.from) (pos 0) (int_max x.from (pos 0 -ℤ greatest_remainder y))) (cond (int_le x.to (pos 0)) (pos 0) (int_min x.to (greatest_remainder y)))
-
     narrow : (is_single_range b && is_single_range d) ≡ true → (is_single_range a && is_single_range c) ≡ true
     narrow e =
         let p = both (is_single_range b) (is_single_range d) e in
         and_true (is_single_range a) (is_single_range c) (narrow_single a b i p.0) (narrow_single c d j p.1)
 
-    by : (s : Bool) → (is_single_range a && is_single_range c) ≡ s → (t : Bool) → (is_single_range b && is_single_range d) ≡ t → Within (cond s (point (int_rem a.from c.from)) (range_of (cond (int_le (pos 0) a.from) (pos 0) (int_max a.from (pos 0 -ℤ greatest_remainder c))) (cond (int_le a.to (pos 0)) (pos 0) (int_min a.to (greatest_remainder c))))) (remainder_range b d)
+    by : (s : Bool) → (is_single_range a && is_single_range c) ≡ s → (t : Bool) → (is_single_range b && is_single_range d) ≡ t → Within (cond s (point (int_rem a.from c.from)) (wide_ends a (greatest_remainder c))) (remainder_range b d)
     by true p t q =
         around (int_rem a.from c.from) (remainder_range b d)
         (remainder_in a.from c.from b d (lone (both (is_single_range a) (is_single_range c) p).1) (from_inside a b i) (from_inside c d j))
     by false p true q = absurd (differ (sym p ∙ narrow q))
     by false p false q =
-        subst (λ (s : Bool). Within (range_of (cond (int_le (pos 0) a.from) (pos 0) (int_max a.from (pos 0 -ℤ greatest_remainder c))) (cond (int_le a.to (pos 0)) (pos 0) (int_min a.to (greatest_remainder c)))) (cond s (point (int_rem b.from d.from)) (range_of (cond (int_le (pos 0) b.from) (pos 0) (int_max b.from (pos 0 -ℤ greatest_remainder d))) (cond (int_le b.to (pos 0)) (pos 0) (int_min b.to (greatest_remainder d)))))) (sym q)
+        subst (λ (s : Bool). Within (wide_ends a (greatest_remainder c)) (cond s (point (int_rem b.from d.from)) (wide_ends b (greatest_remainder d)))) (sym q)
         (wide_within a b (greatest_remainder c) (greatest_remainder d) i (remainder_at_most c d j) (remainder_from_zero c d j z))
 
 -- refuted by a narrower divisor too

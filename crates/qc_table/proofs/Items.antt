@@ -1,14 +1,13 @@
 -- The first law for arrays: elements, the least and the greatest item, rows of a table.
-use Rattle.std.proofs.Common.{◌≡◌, ◌⊎◌, inl, inr, ℕ, zero, suc, ◌/◌, Bool, true, false, ◌&&◌, ◌||◌, not, List, [], ◌∷◌, length, refl, sym, ap, ◌∙◌, subst, arith}
+use Rattle.std.proofs.Common.{◌≡◌, inl, inr, ℕ, Bool, true, false, ◌&&◌, not, List, [], ◌∷◌, length, refl, sym, subst, arith}
 use Rattle.std.specs.Prelude.{ℤ, pos, ◌+ℤ◌, int_le, ◌≤ℤ◌}
 use Rattle.std.specs.Ordering.{int_eq}
 use Rattle.std.specs.Int.{int_min, int_max}
 use Rattle.std.specs.List.{list_any, list_all}
 use Rattle.std.proofs.lemmas.Int.{ints, clamps}
-use Rattle.std.proofs.lemmas.Bool.Decides.{Decides-int_eq}
 use Rattle.qc_model.specs.Lists.{Among, LiesIn, same_values}
 use Rattle.qc_model.specs.Domains.{Values, has_value, misses}
-use Rattle.qc_model.specs.Ranges.{Range, range_of}
+use Rattle.qc_model.specs.Ranges.{Range}
 use Rattle.qc_model.specs.Arguments.{numbers}
 use Rattle.qc_model.specs.Meaning.{element, variable_element, minimum, maximum, table}
 use Rattle.qc_model.specs.Holds.{Given, value_at, values_at, holds_as, item_is, is_least, is_greatest, rows}
@@ -16,7 +15,7 @@ use Rattle.qc_model.specs.Left.{Lefts, left_at, lefts_at, range_at, span, some_i
 use Rattle.qc_model.specs.Refuted.{refuted_as}
 use Rattle.qc_model.proofs.Visible.{Fits, one_fits}
 use Rattle.qc_model.proofs.Sound.{InRange, in_span, at_range, apart, differ, both, not_true, has_it, any_of, items_sound, is_false}
-use Rattle.qc_table.proofs.Fits.{many_fits, numbers_fit, length_fits, or_cases, or_left, or_right, and_true, any_at, any_from, all_at, not_unless}
+use Rattle.qc_table.proofs.Fits.{many_fits, numbers_fit, length_fits, or_cases, or_left, or_right, and_true, any_at, any_from}
 use Rattle.qc_table.proofs.Sums.{same_number}
 
 pub element_sound : (vs : Given) (ds : Lefts) → Fits vs ds → refuted_as element ds ≡ true → holds_as element vs ≡ true → ⊥
@@ -39,10 +38,10 @@ item_meets k b c (v ∷ vs) [] d e h m n t = absurd h
 item_meets k b c (v ∷ vs) (f ∷ ds) d e h m n t =
     elim (or_cases (int_eq k b && int_eq v c) (item_is (k +ℤ pos 1) b vs c) t) [
       | inl q ↦ (let p = both (int_eq k b) (int_eq v c) q in
-        or_left (has_value d k && not (misses f e)) (some_item_meets (k +ℤ pos 1) d ds e)
-        (and_true (has_value d k) (not (misses f e))
-        (has_it d k (subst (λ (x : ℤ). Among x d) (sym (same_number k b p.0)) m))
-        (meets_at f e v h.0 (subst (λ (x : ℤ). Among x e) (sym (same_number v c p.1)) n))))
+          or_left (has_value d k && not (misses f e)) (some_item_meets (k +ℤ pos 1) d ds e)
+          (and_true (has_value d k) (not (misses f e))
+          (has_it d k (subst (λ (x : ℤ). Among x d) (sym (same_number k b p.0)) m))
+          (meets_at f e v h.0 (subst (λ (x : ℤ). Among x e) (sym (same_number v c p.1)) n))))
       | inr q ↦ or_right (has_value d k && not (misses f e)) (some_item_meets (k +ℤ pos 1) d ds e) (item_meets (k +ℤ pos 1) b c vs ds d e h.1 m n q)
     ]
 

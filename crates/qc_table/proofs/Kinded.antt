@@ -1,5 +1,5 @@
 -- For each predicate: its arguments, with declared values, are of the kinds that the laws ask for.
-use Rattle.std.proofs.Common.{◌≡◌, ℕ, Bool, true, false, ◌&&◌, ◌==◌, List, [], ◌∷◌, length, map, refl, Some, slice_get}
+use Rattle.std.proofs.Common.{◌≡◌, true, ◌&&◌, ◌==◌, List, length, map, refl, slice_get}
 use Rattle.std.specs.Prelude.{ℤ}
 use Rattle.std.specs.List.{list_all}
 use Rattle.qc_model.specs.declared.problem.Pred.{Pred}
@@ -9,8 +9,8 @@ use Rattle.qc_model.specs.declared.problem.Argument.{Argument}
 use Rattle.qc_model.specs.Content.{Rule}
 use Rattle.qc_model.specs.Domains.{Box, InBox, domain_values}
 use Rattle.qc_model.specs.Holds.{last_value}
-use Rattle.qc_model.specs.Meaning.{Meaning, meaning_of}
-use Rattle.qc_model.specs.Signature.{Sort, sorts_of}
+use Rattle.qc_model.specs.Meaning.{meaning_of}
+use Rattle.qc_model.specs.Signature.{sorts_of}
 use Rattle.qc_model.specs.Valid.{are_of_sorts, have_lengths, is_sum, item_count, is_literal, is_constraint, argument_sees}
 use Rattle.qc_model.specs.Visible.{ArgumentsBelow}
 use Rattle.qc_model.proofs.Sound.{both}
@@ -18,7 +18,7 @@ use Rattle.qc_table.proofs.Typing.{Kinds, IsTruth, IsLiteral}
 use Rattle.qc_table.proofs.Typed.{given_of, lefts_of, of_sorts, OfSorts, EndsBoolean, truth_at, truths_at, truth_last, literal_at, item_at}
 
 -- a constraint has the arguments of its predicate
-pub has_sorts : (xs : List Variable) (c : Rule) → is_constraint xs c ≡ true → are_of_sorts xs (sorts_of c.pred) c.args ≡ true
+has_sorts : (xs : List Variable) (c : Rule) → is_constraint xs c ≡ true → are_of_sorts xs (sorts_of c.pred) c.args ≡ true
 has_sorts xs c e = (both (are_of_sorts xs (sorts_of c.pred) c.args) (have_lengths (meaning_of c.pred) c.args) (both (are_of_sorts xs (sorts_of c.pred) c.args && have_lengths (meaning_of c.pred) c.args) (list_all (argument_sees xs c.owner.0) c.args) e).0).0
 
 pub has_lengths : (xs : List Variable) (c : Rule) → is_constraint xs c ≡ true → have_lengths (meaning_of c.pred) c.args ≡ true

@@ -1,7 +1,7 @@
 -- A valid game is in order: its domains have values, and constraints see no variable of a later scope.
-use Rattle.std.proofs.Common.{◌≡◌, ◌⊎◌, inl, inr, ℕ, zero, suc, ◌+◌, ◌≤◌, ◌<◌, Bool, true, false, ◌&&◌, ◌||◌, not, cond, List, [], ◌∷◌, length, map, refl, sym, ap, ◌∙◌, subst, arith, Option, Some, None, slice_get, nat_lt, nat_le, ltb→lt, leb→le, T, add-one}
-use Rattle.std.specs.Prelude.{ℤ, pos, int_lt, int_le, ◌-ℤ◌, nat_abs}
-use Rattle.std.specs.List.{list_any, list_all, count_by}
+use Rattle.std.proofs.Common.{◌≡◌, inl, inr, ℕ, zero, suc, ◌+◌, ◌≤◌, ◌<◌, Bool, true, false, ◌&&◌, ◌||◌, not, cond, List, [], ◌∷◌, length, map, refl, sym, ap, subst, arith, Option, Some, None, slice_get, nat_lt, nat_le, add-one}
+use Rattle.std.specs.Prelude.{int_lt, int_le, ◌-ℤ◌, nat_abs}
+use Rattle.std.specs.List.{list_all, count_by}
 use Rattle.std.proofs.lemmas.Int.{ints}
 use Rattle.std.proofs.lemmas.Bool.Decides.{nat_tests}
 use Rattle.qc_model.specs.declared.problem.Domain.{Domain}
@@ -13,8 +13,7 @@ use Rattle.qc_model.specs.declared.problem.Argument.{Argument}
 use Rattle.qc_model.specs.declared.problem.Argument.TheVariants.{One, Many, Numbers, Members}
 use Rattle.qc_model.specs.Content.{Game, Rule}
 use Rattle.qc_model.specs.Lists.{Among, numbers_from}
-use Rattle.qc_model.specs.Domains.{Values, domain_values, declared_box, is_none_left, has_empty}
-use Rattle.qc_model.specs.Game.{before}
+use Rattle.qc_model.specs.Domains.{domain_values, is_none_left, has_empty}
 use Rattle.qc_model.specs.Valid.{IsValid, is_domain, is_range, is_number, domain_width, is_listed, has_gap, width_of, is_in_order, is_declared_by, arg_sees, argument_sees, is_constraint}
 use Rattle.qc_model.specs.Visible.{ArgBelow, ArgsBelow, ArgumentBelow, ArgumentsBelow}
 use Rattle.qc_model.specs.Table.{IsOrdered}
@@ -23,7 +22,7 @@ use Rattle.qc_table.proofs.Fits.{all_at}
 use Rattle.qc_table.proofs.Crowded.{count_step}
 use Rattle.qc_table.proofs.Kinded.{sees_all}
 
-pub among_place : {X : Type 0} (xs : List X) (k : ℕ) (x : X) → slice_get xs k ≡ Some x → Among x xs
+among_place : {X : Type 0} (xs : List X) (k : ℕ) (x : X) → slice_get xs k ≡ Some x → Among x xs
 among_place [] k x e = absurd (none_some x e)
   where
     none_some : {X : Type 0} (x : X) → None ≡ Some x → ⊥

@@ -1,23 +1,20 @@
 -- Smaller boxes: fewer values left to each argument, and narrower ranges.
-use Rattle.std.proofs.Common.{◌≡◌, ◌⊎◌, inl, inr, ℕ, zero, suc, ◌<◌, Bool, true, false, ◌&&◌, ◌||◌, not, cond, List, [], ◌∷◌, length, map, refl, sym, ap, ap₂, ◌∙◌, subst, arith, Some}
+use Rattle.std.proofs.Common.{◌≡◌, inl, inr, ℕ, zero, suc, ◌<◌, Bool, true, false, ◌&&◌, ◌||◌, cond, List, [], ◌∷◌, length, map, refl, sym, ap, arith, Some}
 use Rattle.std.specs.Prelude.{ℤ, pos, ◌≤ℤ◌, int_lt, slice_index_or, ⊤}
-use Rattle.std.specs.Ordering.{int_eq}
-use Rattle.std.specs.List.{list_any, list_all}
+use Rattle.std.specs.List.{list_all}
 use Rattle.std.proofs.lemmas.Int.{ints}
-use Rattle.qc_model.specs.declared.problem.Set.{Set}
 use Rattle.qc_model.specs.declared.problem.Arg.{Arg}
 use Rattle.qc_model.specs.declared.problem.Arg.TheVariants.{Var, Num}
 use Rattle.qc_model.specs.declared.problem.Argument.{Argument}
 use Rattle.qc_model.specs.declared.problem.Argument.TheVariants.{One, Many, Numbers, Members}
 use Rattle.qc_model.specs.Lists.{Among}
 use Rattle.qc_model.specs.Domains.{Values, Box, least_value, greatest_value, least_from, greatest_from, has_value, is_single, is_none_left, is_ascending, is_sub_box, has_empty}
-use Rattle.qc_model.specs.Ranges.{Range, ranges_miss}
 use Rattle.qc_model.specs.Arguments.{Filled, filled_one, filled_many, filled_numbers, filled_members, fill, as_one, as_many, as_numbers, as_members, numbers, members}
-use Rattle.qc_model.specs.Left.{Lefts, left_at, lefts_at, last_left, range_at, span}
+use Rattle.qc_model.specs.Left.{Lefts, left_at, lefts_at, last_left}
 use Rattle.qc_model.specs.Refuted.{left_to}
 use Rattle.qc_model.specs.Visible.{ArgBelow, ArgsBelow, ArgumentBelow, ArgumentsBelow}
-use Rattle.qc_model.proofs.Sound.{differ, both, has_it, lo_of, hi_of}
-use Rattle.qc_table.proofs.Fits.{all_at, or_cases, true_if}
+use Rattle.qc_model.proofs.Sound.{differ, both, lo_of, hi_of}
+use Rattle.qc_table.proofs.Fits.{all_at}
 use Rattle.qc_table.proofs.Items.{among_of}
 use Rattle.qc_table.proofs.Typed.{lefts_of}
 

@@ -1,6 +1,6 @@
 -- A product of members lies between the products of ends, in any order of signs.
-use Rattle.std.proofs.Common.{◌≡◌, ◌⊎◌, inl, inr, ℕ, zero, suc, ◌*◌, ◌≤◌, Bool, true, false, cond, List, [], ◌∷◌, refl, sym, ap, ◌∙◌, subst, arith, mul-le-mul_right}
-use Rattle.std.specs.Prelude.{ℤ, pos, negsuc, int_lt, ◌≤ℤ◌, ◌*ℤ◌}
+use Rattle.std.proofs.Common.{◌⊎◌, inl, inr, zero, suc, ◌*◌, ◌≤◌, List, [], ◌∷◌, refl, sym, subst, arith, mul-le-mul_right}
+use Rattle.std.specs.Prelude.{ℤ, pos, negsuc, ◌≤ℤ◌, ◌*ℤ◌}
 use Rattle.std.specs.Int.{int_min, int_max}
 use Rattle.std.proofs.Math.IntN.{*ℤ_comm, *ℤ-zero}
 use Rattle.std.proofs.lemmas.Int.{ints, clamps}
@@ -8,14 +8,14 @@ use Rattle.qc_model.specs.Lists.{Among}
 use Rattle.qc_model.specs.Ranges.{Range, range_of, range_from, range_of_list, product}
 use Rattle.qc_model.proofs.Sound.{InRange}
 
-pub mul_up : (x y z : ℤ) → x ≤ℤ y → pos 0 ≤ℤ z → (x *ℤ z) ≤ℤ (y *ℤ z)
+mul_up : (x y z : ℤ) → x ≤ℤ y → pos 0 ≤ℤ z → (x *ℤ z) ≤ℤ (y *ℤ z)
 mul_up (pos a) (pos b) (pos n) h k = let m : a * n ≤ b * n = mul-le-mul_right n (omega (arith, ints)) in omega (arith, ints)
 mul_up (pos a) (negsuc b) (pos n) h k = absurd (omega (arith, ints))
 mul_up (negsuc a) (pos b) (pos n) h k = omega (arith, ints)
 mul_up (negsuc a) (negsuc b) (pos n) h k = let m : suc b * n ≤ suc a * n = mul-le-mul_right n (omega (arith, ints)) in omega (arith, ints)
 mul_up x y (negsuc n) h k = absurd (omega (arith, ints))
 
-pub mul_down : (x y z : ℤ) → x ≤ℤ y → z ≤ℤ pos 0 → (y *ℤ z) ≤ℤ (x *ℤ z)
+mul_down : (x y z : ℤ) → x ≤ℤ y → z ≤ℤ pos 0 → (y *ℤ z) ≤ℤ (x *ℤ z)
 mul_down (pos a) (pos b) (negsuc n) h k = let m : a * suc n ≤ b * suc n = mul-le-mul_right (suc n) (omega (arith, ints)) in omega (arith, ints)
 mul_down (pos a) (negsuc b) (negsuc n) h k = absurd (omega (arith, ints))
 mul_down (negsuc a) (pos b) (negsuc n) h k = omega (arith, ints)
@@ -35,14 +35,14 @@ either_sign : (z : ℤ) → (pos 0 ≤ℤ z) ⊎ (z ≤ℤ pos 0)
 either_sign (pos n) = inl (omega (arith, ints))
 either_sign (negsuc n) = inr (omega (arith, ints))
 
-pub between_right : (u v : ℤ) (a : Range) → InRange u a → Between (u *ℤ v) (a.from *ℤ v) (a.to *ℤ v)
+between_right : (u v : ℤ) (a : Range) → InRange u a → Between (u *ℤ v) (a.from *ℤ v) (a.to *ℤ v)
 between_right u v a h =
     elim (either_sign v) [
       | inl p ↦ inl (mul_up a.from u v h.low p, mul_up u a.to v h.high p)
       | inr p ↦ inr (mul_down u a.to v h.high p, mul_down a.from u v h.low p)
     ]
 
-pub between_left : (u v : ℤ) (b : Range) → InRange v b → Between (u *ℤ v) (u *ℤ b.from) (u *ℤ b.to)
+between_left : (u v : ℤ) (b : Range) → InRange v b → Between (u *ℤ v) (u *ℤ b.from) (u *ℤ b.to)
 between_left u v b h = subst (λ (n : ℤ). Between n (u *ℤ b.from) (u *ℤ b.to)) (*ℤ_comm v u) (subst (λ (n : ℤ). Between (v *ℤ u) n (u *ℤ b.to)) (*ℤ_comm b.from u) (subst (λ (n : ℤ). Between (v *ℤ u) (b.from *ℤ u) n) (*ℤ_comm b.to u) (between_right v u b h)))
 
 -- the least range of a list holds each of it

@@ -1,14 +1,14 @@
 -- The ends of the ranges of products, quotients and absolute values are reached.
-use Rattle.std.proofs.Common.{◌≡◌, ◌⊎◌, inl, inr, ℕ, zero, suc, Bool, true, false, not, ◌&&◌, cond, List, [], ◌∷◌, flat_map, map, refl, sym, ap, ◌∙◌, subst, arith}
+use Rattle.std.proofs.Common.{◌≡◌, inl, inr, ℕ, Bool, true, false, ◌&&◌, cond, List, [], ◌∷◌, flat_map, map, refl, sym, ◌∙◌, subst, arith}
 use Rattle.std.specs.Prelude.{ℤ, pos, ◌+ℤ◌, ◌-ℤ◌, ◌*ℤ◌, ◌≤ℤ◌, ◌<ℤ◌, int_lt, int_le, int_div, int_rem}
-use Rattle.std.specs.Int.{int_min, int_max}
+use Rattle.std.specs.Int.{int_max}
 use Rattle.std.specs.List.{count_by}
-use Rattle.std.proofs.lemmas.Int.{ints, clamps}
+use Rattle.std.proofs.lemmas.Int.{ints}
 use Rattle.qc_model.specs.Lists.{Among}
-use Rattle.qc_model.specs.Domains.{Values, is_within}
+use Rattle.qc_model.specs.Domains.{is_within}
 use Rattle.qc_model.specs.Ranges.{Range, range_of, range_from, range_of_list, product, absolute, absolute_range, quotient_range, remainder_range}
 use Rattle.qc_model.specs.Holds.{all_differ}
-use Rattle.qc_model.specs.Left.{is_zero_range, is_crowded}
+use Rattle.qc_model.specs.Left.{is_zero_range}
 use Rattle.qc_model.proofs.Sound.{InRange, differ}
 use Rattle.qc_model.proofs.Moves.{of_flat_map}
 use Rattle.qc_model.proofs.Vectors.{false_unless}

@@ -1,5 +1,5 @@
 -- The first law of the table, for each meaning: what is left is refuted only where no values among it have the meaning.
-use Rattle.std.proofs.Common.{◌≡◌, ◌⊎◌, inl, inr, Bool, true, false, ◌&&◌, ◌||◌, not, List, [], ◌∷◌, refl, sym, ap, ◌∙◌, subst}
+use Rattle.std.proofs.Common.{◌≡◌, Bool, true, false, ◌||◌, not}
 use Rattle.std.specs.Prelude.{ℤ, pos}
 use Rattle.qc_model.specs.Lists.{Among}
 use Rattle.qc_model.specs.Domains.{Values, has_value}
@@ -12,7 +12,7 @@ use Rattle.qc_model.proofs.Visible.{Fits}
 use Rattle.qc_model.proofs.Sound.{at_most_sound, below_sound, equal_sound, plus_sound, smaller_sound, greater_sound, has_it, or_false}
 use Rattle.qc_model.proofs.Sound as Sound
 use Rattle.qc_table.proofs.Fits.{last_fits, both_false}
-use Rattle.qc_table.proofs.Typing.{Kinds, IsTruth, number_of, by_truth}
+use Rattle.qc_table.proofs.Typing.{is_contradicted, Kinds, IsTruth, number_of, by_truth}
 use Rattle.qc_table.proofs.Sums.{sum_equal_sound, sum_different_sound, sum_at_most_sound}
 use Rattle.qc_table.proofs.Compared.{different_sound, times_sound, absolute_value_sound, member_sound, exactly_one_sound, odd_items_sound}
 use Rattle.qc_table.proofs.Truths.{both_sound, either_sound, all_items_sound, some_item_sound, clause_sound}
@@ -22,7 +22,7 @@ use Rattle.qc_table.proofs.Crowded.{all_different_sound}
 use Rattle.qc_table.proofs.Entails.{entails}
 
 -- a truth value r, which says whether h holds: 1 is left only where the plain meaning isn't refuted, 0 where it isn't entailed
-truth_apart : (d : Values) (h refuted entailed : Bool) → (refuted ≡ true → h ≡ true → ⊥) → (entailed ≡ true → h ≡ true) → ((not (has_value d (pos 1)) || refuted) && (not (has_value d (pos 0)) || entailed)) ≡ true → (r : ℤ) → IsTruth r → Among r d → same_truth (is_one r) h ≡ true → ⊥
+truth_apart : (d : Values) (h refuted entailed : Bool) → (refuted ≡ true → h ≡ true → ⊥) → (entailed ≡ true → h ≡ true) → is_contradicted d refuted entailed ≡ true → (r : ℤ) → IsTruth r → Among r d → same_truth (is_one r) h ≡ true → ⊥
 truth_apart d h refuted entailed f g e r t = by_truth (λ (x : ℤ). Among x d → same_truth (is_one x) h ≡ true → ⊥) cases r t
   where
     cases : (b : Bool) → Among (number_of b) d → same_truth (is_one (number_of b)) h ≡ true → ⊥

@@ -1,12 +1,12 @@
 -- Remainders of members lie within the stated range; and the first law for quotient and remainder.
-use Rattle.std.proofs.Common.{◌≡◌, ◌⊎◌, inl, inr, ℕ, zero, suc, ◌%◌, ◌≤◌, ◌<◌, Bool, true, false, ◌&&◌, ◌||◌, not, cond, List, [], ◌∷◌, refl, sym, ap, ◌∙◌, subst, arith, mod-lt}
+use Rattle.std.proofs.Common.{◌≡◌, ◌⊎◌, inl, inr, ℕ, zero, suc, ◌%◌, ◌≤◌, ◌<◌, Bool, true, false, ◌&&◌, ◌||◌, not, cond, refl, sym, ap, ◌∙◌, subst, arith, mod-lt}
 use Rattle.std.proofs.Math.Nat.{mod-le}
-use Rattle.std.specs.Prelude.{ℤ, pos, negsuc, neg_ℤ, ◌≤ℤ◌, ◌<ℤ◌, ◌-ℤ◌, int_lt, int_le, int_div, int_rem, nat_abs}
+use Rattle.std.specs.Prelude.{ℤ, pos, negsuc, neg_ℤ, ◌≤ℤ◌, ◌<ℤ◌, ◌-ℤ◌, int_le, int_div, int_rem, nat_abs}
 use Rattle.std.specs.Ordering.{int_eq}
 use Rattle.std.specs.Int.{int_min, int_max}
 use Rattle.std.proofs.lemmas.Int.{ints, clamps}
 use Rattle.std.proofs.lemmas.Bool.Decides.{Decides-int_eq}
-use Rattle.qc_model.specs.Ranges.{Range, range_of, point, absolute, is_single_range, greatest_remainder, ranges_miss, quotient_range, remainder_range}
+use Rattle.qc_model.specs.Ranges.{Range, range_of, point, is_single_range, greatest_remainder, ranges_miss, quotient_range, remainder_range}
 use Rattle.qc_model.specs.Meaning.{quotient, remainder}
 use Rattle.qc_model.specs.Holds.{Given, value_at, holds_as, is_zero}
 use Rattle.qc_model.specs.Left.{Lefts, range_at, is_zero_range}
@@ -44,7 +44,7 @@ of_negative_dividend a r d h k = record {
   of_negative = λ m. (omega (arith, ints), omega (arith, ints));
 }
 
-pub remainder_is : (u v : ℤ) → (v ≡ pos 0 → ⊥) → IsRemainder u (nat_abs v) (int_rem u v)
+remainder_is : (u v : ℤ) → (v ≡ pos 0 → ⊥) → IsRemainder u (nat_abs v) (int_rem u v)
 remainder_is (pos a) v n = of_positive_dividend a (a % nat_abs v) (nat_abs v) (mod-lt a (abs_positive v n)) (mod-le a (nat_abs v))
 remainder_is (negsuc a) v n = of_negative_dividend a (suc a % nat_abs v) (nat_abs v) (mod-lt (suc a) (abs_positive v n)) (mod-le (suc a) (nat_abs v))
 
@@ -80,13 +80,15 @@ high_in u v r a b i h k = by (int_le a.to (pos 0)) refl (greatest_remainder b) (
 single_is : (u : ℤ) (a : Range) → is_single_range a ≡ true → InRange u a → u ≡ a.from
 single_is u a s h = let e = same_number a.from a.to s in omega (arith, ints, h.low, h.high)
 
+-- the range of remainders by at most m, where dividend and divisor aren't both one number
+abbrev pub wide_ends : Range → ℤ → Range
+wide_ends a m =
+    range_of (cond (int_le (pos 0) a.from) (pos 0) (int_max a.from (pos 0 -ℤ m))) (cond (int_le a.to (pos 0)) (pos 0) (int_min a.to m))
+
 pub remainder_in : (u v : ℤ) (a b : Range) → (v ≡ pos 0 → ⊥) → InRange u a → InRange v b → InRange (int_rem u v) (remainder_range a b)
 remainder_in u v a b n h k = by (is_single_range a && is_single_range b) refl
   where
-    abbreviated : Range
-    abbreviated = range_of (cond (int_le (pos 0) a.from) (pos 0) (int_max a.from (pos 0 -ℤ greatest_remainder b))) (cond (int_le a.to (pos 0)) (pos 0) (int_min a.to (greatest_remainder b)))
-
-    by : (t : Bool) → (is_single_range a && is_single_range b) ≡ t → InRange (int_rem u v) (cond t (point (int_rem a.from b.from)) abbreviated)
+    by : (t : Bool) → (is_single_range a && is_single_range b) ≡ t → InRange (int_rem u v) (cond t (point (int_rem a.from b.from)) (wide_ends a (greatest_remainder b)))
     by true e =
         let p = both (is_single_range a) (is_single_range b) e in
         subst (λ (m : ℤ). InRange m (point (int_rem a.from b.from))) (ap (λ (x : ℤ). int_rem x b.from) (sym (single_is u a p.0 h)) ∙ ap (λ (x : ℤ). int_rem u x) (sym (single_is v b p.1 k))) (in_point (int_rem a.from b.from))

@@ -1,8 +1,8 @@
 -- On a box of single values, refuted is exactly "doesn't hold".
-use Rattle.std.proofs.Common.{◌≡◌, Bool, true, false, ◌&&◌, ◌||◌, not, List, [], ◌∷◌, map, refl, sym, ap, ap₂, ◌∙◌, subst, slice_get, Some, length}
-use Rattle.std.specs.Prelude.{ℕ, ℤ, pos}
+use Rattle.std.proofs.Common.{◌≡◌, Bool, true, false, not, List, [], ◌∷◌, map, refl, sym, ap, ◌∙◌, subst, slice_get, Some, length}
+use Rattle.std.specs.Prelude.{ℕ, ℤ}
 use Rattle.qc_model.specs.Content.{Game, Rule}
-use Rattle.qc_model.specs.Domains.{Values, has_value, InBox, declared_box}
+use Rattle.qc_model.specs.Domains.{Values, InBox, declared_box}
 use Rattle.qc_model.specs.Meaning.{Meaning, equal, different, at_most, below, sum_equal, sum_different, sum_at_most, plus, times, absolute_value, smaller, greater, quotient, remainder, element, variable_element, minimum, maximum, member, both, either, exactly_one, all_items, some_item, odd_items, clause, all_different, table, reified, meaning_of}
 use Rattle.qc_model.specs.Holds.{Given, holds_as, holds_on, last_value, same_truth, is_one}
 use Rattle.qc_model.specs.Left.{last_left}
@@ -10,15 +10,14 @@ use Rattle.qc_model.specs.Entailed.{entailed_as}
 use Rattle.qc_model.specs.Refuted.{refuted_as, refuted_by}
 use Rattle.qc_model.specs.Valid.{IsValid}
 use Rattle.qc_model.specs.Visible.{ArgumentsBelow}
-use Rattle.qc_model.proofs.Sound.{differ}
-use Rattle.qc_table.proofs.Typing.{Kinds, IsTruth, number_of, by_truth}
-use Rattle.qc_table.proofs.Typed.{given_of, lefts_of}
+use Rattle.qc_table.proofs.Typing.{is_contradicted, Kinds, IsTruth, number_of, by_truth}
+use Rattle.qc_table.proofs.Typed.{given_of}
 use Rattle.qc_table.proofs.Kinded.{kinds_of}
 use Rattle.qc_table.proofs.Ordered.{constraint_at}
 use Rattle.qc_table.proofs.Refutes.{refutes}
 use Rattle.qc_table.proofs.Entails.{entails}
 use Rattle.qc_table.proofs.Singles.{alone, singles, last_single, fit_singles, lefts_alone}
-use Rattle.qc_table.proofs.SingleNumbers.{or_none, equal_single, different_single, at_most_single, below_single, sum_equal_single, sum_different_single, sum_at_most_single, plus_single, times_single, absolute_value_single, smaller_single, greater_single, quotient_single, remainder_single, member_single, exactly_one_single}
+use Rattle.qc_table.proofs.SingleNumbers.{equal_single, different_single, at_most_single, below_single, sum_equal_single, sum_different_single, sum_at_most_single, plus_single, times_single, absolute_value_single, smaller_single, greater_single, quotient_single, remainder_single, member_single, exactly_one_single}
 use Rattle.qc_table.proofs.SingleItems.{element_single, variable_element_single, minimum_single, maximum_single, odd_items_single, all_different_single, table_single}
 use Rattle.qc_table.proofs.SingleTruths.{both_single, either_single, all_items_single, some_item_single, clause_single, entailed_single}
 
@@ -35,14 +34,14 @@ same_tests false true f g = g refl
 same_tests false false f g = refl
 
 -- a truth value that says whether h holds
-truth_alone : (d : Values) (r : ℤ) (h refuted entailed : Bool) → IsTruth r → d ≡ alone r → refuted ≡ not h → entailed ≡ h → ((not (has_value d (pos 1)) || refuted) && (not (has_value d (pos 0)) || entailed)) ≡ not (same_truth (is_one r) h)
+truth_alone : (d : Values) (r : ℤ) (h refuted entailed : Bool) → IsTruth r → d ≡ alone r → refuted ≡ not h → entailed ≡ h → is_contradicted d refuted entailed ≡ not (same_truth (is_one r) h)
 truth_alone d r h refuted entailed t e f g =
-    subst (λ (x : Values). ((not (has_value x (pos 1)) || refuted) && (not (has_value x (pos 0)) || entailed)) ≡ not (same_truth (is_one r) h)) (sym e)
-    (subst (λ (x : Bool). ((not (has_value (alone r) (pos 1)) || x) && (not (has_value (alone r) (pos 0)) || entailed)) ≡ not (same_truth (is_one r) h)) (sym f)
-    (subst (λ (x : Bool). ((not (has_value (alone r) (pos 1)) || not h) && (not (has_value (alone r) (pos 0)) || x)) ≡ not (same_truth (is_one r) h)) (sym g)
-    (by_truth (λ (x : ℤ). ((not (has_value (alone x) (pos 1)) || not h) && (not (has_value (alone x) (pos 0)) || h)) ≡ not (same_truth (is_one x) h)) (λ b. cases b h) r t)))
+    subst (λ (x : Values). is_contradicted x refuted entailed ≡ not (same_truth (is_one r) h)) (sym e)
+    (subst (λ (x : Bool). is_contradicted (alone r) x entailed ≡ not (same_truth (is_one r) h)) (sym f)
+    (subst (λ (x : Bool). is_contradicted (alone r) (not h) x ≡ not (same_truth (is_one r) h)) (sym g)
+    (by_truth (λ (x : ℤ). is_contradicted (alone x) (not h) h ≡ not (same_truth (is_one x) h)) (λ b. cases b h) r t)))
   where
-    cases : (b h : Bool) → ((not (has_value (alone (number_of b)) (pos 1)) || not h) && (not (has_value (alone (number_of b)) (pos 0)) || h)) ≡ not (same_truth (is_one (number_of b)) h)
+    cases : (b h : Bool) → is_contradicted (alone (number_of b)) (not h) h ≡ not (same_truth (is_one (number_of b)) h)
     cases true true = refl
     cases true false = refl
     cases false true = refl

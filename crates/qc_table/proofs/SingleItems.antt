@@ -1,5 +1,5 @@
 -- On single values, what doesn't hold is refuted: arrays.
-use Rattle.std.proofs.Common.{◌≡◌, ◌⊎◌, inl, inr, ℕ, zero, suc, ◌+◌, ◌≤◌, ◌<◌, Bool, true, false, ◌&&◌, ◌||◌, not, cond, List, [], ◌∷◌, length, map, refl, sym, ap, ap₂, ◌∙◌, subst, arith}
+use Rattle.std.proofs.Common.{◌≡◌, inl, inr, ℕ, suc, ◌+◌, ◌≤◌, Bool, true, false, ◌&&◌, ◌||◌, not, cond, List, [], ◌∷◌, length, map, refl, sym, ap, ap₂, ◌∙◌, subst, arith}
 use Rattle.std.specs.Prelude.{ℤ, pos, ◌+ℤ◌, ◌-ℤ◌, int_le, int_lt}
 use Rattle.std.specs.Ordering.{int_eq}
 use Rattle.std.specs.Int.{int_min, int_max}
@@ -7,19 +7,19 @@ use Rattle.std.specs.List.{list_any, list_all, count_by}
 use Rattle.std.proofs.lemmas.Int.{ints, clamps}
 use Rattle.std.proofs.lemmas.Bool.Decides.{Decides-int_eq, same_from_decides}
 use Rattle.qc_model.specs.Lists.{Among, same_values}
-use Rattle.qc_model.specs.Domains.{Values, least_value, greatest_value, has_value, misses, is_single}
-use Rattle.qc_model.specs.Ranges.{Range, point, range_of, smaller_range, greater_range}
+use Rattle.qc_model.specs.Domains.{Values, least_value, greatest_value, misses, is_single}
+use Rattle.qc_model.specs.Ranges.{point, smaller_range, greater_range}
 use Rattle.qc_model.specs.Arguments.{numbers}
 use Rattle.qc_model.specs.Meaning.{element, variable_element, minimum, maximum, odd_items, all_different, table}
 use Rattle.qc_model.specs.Holds.{Given, value_at, values_at, holds_as, item_is, is_least, is_greatest, odd_ones, all_differ, rows}
-use Rattle.qc_model.specs.Left.{Lefts, left_at, lefts_at, range_at, some_item_in, some_item_meets, least_range, greatest_range, least_item_range, greatest_item_range, is_crowded, has_crowd, row_fits}
+use Rattle.qc_model.specs.Left.{left_at, lefts_at, range_at, some_item_in, some_item_meets, least_range, greatest_range, least_item_range, greatest_item_range, is_crowded, has_crowd, row_fits}
 use Rattle.qc_model.specs.Refuted.{refuted_as}
 use Rattle.qc_model.proofs.Sound.{differ, both}
-use Rattle.qc_table.proofs.Fits.{or_left, or_right, and_true, true_if, any_from, all_at}
+use Rattle.qc_table.proofs.Fits.{and_true, true_if, any_from}
 use Rattle.qc_table.proofs.Typing.{HasItem}
 use Rattle.qc_table.proofs.Crowded.{count_step, ends_within}
 use Rattle.qc_table.proofs.Items.{among_of}
-use Rattle.qc_table.proofs.Singles.{alone, singles, left_single, lefts_single, range_single, at_single, numbers_single}
+use Rattle.qc_table.proofs.Singles.{alone, singles, lefts_single, range_single, at_single, numbers_single}
 use Rattle.qc_table.proofs.SingleNumbers.{or_none, not_of, results_miss}
 
 items_alone : (k b c : ℤ) (ns : List ℤ) → some_item_in k (alone b) ns (alone c) ≡ item_is k b ns c
@@ -103,18 +103,20 @@ least_bounds v [] = (true_if (int_le v v) (λ n. omega (arith, ints)), refl)
 least_bounds v (x ∷ xs) =
     let h = least_bounds v xs in
     let m = least_of_all v xs in
-    let l : int_le (int_min x m) m ≡ true = true_if (int_le (int_min x m) m) (λ n. omega (arith, ints, clamps)) in
-    (true_if (int_le (int_min x m) v) (λ n. omega (arith, ints, h.0)),
-    and_true (int_le (int_min x m) x) (list_all (λ y. int_le (int_min x m) y) xs) (true_if (int_le (int_min x m) x) (λ n. omega (arith, ints, clamps))) (weaken (int_min x m) m xs l h.1))
+    let l : int_le (int_min x m) m ≡ true = true_if (int_le (int_min x m) m) (λ n. omega (arith, ints, clamps)) in (
+      true_if (int_le (int_min x m) v) (λ n. omega (arith, ints, h.0)),
+      and_true (int_le (int_min x m) x) (list_all (λ y. int_le (int_min x m) y) xs) (true_if (int_le (int_min x m) x) (λ n. omega (arith, ints, clamps))) (weaken (int_min x m) m xs l h.1),
+    )
 
 greatest_bounds : (v : ℤ) (xs : List ℤ) → (int_le v (greatest_of_all v xs) ≡ true) × (list_all (λ x. int_le x (greatest_of_all v xs)) xs ≡ true)
 greatest_bounds v [] = (true_if (int_le v v) (λ n. omega (arith, ints)), refl)
 greatest_bounds v (x ∷ xs) =
     let h = greatest_bounds v xs in
     let m = greatest_of_all v xs in
-    let l : int_le m (int_max x m) ≡ true = true_if (int_le m (int_max x m)) (λ n. omega (arith, ints, clamps)) in
-    (true_if (int_le v (int_max x m)) (λ n. omega (arith, ints, h.0)),
-    and_true (int_le x (int_max x m)) (list_all (λ y. int_le y (int_max x m)) xs) (true_if (int_le x (int_max x m)) (λ n. omega (arith, ints, clamps))) (weaken_up (int_max x m) m xs l h.1))
+    let l : int_le m (int_max x m) ≡ true = true_if (int_le m (int_max x m)) (λ n. omega (arith, ints, clamps)) in (
+      true_if (int_le v (int_max x m)) (λ n. omega (arith, ints, h.0)),
+      and_true (int_le x (int_max x m)) (list_all (λ y. int_le y (int_max x m)) xs) (true_if (int_le x (int_max x m)) (λ n. omega (arith, ints, clamps))) (weaken_up (int_max x m) m xs l h.1),
+    )
 
 is_least_of_all : (v : ℤ) (xs : List ℤ) → is_least (least_of_all v xs) (v ∷ xs) ≡ true
 is_least_of_all v xs =
@@ -224,8 +226,8 @@ repeats (v ∷ vs) e = by (list_any (int_eq v) vs) refl (all_differ vs) refl (λ
       value = v;
       is_item = inl refl;
       twice = (let h = count_alone v vs (among_of v vs p) in
-        subst (λ (c : ℕ). 2 ≤ c) (sym (count_step (ends_within v v) (alone v) (map alone vs)))
-        (subst (λ (b : Bool). 2 ≤ cond b 1 0 + count_by (ends_within v v) (map alone vs)) (sym (and_true (int_le v v) (int_le v v) own own)) (omega arith)));
+          subst (λ (c : ℕ). 2 ≤ c) (sym (count_step (ends_within v v) (alone v) (map alone vs)))
+          (subst (λ (b : Bool). 2 ≤ cond b 1 0 + count_by (ends_within v v) (map alone vs)) (sym (and_true (int_le v v) (int_le v v) own own)) (omega arith)));
     }
       where
         own : int_le v v ≡ true
@@ -241,7 +243,7 @@ among_alone : (v : ℤ) (vs : List ℤ) → Among v vs → Among (alone v) (map 
 among_alone v [] m = absurd m
 among_alone v (x ∷ vs) m = elim m [ inl e ↦ inl (ap alone e) | inr t ↦ inr (among_alone v vs t) ]
 
-pub crowd_alone : (vs : List ℤ) → all_differ vs ≡ false → has_crowd (map alone vs) ≡ true
+crowd_alone : (vs : List ℤ) → all_differ vs ≡ false → has_crowd (map alone vs) ≡ true
 crowd_alone vs e =
     let r = repeats vs e in
     let v = r.value in

@@ -1,20 +1,21 @@
 -- On single values, what doesn't hold is refuted: the meanings of two and three numbers, and sums.
-use Rattle.std.proofs.Common.{◌≡◌, ◌⊎◌, inl, inr, ℕ, zero, suc, Bool, true, false, ◌&&◌, ◌||◌, not, cond, List, [], ◌∷◌, ◌++◌, map, flat_map, refl, sym, ap, ap₂, ◌∙◌, subst, arith}
+use Rattle.std.proofs.Common.{◌≡◌, zero, suc, Bool, true, false, ◌&&◌, ◌||◌, not, cond, List, [], ◌∷◌, ◌++◌, map, flat_map, refl, sym, ap, ap₂, ◌∙◌, subst, arith}
 use Rattle.std.specs.Prelude.{ℤ, pos, negsuc, ◌+ℤ◌, ◌-ℤ◌, ◌*ℤ◌, int_lt, int_le, int_div, int_rem}
 use Rattle.std.specs.Ordering.{int_eq}
 use Rattle.std.specs.Int.{int_min, int_max}
-use Rattle.std.specs.List.{list_any, list_all}
+use Rattle.std.specs.List.{list_any}
 use Rattle.std.proofs.lemmas.Int.{ints, clamps}
 use Rattle.std.proofs.lemmas.Bool.Decides.{Decides-int_eq}
 use Rattle.qc_model.specs.declared.problem.Set.{Set}
-use Rattle.qc_model.specs.Domains.{Values, least_value, greatest_value, misses, set_has, is_single}
-use Rattle.qc_model.specs.Ranges.{Range, range_of, range_of_list, point, is_point, ranges_miss, range_sum, product, absolute, absolute_range, smaller_range, greater_range, negative_ends, positive_ends, quotient_range, remainder_range, is_single_range, greatest_remainder}
+use Rattle.qc_model.specs.Domains.{Values, least_value, greatest_value, misses, set_has}
+use Rattle.qc_model.specs.Ranges.{Range, range_of, range_of_list, point, is_point, ranges_miss, range_sum, product, absolute, absolute_range, smaller_range, greater_range, quotient_range, remainder_range, greatest_remainder}
 use Rattle.qc_model.specs.Arguments.{numbers, members}
 use Rattle.qc_model.specs.Meaning.{equal, different, at_most, below, sum_equal, sum_different, sum_at_most, plus, times, absolute_value, smaller, greater, quotient, remainder, member, exactly_one}
 use Rattle.qc_model.specs.Holds.{Given, value_at, values_at, sum_of_products, holds_as, is_zero, is_one, same_truth}
-use Rattle.qc_model.specs.Left.{Lefts, left_at, lefts_at, range_at, sum_range, sum_at, is_zero_range, are_one_value}
+use Rattle.qc_model.specs.Left.{left_at, range_at, sum_range, sum_at, is_zero_range, are_one_value}
 use Rattle.qc_model.specs.Refuted.{refuted_as}
 use Rattle.qc_model.proofs.Sound.{differ}
+use Rattle.qc_table.proofs.Typing.{is_wrong_xor}
 use Rattle.qc_table.proofs.Fits.{or_left, or_right, and_true, true_if}
 use Rattle.qc_table.proofs.Sums.{sum_given}
 use Rattle.qc_table.proofs.Quotients.{divisor_ends, quotients_by}
@@ -32,7 +33,7 @@ of_not true e = refl
 of_not false e = absurd (differ (sym e))
 
 -- numbers that differ are ranges that miss each other
-pub points_miss : (x c : ℤ) → int_eq x c ≡ false → ranges_miss (point x) (point c) ≡ true
+points_miss : (x c : ℤ) → int_eq x c ≡ false → ranges_miss (point x) (point c) ≡ true
 points_miss x c e = true_if (ranges_miss (point x) (point c)) (λ n. by (int_lt x c) refl (int_lt c x) refl n)
   where
     by : (a : Bool) → int_lt x c ≡ a → (b : Bool) → int_lt c x ≡ b → (a || b) ≡ false → ⊥
@@ -72,10 +73,10 @@ max_same p = omega (arith, ints, clamps)
 hull_pair : (p : ℤ) (r : Range) → r ≡ point p → range_of (int_min p r.from) (int_max p r.to) ≡ point p
 hull_pair p r e = subst (λ t. range_of (int_min p t.from) (int_max p t.to) ≡ point p) (sym e) (ap₂ range_of (min_same p) (max_same p))
 
-pub hull_same : (p : ℤ) → range_of_list (p ∷ p ∷ p ∷ p ∷ []) ≡ point p
+hull_same : (p : ℤ) → range_of_list (p ∷ p ∷ p ∷ p ∷ []) ≡ point p
 hull_same p = hull_pair p (range_of_list (p ∷ p ∷ p ∷ [])) (hull_pair p (range_of_list (p ∷ p ∷ [])) (hull_pair p (point p) refl))
 
-pub sum_point : (ns vs : List ℤ) → sum_range ns (map alone vs) ≡ point (sum_of_products ns vs)
+sum_point : (ns vs : List ℤ) → sum_range ns (map alone vs) ≡ point (sum_of_products ns vs)
 sum_point [] vs = refl
 sum_point (n ∷ ns) [] = refl
 sum_point (n ∷ ns) (v ∷ vs) = ap₂ range_sum (hull_same (n *ℤ v)) (sum_point ns vs)
@@ -184,5 +185,5 @@ member_single vs e =
 pub exactly_one_single : (vs : Given) → holds_as exactly_one vs ≡ false → refuted_as exactly_one (singles vs) ≡ true
 exactly_one_single vs e =
     at_single vs
-    (λ a b c. (is_single a && is_single b && is_single c && not (same_truth (is_one (least_value c)) (not (int_eq (least_value a) (least_value b))))) ≡ true)
+    (λ a b c. is_wrong_xor a b c ≡ true)
     (not_of (same_truth (is_one (value_at vs 2)) (not (int_eq (value_at vs 0) (value_at vs 1)))) e)

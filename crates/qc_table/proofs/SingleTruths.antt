@@ -1,10 +1,9 @@
 -- On single values, what doesn't hold is refuted: truth values; and what holds is entailed.
-use Rattle.std.proofs.Common.{◌≡◌, ◌⊎◌, inl, inr, Bool, true, false, ◌&&◌, ◌||◌, not, List, [], ◌∷◌, map, refl, sym, ap, ap₂, ◌∙◌, subst, arith}
+use Rattle.std.proofs.Common.{◌≡◌, Bool, true, false, ◌&&◌, ◌||◌, not, List, [], ◌∷◌, map, refl, sym, ap, ap₂, ◌∙◌, subst}
 use Rattle.std.specs.Prelude.{ℤ, pos, int_lt, int_le}
 use Rattle.std.specs.Ordering.{int_eq}
 use Rattle.std.specs.Int.{int_min, int_max}
 use Rattle.std.specs.List.{list_any, list_all}
-use Rattle.std.proofs.lemmas.Int.{ints}
 use Rattle.qc_model.specs.declared.problem.Set.{Set}
 use Rattle.qc_model.specs.Domains.{Values, least_value, greatest_value, misses, set_has}
 use Rattle.qc_model.specs.Ranges.{Range, point, ranges_miss, smaller_range, greater_range}
@@ -15,12 +14,12 @@ use Rattle.qc_model.specs.Left.{left_at, lefts_at, range_at, sum_at, is_only, le
 use Rattle.qc_model.specs.Refuted.{refuted_as}
 use Rattle.qc_model.specs.Entailed.{entailed_as}
 use Rattle.qc_model.proofs.Sound.{differ}
-use Rattle.qc_table.proofs.Fits.{or_left, or_right, and_true, true_if}
+use Rattle.qc_table.proofs.Fits.{and_true}
 use Rattle.qc_table.proofs.Typing.{number_of, IsTruth, AllTruths, IsReifiable, by_truth, by_truths}
 use Rattle.qc_table.proofs.Truths.{min_of_truths, max_of_truths}
 use Rattle.qc_table.proofs.Sums.{sum_given}
 use Rattle.qc_table.proofs.Singles.{alone, singles, left_single, lefts_single, range_single, at_single, members_single}
-use Rattle.qc_table.proofs.SingleNumbers.{or_none, not_of, results_miss, points_miss, sum_single, is_its_point, equal_alone}
+use Rattle.qc_table.proofs.SingleNumbers.{results_miss, sum_single, is_its_point, equal_alone}
 
 both_apart : (a b r : Bool) → same_truth (is_one (number_of r)) (is_one (number_of a) && is_one (number_of b)) ≡ false → ranges_miss (point (int_min (number_of a) (number_of b))) (point (number_of r)) ≡ true
 both_apart true true true e = absurd (differ (sym e))

@@ -1,12 +1,12 @@
 -- A box of single values leaves to each argument the one value that it has.
-use Rattle.std.proofs.Common.{◌≡◌, inl, inr, ℕ, zero, suc, ◌<◌, Bool, true, false, ◌&&◌, ◌||◌, not, List, [], ◌∷◌, length, map, refl, sym, ap, ◌∙◌, subst, arith}
+use Rattle.std.proofs.Common.{◌≡◌, inl, ℕ, zero, suc, ◌<◌, List, [], ◌∷◌, length, map, refl, sym, ap, ◌∙◌, subst, arith}
 use Rattle.std.specs.Prelude.{ℤ, pos, slice_index_or}
 use Rattle.qc_model.specs.declared.problem.Arg.{Arg}
 use Rattle.qc_model.specs.declared.problem.Arg.TheVariants.{Var, Num}
 use Rattle.qc_model.specs.declared.problem.Argument.{Argument}
 use Rattle.qc_model.specs.declared.problem.Argument.TheVariants.{One, Many, Numbers, Members}
-use Rattle.qc_model.specs.Lists.{Among, LiesIn}
-use Rattle.qc_model.specs.Domains.{Values, Box}
+use Rattle.qc_model.specs.Lists.{LiesIn}
+use Rattle.qc_model.specs.Domains.{Values}
 use Rattle.qc_model.specs.Ranges.{point}
 use Rattle.qc_model.specs.Arguments.{Filled, filled_one, filled_many, filled_numbers, filled_members, fill, numbers, members}
 use Rattle.qc_model.specs.Holds.{Given, value_at, values_at, last_value, arg_value}

@@ -1,5 +1,5 @@
 -- Where a constraint refutes a box, it refutes every smaller box without an empty domain.
-use Rattle.std.proofs.Common.{◌≡◌, ◌⊎◌, inl, inr, ℕ, Bool, true, false, ◌&&◌, ◌||◌, not, List, [], ◌∷◌, length, map, refl, sym, ap, ap₂, ◌∙◌, subst, arith, slice_get, Some}
+use Rattle.std.proofs.Common.{◌≡◌, inl, inr, ℕ, Bool, true, false, ◌&&◌, ◌||◌, not, List, [], ◌∷◌, length, map, refl, sym, ◌∙◌, subst, arith, slice_get, Some}
 use Rattle.std.specs.Prelude.{ℤ, pos, ◌≤ℤ◌, int_lt, int_le, ⊤}
 use Rattle.std.specs.Ordering.{int_eq}
 use Rattle.std.specs.List.{list_any, list_all}
@@ -7,12 +7,12 @@ use Rattle.std.proofs.lemmas.Int.{ints}
 use Rattle.qc_model.specs.declared.problem.Set.{Set}
 use Rattle.qc_model.specs.Content.{Game, Rule}
 use Rattle.qc_model.specs.Lists.{Among}
-use Rattle.qc_model.specs.Domains.{Values, Box, least_value, greatest_value, has_value, misses, is_single, set_has, is_sub_box, has_empty}
+use Rattle.qc_model.specs.Domains.{Values, Box, least_value, greatest_value, has_value, is_single, set_has, is_sub_box, has_empty}
 use Rattle.qc_model.specs.Ranges.{Range, point, is_point, ranges_miss, range_sum, product, absolute_range, smaller_range, greater_range, quotient_range, remainder_range}
 use Rattle.qc_model.specs.Arguments.{numbers, members}
 use Rattle.qc_model.specs.Meaning.{Meaning, equal, different, at_most, below, sum_equal, sum_different, sum_at_most, plus, times, absolute_value, smaller, greater, quotient, remainder, element, variable_element, minimum, maximum, member, both, either, exactly_one, all_items, some_item, odd_items, clause, all_different, table, reified, meaning_of}
 use Rattle.qc_model.specs.Holds.{rows, odd_ones, same_truth, is_one}
-use Rattle.qc_model.specs.Left.{Lefts, left_at, lefts_at, last_left, range_at, sum_at, some_item_in, some_item_meets, least_range, greatest_range, least_item_range, greatest_item_range, is_only, has_crowd, row_fits}
+use Rattle.qc_model.specs.Left.{Lefts, left_at, lefts_at, last_left, range_at, sum_at, some_item_in, some_item_meets, least_range, greatest_range, least_item_range, greatest_item_range, is_only, row_fits}
 use Rattle.qc_model.specs.Entailed.{entailed_as}
 use Rattle.qc_model.specs.Refuted.{refuted_as, refuted_by}
 use Rattle.qc_model.specs.Valid.{IsValid, have_lengths, is_sum}
@@ -20,6 +20,7 @@ use Rattle.qc_model.specs.declared.problem.Argument.{Argument}
 use Rattle.qc_model.specs.Visible.{ArgumentsBelow}
 use Rattle.qc_model.proofs.Sound.{differ}
 use Rattle.qc_model.proofs.Sound as Sound
+use Rattle.qc_table.proofs.Typing.{is_contradicted, is_wrong_xor}
 use Rattle.qc_table.proofs.Fits.{or_cases, or_left, or_right, and_true, any_at, any_from, all_at, true_if}
 use Rattle.qc_table.proofs.Typed.{lefts_of}
 use Rattle.qc_table.proofs.Kinded.{sum_literal, has_lengths}
@@ -27,7 +28,7 @@ use Rattle.qc_table.proofs.Ordered.{constraint_at}
 use Rattle.qc_table.proofs.Parts.{IsPart, AreParts, Parts, part_at, parts_at, last_part, same_numbers, same_members, lefts_parts, span_low, span_high}
 use Rattle.qc_table.proofs.Inside.{Within, Inside, within, range_inside, still_miss, still_point, sum_inside, product_inside, given_sums_inside, absolute_within, smaller_within, greater_within}
 use Rattle.qc_table.proofs.InsideQuotients.{quotient_inside, remainder_within, still_divided}
-use Rattle.qc_table.proofs.SmallerItems.{not_more, more_values, still_misses, still_single, still_one_value, still_all_only, still_some_only, all_same, more_items, more_variable_items, least_within, greatest_within, least_items_within, greatest_items_within, itself, still_crowd, same_length, more_rows}
+use Rattle.qc_table.proofs.SmallerItems.{not_more, more_values, still_misses, still_one_value, still_all_only, still_some_only, all_same, more_items, more_variable_items, least_within, greatest_within, least_items_within, greatest_items_within, itself, still_crowd, same_length, more_rows}
 
 -- the two arguments that are numbers in a sum, which no box makes smaller
 module _ (ds es : Lefts) (p : Parts ds es) where
@@ -41,7 +42,7 @@ module _ (ds es : Lefts) (p : Parts ds es) where
   still_apart : (range : Range → Range → Range) → Within (range (range_at ds 0) (range_at ds 1)) (range (range_at es 0) (range_at es 1)) → ranges_miss (range (range_at es 0) (range_at es 1)) (range_at es 2) ≡ true → ranges_miss (range (range_at ds 0) (range_at ds 1)) (range_at ds 2) ≡ true
   still_apart range w e = still_miss (range (range_at ds 0) (range_at ds 1)) (range (range_at es 0) (range_at es 1)) (range_at ds 2) (range_at es 2) w (within_at 2) e
 
-  pub same_literal : left_at ds 2 ≡ left_at es 2 → is_point (least_value (left_at es 2)) (sum_at es) ≡ true → is_point (least_value (left_at ds 2)) (sum_at ds) ≡ true
+  same_literal : left_at ds 2 ≡ left_at es 2 → is_point (least_value (left_at es 2)) (sum_at es) ≡ true → is_point (least_value (left_at ds 2)) (sum_at ds) ≡ true
   same_literal l e =
       subst (λ (d : Values). is_point (least_value d) (sum_at ds) ≡ true) (sym l) (still_point (least_value (left_at es 2)) (sum_at ds) (sum_at es) (given_sums_inside ds es p) e)
 
@@ -65,7 +66,7 @@ module _ (ds es : Lefts) (p : Parts ds es) where
       all_from [] f = refl
       all_from (v ∷ d) f = and_true (set_has (members es 1) v) (list_all (set_has (members es 1)) d) (f v (inl refl)) (all_from d (λ w m. f w (inr m)))
 
-  still_truth : (refuted entailed refuted_still entailed_still : Bool) → (refuted ≡ true → refuted_still ≡ true) → (entailed ≡ true → entailed_still ≡ true) → ((not (has_value (last_left es) (pos 1)) || refuted) && (not (has_value (last_left es) (pos 0)) || entailed)) ≡ true → ((not (has_value (last_left ds) (pos 1)) || refuted_still) && (not (has_value (last_left ds) (pos 0)) || entailed_still)) ≡ true
+  still_truth : (refuted entailed refuted_still entailed_still : Bool) → (refuted ≡ true → refuted_still ≡ true) → (entailed ≡ true → entailed_still ≡ true) → is_contradicted (last_left es) refuted entailed ≡ true → is_contradicted (last_left ds) refuted_still entailed_still ≡ true
   still_truth refuted entailed refuted_still entailed_still f g e =
       let q = Sound.both (not (has_value (last_left es) (pos 1)) || refuted) (not (has_value (last_left es) (pos 0)) || entailed) e in
       and_true (not (has_value (last_left ds) (pos 1)) || refuted_still) (not (has_value (last_left ds) (pos 0)) || entailed_still)
@@ -85,15 +86,12 @@ module _ (ds es : Lefts) (p : Parts ds es) where
   highs k = span_high (left_at ds k) (left_at es k) (part_at ds es k p)
 
 -- single values stay
-still_xor : (a b c x y z : Values) → IsPart a x → IsPart b y → IsPart c z → (is_single x && is_single y && is_single z && not (same_truth (is_one (least_value z)) (not (int_eq (least_value x) (least_value y))))) ≡ true → (is_single a && is_single b && is_single c && not (same_truth (is_one (least_value c)) (not (int_eq (least_value a) (least_value b))))) ≡ true
+still_xor : (a b c x y z : Values) → IsPart a x → IsPart b y → IsPart c z → is_wrong_xor x y z ≡ true → is_wrong_xor a b c ≡ true
 still_xor a b c x y z p q r e =
     let s = Sound.both (is_single x && is_single y && is_single z) (not (same_truth (is_one (least_value z)) (not (int_eq (least_value x) (least_value y))))) e in
     let t = Sound.both (is_single x && is_single y) (is_single z) s.0 in
     let u = Sound.both (is_single x) (is_single y) t.0 in
-    subst (λ (k : Values). test k b c ≡ true) (sym (p.only u.0)) (subst (λ (k : Values). test x k c ≡ true) (sym (q.only u.1)) (subst (λ (k : Values). test x y k ≡ true) (sym (r.only t.1)) e))
-  where
-    test : Values → Values → Values → Bool
-    test a b c = is_single a && is_single b && is_single c && not (same_truth (is_one (least_value c)) (not (int_eq (least_value a) (least_value b))))
+    subst (λ (k : Values). is_wrong_xor k b c ≡ true) (sym (p.only u.0)) (subst (λ (k : Values). is_wrong_xor x k c ≡ true) (sym (q.only u.1)) (subst (λ (k : Values). is_wrong_xor x y k ≡ true) (sym (r.only t.1)) e))
 
 -- the number of a sum, the same in both boxes
 abbrev pub Literals : Meaning → Lefts → Lefts → Type 0

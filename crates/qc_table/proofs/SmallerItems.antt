@@ -1,16 +1,15 @@
 -- What is refuted stays so for smaller boxes: values and arrays.
-use Rattle.std.proofs.Common.{◌≡◌, ◌⊎◌, inl, inr, ℕ, zero, suc, ◌≤◌, Bool, true, false, ◌&&◌, ◌||◌, not, cond, List, [], ◌∷◌, length, map, refl, sym, ap, ap₂, ◌∙◌, subst, arith}
+use Rattle.std.proofs.Common.{◌≡◌, inl, inr, ℕ, suc, ◌≤◌, Bool, true, false, ◌&&◌, not, cond, List, [], ◌∷◌, length, refl, sym, ap, ap₂, ◌∙◌, subst, arith}
 use Rattle.std.specs.Prelude.{ℤ, pos, ◌+ℤ◌, ◌-ℤ◌, ◌≤ℤ◌, int_le, int_lt}
 use Rattle.std.specs.Ordering.{int_eq}
 use Rattle.std.specs.List.{list_any, list_all, count_by}
-use Rattle.std.proofs.lemmas.Int.{ints, clamps}
+use Rattle.std.proofs.lemmas.Int.{ints}
 use Rattle.qc_model.specs.Lists.{Among}
 use Rattle.qc_model.specs.Domains.{Values, least_value, greatest_value, has_value, misses, is_single}
-use Rattle.qc_model.specs.Ranges.{Range, point, ranges_miss, smaller_range, greater_range}
-use Rattle.qc_model.specs.Holds.{rows}
-use Rattle.qc_model.specs.Left.{span, are_one_value, some_item_in, some_item_meets, least_range, greatest_range, least_item_range, greatest_item_range, is_only, is_crowded, has_crowd, row_fits}
-use Rattle.qc_model.proofs.Sound.{differ, both, has_it}
-use Rattle.qc_table.proofs.Fits.{or_cases, or_left, or_right, and_true, any_at, any_from, all_at, not_unless, both_false, true_if}
+use Rattle.qc_model.specs.Ranges.{Range, point}
+use Rattle.qc_model.specs.Left.{span, are_one_value, some_item_in, some_item_meets, least_range, greatest_range, least_item_range, greatest_item_range, is_only, has_crowd, row_fits}
+use Rattle.qc_model.proofs.Sound.{both, has_it}
+use Rattle.qc_table.proofs.Fits.{or_cases, or_left, or_right, and_true, any_at, not_unless, both_false, true_if}
 use Rattle.qc_table.proofs.Items.{among_of, meets_at}
 use Rattle.qc_table.proofs.Crowded.{count_step, ends_within}
 use Rattle.qc_table.proofs.CrowdEnds.{crowd_of_ends, crowd_has_ends}
@@ -41,11 +40,8 @@ still_misses a b c d p q m = by (misses a c) refl
     by true e = refl
     by false e = let r = share a c (ap not e) in absurd (both_false (misses b d) m (meets_at b d r.0 (p.each r.0 r.1) (q.each r.0 r.2)))
 
-pub more_meet : (a b c d : Values) → IsPart a b → IsPart c d → not (misses a c) ≡ true → not (misses b d) ≡ true
+more_meet : (a b c d : Values) → IsPart a b → IsPart c d → not (misses a c) ≡ true → not (misses b d) ≡ true
 more_meet a b c d p q n = let r = share a c n in meets_at b d r.0 (p.each r.0 r.1) (q.each r.0 r.2)
-
-pub still_single : (d e : Values) → IsPart d e → is_single e ≡ true → is_single d ≡ true
-still_single d e p s = ap is_single (p.only s) ∙ s
 
 pub still_one_value : (a b c d : Values) → IsPart a b → IsPart c d → are_one_value b d ≡ true → are_one_value a c ≡ true
 still_one_value a b c d p q e =
@@ -53,7 +49,7 @@ still_one_value a b c d p q e =
     let s = both (is_single b) (is_single d) r.0 in
     subst (λ (x : Values). are_one_value x c ≡ true) (sym (p.only s.0)) (subst (λ (x : Values). are_one_value b x ≡ true) (sym (q.only s.1)) e)
 
-pub still_only : (n : ℤ) (d e : Values) → IsPart d e → is_only n e ≡ true → is_only n d ≡ true
+still_only : (n : ℤ) (d e : Values) → IsPart d e → is_only n e ≡ true → is_only n d ≡ true
 still_only n d e p o = ap (is_only n) (p.only (both (is_single e) (int_eq (least_value e) n) o).0) ∙ o
 
 pub still_all_only : (n : ℤ) (ds es : List Values) → AreParts ds es → list_all (is_only n) es ≡ true → list_all (is_only n) ds ≡ true
@@ -85,7 +81,7 @@ more_items k a b c d [] p q e = e
 more_items k a b c d (n ∷ ns) p q e =
     elim (or_cases (has_value a k && has_value c n) (some_item_in (k +ℤ pos 1) a ns c) e) [
       | inl h ↦ (let r = both (has_value a k) (has_value c n) h in
-        or_left (has_value b k && has_value d n) (some_item_in (k +ℤ pos 1) b ns d) (and_true (has_value b k) (has_value d n) (more_values a b p k r.0) (more_values c d q n r.1)))
+          or_left (has_value b k && has_value d n) (some_item_in (k +ℤ pos 1) b ns d) (and_true (has_value b k) (has_value d n) (more_values a b p k r.0) (more_values c d q n r.1)))
       | inr h ↦ or_right (has_value b k && has_value d n) (some_item_in (k +ℤ pos 1) b ns d) (more_items (k +ℤ pos 1) a b c d ns p q h)
     ]
 
@@ -96,7 +92,7 @@ more_variable_items k a b c d (x ∷ ds) [] p q s e = absurd s
 more_variable_items k a b c d (x ∷ ds) (y ∷ es) p q s e =
     elim (or_cases (has_value a k && not (misses x c)) (some_item_meets (k +ℤ pos 1) a ds c) e) [
       | inl h ↦ (let r = both (has_value a k) (not (misses x c)) h in
-        or_left (has_value b k && not (misses y d)) (some_item_meets (k +ℤ pos 1) b es d) (and_true (has_value b k) (not (misses y d)) (more_values a b p k r.0) (more_meet x y c d s.0 q r.1)))
+          or_left (has_value b k && not (misses y d)) (some_item_meets (k +ℤ pos 1) b es d) (and_true (has_value b k) (not (misses y d)) (more_values a b p k r.0) (more_meet x y c d s.0 q r.1)))
       | inr h ↦ or_right (has_value b k && not (misses y d)) (some_item_meets (k +ℤ pos 1) b es d) (more_variable_items (k +ℤ pos 1) a b c d ds es p q s.1 h)
     ]
 

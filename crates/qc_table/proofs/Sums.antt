@@ -1,10 +1,10 @@
 -- Sums of products: their range holds the sum of any values in the box.
-use Rattle.std.proofs.Common.{◌≡◌, ℕ, Bool, true, false, ◌&&◌, List, [], ◌∷◌, refl, sym, ap, ◌∙◌, subst, arith}
-use Rattle.std.specs.Prelude.{ℤ, pos, ◌+ℤ◌, ◌*ℤ◌}
+use Rattle.std.proofs.Common.{◌≡◌, true, ◌&&◌, List, [], ◌∷◌, sym, ap, ◌∙◌, subst, arith}
+use Rattle.std.specs.Prelude.{ℤ, pos, ◌*ℤ◌}
 use Rattle.std.specs.Ordering.{int_eq}
 use Rattle.std.proofs.lemmas.Int.{ints}
 use Rattle.std.proofs.lemmas.Bool.Decides.{Decides-int_eq}
-use Rattle.qc_model.specs.Lists.{Among, LiesIn}
+use Rattle.qc_model.specs.Lists.{LiesIn}
 use Rattle.qc_model.specs.Domains.{Values, least_value}
 use Rattle.qc_model.specs.Ranges.{Range, point, product}
 use Rattle.qc_model.specs.Arguments.{numbers}
@@ -13,15 +13,15 @@ use Rattle.qc_model.specs.Holds.{Given, value_at, values_at, sum_of_products, ho
 use Rattle.qc_model.specs.Left.{Lefts, left_at, lefts_at, range_at, span, sum_range, sum_at}
 use Rattle.qc_model.specs.Refuted.{refuted_as}
 use Rattle.qc_model.proofs.Visible.{Fits, one_fits}
-use Rattle.qc_model.proofs.Sound.{InRange, in_span, at_range, add_in, apart, lo_of, hi_of, both, not_true}
+use Rattle.qc_model.proofs.Sound.{InRange, in_span, at_range, add_in, apart, hi_of, both, not_true}
 use Rattle.qc_table.proofs.Products.{times_in}
 use Rattle.qc_table.proofs.Fits.{many_fits, numbers_fit}
-use Rattle.qc_table.proofs.Typing.{Kinds, IsLiteral}
+use Rattle.qc_table.proofs.Typing.{IsLiteral}
 
 pub in_point : (n : ℤ) → InRange n (point n)
 in_point n = record { low = omega (arith, ints); high = omega (arith, ints) }
 
-pub sum_in : (ns vs : List ℤ) (ds : List Values) → LiesIn vs ds → InRange (sum_of_products ns vs) (sum_range ns ds)
+sum_in : (ns vs : List ℤ) (ds : List Values) → LiesIn vs ds → InRange (sum_of_products ns vs) (sum_range ns ds)
 sum_in [] vs ds h = in_point (pos 0)
 sum_in (n ∷ ns) [] [] h = in_point (pos 0)
 sum_in (n ∷ ns) [] (d ∷ ds) h = absurd h

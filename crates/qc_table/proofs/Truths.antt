@@ -1,24 +1,24 @@
 -- The first law for truth values: both, either, all items, some item, clause.
-use Rattle.std.proofs.Common.{◌≡◌, ◌⊎◌, inl, inr, ℕ, zero, suc, Bool, true, false, ◌&&◌, ◌||◌, not, List, [], ◌∷◌, refl, sym, ap, ◌∙◌, subst, arith}
+use Rattle.std.proofs.Common.{◌≡◌, Bool, true, false, ◌&&◌, ◌||◌, List, [], ◌∷◌, refl, sym, ap, ◌∙◌, subst}
 use Rattle.std.specs.Prelude.{ℤ, pos}
 use Rattle.std.specs.Ordering.{int_eq}
 use Rattle.std.specs.Int.{int_min, int_max}
 use Rattle.std.specs.List.{list_any, list_all}
 use Rattle.qc_model.specs.Lists.{Among, LiesIn}
 use Rattle.qc_model.specs.Domains.{Values, least_value, is_single}
-use Rattle.qc_model.specs.Ranges.{Range, point, smaller_range, greater_range}
+use Rattle.qc_model.specs.Ranges.{point, smaller_range, greater_range}
 use Rattle.qc_model.specs.Meaning.{both, either, all_items, some_item, clause}
 use Rattle.qc_model.specs.Holds.{Given, value_at, values_at, holds_as, same_truth, is_one, is_zero}
-use Rattle.qc_model.specs.Left.{Lefts, left_at, lefts_at, range_at, span, is_only, least_range, greatest_range}
+use Rattle.qc_model.specs.Left.{Lefts, lefts_at, range_at, span, is_only, least_range, greatest_range}
 use Rattle.qc_model.specs.Refuted.{refuted_as}
-use Rattle.qc_model.proofs.Visible.{Fits, one_fits}
+use Rattle.qc_model.proofs.Visible.{Fits}
 use Rattle.qc_model.proofs.Sound.{InRange, in_span, at_range, apart, smaller_in, greater_in, differ, not_true, or_false}
 use Rattle.qc_model.proofs.Sound as Sound
 use Rattle.qc_table.proofs.Fits.{many_fits, only_value}
 use Rattle.qc_table.proofs.Typing.{number_of, IsTruth, AllTruths, by_truth, by_truths}
 use Rattle.qc_table.proofs.Sums.{same_number, in_point}
 
-pub both_is : (a b r : ℤ) → IsTruth a → IsTruth b → IsTruth r → same_truth (is_one r) (is_one a && is_one b) ≡ true → int_min a b ≡ r
+both_is : (a b r : ℤ) → IsTruth a → IsTruth b → IsTruth r → same_truth (is_one r) (is_one a && is_one b) ≡ true → int_min a b ≡ r
 both_is a b r h k l = by_truths (λ (x : ℤ) (y : ℤ) (z : ℤ). same_truth (is_one z) (is_one x && is_one y) ≡ true → int_min x y ≡ z) cases a b r h k l
   where
     cases : (x y z : Bool) → same_truth (is_one (number_of z)) (is_one (number_of x) && is_one (number_of y)) ≡ true → int_min (number_of x) (number_of y) ≡ number_of z
@@ -31,7 +31,7 @@ both_is a b r h k l = by_truths (λ (x : ℤ) (y : ℤ) (z : ℤ). same_truth (i
     cases false false true e = absurd (differ e)
     cases false false false e = refl
 
-pub either_is : (a b r : ℤ) → IsTruth a → IsTruth b → IsTruth r → same_truth (is_one r) (is_one a || is_one b) ≡ true → int_max a b ≡ r
+either_is : (a b r : ℤ) → IsTruth a → IsTruth b → IsTruth r → same_truth (is_one r) (is_one a || is_one b) ≡ true → int_max a b ≡ r
 either_is a b r h k l = by_truths (λ (x : ℤ) (y : ℤ) (z : ℤ). same_truth (is_one z) (is_one x || is_one y) ≡ true → int_max x y ≡ z) cases a b r h k l
   where
     cases : (x y z : Bool) → same_truth (is_one (number_of z)) (is_one (number_of x) || is_one (number_of y)) ≡ true → int_max (number_of x) (number_of y) ≡ number_of z
@@ -89,7 +89,7 @@ some_in (v ∷ vs) (d ∷ ds) t h =
     (by_truth (λ (x : ℤ). int_max x (number_of (list_any is_one vs)) ≡ number_of (is_one x || list_any is_one vs)) (λ b. max_of_truths b (list_any is_one vs)) v t.0)
     (greater_in v (number_of (list_any is_one vs)) (span d) (greatest_range (point (pos 0)) ds) (in_span v d h.0) (some_in vs ds t.1 h.1))
 
-pub truth_is : (r : ℤ) (b : Bool) → IsTruth r → same_truth (is_one r) b ≡ true → number_of b ≡ r
+truth_is : (r : ℤ) (b : Bool) → IsTruth r → same_truth (is_one r) b ≡ true → number_of b ≡ r
 truth_is r b t e = by_truth (λ (x : ℤ). same_truth (is_one x) b ≡ true → number_of b ≡ x) (λ c. cases c b) r t e
   where
     cases : (c b : Bool) → same_truth (is_one (number_of c)) b ≡ true → number_of b ≡ number_of c

@@ -1,5 +1,5 @@
 -- The arguments of a valid constraint, with declared values, are of the kinds that the laws ask for.
-use Rattle.std.proofs.Common.{◌≡◌, ◌⊎◌, inl, inr, ℕ, zero, suc, ◌<◌, Bool, true, false, ◌&&◌, not, List, [], ◌∷◌, length, map, refl, sym, ap, ◌∙◌, subst, arith, Some, None, slice_get, nat_lt, nat_le}
+use Rattle.std.proofs.Common.{◌≡◌, inl, inr, ℕ, zero, suc, ◌<◌, true, false, List, [], ◌∷◌, length, map, refl, ap, subst, arith, Some, slice_get, nat_lt, nat_le}
 use Rattle.std.specs.Prelude.{ℤ, pos, slice_index_or, ⊤}
 use Rattle.std.specs.Ordering.{int_eq}
 use Rattle.std.specs.List.{list_all}
@@ -11,13 +11,13 @@ use Rattle.qc_model.specs.declared.problem.Arg.TheVariants.{Var, Num}
 use Rattle.qc_model.specs.declared.problem.Argument.{Argument}
 use Rattle.qc_model.specs.declared.problem.Argument.TheVariants.{One, Many, Numbers, Members}
 use Rattle.qc_model.specs.Lists.{Among}
-use Rattle.qc_model.specs.Domains.{Values, Box, InBox, domain_values}
+use Rattle.qc_model.specs.Domains.{Box, InBox, domain_values}
 use Rattle.qc_model.specs.Arguments.{Filled, filled_one, filled_many, filled_numbers, filled_members, fill}
 use Rattle.qc_model.specs.Holds.{Given, value_at, values_at, last_value, arg_value}
 use Rattle.qc_model.specs.Left.{Lefts, left_at}
 use Rattle.qc_model.specs.Refuted.{left_to}
-use Rattle.qc_model.specs.Signature.{Sort, integer, boolean, integers, booleans, numbers, truths, members}
-use Rattle.qc_model.specs.Valid.{is_truth, is_bits, is_variable_with, is_boolean, is_of_sort, are_of_sorts, item_count, is_literal}
+use Rattle.qc_model.specs.Signature.{Sort, boolean, integers, booleans}
+use Rattle.qc_model.specs.Valid.{is_bits, is_variable_with, is_boolean, is_of_sort, are_of_sorts, item_count, is_literal}
 use Rattle.qc_model.specs.Visible.{ArgBelow, ArgsBelow, ArgumentBelow, ArgumentsBelow}
 use Rattle.qc_model.proofs.Sound.{differ, both}
 use Rattle.qc_table.proofs.Fits.{or_cases}

@@ -1,8 +1,10 @@
 -- What the laws of the table ask of arguments besides: truth values are 0 or 1, and the like.
-use Rattle.std.proofs.Common.{◌≡◌, ◌⊎◌, inl, inr, ℕ, Bool, true, false, List, [], ◌∷◌, refl, sym, subst}
-use Rattle.std.specs.Prelude.{ℤ, pos, ⊤}
+use Rattle.std.proofs.Common.{◌≡◌, ℕ, Bool, true, false, List, [], ◌∷◌, sym, subst}
+use Rattle.std.specs.Ordering.{int_eq}
+use Rattle.std.specs.Prelude.{not, ◌&&◌, ◌||◌, ℤ, pos, ⊤}
 use Rattle.qc_model.specs.Meaning.{Meaning, equal, different, at_most, below, sum_equal, sum_different, sum_at_most, minimum, maximum, member, both, either, all_items, some_item, clause, reified}
-use Rattle.qc_model.specs.Holds.{Given, value_at, values_at, last_value}
+use Rattle.qc_model.specs.Domains.{Values, least_value, has_value, is_single}
+use Rattle.qc_model.specs.Holds.{Given, value_at, values_at, last_value, same_truth, is_one}
 use Rattle.qc_model.specs.Left.{Lefts, left_at}
 
 -- 1 for true, 0 for false
@@ -59,3 +61,12 @@ by_truth P f x h = subst P (sym h.1) (f h.0)
 pub by_truths : (P : ℤ → ℤ → ℤ → Type 0) → ((a b c : Bool) → P (number_of a) (number_of b) (number_of c)) → (x y z : ℤ) → IsTruth x → IsTruth y → IsTruth z → P x y z
 by_truths P f x y z h k l =
     by_truth (λ (n : ℤ). P n y z) (λ a. by_truth (λ (n : ℤ). P (number_of a) n z) (λ b. by_truth (λ (n : ℤ). P (number_of a) (number_of b) n) (λ c. f a b c) z l) y k) x h
+
+-- each value of a truth value is contradicted: 1 where the plain meaning is refuted, 0 where it is entailed
+abbrev pub is_contradicted : Values → Bool → Bool → Bool
+is_contradicted d refuted entailed = (not (has_value d (pos 1)) || refuted) && (not (has_value d (pos 0)) || entailed)
+
+-- three single values of which the third isn't whether the first two differ
+abbrev pub is_wrong_xor : Values → Values → Values → Bool
+is_wrong_xor a b c =
+    is_single a && is_single b && is_single c && not (same_truth (is_one (least_value c)) (not (int_eq (least_value a) (least_value b))))

@@ -1,7 +1,5 @@
 -- The first law of the table, for the constraints of a valid game.
-use Rattle.std.proofs.Common.{◌≡◌, ℕ, true, List}
-use Rattle.std.specs.Prelude.{ℤ}
-use Rattle.qc_model.specs.Content.{Game, Rule}
+use Rattle.qc_model.specs.Content.{Game}
 use Rattle.qc_model.specs.Meaning.{meaning_of}
 use Rattle.qc_model.specs.Valid.{IsValid}
 use Rattle.qc_model.specs.Table.{IsTableSound}
