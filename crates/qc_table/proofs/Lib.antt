@@ -26,3 +26,4 @@ pub mod InsideQuotients
 pub mod SmallerItems
 pub mod Smaller
 pub mod Reached
+pub mod ReachedRemainders

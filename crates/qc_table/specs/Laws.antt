@@ -10,7 +10,7 @@ use Rattle.qc_model.specs.Refuted.{refuted_by}
 use Rattle.qc_model.specs.Visible.{ArgumentsBelow}
 use Rattle.qc_model.specs.Valid.{IsValid}
 use Rattle.qc_model.specs.Table.{IsTableSound, IsOrdered}
-use Rattle.qc_table.specs.Spans.{LiesWithin, IsSpan, IsProductOf, IsQuotientOf, IsAbsoluteOf, ReachesEnds}
+use Rattle.qc_table.specs.Spans.{LiesWithin, IsSpan, IsProductOf, IsQuotientOf, IsRemainderOf, IsAbsoluteOf, ReachesEnds}
 
 -- where a constraint refutes a box, no declared values of the box satisfy it
 abbrev pub RefutedHasNone : Type 0
@@ -48,9 +48,12 @@ QuotientsLieWithin = (a b : Range) (u v : ℤ) → LiesWithin u a → LiesWithin
 abbrev pub QuotientsReachEnds : Type 0
 QuotientsReachEnds = (a b : Range) → IsSpan a → IsSpan b → IsFalse (is_zero_range b) → ReachesEnds (IsQuotientOf a b) (quotient_range a b)
 
--- that of a remainder holds each remainder of members by one other than 0; it isn't always the least
+-- that of a remainder holds each remainder of members by one other than 0, and is the least where the dividend may be 0
 abbrev pub RemaindersLieWithin : Type 0
 RemaindersLieWithin = (a b : Range) (u v : ℤ) → LiesWithin u a → LiesWithin v b → v ≢ pos 0 → LiesWithin (int_rem u v) (remainder_range a b)
+
+abbrev pub RemaindersReachEnds : Type 0
+RemaindersReachEnds = (a b : Range) → LiesWithin (pos 0) a → IsSpan b → IsFalse (is_zero_range b) → ReachesEnds (IsRemainderOf a b) (remainder_range a b)
 
 -- that of an absolute value is the least that holds that of each member
 abbrev pub AbsolutesLieWithin : Type 0

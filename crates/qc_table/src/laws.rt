@@ -1,5 +1,5 @@
 // The laws, each the contract of a function without parameters.
-ghost use Rattle.qc_table.specs.Laws.{RefutedHasNone, RefutedStays, SingleIsExact, ValidIsOrdered, ProductsLieWithin, ProductsReachEnds, QuotientsLieWithin, QuotientsReachEnds, RemaindersLieWithin, AbsolutesLieWithin, AbsolutesReachEnds, CrowdsByEnds, CrowdsRepeat};
+ghost use Rattle.qc_table.specs.Laws.{RefutedHasNone, RefutedStays, SingleIsExact, ValidIsOrdered, ProductsLieWithin, ProductsReachEnds, QuotientsLieWithin, QuotientsReachEnds, RemaindersLieWithin, RemaindersReachEnds, AbsolutesLieWithin, AbsolutesReachEnds, CrowdsByEnds, CrowdsRepeat};
 
 /// What a constraint of a valid game refutes: a box with no declared values that satisfy it, and
 /// every smaller box without an empty domain; of boxes of single values exactly those on which it
@@ -17,13 +17,14 @@ pub fn valid_is_ordered()
 {}
 
 /// The ranges of products, quotients, remainders and absolute values hold each result of members.
-/// Those of products, quotients and absolute values are the least ranges that do.
+/// They are the least ranges that do; that of a remainder is where the dividend may be 0.
 pub fn ranges()
     ensures products { ProductsLieWithin }
     ensures product_ends { ProductsReachEnds }
     ensures quotients { QuotientsLieWithin }
     ensures quotient_ends { QuotientsReachEnds }
     ensures remainders { RemaindersLieWithin }
+    ensures remainder_ends { RemaindersReachEnds }
     ensures absolutes { AbsolutesLieWithin }
     ensures absolute_ends { AbsolutesReachEnds }
 {}

@@ -1,4 +1,5 @@
 use Rattle.qc_table.proofs.Reached.{products_lie, products_reach, quotients_lie, quotients_reach, remainders_lie, absolutes_lie, absolutes_reach}
+use Rattle.qc_table.proofs.ReachedRemainders.{remainders_reach}
 use Rattle.qc_table.proofs.laws.ranges.Goals as goal
 
 pub returns-clause-products : goal.returns-clause-products
@@ -15,6 +16,9 @@ returns-clause-quotient_ends c = quotients_reach
 
 pub returns-clause-remainders : goal.returns-clause-remainders
 returns-clause-remainders c = remainders_lie
+
+pub returns-clause-remainder_ends : goal.returns-clause-remainder_ends
+returns-clause-remainder_ends c = remainders_reach
 
 pub returns-clause-absolutes : goal.returns-clause-absolutes
 returns-clause-absolutes c = absolutes_lie
