@@ -1,11 +1,11 @@
 -- Where the dividend may be 0, the ends of the range of a remainder are reached.
-use Rattle.std.proofs.Common.{◌≡◌, ◌⊎◌, inl, inr, ℕ, zero, suc, ◌<◌, Bool, true, false, ◌&&◌, cond, refl, sym, ap, ◌∙◌, subst, arith, mod-eq_of_lt}
-use Rattle.std.specs.Prelude.{ℤ, pos, negsuc, neg_ℤ, nat_abs, ◌-ℤ◌, ◌≤ℤ◌, int_le, int_rem}
+use Rattle.std.proofs.Common.{◌≡◌, zero, suc, ◌<◌, Bool, true, false, ◌&&◌, cond, refl, sym, ap, ◌∙◌, arith, mod-eq_of_lt}
+use Rattle.std.specs.Prelude.{ℤ, pos, negsuc, neg_ℤ, nat_abs, ◌-ℤ◌, int_le, int_rem}
 use Rattle.std.specs.Ordering.{int_eq}
 use Rattle.std.specs.Int.{int_min, int_max}
 use Rattle.std.proofs.lemmas.Int.{ints, clamps}
 use Rattle.std.proofs.lemmas.Bool.Decides.{Decides-int_eq}
-use Rattle.qc_model.specs.Ranges.{Range, range_of, point, absolute, is_single_range, greatest_remainder, remainder_range}
+use Rattle.qc_model.specs.Ranges.{Range, point, absolute, is_single_range, greatest_remainder, remainder_range}
 use Rattle.qc_model.specs.Left.{is_zero_range}
 use Rattle.qc_model.proofs.Sound.{differ, both}
 use Rattle.qc_table.specs.Spans.{LiesWithin, IsSpan, IsRemainderOf, ReachesEnds}
