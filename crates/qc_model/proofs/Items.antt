@@ -1,5 +1,5 @@
 -- Tests and sums over the values of items, with the items one by one.
-use Rattle.std.proofs.Common.{◌≡◌, ℕ, ◌+◌, ◌*◌, ◌<◌, ◌≤◌, Bool, true, false, not, ◌&&◌, ◌||◌, List, [], ◌∷◌, map, length, drop, get_or, min, refl, sym, subst, rules, ◌⊎◌, inl, inr, leb, ◌^◌, ap, ◌∙◌, arith, IsTrue, ℤ}
+use Rattle.std.proofs.Common.{◌≡◌, ℕ, ◌+◌, ◌<◌, ◌≤◌, Bool, true, false, not, ◌&&◌, ◌||◌, List, [], ◌∷◌, map, length, drop, get_or, min, refl, sym, subst, ◌⊎◌, inl, inr, leb, ◌^◌, ap, ◌∙◌, arith, IsTrue, ℤ}
 use Rattle.std.specs.Prelude.{pos, ◌+ℤ◌, ◌*ℤ◌, unsigned_abs}
 use Rattle.std.specs.List.{list_any, list_all}
 use Rattle.std.proofs.lemmas.List.{at_drop_more, at_drop_all, length-map}
@@ -9,7 +9,7 @@ use Rattle.std.proofs.lemmas.Bool.Decides.{nat_tests}
 use Rattle.std.proofs.lemmas.Int.{ints, unsigned_abs-mul}
 use Rattle.std.proofs.Math.Nat.{mul-le-mul}
 use Rattle.qc_model.specs.Valid.{is_number}
-use Rattle.qc_model.specs.Holds.{sum_of_products, odd_ones, same_truth, is_one}
+use Rattle.qc_model.specs.Holds.{sum_of_products, same_truth}
 
 pub list_all-map : {X Y : Type 0} (p : Y → Bool) (f : X → Y) (xs : List X) → list_all (λ x. p (f x)) xs ≡ list_all p (map f xs)
 list_all-map p f [] = refl

@@ -1,6 +1,6 @@
 -- The last item of a list, by its place.
-use Rattle.std.proofs.Common.{◌≡◌, ℕ, suc, ◌+◌, ◌-◌, List, [], ◌∷◌, map, length, refl, ap, ◌∙◌, sym, arith}
-use Rattle.std.specs.Prelude.{slice_get, Option}
+use Rattle.std.proofs.Common.{◌≡◌, ℕ, suc, ◌-◌, List, [], ◌∷◌, map, length, refl, ap, ◌∙◌, sym, arith}
+use Rattle.std.specs.Prelude.{slice_get}
 use Rattle.std.proofs.lemmas.List.{length-map}
 use Rattle.qc_model.specs.Arguments.{last_of}
 

@@ -1,6 +1,7 @@
 -- The arguments of a constraint can be read with any values within the limit.
-use Rattle.std.proofs.Common.{◌≡◌, ℕ, zero, suc, Bool, true, false, ◌&&◌, ◌||◌, List, [], ◌∷◌, map, length, get_or, refl, subst, sym, IsTrue, ℤ}
-use Rattle.std.specs.Prelude.{nat_le, pos, slice_index_or}
+use Rattle.std.proofs.Common.{◌≡◌, ℕ, zero, suc, Bool, true, false, ◌&&◌, ◌||◌, List, [], ◌∷◌, map, length, refl, subst, sym, IsTrue, ℤ}
+use Rattle.std.specs.Prelude.{nat_le, pos, slice_index_or, slice_get, Some}
+use Rattle.std.proofs.lemmas.Option.{same_Some}
 use Rattle.std.specs.List.{list_all}
 use Rattle.std.specs.Ordering.{int_eq}
 use Rattle.std.proofs.lemmas.Bool.Decides.{Decides-int_eq}
@@ -16,15 +17,15 @@ use Rattle.qc_model.specs.Signature.{Sort, integer, boolean, integers, booleans,
 use Rattle.qc_model.specs.Valid.{is_number, is_truth, is_integer, is_boolean, is_of_sort, are_of_sorts, have_lengths, argument_sees, is_constraint}
 use Rattle.qc_model.specs.Evaluation.{item_values, is_readable, are_readable}
 
-first : (a b : Bool) → (a && b) ≡ true → a ≡ true
+pub first : (a b : Bool) → (a && b) ≡ true → a ≡ true
 first true b h = refl
 first false b h = h
 
-second : (a b : Bool) → (a && b) ≡ true → b ≡ true
+pub second : (a b : Bool) → (a && b) ≡ true → b ≡ true
 second true b h = h
 second false b h = cc
 
-together : (a b : Bool) → a ≡ true → b ≡ true → (a && b) ≡ true
+pub together : (a b : Bool) → a ≡ true → b ≡ true → (a && b) ≡ true
 together true b g h = h
 together false b g h = g
 
@@ -65,7 +66,13 @@ items_readable vs p step items h =
     (all_along p is_number (arg_value vs) step items (second (nat_le (length items) 1000) (list_all p items) h))
 
 argument_readable : (xs : List Variable) (vs : List ℤ) → IsTrue (list_all is_number vs) → (s : Sort) (a : Argument) → is_of_sort xs s a ≡ true → is_readable vs a ≡ true
-argument_readable xs vs small s (One a) h = refl
+argument_readable xs vs small integer (One a) h = integer_is_number xs vs small a h
+argument_readable xs vs small boolean (One a) h = boolean_is_number xs vs small a h
+argument_readable xs vs small integers (One a) h = cc
+argument_readable xs vs small booleans (One a) h = cc
+argument_readable xs vs small numbers (One a) h = cc
+argument_readable xs vs small truths (One a) h = cc
+argument_readable xs vs small members (One a) h = cc
 argument_readable xs vs small integers (Many items) h = items_readable vs (is_integer xs) (integer_is_number xs vs small) items h
 argument_readable xs vs small booleans (Many items) h = items_readable vs (is_boolean xs) (boolean_is_number xs vs small) items h
 argument_readable xs vs small integer (Many items) h = cc
@@ -102,3 +109,10 @@ constraint_readable xs c vs h small =
     let sorted = are_of_sorts xs (sorts_of c.pred) c.args in
     let lengths = have_lengths (meaning_of c.pred) c.args in
     arguments_readable xs vs small (sorts_of c.pred) c.args (first sorted lengths (first (sorted && lengths) (list_all (argument_sees xs c.owner.0) c.args) h))
+
+-- each member of a list whose members pass a test
+pub passes_at : {X : Type 0} (p : X → Bool) (xs : List X) (k : ℕ) (x : X) → list_all p xs ≡ true → slice_get xs k ≡ Some x → p x ≡ true
+passes_at p [] zero x h e = cc
+passes_at p [] (suc k) x h e = cc
+passes_at p (y ∷ xs) zero x h e = subst (λ z. p z ≡ true) (same_Some y x e) (first (p y) (list_all p xs) h)
+passes_at p (y ∷ xs) (suc k) x h e = passes_at p xs k x (second (p y) (list_all p xs) h) e

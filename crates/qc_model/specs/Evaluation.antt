@@ -1,5 +1,6 @@
 -- What the evaluation of a constraint goes by: its arguments with their values, and what is known of them.
-use Rattle.std.specs.Prelude.{ℕ, nat_le, Bool, true, false, ◌&&◌, cond, List, map, length, ℤ}
+use Rattle.std.specs.Prelude.{nat_le, Bool, false, ◌&&◌, cond, List, map, length, ℤ, Option, Some, None}
+use Rattle.std.specs.Ordering.{int_eq}
 use Rattle.std.specs.List.{list_all}
 use Rattle.qc_model.specs.declared.problem.Argument.{Argument}
 use Rattle.qc_model.specs.declared.problem.Argument.TheVariants.{One, Many, Numbers, Members}
@@ -12,6 +13,11 @@ use Rattle.qc_model.specs.Arguments.{fill}
 use Rattle.qc_model.specs.Holds.{Given, arg_value}
 use Rattle.qc_model.specs.Valid.{is_number, is_set}
 
+-- there is an item, and it is c
+abbrev pub is_some_item : ℤ → Option ℤ → Bool
+is_some_item c None = false
+is_some_item c (Some x) = int_eq x c
+
 -- the arguments with their values
 abbrev pub given : List ℤ → List Argument → Given
 given vs args = map (fill (arg_value vs)) args
@@ -19,9 +25,9 @@ given vs args = map (fill (arg_value vs)) args
 abbrev pub item_values : List ℤ → List Arg → List ℤ
 item_values vs items = map (arg_value vs) items
 
--- an array has few items, and their values and all numbers are within the number limit; a set is in order
+-- values and numbers are within the number limit, an array has few items, and a set is in order
 abbrev pub is_readable : List ℤ → Argument → Bool
-is_readable vs (One a) = true
+is_readable vs (One a) = is_number (arg_value vs a)
 is_readable vs (Many items) = nat_le (length items) 1000 && list_all is_number (item_values vs items)
 is_readable vs (Numbers ns) = list_all is_number ns
 is_readable vs (Members s) = is_set s
@@ -62,16 +68,3 @@ plain_meaning Table = table
 
 abbrev pub row_meaning : Row → Meaning
 row_meaning r = cond r.reified (reified (plain_meaning r.meaning)) (plain_meaning r.meaning)
-
-abbrev pub is_built : Meaning → Bool
-is_built quotient = false
-is_built remainder = false
-is_built element = false
-is_built variable_element = false
-is_built minimum = false
-is_built maximum = false
-is_built member = false
-is_built all_different = false
-is_built table = false
-is_built (reified m) = is_built m
-is_built _ = true

@@ -7,7 +7,7 @@ ghost use Rattle.qc_model.specs.Holds.{holds_as, sum_of_products, values_at};
 ghost use Rattle.qc_model.specs.Meaning.{sum_equal as SumEqual, sum_different as SumDifferent, sum_at_most as SumAtMost};
 ghost use Rattle.qc_model.specs.Valid.{is_number};
 
-use super::comparisons::product;
+use super::arithmetic::product;
 use super::reading::{items_at, numbers_at, one_value, value_of};
 use crate::problem::{Arg, Argument};
 

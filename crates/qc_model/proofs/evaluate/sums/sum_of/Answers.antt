@@ -1,11 +1,11 @@
-use Rattle.std.proofs.Common.{◌≡◌, ◌≤◌, ◌<◌, ◌*◌, rules, arith, get_or, drop, length, ap, sym, subst, ◌∙◌, ℕ, ℤ}
-use Rattle.std.specs.Prelude.{pos, ◌+ℤ◌, ◌*ℤ◌, unsigned_abs}
+use Rattle.std.proofs.Common.{◌≡◌, ◌<◌, rules, arith, length}
+use Rattle.std.specs.Prelude.{◌+ℤ◌}
 use Rattle.std.proofs.lemmas.Int.{to_z-of_z, ints, fits_signed_from_abs}
 use Rattle.std.proofs.lemmas.List.{length-map}
 use mir.Val.{SFits, to_z}
-use mir.Syntax.{w64, w128}
+use mir.Syntax.{w128}
 use Rattle.qc_model.specs.Evaluation.{item_values}
-use Rattle.qc_model.specs.Holds.{arg_value, sum_of_products}
+use Rattle.qc_model.specs.Holds.{arg_value}
 use Rattle.qc_model.proofs.Items.{sum_step, sum_end, at_end, abs_sum}
 use Rattle.qc_model.proofs.evaluate.sums.sum_of.Goals as goal
 
