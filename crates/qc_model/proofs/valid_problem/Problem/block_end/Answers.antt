@@ -1,4 +1,3 @@
-use Rattle.std.proofs.Common.{arith}
 use Rattle.qc_model.proofs.Scopes.{block_end_at}
 use Rattle.qc_model.proofs.valid_problem.Problem.block_end.Goals as goal
 
