@@ -124,3 +124,46 @@ pub(super) fn member(args: &[Argument], values: &[i64]) -> bool
     let number = one_value(args, 0, values);
     is_member(args, 1, number, values)
 }
+
+#[cfg(test)]
+mod tests {
+    use super::*;
+    use crate::problem::VarId;
+
+    #[test]
+    fn places_count_from_one(rt: HostRuntime) {
+        let numbers = [5, 7];
+        for (place, number, want) in [
+            (1, 5, true),
+            (2, 7, true),
+            (2, 5, false),
+            (0, 5, false),
+            (3, 7, false),
+            (-1, 5, false),
+        ] {
+            assert_eq!(rt;
+                number_is(&numbers, place, number),
+                want,
+                "{number} at {place}"
+            );
+        }
+        assert!(rt; !number_is(&[], 1, 0));
+    }
+
+    #[test]
+    fn later_variables_count_as_zero(rt: HostRuntime) {
+        let items = [
+            Arg::Var(VarId(0)),
+            Arg::Num(3),
+            Arg::Var(VarId(0)),
+            Arg::Var(VarId(9)),
+        ];
+        let values = [4];
+        assert!(rt; value_is(&items, &values, 3, 4));
+        assert!(rt; value_is(&items, &values, 4, 0));
+        assert!(rt; is_least(&items, &values, 0));
+        assert!(rt; !is_least(&items, &values, -1));
+        assert!(rt; is_greatest(&items, &values, 4));
+        assert!(rt; !is_greatest(&[], &values, 0));
+    }
+}
