@@ -36,6 +36,7 @@ fn count_existential(scopes: &[Scope]) -> usize
 }
 
 impl Problem {
+    /// The aggregate with this number.
     pub fn aggregate(&self, g: AggId) -> &Aggregate
         requires { g.0 < length self.now.aggregates }
         ensures { slice_get self.now.aggregates g.0 ≡ Some result.now }

@@ -6,64 +6,64 @@ ghost use Rattle.qc_model.specs.Meaning.{meaning_of as meaning_in_spec};
 
 use crate::problem::Pred;
 
-/// What a constraint says of its arguments, by their places from 0.
+/// What a constraint says of its arguments a, b and c.
 #[derive(Clone, Copy, PartialEq, Eq)]
 pub enum Meaning {
-    /// 0 = 1.
+    /// a = b.
     Equal,
-    /// 0 ≠ 1.
+    /// a ≠ b.
     Different,
-    /// 0 ≤ 1.
+    /// a ≤ b.
     AtMost,
-    /// 0 < 1.
+    /// a < b.
     Below,
-    /// The sum of the products of 0 and 1, item by item, = 2.
+    /// The sum of the products of a and b, item by item, is c.
     SumEqual,
-    /// That sum ≠ 2.
+    /// That sum is not c.
     SumDifferent,
-    /// That sum ≤ 2.
+    /// That sum is at most c.
     SumAtMost,
-    /// 0 + 1 = 2.
+    /// a + b = c.
     Plus,
-    /// 0 * 1 = 2.
+    /// a * b = c.
     Times,
-    /// The absolute value of 0 = 1.
+    /// The absolute value of a is b.
     AbsoluteValue,
-    /// The smaller of 0 and 1 = 2.
+    /// The smaller of a and b is c.
     Smaller,
-    /// The greater of 0 and 1 = 2.
+    /// The greater of a and b is c.
     Greater,
-    /// 0 / 1 = 2, truncated, and 1 ≠ 0.
+    /// a / b = c, truncated, and b is not 0.
     Quotient,
-    /// 0 % 1 = 2 with the sign of 0, and 1 ≠ 0.
+    /// The remainder of a / b, which has the sign of a, is c, and b is not 0.
     Remainder,
-    /// Number 0 of the numbers 1, counted from 1, = 2.
+    /// Number a of b, counted from 1, is c.
     Element,
-    /// Item 0 of the array 1, counted from 1, = 2.
+    /// Item a of b, counted from 1, is c.
     VariableElement,
-    /// 0 is the least item of 1.
+    /// a is the least item of b.
     Minimum,
-    /// 0 is the greatest item of 1.
+    /// a is the greatest item of b.
     Maximum,
-    /// 0 is in the set 1.
+    /// a is in the set b.
     Member,
-    /// 0 and 1, exactly if 2.
+    /// c says whether a and b.
     Both,
-    /// 0 or 1, exactly if 2.
+    /// c says whether a or b.
     Either,
-    /// 0 or 1 but not both, exactly if 2.
+    /// c says whether a or b but not both.
     ExactlyOne,
-    /// Each item of 0, exactly if 1.
+    /// b says whether each item of a is true.
     AllItems,
-    /// Some item of 0, exactly if 1.
+    /// b says whether some item of a is true.
     SomeItem,
-    /// An odd number of the items of 0.
+    /// An odd number of the items of a are true.
     OddItems,
-    /// Some item of 0, or the negation of some item of 1.
+    /// Some item of a is true, or some item of b is false.
     Clause,
-    /// The items of 0 differ from each other.
+    /// The items of a differ from each other.
     AllDifferent,
-    /// The values of 0 are one of the rows that the numbers 1 make.
+    /// The items of a are one of the rows that the numbers b make.
     Table,
 }
 
