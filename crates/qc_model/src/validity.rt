@@ -78,14 +78,28 @@ fn are_constraints(draft: &Draft) -> bool
 fn is_valid(draft: &Draft) -> bool
     ensures { IsTrue result ↔ IsValid draft.now }
 {
-    are_few(draft)
-        && are_in_order(draft)
-        && are_named(draft)
-        && have_domains(draft.variables.as_slice())
-        && are_scopes(draft)
-        && are_aggregates(draft)
-        && scopes_see(draft, draft.scopes.as_slice(), 0)
-        && are_constraints(draft)
+    if !are_few(draft) {
+        return false;
+    }
+    if !are_in_order(draft) {
+        return false;
+    }
+    if !are_named(draft) {
+        return false;
+    }
+    if !have_domains(draft.variables.as_slice()) {
+        return false;
+    }
+    if !are_scopes(draft) {
+        return false;
+    }
+    if !are_aggregates(draft) {
+        return false;
+    }
+    if !scopes_see(draft, draft.scopes.as_slice(), 0) {
+        return false;
+    }
+    are_constraints(draft)
 }
 
 /// The problem with this content, where the draft is valid.

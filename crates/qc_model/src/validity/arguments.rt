@@ -1,8 +1,8 @@
 //! Constraints whose arguments are those of their predicate.
-ghost use Rattle.std.specs.Prelude.{◌≡◌, slice_get, length};
+ghost use Rattle.std.specs.Prelude.{◌≡◌, ◌&&◌, slice_get};
 ghost use Rattle.std.specs.List.{list_all};
 ghost use Rattle.qc_model.specs.Meaning.{meaning_of};
-ghost use Rattle.qc_model.specs.Signature.{};
+ghost use Rattle.qc_model.specs.Signature.{sorts_of as sorts_of_pred};
 ghost use Rattle.qc_model.specs.Valid.{are_of_sorts as are_of_sorts_of, arg_sees as arg_sees_of, argument_sees as argument_sees_of, have_lengths as have_lengths_of, is_bits, is_boolean as is_boolean_of, is_constraint as is_constraint_of, is_integer as is_integer_of, is_integer_domain, is_literal as is_literal_of, is_of_sort as is_of_sort_of, is_sum as is_sum_of, is_variable_with, item_count as item_count_of};
 
 use crate::limits;
@@ -186,13 +186,19 @@ fn arguments_see(variables: &[Variable], scope: u8, args: &[Argument]) -> bool
     args.iter().all(|argument| argument_sees(variables, scope, argument))
 }
 
+/// Whether the arguments are those of the predicate.
+fn fit_predicate(variables: &[Variable], pred: Pred, args: &[Argument]) -> bool
+    ensures { result ≡ (are_of_sorts_of variables.now (sorts_of_pred pred) args.now && have_lengths_of (meaning_of pred) args.now) }
+{
+    are_of_sorts(variables, sorts_of(pred), args) && have_lengths(pred, args)
+}
+
 /// Whether the arguments are those of the predicate, and no variable is of a later scope than the
 /// constraint's own.
 pub(crate) fn is_constraint(variables: &[Variable], constraint: &Constraint) -> bool
     ensures { result ≡ is_constraint_of variables.now constraint.now }
 {
     let args = constraint.args.as_slice();
-    are_of_sorts(variables, sorts_of(constraint.pred), args)
-        && have_lengths(constraint.pred, args)
+    fit_predicate(variables, constraint.pred, args)
         && arguments_see(variables, constraint.owner.0, args)
 }

@@ -62,6 +62,12 @@ fn aggregate_has_name(aggregates: &[Aggregate], name: &str) -> bool
     aggregates.iter().any(|q| name == q.name.text())
 }
 
+fn has_name(variables: &[Variable], aggregates: &[Aggregate], name: &str) -> bool
+    ensures { result ≡ list_any (bytes_eq name.now) (map (λ x. x.name) variables.now ++ map (λ q. q.name) aggregates.now) }
+{
+    variable_has_name(variables, name) || aggregate_has_name(aggregates, name)
+}
+
 fn aggregates_differ(aggregates: &[Aggregate]) -> bool
     ensures { result ≡ are_distinct (map (λ q. q.name) aggregates.now) }
 {
@@ -77,10 +83,7 @@ pub(crate) fn names_differ(variables: &[Variable], aggregates: &[Aggregate]) -> 
 {
     match variables.split_first() {
         Some((x, rest)) => {
-            let name = x.name.text();
-            !variable_has_name(rest, name)
-                && !aggregate_has_name(aggregates, name)
-                && names_differ(rest, aggregates)
+            !has_name(rest, aggregates, x.name.text()) && names_differ(rest, aggregates)
         }
         None => aggregates_differ(aggregates),
     }

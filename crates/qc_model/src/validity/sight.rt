@@ -1,6 +1,7 @@
 //! What conditions and aggregates see.
-ghost use Rattle.std.specs.Prelude.{◌≡◌, ◌↔◌, ◌+◌, ◌≤◌, ◌<◌, IsTrue, IfSome, length, map, suc};
-ghost use Rattle.qc_model.specs.Demands.{aggregate_from, aggregate_of};
+ghost use Rattle.std.specs.Prelude.{◌≡◌, ◌↔◌, ◌+◌, ◌≤◌, ◌<◌, ◌==◌, IsTrue, IfSome, length, map, suc};
+ghost use Rattle.std.specs.List.{position_from};
+ghost use Rattle.qc_model.specs.Demands.{aggregate_of};
 ghost use Rattle.qc_model.specs.Sees.{IsVisible, IsVisibleHere, IsVisibleAtEnd, SeesRight, ScopeSees};
 ghost use Rattle.qc_model.specs.Valid.{is_aggregate_of, is_condition as is_condition_of, is_fold as is_fold_of, is_in_order, is_scope as is_scope_of, is_target as is_target_of};
 
@@ -66,7 +67,7 @@ pub(crate) fn is_aggregate(draft: &Draft, aggregate: &Aggregate) -> bool
 
 /// The place of the aggregate of scope i.
 fn aggregate_at(aggregates: &[Aggregate], i: usize) -> Option<usize>
-    ensures exact { result ≡ aggregate_from 0 aggregates.now i }
+    ensures exact { result ≡ position_from (λ q. q.scope.0 == i) 0 aggregates.now }
     ensures bound { IfSome result (λ q. q < length aggregates.now) }
 {
     aggregates.iter().position(|q| q.scope.0 as usize == i)
