@@ -15,7 +15,7 @@ mod order;
 mod sight;
 
 use crate::limits;
-use crate::problem::{Draft, Variable};
+use crate::problem::{Constraint, Draft, Variable};
 use crate::valid_problem::Problem;
 use crate::validity::arguments::is_constraint;
 use crate::validity::domains::{are_domains, total_width};
@@ -68,11 +68,10 @@ fn are_aggregates(draft: &Draft) -> bool
     draft.aggregates.iter().all(|aggregate| is_aggregate(draft, aggregate))
 }
 
-fn are_constraints(draft: &Draft) -> bool
-    ensures { result ≡ list_all (is_constraint_of draft.now.variables) draft.now.constraints }
+fn are_constraints(variables: &[Variable], constraints: &[Constraint]) -> bool
+    ensures { result ≡ list_all (is_constraint_of variables.now) constraints.now }
 {
-    let variables = draft.variables.as_slice();
-    draft.constraints.iter().all(|constraint| is_constraint(variables, constraint))
+    constraints.iter().all(|constraint| is_constraint(variables, constraint))
 }
 
 fn is_valid(draft: &Draft) -> bool
@@ -99,7 +98,7 @@ fn is_valid(draft: &Draft) -> bool
     if !scopes_see(draft, draft.scopes.as_slice(), 0) {
         return false;
     }
-    are_constraints(draft)
+    are_constraints(draft.variables.as_slice(), draft.constraints.as_slice())
 }
 
 /// The problem with this content, where the draft is valid.
