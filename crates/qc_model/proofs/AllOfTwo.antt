@@ -31,4 +31,3 @@ module _ {X Y : Type 0} (f : X → List ℕ) (g : Y → List ℕ) where
 
   pub any_of_two : (p : List ℕ → Bool) (xs : List X) (ys : List Y) → list_any p (map f xs ++ map g ys) ≡ (list_any (λ x. p (f x)) xs || list_any (λ y. p (g y)) ys)
   any_of_two p xs ys = list_any-append p (map f xs) (map g ys) ∙ ap (λ a. a || list_any p (map g ys)) (list_any-map p f xs) ∙ ap (λ b. list_any (λ x. p (f x)) xs || b) (list_any-map p g ys)
-

@@ -29,9 +29,12 @@ pub fn sorts_of(pred: Pred) -> &'static [Sort]
         Pred::IntLinEq | Pred::IntLinNe | Pred::IntLinLe => {
             &[Sort::Numbers, Sort::Integers, Sort::Integer]
         }
-        Pred::IntPlus | Pred::IntTimes | Pred::IntMin | Pred::IntMax | Pred::IntDiv | Pred::IntMod => {
-            &[Sort::Integer, Sort::Integer, Sort::Integer]
-        }
+        Pred::IntPlus
+        | Pred::IntTimes
+        | Pred::IntMin
+        | Pred::IntMax
+        | Pred::IntDiv
+        | Pred::IntMod => { &[Sort::Integer, Sort::Integer, Sort::Integer] }
         Pred::BoolEq | Pred::BoolNot | Pred::BoolLe | Pred::BoolLt => {
             &[Sort::Boolean, Sort::Boolean]
         }

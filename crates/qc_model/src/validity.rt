@@ -65,13 +65,18 @@ fn are_scopes(draft: &Draft) -> bool
 fn are_aggregates(draft: &Draft) -> bool
     ensures { result ≡ list_all (is_aggregate_of draft.now) draft.now.aggregates }
 {
-    draft.aggregates.iter().all(|aggregate| is_aggregate(draft, aggregate))
+    draft
+        .aggregates
+        .iter()
+        .all(|aggregate| is_aggregate(draft, aggregate))
 }
 
 fn are_constraints(variables: &[Variable], constraints: &[Constraint]) -> bool
     ensures { result ≡ list_all (is_constraint_of variables.now) constraints.now }
 {
-    constraints.iter().all(|constraint| is_constraint(variables, constraint))
+    constraints
+        .iter()
+        .all(|constraint| is_constraint(variables, constraint))
 }
 
 fn is_valid(draft: &Draft) -> bool

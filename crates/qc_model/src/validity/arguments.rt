@@ -7,7 +7,7 @@ ghost use Rattle.qc_model.specs.Valid.{are_of_sorts as are_of_sorts_of, arg_sees
 
 use crate::limits;
 use crate::problem::{Arg, Argument, Constraint, Domain, Pred, VarId, Variable};
-use crate::signature::{sorts_of, Sort};
+use crate::signature::{Sort, sorts_of};
 use crate::validity::domains::{are_numbers, are_truths, is_number, is_set, is_truth};
 
 /// Whether x is an integer variable of the list.
@@ -183,7 +183,8 @@ fn argument_sees(variables: &[Variable], scope: u8, argument: &Argument) -> bool
 fn arguments_see(variables: &[Variable], scope: u8, args: &[Argument]) -> bool
     ensures { result ≡ list_all (argument_sees_of variables.now scope) args.now }
 {
-    args.iter().all(|argument| argument_sees(variables, scope, argument))
+    args.iter()
+        .all(|argument| argument_sees(variables, scope, argument))
 }
 
 /// Whether the arguments are those of the predicate.

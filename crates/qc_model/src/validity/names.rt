@@ -39,8 +39,22 @@ fn is_reserved(text: &str) -> bool
 {
     matches!(
         text,
-        "exists" | "forall" | "goal" | "solve" | "var" | "bool" | "aggregate" | "sum" | "least"
-            | "greatest" | "else" | "minimize" | "maximize" | "constraint" | "true" | "false"
+        "exists"
+            | "forall"
+            | "goal"
+            | "solve"
+            | "var"
+            | "bool"
+            | "aggregate"
+            | "sum"
+            | "least"
+            | "greatest"
+            | "else"
+            | "minimize"
+            | "maximize"
+            | "constraint"
+            | "true"
+            | "false"
     )
 }
 

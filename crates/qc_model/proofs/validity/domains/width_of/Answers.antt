@@ -9,5 +9,5 @@ returns-in-Some-Some c =
     let least = c.in-Some-Some.ensures.item.3 in
     let greatest = c.in-Some-Some.ensures'.item.3 in
     let width : nat_abs (c.in-Some-Some.greatest.now -ℤ c.in-Some-Some.least.now) + 1 ≡ width_of c.args.numbers.now =
-        width_by_ends c.args.numbers.now c.in-Some-Some.least.now c.in-Some-Some.greatest.now least.0 (listed_ascends c.args.numbers.now c.requires) (least.1 c.in-Some-Some.least.now) (greatest.1 c.in-Some-Some.greatest.now) in
+    width_by_ends c.args.numbers.now c.in-Some-Some.least.now c.in-Some-Some.greatest.now least.0 (listed_ascends c.args.numbers.now c.requires) (least.1 c.in-Some-Some.least.now) (greatest.1 c.in-Some-Some.greatest.now) in
     grind (arith, to_z-of_z, width, c.abs_diff.ensures)
