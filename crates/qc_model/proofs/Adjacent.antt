@@ -1,6 +1,6 @@
 -- Tests of each element and the next, as recursions on the list.
-use Rattle.std.proofs.Common.{◌≡◌, ◌∙◌, sym, ap, subst, refl, ◌<◌, ◌≤◌, ◌+◌, ◌-◌, ℕ, zero, suc, Bool, true, false, ◌&&◌, List, [], ◌∷◌, length, map, get_or, arith, ℤ}
-use Rattle.std.specs.Prelude.{nat_lt, nat_le, int_lt, int_le}
+use Rattle.std.proofs.Common.{◌≡◌, ◌∙◌, ap, subst, refl, ◌<◌, ◌+◌, ◌-◌, ℕ, zero, suc, Bool, true, false, ◌&&◌, List, [], ◌∷◌, length, map, get_or, arith, ℤ}
+use Rattle.std.specs.Prelude.{nat_lt, nat_le, int_lt}
 use Rattle.std.specs.List.{IsAllAdjacentAnswer, AllAdjacentBelow}
 use Rattle.qc_model.specs.Domains.{is_ascending}
 use Rattle.qc_model.specs.Valid.{is_in_order, is_rising}

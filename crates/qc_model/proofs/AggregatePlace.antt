@@ -1,9 +1,9 @@
 -- The place of the aggregate of a scope, and what its scope sees.
-use Rattle.std.proofs.Common.{◌≡◌, ◌∙◌, sym, ap, subst, refl, ◌+◌, ℕ, suc, Bool, true, false, List, [], ◌∷◌, cond, add-one, arith, eqb-true, eq-eqb}
+use Rattle.std.proofs.Common.{◌≡◌, ◌∙◌, sym, ap, subst, refl, ◌+◌, ℕ, suc, Bool, true, false, List, [], ◌∷◌, cond, add-one, eqb-true, eq-eqb}
 use Rattle.std.specs.Prelude.{◌==◌, ◌↔◌, Option, Some, None, IsTrue, slice_get}
 use Rattle.std.specs.List.{position_from}
 use Rattle.qc_model.specs.declared.problem.Kind.{Kind}
-use Rattle.qc_model.specs.declared.problem.Kind.TheVariants.{Exists, Forall}
+use Rattle.qc_model.specs.declared.problem.Kind.TheVariants.{Forall}
 use Rattle.qc_model.specs.declared.problem.Target.{Target}
 use Rattle.qc_model.specs.declared.problem.Target.TheVariants.{Aggregate as Agg}
 use Rattle.qc_model.specs.declared.problem.AggId.{AggId}

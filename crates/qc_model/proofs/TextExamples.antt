@@ -1,6 +1,6 @@
 -- The canonical text and the most turns of small games, computed.
-use Rattle.std.proofs.Common.{◌≡◌, refl, ℕ, List, [], ◌∷◌, ◌++◌, lit<}
-use Rattle.std.specs.Prelude.{Some, None, codes, pos, negsuc, ℤ, ◌^◌}
+use Rattle.std.proofs.Common.{◌≡◌, refl, ℕ, List, [], ◌∷◌, lit<}
+use Rattle.std.specs.Prelude.{Some, None, codes, pos, negsuc}
 use Rattle.std.specs.Fmt.{decimal}
 use Rattle.std.proofs.lemmas.Fmt.{decimal_digit}
 use Rattle.qc_model.specs.declared.problem.ScopeId.{ScopeId}

@@ -1,7 +1,6 @@
 -- Small drafts that are valid, and such as break one rule, computed.
-use Rattle.std.proofs.Common.{◌≡◌, ◌≤◌, refl, ℕ, Bool, true, false, List, [], ◌∷◌, lit≤, arith}
+use Rattle.std.proofs.Common.{◌≡◌, refl, ℕ, true, false, List, [], ◌∷◌, lit≤, arith}
 use Rattle.std.specs.Prelude.{Option, Some, None, codes, pos, negsuc}
-use Rattle.std.specs.List.{list_all}
 use Rattle.qc_model.specs.declared.problem.Sense.TheVariants.{Min}
 use Rattle.qc_model.specs.declared.problem.Kind.TheVariants.{Exists}
 use Rattle.qc_model.specs.declared.problem.Fold.TheVariants.{Sum}
@@ -9,9 +8,9 @@ use Rattle.qc_model.specs.declared.problem.Target.{Target}
 use Rattle.qc_model.specs.declared.problem.Target.TheVariants.{Var as VarTarget, Aggregate as Agg}
 use Rattle.qc_model.specs.declared.problem.Domain.TheVariants.{Bits, Range, Listed}
 use Rattle.qc_model.specs.declared.problem.Set.TheVariants.{Range as SetRange, Listed as SetListed}
-use Rattle.qc_model.specs.declared.problem.Arg.TheVariants.{Var, Num}
-use Rattle.qc_model.specs.declared.problem.Argument.TheVariants.{One, Many, Numbers, Members}
-use Rattle.qc_model.specs.declared.problem.Pred.TheVariants.{IntLe, SetIn, IntLinLe, IntLinLeReif, ArrayIntMinimum, TableInt, BoolEq, Bool2int, AllDifferentInt, ArrayBoolElement}
+use Rattle.qc_model.specs.declared.problem.Arg.TheVariants.{Num}
+use Rattle.qc_model.specs.declared.problem.Argument.TheVariants.{One, Many, Numbers}
+use Rattle.qc_model.specs.declared.problem.Pred.TheVariants.{IntLe, IntLinLe, IntLinLeReif, ArrayIntMinimum, TableInt, BoolEq, Bool2int, AllDifferentInt, ArrayBoolElement}
 use Rattle.qc_model.specs.declared.problem.Scope.{Scope}
 use Rattle.qc_model.specs.declared.problem.Variable.{Variable}
 use Rattle.qc_model.specs.declared.problem.Aggregate.{Aggregate}
@@ -19,7 +18,7 @@ use Rattle.qc_model.specs.Content.{Game}
 use Rattle.qc_model.specs.Names.{is_name, names_differ}
 use Rattle.qc_model.specs.Sees.{SeesRight}
 use Rattle.qc_model.specs.Valid.{IsValid, is_number, is_domain, is_set, is_constraint, is_in_order, is_rising, is_scope, is_aggregate_of}
-use Rattle.qc_model.proofs.TextExamples.{var, one_var, exists, forall, variable, rule, game, only_goal, at_most_three, many_forms}
+use Rattle.qc_model.proofs.TextExamples.{var, one_var, exists, forall, variable, rule, game, only_goal, many_forms}
 
 only_goal_is_valid : IsValid only_goal
 only_goal_is_valid =

@@ -1,5 +1,5 @@
 -- The ends of an ascending list, and the widths of domains.
-use Rattle.std.proofs.Common.{◌≡◌, ◌∙◌, sym, ap, refl, ◌<◌, ◌≤◌, ◌+◌, ◌-◌, ℕ, zero, suc, Bool, true, false, ◌&&◌, List, [], ◌∷◌, length, get_or, cond, arith, leb-true, ℤ}
+use Rattle.std.proofs.Common.{◌≡◌, ◌∙◌, sym, ap, refl, ◌<◌, ◌≤◌, ◌+◌, ◌-◌, Bool, true, false, ◌&&◌, List, [], ◌∷◌, length, get_or, cond, arith, leb-true, ℤ}
 use Rattle.std.specs.Prelude.{int_lt, ◌-ℤ◌, nat_abs}
 use Rattle.std.proofs.lemmas.Int.{ints}
 use Rattle.qc_model.specs.declared.problem.Domain.TheVariants.{Listed}

@@ -1,6 +1,6 @@
 use Rattle.std.proofs.Common.{◌∙◌, ap, sym}
 use Rattle.qc_model.specs.Valid.{is_constraint as is_constraint_of}
-use Rattle.qc_model.proofs.AllOfTwo.{both_then, both_else}
+use Rattle.qc_model.proofs.AllOfTwo.{both_then}
 use Rattle.qc_model.proofs.validity.arguments.is_constraint.Goals as goal
 
 pub returns-then-fit_predicate : goal.returns-then-fit_predicate

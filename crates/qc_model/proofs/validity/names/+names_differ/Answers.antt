@@ -1,4 +1,4 @@
-use Rattle.std.proofs.Common.{◌≡◌, ◌∙◌, sym, ap, map, not, ◌++◌, bytes_eq}
+use Rattle.std.proofs.Common.{◌∙◌, sym, ap, map, not, ◌++◌, bytes_eq}
 use Rattle.std.specs.List.{list_any}
 use Rattle.qc_model.specs.Names.{names_differ as all_differ}
 use Rattle.qc_model.proofs.AllOfTwo.{both_then, both_else}

@@ -1,7 +1,7 @@
-use Rattle.std.proofs.Common.{◌≡◌, ◌∙◌, sym, ap, rules, arith, true, false, length, ◌<◌, ◌-◌, get_or}
+use Rattle.std.proofs.Common.{◌∙◌, sym, ap, rules}
 use Rattle.std.specs.Prelude.{nat_le, nat_lt}
 use Rattle.std.proofs.lemmas.List.Sorted.{answers_always}
-use Rattle.qc_model.proofs.Adjacent.{adjacent, adjacent_answer, in_order-last, out_of_order}
+use Rattle.qc_model.proofs.Adjacent.{adjacent_answer, in_order-last, out_of_order}
 use Rattle.qc_model.proofs.validity.order.variables_in_order.Goals as goal
 
 pub returns-in-Some : goal.returns-in-Some
