@@ -1,0 +1,5 @@
+//! A stack in pages that never move.
+#![tactic(auto)]
+
+pub(crate) mod chain;
+pub(crate) mod nodes;
