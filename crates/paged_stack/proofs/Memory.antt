@@ -1,5 +1,6 @@
 -- What the walks of the nodes share.
 pub mod Chained
+pub mod El
 pub mod Pairs
 pub mod Room
 pub mod Seen

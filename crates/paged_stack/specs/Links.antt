@@ -1,4 +1,4 @@
--- How the nodes of a list point to one another.
+-- How the nodes of a chain point to one another.
 use Rattle.std.specs.Prelude.{◌≡◌, ℕ, List, [], ◌∷◌, map, slice_index_or}
 use denote.RawPtr.{Ptr, null_ptr}
 
@@ -6,9 +6,9 @@ use denote.RawPtr.{Ptr, null_ptr}
 abbrev pub Link : Type 0
 Link = Ptr × Ptr × Ptr
 
--- the links of nodes that are listed with their handles
-abbrev pub links_of : {Z : Type 0} → List (Link × Z) → List Link
-links_of = map (λ n. n.0)
+-- where the nodes lie
+abbrev pub places_of : List Link → List Ptr
+places_of = map (λ l. l.0)
 
 -- where the i-th node lies
 unfoldable pub place_of : List Link → ℕ → Ptr

@@ -1,5 +1,4 @@
 //! A stack in pages that never move.
 #![tactic(auto)]
 
-pub(crate) mod chain;
 pub(crate) mod nodes;

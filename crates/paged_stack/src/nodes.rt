@@ -1,46 +1,50 @@
-//! The nodes of a chain, linked both ways. Each lies in a block of its own.
+//! A chain of nodes, linked both ways. A node lies in room that its caller gives, and gets back.
 ghost use Rattle.std.specs.Prelude.{◌≡◌, ◌^◌, ◌<◌, List, length};
-ghost use Rattle.paged_stack.specs.Links.{Link, links_of, IsChained};
-ghost use Rattle.paged_stack.specs.Ownership.{nodes_own, chain_lent, no_right, vacant};
+ghost use Rattle.paged_stack.specs.Links.{Link, IsChained};
+ghost use Rattle.paged_stack.specs.Ownership.{room_owns, nodes_own, nodes_lent};
 
-use std::alloc::Allocator;
 use std::marker::Model;
 
 pub(crate) mod ends;
 pub(crate) mod lends;
+pub(crate) mod reads;
 
 // `next` of the last node and `prev` of the first mean nothing.
-pub struct Node<T, A> {
-    next: *const Node<T, A>,
-    prev: *const Node<T, A>,
+pub(crate) struct Node<T> {
+    next: *const Node<T>,
+    prev: *const Node<T>,
     elem: T,
-    alloc: A,
 }
 
-// Room for a node, with the handle that goes into it.
-pub struct Room<T, A: Allocator> {
+// Room for a `T`, with nothing in it.
+pub(crate) struct Room<T> {
     pub(crate) ptr: *mut T,
-    pub(crate) alloc: A,
 }
 
-impl<T, A: Allocator> Model for Room<T, A> {
-    ghost also_owns = { λ v. vacant T.row v.ptr };
+impl<T> Model for Room<T> {
+    ghost also_owns = { λ r. room_owns T.row r.ptr };
 }
 
-// `blocks` says of each node where it lies, its `next` and `prev`, and its handle. With no node, `head` and `tail` dangle.
-pub struct Nodes<T, A: Allocator> {
-    head: *const Node<T, A>,
-    tail: *const Node<T, A>,
+// `links` says of each node where it lies, its `next` and its `prev`. With no node, `head` and `tail` dangle.
+pub(crate) struct Nodes<T> {
+    head: *const Node<T>,
+    tail: *const Node<T>,
     len: usize,
-    ghost items: { List T },
-    ghost blocks: { List (Link × A) },
-    ghost ok: { (len ≡ length items) × (len ≡ length blocks) },
+    pub(crate) ghost items: { List T },
+    pub(crate) ghost links: { List Link },
+    ghost ok: { (len ≡ length items) × (len ≡ length links) },
     ghost small: { len < 2 ^ 63 },
-    ghost chained: { ∥ IsChained head tail (links_of blocks) ∥₁ },
+    ghost chained: { ∥ IsChained head tail links ∥₁ },
 }
 
-impl<T, A: Allocator> Model for Nodes<T, A> {
-    ghost also_owns = { λ n. nodes_own T.row A.row no_right n.blocks n.items };
+impl<T> Model for Nodes<T> {
+    ghost also_owns = { λ n. nodes_own T.row n.links n.items };
 
-    ghost also_shares = { λ n _ κ. chain_lent T.row (links_of n.blocks) n.items κ };
+    ghost also_shares = { λ n _ κ. nodes_lent T.row n.links n.items κ };
+}
+
+// Where a node lies. It owns nothing.
+#[derive(Clone, Copy)]
+pub(crate) struct Place {
+    ptr: *const u8,
 }

@@ -1,5 +1,5 @@
--- What a `&` to a chain shows. Assumes `Logic`.
---     chain_Seen                  [`head`; `tail`; `len`; the elements; the pointers]
+-- What a `&` to the nodes shows. Assumes `Logic`.
+--     nodes_Seen                  [`head`; `tail`; `len`; the elements; the pointers]
 --     pointer_in, pointer_out, number_in, number_out      a word is opened, and shut
 --     elem_at, link_lent_at       what is lent of the i-th node
 use mathlib.Core.Path.{refl}
@@ -24,8 +24,8 @@ use denote.Struct.Laws.{RawPtr-laws}
 use denote.Struct.Lending.{lent_at}
 use denote.Opens.{Shut, unhide, hide}
 use denote.Steps.{looks, shuts}
-use Rattle.paged_stack.specs.declared.chain.Chain.{Chain}
-use Rattle.paged_stack.specs.contracts.chain.Chain as C
+use Rattle.paged_stack.specs.declared.nodes.Nodes.{Nodes}
+use Rattle.paged_stack.specs.contracts.nodes.Nodes as C
 use Rattle.paged_stack.specs.Links.{Link}
 use Rattle.paged_stack.specs.Ownership.{elem_offset, elem_places, links_lent, spread_lent}
 use Rattle.paged_stack.proofs.Memory.Chained.{link_at}
@@ -41,10 +41,10 @@ module _ (Y : RattleType) where
   Cr = C.the_row R
 
 module _ {M : Type 1} {𝓤 : Ura M} {𝓛 : Logic 𝓤} {K : Type 0} {Γ : List (Item 𝓤)} {G : Goal 𝓤 𝓛.H} where
-  pub chain_Seen : K → (S : RattleType) {κ : Lft} (d : Chain S.Denot) (b o : ℕ)
+  pub nodes_Seen : K → (S : RattleType) {κ : Lft} (d : Nodes S.Denot) (b o : ℕ)
       → Step K 𝓛 (‵ (hidden_shr RawPtr κ d.head b (o + 0)) ∷ ‵ (hidden_shr RawPtr κ d.tail b (o + 8)) ∷ ‵ (hidden_shr usize κ d.len b (o + 16))
       ∷ ‵ (spread_lent S (elem_places S d.links) d.items κ) ∷ ‵ (links_lent d.links κ) ∷ Γ) G (‵ (hidden_shr (C.the_row S) κ d b o) ∷ Γ) G
-  chain_Seen t S d b o = step (λ s.
+  nodes_Seen t S d b o = step (λ s.
       unhide t $ fsplit t $ move t (1 ∷ []) $ fsplit t $ move t (2 ∷ []) $ fsplit t $ move t (1 ∷ []) $ drop t $ fsplit3 t $ move t (2 ∷ []) $ fsplit t $ move t (1 ∷ []) $ drop t $
       hide t $ move t (2 ∷ []) $ hide t $ move t (2 ∷ []) $ hide t $ s)
 

@@ -16,9 +16,8 @@ use contract.BorrowLft.{⊑_static}
 use denote.Struct.Field.{RawPtr-field}
 use denote.Struct.Laws.{RawPtr-copy}
 use denote.Struct.Lending.{lent_at, lent_at_shr_laws, Lends-lies, Lends-first, Lends, Lends-both, Lends-nothing}
-use Rattle.paged_stack.specs.Ownership.{spread}
-use Rattle.paged_stack.specs.Links.{Link, links_of}
-use Rattle.paged_stack.specs.Ownership.{elem_places, link_owns, frees, frames, nodes_own, links_lent, spread_lent, chain_lent}
+use Rattle.paged_stack.specs.Links.{Link}
+use Rattle.paged_stack.specs.Ownership.{spread, elem_places, link_owns, fields_rejoin, frames, nodes_own, links_lent, spread_lent, nodes_lent}
 
 pub links_lent_laws : (ls : List Link) → ShrLaws (links_lent ls)
 links_lent_laws [] = nothing_shr_laws
@@ -30,21 +29,21 @@ module _ (R : RattleType) (L : RowLaws R) where
   spread_lent_laws (p ∷ ps) [] = nothing_shr_laws
   spread_lent_laws (p ∷ ps) (x ∷ xs) = beside_shr_laws _ _ (lent_at_shr_laws R L p x) (spread_lent_laws ps xs)
 
-  pub chain_lent_laws : (ls : List Link) (xs : List R.Denot) → ShrLaws (chain_lent R ls xs)
-  chain_lent_laws ls xs = beside_shr_laws _ _ (spread_lent_laws (elem_places R ls) xs) (links_lent_laws ls)
+  pub nodes_lent_laws : (ls : List Link) (xs : List R.Denot) → ShrLaws (nodes_lent R ls xs)
+  nodes_lent_laws ls xs = beside_shr_laws _ _ (spread_lent_laws (elem_places R ls) xs) (links_lent_laws ls)
 
 module _ {M : Type 1} {𝓤 : Ura M} (𝓛 : Logic 𝓤) (l : Lft) where
   pointer : (p x : Ptr) → Lends 𝓛 (lies_at RawPtr full_share p x) (lent_at RawPtr p x) l
   pointer p x = Lends-lies 𝓛 RawPtr l p x (Shares-less 𝓛 RawPtr [] l (⊑_static l) ((copy_shared RawPtr-field RawPtr-copy).shares M 𝓤 𝓛) x)
 
-  module _ (R Z : RattleType) (holds : Z.Denot → Ty → Ptr → Fml) where
-    pub Lends-frames : (ns : List (Link × Z.Denot)) → Lends 𝓛 (frames R Z holds ns) (links_lent (links_of ns)) l
+  module _ (R : RattleType) where
+    pub Lends-frames : (ls : List Link) → Lends 𝓛 (frames R ls) (links_lent ls) l
     Lends-frames [] = Lends-nothing 𝓛 ftrue l
-    Lends-frames (n ∷ ns) =
-        let t : Lft → Fml = beside (lent_at RawPtr (n.0.0 +ₚ 0) n.0.1) (lent_at RawPtr (n.0.0 +ₚ 8) n.0.2) in
-        Lends-both 𝓛 _ (frames R Z holds ns) t (links_lent (links_of ns)) l
-        (Lends-first 𝓛 (link_owns n.0) (frees R Z holds n.0.0 n.1) t l (Lends-both 𝓛 _ _ (lent_at RawPtr (n.0.0 +ₚ 0) n.0.1) (lent_at RawPtr (n.0.0 +ₚ 8) n.0.2) l (pointer (n.0.0 +ₚ 0) n.0.1) (pointer (n.0.0 +ₚ 8) n.0.2)))
-        (Lends-frames ns)
+    Lends-frames (n ∷ ls) =
+        let t : Lft → Fml = beside (lent_at RawPtr (n.0 +ₚ 0) n.1) (lent_at RawPtr (n.0 +ₚ 8) n.2) in
+        Lends-both 𝓛 _ (frames R ls) t (links_lent ls) l
+        (Lends-first 𝓛 (link_owns n) (fields_rejoin R n.0) t l (Lends-both 𝓛 _ _ (lent_at RawPtr (n.0 +ₚ 0) n.1) (lent_at RawPtr (n.0 +ₚ 8) n.2) l (pointer (n.0 +ₚ 0) n.1) (pointer (n.0 +ₚ 8) n.2)))
+        (Lends-frames ls)
 
     module _ (L : Laws R) (inc : Incl l R.lives) where
       Lends-spread : (ps : List Ptr) (xs : List R.Denot) → Lends 𝓛 (spread R ps xs) (spread_lent R ps xs) l
@@ -54,7 +53,7 @@ module _ {M : Type 1} {𝓤 : Ura M} (𝓛 : Logic 𝓤) (l : Lft) where
       Lends-spread (p ∷ ps) (x ∷ xs) =
           Lends-both 𝓛 (lies_at R full_share p x) (spread R ps xs) (lent_at R p x) (spread_lent R ps xs) l (Lends-lies 𝓛 R l p x (Shares-less 𝓛 R R.lives l inc (L.shares 𝓛) x)) (Lends-spread ps xs)
 
-      pub Lends-nodes : (ns : List (Link × Z.Denot)) (xs : List R.Denot) → Lends 𝓛 (nodes_own R Z holds ns xs) (chain_lent R (links_of ns) xs) l
-      Lends-nodes ns xs =
-          let ps = elem_places R (links_of ns) in
-          Lends-both 𝓛 (spread R ps xs) (frames R Z holds ns) (spread_lent R ps xs) (links_lent (links_of ns)) l (Lends-spread ps xs) (Lends-frames ns)
+      pub Lends-nodes : (ls : List Link) (xs : List R.Denot) → Lends 𝓛 (nodes_own R ls xs) (nodes_lent R ls xs) l
+      Lends-nodes ls xs =
+          let ps = elem_places R ls in
+          Lends-both 𝓛 (spread R ps xs) (frames R ls) (spread_lent R ps xs) (links_lent ls) l (Lends-spread ps xs) (Lends-frames ls)

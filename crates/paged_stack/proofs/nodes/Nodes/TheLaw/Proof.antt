@@ -8,15 +8,11 @@ use denote.Param.Shared.{copy_shared}
 use denote.Struct.Field.{RawPtr-field, usize-field}
 use denote.Struct.Laws.{RawPtr-copy, usize-copy}
 use denote.Struct.Lending.{of_Lends}
-use Rattle.paged_stack.specs.Ownership.{no_right}
-use Rattle.std.specs.declared.alloc.Allocator.{Ghosts}
-use Rattle.paged_stack.specs.Links.{links_of}
 use Rattle.paged_stack.specs.contracts.nodes.Nodes as C
 use Rattle.paged_stack.proofs.nodes.Nodes.TheLaw.Statement.{statement}
-use Rattle.paged_stack.proofs.Memory.Shared.{chain_lent_laws, Lends-nodes}
+use Rattle.paged_stack.proofs.Memory.Shared.{nodes_lent_laws, Lends-nodes}
 
-pub shares : (R B : RattleType) (g : Ghosts B.Denot) (L : Laws R) (K : Laws B) → statement R B g L K
-shares R B g L K = of_Lends (C.struct R B g) (C.the_codes R.Denot B.Denot R.coded B.coded) (C.the_heap R B g) (C.the_lent R B g)
-    (λ d p. chain_lent_laws R L.shr_laws (links_of d.blocks) d.items) (copy_shared RawPtr-field RawPtr-copy, (copy_shared RawPtr-field RawPtr-copy, (copy_shared usize-field usize-copy, tt)))
-    (λ M 𝓤 𝓛 d p.
-    Lends-nodes 𝓛 (C.the_row R B g).lives R B no_right L (Incl-trans (meet_⊑_left (R.lives ++ (B.lives ++ [])) _) (meet_⊑_left R.lives (B.lives ++ []))) d.blocks d.items)
+pub shares : (R : RattleType) (L : Laws R) → statement R L
+shares R L = of_Lends (C.struct R) (C.the_codes R.Denot R.coded) (C.the_heap R) (C.the_lent R)
+    (λ d p. nodes_lent_laws R L.shr_laws d.links d.items) (copy_shared RawPtr-field RawPtr-copy, (copy_shared RawPtr-field RawPtr-copy, (copy_shared usize-field usize-copy, tt)))
+    (λ M 𝓤 𝓛 d p. Lends-nodes 𝓛 (C.the_row R).lives R L (Incl-trans (meet_⊑_left (R.lives ++ []) _) (meet_⊑_left R.lives [])) d.links d.items)

@@ -1,10 +1,10 @@
-// Reads of a chain. `i` is the index of the node at `at`, which only the proof needs.
+//! Reads of a chain. `i` is the index of the node at `at`, which only the proof needs.
 ghost use Rattle.std.specs.Prelude.{◌≡◌, ◌+◌, ◌-◌, ◌<◌, slice_index_or};
 ghost use Rattle.paged_stack.specs.Links.{place_of};
 
-use super::{Chain, Front, Place};
+use super::{Node, Nodes, Place};
 
-impl<T> Chain<T> {
+impl<T> Nodes<T> {
     pub(crate) fn len(&self) -> usize
         ensures { result ≡ self.now.len }
     {
@@ -31,7 +31,7 @@ impl<T> Chain<T> {
         requires { (i < self.now.len) × (at.ptr ≡ place_of self.now.links i) }
         ensures { i + 1 < self.now.len → result.ptr ≡ place_of self.now.links (i + 1) }
     {
-        let node = at.ptr as *const Front<T>;
+        let node = at.ptr as *const Node<T>;
         Place {
             ptr: unsafe { (*node).next } as *const u8,
         }
@@ -41,7 +41,7 @@ impl<T> Chain<T> {
         requires { (i < self.now.len) × (at.ptr ≡ place_of self.now.links i) }
         ensures { 0 < i → result.ptr ≡ place_of self.now.links (i - 1) }
     {
-        let node = at.ptr as *const Front<T>;
+        let node = at.ptr as *const Node<T>;
         Place {
             ptr: unsafe { (*node).prev } as *const u8,
         }
@@ -51,7 +51,7 @@ impl<T> Chain<T> {
         requires { (i < self.now.len) × (at.ptr ≡ place_of self.now.links i) }
         ensures { result.now ≡ slice_index_or self.now.items i result.now }
     {
-        let node = at.ptr as *const Front<T>;
+        let node = at.ptr as *const Node<T>;
         unsafe { &(*node).elem }
     }
 }
