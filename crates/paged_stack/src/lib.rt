@@ -2,3 +2,4 @@
 #![tactic(auto)]
 
 pub(crate) mod nodes;
+pub(crate) mod slots;
