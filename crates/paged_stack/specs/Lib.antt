@@ -1,3 +1,4 @@
+pub mod Blocks
 pub mod Links
 pub mod Nodes
 pub mod Ownership

@@ -1,5 +1,6 @@
 //! A stack in pages that never move.
 #![tactic(auto)]
 
+pub(crate) mod block;
 pub(crate) mod nodes;
 pub(crate) mod slots;

@@ -1,0 +1,72 @@
+//! The block of a page as the allocator sees it, and its two parts: room for the items, and room for a node after them.
+ghost use Rattle.std.specs.Prelude.{◌≡◌, ◌*◌, IfSome};
+ghost use Rattle.std.specs.Mem.{type_size};
+ghost use Rattle.std.specs.Align.{type_align};
+ghost use denote.RawPtr.{Ptr};
+ghost use Rattle.paged_stack.specs.Blocks.{IsCapacity, block_owns, deed_owns};
+
+use crate::nodes::Room;
+use crate::slots::Slots;
+use std::alloc::Allocator;
+use std::marker::{Model, PhantomData};
+
+// How many items a page has room for.
+pub(crate) const PAGE_ITEMS: usize = 1024;
+
+// What an allocation starts at a multiple of. No type is aligned to more.
+const ALIGN: usize = 16;
+
+// The bytes after the items, in which the node lies.
+const NODE_BYTES: usize = 48;
+
+// A block in which nothing lies, with `capacity` bytes for items.
+pub(crate) struct Block<A: Allocator> {
+    start: *mut u8,
+    capacity: usize,
+    marker: PhantomData<A>,
+    ghost alloc: { A },
+    ghost fits: { IsCapacity capacity },
+}
+
+impl<A: Allocator> Model for Block<A> {
+    ghost also_owns = { λ b. block_owns (A.dealloc_token b.alloc) b.start b.capacity };
+}
+
+// What makes the two parts of a block whole again, and the right to free it. It takes no memory.
+pub(crate) struct Deed<T, A: Allocator> {
+    marker: PhantomData<(T, A)>,
+    ghost row: { Ptr },
+    ghost node: { Ptr },
+    ghost alloc: { A },
+}
+
+impl<T, A: Allocator> Model for Deed<T, A> {
+    ghost also_owns = { λ d. deed_owns (A.dealloc_token d.alloc) T.row d.row d.node };
+}
+
+impl<A: Allocator> Block<A> {
+    pub(crate) fn new(alloc: &A, capacity: usize) -> Option<Block<A>>
+        requires { IsCapacity capacity }
+        ensures { IfSome result (λ b. (b.alloc ≡ alloc.now) × (b.capacity ≡ capacity)) }
+    {
+        match alloc.allocate(capacity + NODE_BYTES, ALIGN) {
+            Ok(start) => Some(Block {
+                start,
+                capacity,
+                marker: PhantomData,
+            }),
+            Err(_) => None,
+        }
+    }
+
+    pub(crate) fn free(self, alloc: &A)
+        requires { self.alloc ≡ alloc.now }
+    {
+        let Block {
+            start,
+            capacity,
+            marker: _,
+        } = self;
+        unsafe { alloc.deallocate(start, capacity + NODE_BYTES, ALIGN) }
+    }
+}
