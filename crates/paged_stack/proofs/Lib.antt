@@ -1,3 +1,3 @@
 pub mod Halves
+pub mod Items
 pub mod Memory
-pub mod Row

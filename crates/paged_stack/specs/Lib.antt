@@ -2,3 +2,4 @@ pub mod Blocks
 pub mod Links
 pub mod Nodes
 pub mod Ownership
+pub mod Rows

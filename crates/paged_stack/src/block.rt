@@ -6,7 +6,7 @@ ghost use denote.RawPtr.{Ptr};
 ghost use Rattle.paged_stack.specs.Blocks.{IsCapacity, block_owns, deed_owns};
 
 use crate::nodes::Room;
-use crate::slots::Slots;
+use crate::row::Row;
 use std::alloc::Allocator;
 use std::marker::{Model, PhantomData};
 
@@ -17,7 +17,7 @@ pub(crate) const PAGE_ITEMS: usize = 1024;
 const ALIGN: usize = 16;
 
 // The bytes after the items, in which the node lies.
-const NODE_BYTES: usize = 48;
+const NODE_BYTES: usize = 32;
 
 // A block in which nothing lies, with `capacity` bytes for items.
 pub(crate) struct Block<A: Allocator> {

@@ -3,4 +3,4 @@
 
 pub(crate) mod block;
 pub(crate) mod nodes;
-pub(crate) mod slots;
+pub(crate) mod row;

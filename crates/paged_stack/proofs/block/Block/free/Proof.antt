@@ -67,7 +67,7 @@ free_spec 𝓤 𝓛 𝓜 𝓡 wired A L g d dd met md =
     fsplit ! $ fsplit ! $ drop ! $ rewrite ! 0 (λ (u : A.Denot). ‵ (block_owns (g.dealloc_token u) x.start cap)) asked refl $
     in_a_block ! x.start (λ r. block_owns (g.dealloc_token h) r cap) (fst∗ 𝓤 (never 𝓤) (sem 𝓛 (g.dealloc_token h τ null_ptr))) (λ b o placed.
     move ! (1 ∷ []) $ fsplit ! $ fsplit ! $ drop ! $ move ! (1 ∷ []) $ drop ! $ use1 𝓛 (‵ (seen Y κ at h)) (id⊢ 𝓤 _) $ move ! (2 ∷ []) $ use1 𝓛 (‵ (flft κ q) ⊛ ‵ (flft z.0.0.1.0 z.0.1.1.0) ⊛ ‵ ftrue) (id⊢ 𝓤 _) $ split ! $ move ! (2 ∷ 0 ∷ []) $ join ! $ move ! (2 ∷ []) $ fsplit ! $
-    let y = at_gives Y 𝓛 𝓜.mem 𝓡.returns κ q at h b o (cap + 48) 16 τ in
+    let y = at_gives Y 𝓛 𝓜.mem 𝓡.returns κ q at h b o (cap + 32) 16 τ in
     regoal ! (λ (us : List Val). prop (WpFn 𝓤 H C Λ fn us Post)) (λ i. (told.0 ∙ ap (λ (r : Ptr). block_val r cap ∷ []) placed) i ++ (are.1.0.0 i ++ [])) refl $
     enter ! C Λ fn (block_val (block_ptr b o) cap ∷ vptr at.0 at.1 ∷ []) Post $
     alloc_all ! (λ l. pass_all ! refl ((tt, (tt, (record { fits = told.1 }, (tt, tt)))), ((tt, tt), tt)) $ let En : Env 𝓤 𝓛.H = env fn.locals l in
@@ -75,9 +75,9 @@ free_spec 𝓤 𝓛 𝓜 𝓡 wired A L g d dd met md =
     sets ! (of_opd ! (get_in ! (fld ! refl (stop !)) (sub ! 1 refl (whole !)))) refl (tt, record { fits = told.1 }) $
     first ! $ blocks ! $
     sets ! (bin ! (get ! refl) (lit ! tt) (record { fits = omega arith })) refl (tt, record { fits = omega arith }) $
-    use3 𝓛 (raw ((Gives Y 𝓛 𝓜.mem 𝓡.returns).pre y)) (Gives-goes Y 𝓛 𝓜.mem 𝓡.returns κ q at h (⊑_trans κ z.0.0.1.0 A.lives z.0.2.0 le) b o (cap + 48) 16 τ (block_size cap x.fits) refl (omega arith) (lit< tt)) $
+    use3 𝓛 (raw ((Gives Y 𝓛 𝓜.mem 𝓡.returns).pre y)) (Gives-goes Y 𝓛 𝓜.mem 𝓡.returns κ q at h (⊑_trans κ z.0.0.1.0 A.lives z.0.2.0 le) b o (cap + 32) 16 τ (block_size cap x.fits) refl (omega arith) (lit< tt)) $
     calls_at_last ! (fm 𝓛 𝓜 𝓡) (Gives Y 𝓛 𝓜.mem 𝓡.returns) (met.deallocate dd) y (and_then ! (get ! refl) (and_then ! (get ! refl) (and_then ! (get ! refl) (and_then ! (lit ! tt) (no_more !))))) (λ v.
-    use1 𝓛 (later (given (v ≡ vunit) (‵ (flft κ q)))) (Gives-Gives Y 𝓛 𝓜.mem 𝓡.returns κ q at h b o (cap + 48) 16 τ v) $ await ! tt $ learn ! (λ e. join ! $ regoal ! (λ (u : Val). settles En (place 5 []) u (out_of_block 𝓛 (then_runs 𝓛 C Λ En (after 3 fn.body) (at_ret En Post)))) (e) refl $ lands_last ! refl (tt, tt) $
+    use1 𝓛 (later (given (v ≡ vunit) (‵ (flft κ q)))) (Gives-Gives Y 𝓛 𝓜.mem 𝓡.returns κ q at h b o (cap + 32) 16 τ v) $ await ! tt $ learn ! (λ e. join ! $ regoal ! (λ (u : Val). settles En (place 5 []) u (out_of_block 𝓛 (then_runs 𝓛 C Λ En (after 3 fn.body) (at_ret En Post)))) (e) refl $ lands_last ! refl (tt, tt) $
     exec ! C Λ En (after 3 fn.body) (at_ret En Post) $
     sets ! (of_opd ! (unit_lit !)) refl (tt, tt) $
     returns ! (look_at ! 0 refl) $ free_all ! refl $

@@ -61,7 +61,7 @@ new_spec 𝓤 𝓛 𝓜 𝓡 wired A L g d dd met md =
     let at = a.0.ref_ptr in
     let cap = a.1.0 in
     let τ : Ty = block_type cap in
-    let y = at_takes Y 𝓛 𝓜.mem 𝓡.returns κ q at h (cap + 48) 16 τ in
+    let y = at_takes Y 𝓛 𝓜.mem 𝓡.returns κ q at h (cap + 32) 16 τ in
     let Out : RattleType = type_at En₀.signature.result z.0.0 in
     let Asked : Type 0 = IsCapacity cap in
     qed 𝓛 ((raw (alive 𝓛 En₀.signature z.0.0 z.0.1) ⊛ ‵ (owns (types_at En₀.signature.params z.0.0) a vss)) ∷ (raw (fact 𝓤 (z.0.0.1.0 ⊑ A.lives)) ⊛ raw (fact 𝓤 Asked)) ∷ []) ∵
@@ -71,9 +71,9 @@ new_spec 𝓤 𝓛 𝓜 𝓡 wired A L g d dd met md =
     enter ! C Λ fn (vptr at.0 at.1 ∷ vint w64 cap ∷ []) Post $
     alloc_all ! (λ l. pass_all ! refl ((tt, tt), ((tt, record { fits = are.1.0.1 }), tt)) $ let En : Env 𝓤 𝓛.H = env fn.locals l in
     sets ! (bin ! (get ! refl) (lit ! tt) (record { fits = omega arith })) refl (tt, record { fits = omega arith }) $
-    use2 𝓛 (raw ((Takes Y 𝓛 𝓜.mem 𝓡.returns).pre y)) (Takes-goes Y 𝓛 𝓜.mem 𝓡.returns κ q at h (⊑_trans κ z.0.0.1.0 A.lives z.0.2.0 le) (cap + 48) 16 τ (block_size cap asked) refl (omega arith) (lit< tt)) $
+    use2 𝓛 (raw ((Takes Y 𝓛 𝓜.mem 𝓡.returns).pre y)) (Takes-goes Y 𝓛 𝓜.mem 𝓡.returns κ q at h (⊑_trans κ z.0.0.1.0 A.lives z.0.2.0 le) (cap + 32) 16 τ (block_size cap asked) refl (omega arith) (lit< tt)) $
     calls_at ! (fm 𝓛 𝓜 𝓡) (Takes Y 𝓛 𝓜.mem 𝓡.returns) (met.allocate dd) y (and_then ! (get ! refl) (and_then ! (get ! refl) (and_then ! (lit ! tt) (no_more !)))) (λ v.
-    use1 𝓛 (later (raw (Answered Y 𝓛 𝓜.mem 𝓡.returns h τ v) ⊛ ‵ (flft κ q))) (Takes-gives Y 𝓛 𝓜.mem 𝓡.returns κ q at h (cap + 48) 16 τ v) $ await ! tt $ split ! $
+    use1 𝓛 (later (raw (Answered Y 𝓛 𝓜.mem 𝓡.returns h τ v) ⊛ ‵ (flft κ q))) (Takes-gives Y 𝓛 𝓜.mem 𝓡.returns κ q at h (cap + 32) 16 τ v) $ await ! tt $ split ! $
     answers Y ! 𝓜.mem 𝓡.returns h τ v
     (λ b o e. fjoin ! $ move ! (1 ∷ 2 ∷ []) $ join ! $ move ! (1 ∷ []) $ lands_as ! (e) refl (tt, (record { fits = lit< tt }, (tt, tt))) $
     first ! $ switches_on ! (get_tag ! (vrt ! refl (fld ! refl (stop !))) (whole !)) $ exec ! C Λ En (arm_body 0 (head (after 2 fn.body))) (then_runs 𝓛 C Λ En (after 3 fn.body) (at_ret En Post)) $

@@ -1,10 +1,11 @@
--- `put` writes x at i, over whatever the place held, for every element type. Assumes `Logic`.
+-- `put` writes the item at k, over whatever the place held. Assumes `Logic`.
 use mathlib.Core.Path.{◌≡◌, refl, sym, subst, ◌∙◌}
-use mathlib.Core.Bool.{true}
-use Prim.Native.Nat.{ℕ, ◌+◌, ◌*◌, ◌<◌, ◌^◌}
+use Prim.Native.Nat.{ℕ, ◌+◌, ◌*◌, ◌≤◌, ◌<◌, ◌^◌}
 use native.Mathlib.Omega.{arith}
-use mathlib.Core.List.{List, [], ◌∷◌}
-use lib.ListN.{length, set, length-set}
+use mathlib.Core.List.{List, [], ◌∷◌, ◌++◌}
+use lib.ListN.{length, take, length-append}
+use lib.Seq.{length-take-le}
+use lib.Dec.{lit<}
 use mir.Syntax.{Fn, w64}
 use mir.Val.{Val, vunit, vint, vptr}
 use base.Fml.{ftrue, froom, flft}
@@ -32,17 +33,17 @@ use types.ByLocal.{alloc_all, pass_all, free_all, look_at, get, through, sets, e
 use denote.Exit.{yes, no}
 use denote.Builtin.{usize}
 use denote.Triple.Entry.{Vals}
-use denote.Triple.Walked.{Stays, stay_dropped, stay_ref, walk_of, ends_at, Goes-dropped, Goes-ref, walk_Meets}
+use denote.Triple.Walked.{says, Stays, stay_dropped, stay_ref, walk_of, ends_at, Goes-dropped, Goes-ref, walk_Meets}
 use Rattle.paged_stack.proofs.Memory.El.{El, R, args, el_x, elτ, Good, lawful, one}
-use Rattle.paged_stack.proofs.Row.Facts.{says_three}
-use Rattle.paged_stack.proofs.Row.Products.{times_below, one_below}
-use Rattle.paged_stack.proofs.Row.Bodies.{after, knowing}
-use Rattle.paged_stack.proofs.Row.Places.{sz, besides, room_out, value_in}
-use Rattle.paged_stack.proofs.Row.Opens.{Sr, el_d, places, row_opens, row_closes}
-use Rattle.paged_stack.specs.contracts.slots.Slots.put as F
-use Rattle.paged_stack.specs.contracts.slots.Slots.put.Key.{name as #self}
-use Rattle.paged_stack.proofs.slots.Slots.put.Statement as stated
-use Rattle.paged_stack.proofs.slots.Slots.put.Code as code
+use Rattle.paged_stack.proofs.Items.Products.{times_below, one_below}
+use Rattle.paged_stack.proofs.Items.Knows.{knowing}
+use Rattle.std.proofs.VecSteps.Shapes.{after}
+use Rattle.paged_stack.proofs.Items.Places.{sz, besides, room_out, value_in}
+use Rattle.paged_stack.proofs.Items.Opens.{Sr, el_d, lies, row_opens, row_closes}
+use Rattle.paged_stack.specs.contracts.row.Row.put as F
+use Rattle.paged_stack.specs.contracts.row.Row.put.Key.{name as #self}
+use Rattle.paged_stack.proofs.row.Row.put.Statement as stated
+use Rattle.paged_stack.proofs.row.Row.put.Code as code
 
 module _ (E : El) where
   abbrev here : Fn
@@ -78,28 +79,29 @@ module _ (E : El) where
         let rb : ℕ = z.0.3.0.ref_ptr.0 in let ro : ℕ = z.0.3.0.ref_ptr.1 in let h : el_d E = z.0.3.0.now in let i : ℕ = z.0.3.1.0 in let x : el_x E = z.0.3.1.1.0 in
         let Post : Val → SProp 𝓤 = (walk_of 𝓛 ended stayed held).post (spelled z v) in
         let s : ℕ = sz E in
-        let lx : h.len ≡ length h.items = h.ok.0 in let lf : h.len ≡ length h.filled = h.ok.1 in
-        let new : el_d E = record { ptr = h.ptr; len = h.len; items = set h.items i x; filled = set h.filled i true; ok = (lx ∙ sym (length-set h.items i x), lf ∙ sym (length-set h.filled i true)); small = h.small } in
-        qed 𝓛 (((‵ (flft κ q) ⊛ ‵ (flft κ₁ q₁) ⊛ ‵ ftrue) ⊛ ‵ (owns (types_at ended.signature.params z.0.0) z.0.3 (spelled z v).0.4)) ∷ (raw (fact 𝓤 (κ₁ ⊑ E.row.lives)) ⊛ raw (fact 𝓤 (i < h.len))) ∷ []) ∵
-        move ! (1 ∷ []) $ split ! $ drop ! $ heard ! (i < h.len) (λ li.
-        let ix : i < length h.items = omega arith in let fx : i < length h.filled = omega arith in
+        let fits = h.fits in
+        let Ok : Type 0 = (i ≤ length h.items) × (i < 1024) in
+        qed 𝓛 (((‵ (flft κ q) ⊛ ‵ (flft κ₁ q₁) ⊛ ‵ ftrue) ⊛ ‵ (owns (types_at ended.signature.params z.0.0) z.0.3 (spelled z v).0.4)) ∷ (raw (fact 𝓤 (κ₁ ⊑ E.row.lives)) ⊛ raw (fact 𝓤 Ok)) ∷ []) ∵
+        move ! (1 ∷ []) $ split ! $ drop ! $ heard ! Ok (λ ok.
+        let longer : length (take i h.items ++ x ∷ []) ≤ 1024 = omega (arith, ok.1, ok.0, length-append (take i h.items) (x ∷ []), length-take-le i h.items ok.0) in
+        let new : el_d E = record { ptr = h.ptr; items = take i h.items ++ x ∷ []; fits = longer } in
         split ! $ split ! $ move ! (2 ∷ []) $ fsplit3 ! $ fsplit3 ! $ move ! (4 ∷ []) $ fsplit ! $ keep ! (3 ∷ 4 ∷ 6 ∷ 0 ∷ 7 ∷ []) $
         enter ! 𝓣.C 𝓣.Λ here (vptr rb ro ∷ vint w64 i ∷ v ∷ []) _ $ alloc_all ! (λ l. pass_all ! refl ((tt, tt), ((tt, record { fits = fi }), (tv, tt))) $
         let En : Env 𝓤 H = env here.locals l in
-        row_opens E ! tt h rb ro (λ b o at_b fl fit.
-        let small : s < 2 ^ 63 = one_below h.len s (2 ^ 63) (omega arith) fit in let tiny : s < 2 ^ 64 = omega arith in
-        let part : i * s < 2 ^ 63 = times_below i h.len s (2 ^ 63) (omega arith) fit in let fm : i * s < 2 ^ 64 = omega arith in
-        use1 𝓛 (‵ (froom (elτ E) b (i * s + o)) ⊛ ‵ (besides E b o h.items h.filled i)) (room_out E 𝓛 b o h.items h.filled i ix fx x) $ split ! $
-        -- [the room; the other places; the two words; the open borrow; obs; auth; what x owns; the other token]
+        row_opens E ! tt h rb ro (λ b o at_b fit.
+        let small : s < 2 ^ 63 = one_below 1024 s (2 ^ 63) (lit< tt) fit in let tiny : s < 2 ^ 64 = omega arith in
+        let part : i * s < 2 ^ 63 = times_below i 1024 s (2 ^ 63) (omega (arith, ok.1)) fit in let fm : i * s < 2 ^ 64 = omega arith in
+        use1 𝓛 (‵ (froom (elτ E) b (i * s + o)) ⊛ ‵ (besides E b o 1024 h.items i)) (room_out E 𝓛 b o 1024 h.items i ok.0 ok.1 fits) $ split ! $
+        -- [the room; the other places; the word; the open borrow; obs; auth; what x owns; the other token]
         first ! $ blocks ! $
         sets ! (of_opd ! (load ! (through ! refl (fld ! refl (stop !))) (look_in ! 2 (sub ! 0 refl (whole !))))) refl (tt, tt) $
         sets ! (bin ! (get ! refl) (size_lit ! (record { fits = tiny })) (record { fits = fm })) refl (tt, record { fits = fm }) $
         sets ! (bin ! (get ! refl) (get ! refl) tt) refl (tt, tt) $ sets ! (of_opd ! (get ! refl)) refl tv $
         assigns_last ! (of_opd ! (get ! refl)) (through ! refl (stop !)) (init ! 0 refl tv) $
         exec ! 𝓣.C 𝓣.Λ En (after 1 here.body) (at_ret En Post) $ sets ! (of_opd ! (unit_lit !)) refl (tt, tt) $
-        move ! (0 ∷ 6 ∷ []) $ use3 𝓛 (‵ (places E new b o)) (value_in E 𝓛 b o h.items h.filled i ix fx x v) $
-        row_closes E ! tt new b o rb ro at_b fl fit $ returns ! (look_at ! 0 refl) $ free_all ! refl $
-        suffices ! _ (ends_at 𝓛 ended stayed held (spelled z v) vunit tt (new, (tt, (tt, tt))) (tt, (tt, (tt, tt)))) $ says_three ! (refl, refl, (refl, refl)) $
+        move ! (0 ∷ 6 ∷ []) $ use3 𝓛 (‵ (lies E new b o)) (value_in E 𝓛 b o 1024 h.items i ok.0 ok.1 x v) $
+        row_closes E ! tt new b o rb ro at_b fit $ returns ! (look_at ! 0 refl) $ free_all ! refl $
+        suffices ! _ (ends_at 𝓛 ended stayed held (spelled z v) vunit tt (new, (tt, (tt, tt))) (tt, (tt, (tt, tt)))) $ says ! (refl, refl) $
         feq_i ! (List Val) (vptr rb ro ∷ []) (vptr rb ro ∷ []) refl $ fjoin3 ! $ nothing ! $ nothing ! $ fjoin ! $ nothing ! $ fjoin ! $ move ! (1 ∷ 0 ∷ []) $ fjoin ! $
         move ! (1 ∷ 2 ∷ []) $ join ! $ feq_i ! (List Val) (vunit ∷ []) (vunit ∷ []) refl $ keep ! (1 ∷ 2 ∷ 0 ∷ []) $ done !)))
 

@@ -1,10 +1,11 @@
--- `get` hands on the `&` to the value at i that a `&` to the row holds, for every element type. Assumes `Logic`.
+-- `get` hands on the `&` to the item at k that a `&` to the row holds. Assumes `Logic`.
 use mathlib.Core.Path.{◌≡◌, refl}
 use mathlib.Core.Bool.{true, false}
 use Prim.Native.Nat.{ℕ, ◌+◌, ◌*◌, ◌<◌, ◌^◌}
 use native.Mathlib.Omega.{arith}
 use mathlib.Core.List.{List, [], ◌∷◌}
 use lib.ListN.{length, get_or}
+use lib.Dec.{lit<}
 use mir.Syntax.{Fn, w64, named}
 use mir.Val.{Val, vint, vptr}
 use base.Fml.{ftrue, flt, flft}
@@ -37,16 +38,16 @@ use denote.Ref.{shr_vals, shr_Tells}
 use denote.Triple.Walked.{says, Stays, stay_dropped, walk_of, ends_at, walked, Goes-dropped, walk_Meets}
 use Rattle.paged_stack.proofs.Memory.El.{El, R, args, el_x}
 use Rattle.std.proofs.SliceLists.{hd, any-default}
-use Rattle.paged_stack.proofs.Row.Products.{times_below, one_below}
-use Rattle.std.specs.Mem.Slots.Ownership.{slots_lent}
-use Rattle.paged_stack.proofs.Row.Bodies.{after}
-use Rattle.paged_stack.proofs.Row.Places.{sz}
-use Rattle.paged_stack.proofs.Row.Opens.{Sr, el_d}
-use Rattle.paged_stack.proofs.Row.Lent.{shown, none_at_null, value_lent, pointer_in, pointer_out}
-use Rattle.paged_stack.specs.contracts.slots.Slots.get as F
-use Rattle.paged_stack.specs.contracts.slots.Slots.get.Key.{name as #self}
-use Rattle.paged_stack.proofs.slots.Slots.get.Statement as stated
-use Rattle.paged_stack.proofs.slots.Slots.get.Code as code
+use Rattle.paged_stack.proofs.Items.Products.{times_below, one_below}
+use Rattle.paged_stack.specs.Rows.{row_bytes, places_lent}
+use Rattle.std.proofs.VecSteps.Shapes.{after}
+use Rattle.paged_stack.proofs.Items.Places.{sz}
+use Rattle.paged_stack.proofs.Items.Opens.{Sr, el_d}
+use Rattle.paged_stack.proofs.Items.Lent.{shown, none_at_null, value_lent, pointer_in, pointer_out}
+use Rattle.paged_stack.specs.contracts.row.Row.get as F
+use Rattle.paged_stack.specs.contracts.row.Row.get.Key.{name as #self}
+use Rattle.paged_stack.proofs.row.Row.get.Statement as stated
+use Rattle.paged_stack.proofs.row.Row.get.Code as code
 
 module _ (E : El) where
   abbrev here : Fn
@@ -78,20 +79,20 @@ module _ (E : El) where
         let κ = z.0.0.0 in let κ₁ = z.0.0.1.0 in let q = z.0.1.0 in let q₁ = z.0.1.1.0 in
         let rb : ℕ = z.0.3.0.ref_ptr.0 in let ro : ℕ = z.0.3.0.ref_ptr.1 in let h : el_d E = z.0.3.0.now in let i : ℕ = z.0.3.1.0 in
         let Post : Val → SProp 𝓤 = (walk_of 𝓛 ended stayed held).post (spelled z) in
-        let Ok : Type 0 = (i < h.len) × (get_or h.filled i false ≡ true) in
+        let Ok : Type 0 = i < length h.items in
         let s : ℕ = sz E in
-        let lx : h.len ≡ length h.items = h.ok.0 in let lf : h.len ≡ length h.filled = h.ok.1 in
+        let full = h.fits in
         qed 𝓛 (((‵ (flft κ q) ⊛ ‵ (flft κ₁ q₁) ⊛ ‵ ftrue) ⊛ ‵ (owns (types_at ended.signature.params z.0.0) z.0.3 (spelled z).0.4)) ∷ (raw (fact 𝓤 (κ₁ ⊑ E.row.lives)) ⊛ raw (fact 𝓤 Ok)) ∷ []) ∵
         move ! (1 ∷ []) $ split ! $ drop ! $ heard ! Ok (λ ok.
-        let li : i < h.len = ok.0 in let ix : i < length h.items = omega arith in let fx : i < length h.filled = omega arith in
+        let ix : i < length h.items = ok in
         let d : el_x E = hd h.items (omega arith) in let x : el_x E = get_or h.items i d in
         split ! $ split ! $ move ! (2 ∷ []) $ fsplit ! $ fsplit ! $ drop ! $
-        use1 𝓛 (‵ (hidden_shr RawPtr κ h.ptr rb (ro + 0)) ⊛ ‵ (hidden_shr usize κ h.len rb (ro + 8)) ⊛ ‵ (flt (h.len * s) (2 ^ 63)) ⊛ ‵ (slots_lent (R E) h.ptr h.items h.filled κ)) (shown E 𝓛 κ h rb ro) $
-        split3 ! $ move ! (2 ∷ []) $ split ! $ flt_l ! (λ fit.
-        let small : s < 2 ^ 63 = one_below h.len s (2 ^ 63) (omega arith) fit in let tiny : s < 2 ^ 64 = omega arith in
-        let part : i * s < 2 ^ 63 = times_below i h.len s (2 ^ 63) (omega arith) fit in let fm : i * s < 2 ^ 64 = omega arith in
-        in_a_block ! h.ptr (λ p. slots_lent (R E) p h.items h.filled κ) (none_at_null E 𝓛 κ h.items h.filled i ix fx ok.1) (λ b o at_b.
-        use1 𝓛 (‵ (hidden_shr (R E) κ x b (i * s + o))) (value_lent E 𝓛 κ b o h.items h.filled i d ix fx ok.1) $ keep ! (1 ∷ 4 ∷ 5 ∷ 0 ∷ []) $
+        use1 𝓛 (‵ (hidden_shr RawPtr κ h.ptr rb (ro + 0)) ⊛ ‵ (flt (row_bytes (R E)) (2 ^ 63)) ⊛ ‵ (places_lent (R E) h.ptr h.items κ)) (shown E 𝓛 κ h rb ro) $
+        split3 ! $ move ! (1 ∷ []) $ flt_l ! (λ fit. move ! (1 ∷ []) $
+        let small : s < 2 ^ 63 = one_below 1024 s (2 ^ 63) (lit< tt) fit in let tiny : s < 2 ^ 64 = omega arith in
+        let part : i * s < 2 ^ 63 = times_below i 1024 s (2 ^ 63) (omega arith) fit in let fm : i * s < 2 ^ 64 = omega arith in
+        in_a_block ! h.ptr (λ p. places_lent (R E) p h.items κ) (none_at_null E 𝓛 κ h.items i ix) (λ b o at_b.
+        use1 𝓛 (‵ (hidden_shr (R E) κ x b (i * s + o))) (value_lent E 𝓛 κ b o h.items i d ix) $ keep ! (1 ∷ 3 ∷ 4 ∷ 0 ∷ []) $
         enter ! 𝓣.C 𝓣.Λ here (vptr rb ro ∷ vint w64 i ∷ []) _ $ alloc_all ! (λ l. pass_all ! refl ((tt, tt), ((tt, record { fits = fi }), tt)) $
         let En : Env 𝓤 H = env here.locals l in
         first ! $ blocks ! $ pointer_in ! tt h.ptr b o at_b rb (ro + 0) (λ q'.
