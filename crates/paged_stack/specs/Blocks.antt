@@ -25,7 +25,11 @@ block_owns t p n = fsep (room_for (block_type n) p) (t (block_type n) p)
 abbrev pub words : ℕ → Ty
 words k = ty_array (ty_int w64) k
 
+-- a block has the row at p, and at q the node after it
+abbrev pub IsParted : RattleType → Ptr → Ptr → Type 0
+IsParted R p q = (q ≡ p +ₚ row_bytes R) × IsCapacity (row_bytes R)
+
 -- the row and the node, given back empty, make the block whole, which may then be freed
 abbrev pub deed_owns : (Ty → Ptr → Fml) → RattleType → Ptr → Ptr → Fml
-deed_owns t R p q = fex (q ≡ p +ₚ row_bytes R) (λ _.
+deed_owns t R p q = fex (IsParted R p q) (λ _.
     fsep (fwand (room_for (items_type R 1024) p) (room_for (units (row_bytes R / 16)) p)) (fsep (fwand (room_for (words 4) q) (room_for (units 2) q)) (t (block_type (row_bytes R)) p)))

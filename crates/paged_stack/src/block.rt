@@ -1,8 +1,9 @@
 //! The block of a page as the allocator sees it, and its two parts: room for the items, and room for a node after them.
-ghost use Rattle.std.specs.Prelude.{◌≡◌, ◌*◌, IfSome};
+ghost use Rattle.std.specs.Prelude.{◌≡◌, [], IfSome};
 ghost use Rattle.std.specs.Mem.{type_size};
 ghost use Rattle.std.specs.Align.{type_align};
 ghost use denote.RawPtr.{Ptr};
+ghost use Rattle.paged_stack.specs.Rows.{row_bytes};
 ghost use Rattle.paged_stack.specs.Blocks.{IsCapacity, block_owns, deed_owns};
 
 use crate::nodes::Room;
@@ -68,5 +69,46 @@ impl<A: Allocator> Block<A> {
             marker: _,
         } = self;
         unsafe { alloc.deallocate(start, capacity + NODE_BYTES, ALIGN) }
+    }
+}
+
+// An empty row, and room for the node, which has 32 bytes.
+pub(crate) fn split<T, N, A: Allocator>(block: Block<A>) -> (Row<T>, Room<N>, Deed<T, A>)
+    requires { (block.capacity ≡ row_bytes T.row) × (type_size N.row ≡ 32) × (type_align N.row ≡ 8) }
+    ensures { (result.0.items ≡ []) × (result.2.row ≡ result.0.ptr) × (result.2.node ≡ result.1.ptr) × (result.2.alloc ≡ block.alloc) }
+{
+    let Block {
+        start,
+        capacity,
+        marker: _,
+    } = block;
+    let row = Row {
+        ptr: start as *mut T,
+    };
+    let room = Room {
+        ptr: unsafe { start.add(capacity) } as *mut N,
+    };
+    let marker = PhantomData;
+    (row, room, Deed { marker })
+}
+
+// What lies in the row is forgotten.
+pub(crate) fn join<T, N, A: Allocator>(
+    row: Row<T>,
+    room: Room<N>,
+    deed: Deed<T, A>,
+    capacity: usize,
+) -> Block<A>
+    requires parts { (deed.row ≡ row.ptr) × (deed.node ≡ room.ptr) }
+    requires sizes { (capacity ≡ row_bytes T.row) × (type_size N.row ≡ 32) × (type_align N.row ≡ 8) }
+    ensures { result.alloc ≡ deed.alloc }
+{
+    let Row { ptr } = row;
+    let Room { ptr: _ } = room;
+    let Deed { marker: _ } = deed;
+    Block {
+        start: ptr as *mut u8,
+        capacity,
+        marker: PhantomData,
     }
 }
