@@ -2,6 +2,7 @@
 ghost use Rattle.std.specs.Prelude.{◌≡◌, [], IfSome};
 ghost use Rattle.std.specs.Mem.{type_size};
 ghost use Rattle.std.specs.Align.{type_align};
+ghost use prog.Memory.{capped};
 ghost use denote.RawPtr.{Ptr};
 ghost use Rattle.paged_stack.specs.Rows.{row_bytes};
 ghost use Rattle.paged_stack.specs.Blocks.{IsCapacity, block_owns, deed_owns};
@@ -10,6 +11,7 @@ use crate::nodes::Room;
 use crate::row::Row;
 use std::alloc::Allocator;
 use std::marker::{Model, PhantomData};
+use std::mem::size_of;
 
 // How many items a page has room for.
 pub(crate) const PAGE_ITEMS: usize = 1024;
@@ -20,12 +22,15 @@ const ALIGN: usize = 16;
 // The bytes after the items, in which the node lies.
 const NODE_BYTES: usize = 32;
 
+// An item of more bytes makes a page that no block can hold.
+const MOST_ITEM_BYTES: usize = (isize::MAX as usize - NODE_BYTES) / PAGE_ITEMS;
+
 // A block in which nothing lies, with `capacity` bytes for items.
 pub(crate) struct Block<A: Allocator> {
     start: *mut u8,
     capacity: usize,
     marker: PhantomData<A>,
-    ghost alloc: { A },
+    pub(crate) ghost alloc: { A },
     ghost fits: { IsCapacity capacity },
 }
 
@@ -36,9 +41,9 @@ impl<A: Allocator> Model for Block<A> {
 // What makes the two parts of a block whole again, and the right to free it. It takes no memory.
 pub(crate) struct Deed<T, A: Allocator> {
     marker: PhantomData<(T, A)>,
-    ghost row: { Ptr },
-    ghost node: { Ptr },
-    ghost alloc: { A },
+    pub(crate) ghost row: { Ptr },
+    pub(crate) ghost node: { Ptr },
+    pub(crate) ghost alloc: { A },
 }
 
 impl<T, A: Allocator> Model for Deed<T, A> {
@@ -111,4 +116,22 @@ pub(crate) fn join<T, N, A: Allocator>(
         capacity,
         marker: PhantomData,
     }
+}
+
+// The size of `T` as a plain number, which code may use in a comparison.
+fn size_of_item<T>() -> usize
+    ensures { result ≡ capped (type_size T.row) }
+{
+    size_of::<T>()
+}
+
+// The bytes that a page of items takes, if one block can hold them and a node.
+pub(crate) fn row_size<T>() -> Option<usize>
+    ensures { IfSome result (λ n. IsCapacity n × (n ≡ row_bytes T.row)) }
+{
+    let size = size_of_item::<T>();
+    if size > MOST_ITEM_BYTES {
+        return None;
+    }
+    Some(size * PAGE_ITEMS)
 }

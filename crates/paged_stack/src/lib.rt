@@ -3,4 +3,5 @@
 
 pub(crate) mod block;
 pub(crate) mod nodes;
+pub(crate) mod page;
 pub(crate) mod row;
