@@ -1,3 +1,4 @@
 pub mod Halves
 pub mod Items
 pub mod Memory
+pub mod Written

@@ -2,5 +2,6 @@ pub mod Blocks
 pub mod Links
 pub mod Nodes
 pub mod Ownership
-pub mod Pages
+pub mod Packed
+pub mod Leaves
 pub mod Rows

@@ -4,4 +4,5 @@
 pub(crate) mod block;
 pub(crate) mod nodes;
 pub(crate) mod page;
+pub(crate) mod pages;
 pub(crate) mod row;

@@ -6,6 +6,7 @@ ghost use Rattle.paged_stack.specs.Ownership.{room_owns, nodes_own, nodes_lent};
 use std::marker::Model;
 
 pub(crate) mod ends;
+pub(crate) mod finds;
 pub(crate) mod lends;
 pub(crate) mod reads;
 

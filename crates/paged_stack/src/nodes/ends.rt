@@ -95,4 +95,15 @@ impl<T> Nodes<T> {
             (elem, Room { ptr })
         }
     }
+
+    // Ends an empty chain. Its nodes were taken out before.
+    pub(crate) fn end(self)
+        requires { self.len ≡ 0 }
+    {
+        let Nodes {
+            head: _,
+            tail: _,
+            len: _,
+        } = self;
+    }
 }

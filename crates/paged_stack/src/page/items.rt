@@ -1,6 +1,6 @@
 //! Items go onto a page and come off it.
 ghost use Rattle.std.specs.Prelude.{◌≡◌, ◌<◌, ◌≤◌, [], ◌∷◌, ◌++◌, take, slice_index_or};
-ghost use Rattle.paged_stack.specs.Pages.{items_of, home_of};
+ghost use Rattle.paged_stack.specs.Leaves.{items_of, home_of};
 
 use super::Page;
 

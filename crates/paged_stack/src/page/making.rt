@@ -1,6 +1,6 @@
 //! A page is made, and given back.
 ghost use Rattle.std.specs.Prelude.{◌≡◌, [], IfOk};
-ghost use Rattle.paged_stack.specs.Pages.{items_of};
+ghost use Rattle.paged_stack.specs.Leaves.{items_of};
 
 use super::{Loose, Page};
 use crate::block::{Block, PAGE_ITEMS, join, row_size, split};
