@@ -6,3 +6,6 @@ pub(crate) mod nodes;
 pub(crate) mod page;
 pub(crate) mod pages;
 pub(crate) mod row;
+mod stack;
+
+pub use stack::PagedStack;

@@ -1,5 +1,5 @@
 //! A page is made, and given back.
-ghost use Rattle.std.specs.Prelude.{◌≡◌, [], IfOk};
+ghost use Rattle.std.specs.Prelude.{◌≡◌, [], ◌∷◌, IfOk};
 ghost use Rattle.paged_stack.specs.Leaves.{items_of};
 
 use super::{Loose, Page};
@@ -34,5 +34,15 @@ impl<T> Loose<T> {
             deed,
         } = page;
         join(row, room, deed, PAGE_ITEMS * size_of::<T>()).free(alloc);
+    }
+}
+
+impl<T: Copy> Loose<T> {
+    // The item is all that the page holds.
+    pub(crate) fn restart(&mut self, item: T)
+        ensures { items_of self.new.page ≡ item ∷ [] }
+    {
+        self.page.cut(0);
+        self.page.push(item);
     }
 }

@@ -1,0 +1,120 @@
+-- Pages that are packed stay so where an item comes or goes.
+use Rattle.std.proofs.Common.{◌≡◌, ℕ, zero, suc, ◌+◌, ◌-◌, ◌*◌, ◌%◌, ◌/◌, ◌<◌, ◌≤◌, List, [], ◌∷◌, ◌++◌, length, get_or, set, take, drop, refl, sym, ap, subst, ◌∙◌, arith, append_assoc, append-nil, length-append}
+use lib.Seq.{set_at, get_or_at, take_at}
+use Rattle.paged_stack.specs.Packed.{last_of, joined, IsFilled, IsPacked}
+
+module _ {X : Type 0} where
+  -- each page is full
+  abbrev pub AllFull : List (List X) → Type 0
+  AllFull [] = Unit {0}
+  AllFull (page ∷ pages) = (length page ≡ 1024) × AllFull pages
+
+  pub joined-append : (ps qs : List (List X)) → joined (ps ++ qs) ≡ joined ps ++ joined qs
+  joined-append [] qs = refl
+  joined-append (p ∷ ps) qs = ap (λ l. p ++ l) (joined-append ps qs) ∙ sym (append_assoc p (joined ps) (joined qs))
+
+  pub joined-snoc : (ps : List (List X)) (p : List X) → joined (ps ++ p ∷ []) ≡ joined ps ++ p
+  joined-snoc ps p = joined-append ps (p ∷ []) ∙ ap (λ l. joined ps ++ l) (append-nil p)
+
+  pub length-joined-snoc : (ps : List (List X)) (p : List X) → length (joined (ps ++ p ∷ [])) ≡ length (joined ps) + length p
+  length-joined-snoc ps p = ap length (joined-snoc ps p) ∙ length-append (joined ps) p
+
+  pub length-snoc : (ps : List (List X)) (p : List X) → length (ps ++ p ∷ []) ≡ length ps + 1
+  length-snoc ps p = length-append ps (p ∷ [])
+
+  pub full_length : (ps : List (List X)) → AllFull ps → length (joined ps) ≡ 1024 * length ps
+  full_length [] f = refl
+  full_length (p ∷ ps) f = omega (arith, length-append p (joined ps), f.0, full_length ps f.1)
+
+  -- the last page, apart
+  pub split_last : (ps : List (List X)) → 0 < length ps → (front : List (List X)) × (last : List X) × (ps ≡ front ++ last ∷ [])
+  split_last [] p = absurd (omega arith)
+  split_last (x ∷ []) p = ([], x, refl)
+  split_last (x ∷ y ∷ ps) p = let on = split_last (y ∷ ps) (omega arith) in (x ∷ on.0, on.1, ap (λ l. x ∷ l) on.2)
+
+  filled_front : (x : List X) (ps : List (List X)) (p : List X) → IsFilled x (ps ++ p ∷ []) → length x ≡ 1024
+  filled_front x [] p f = f
+  filled_front x (y ∷ ps) p f = f
+
+  front_filled : (x : List X) (ps : List (List X)) (p : List X) → length x ≡ 1024 → IsFilled x (ps ++ p ∷ [])
+  front_filled x [] p f = f
+  front_filled x (y ∷ ps) p f = f
+
+  pub packed_out : (ps : List (List X)) (p : List X) → IsPacked (ps ++ p ∷ []) → AllFull ps × (0 < length p) × (length p ≤ 1024)
+  packed_out [] p k = (tt, k.0.0, k.0.1)
+  packed_out (x ∷ ps) p k = let on = packed_out ps p k.1 in ((filled_front x ps p k.0, on.0), on.1, on.2)
+
+  pub packed_in : (ps : List (List X)) (p : List X) → AllFull ps → 0 < length p → length p ≤ 1024 → IsPacked (ps ++ p ∷ [])
+  packed_in [] p f some most = ((some, most), tt)
+  packed_in (x ∷ ps) p f some most = (front_filled x ps p f.0, packed_in ps p f.1 some most)
+
+  pub packed_of_full : (ps : List (List X)) → AllFull ps → IsPacked ps
+  packed_of_full [] f = tt
+  packed_of_full (x ∷ []) f = ((omega (arith, f.0), omega (arith, f.0)), tt)
+  packed_of_full (x ∷ y ∷ ps) f = (f.0, packed_of_full (y ∷ ps) f.1)
+
+  full_snoc : (ps : List (List X)) (p : List X) → AllFull ps → length p ≡ 1024 → AllFull (ps ++ p ∷ [])
+  full_snoc [] p f e = (e, tt)
+  full_snoc (x ∷ ps) p f e = (f.0, full_snoc ps p f.1 e)
+
+  pub full_init : (ps : List (List X)) (p : List X) → AllFull (ps ++ p ∷ []) → AllFull ps
+  full_init [] p f = tt
+  full_init (x ∷ ps) p f = (f.0, full_init ps p f.1)
+
+  -- how many items packed pages hold
+  pub packed_bounds : (ps : List (List X)) → IsPacked ps → (length (joined ps) ≤ 1024 * length ps) × (1024 * length ps ≤ length (joined ps) + 1023)
+  packed_bounds [] k = (omega arith, omega arith)
+  packed_bounds (x ∷ ps) k =
+      let s = split_last (x ∷ ps) (omega arith) in
+      let o = packed_out s.0 s.1 (subst IsPacked s.2 k) in
+      let long = ap length s.2 ∙ length-snoc s.0 s.1 in
+      let many = ap (λ l. length (joined l)) s.2 ∙ length-joined-snoc s.0 s.1 in
+      let full = full_length s.0 o.0 in
+      (omega (arith, long, many, full, o.2), omega (arith, long, many, full, o.1))
+
+  pub packed_full : (ps : List (List X)) → IsPacked ps → length (joined ps) % 1024 ≡ 0 → AllFull ps
+  packed_full [] k even = tt
+  packed_full (x ∷ ps) k even =
+      let s = split_last (x ∷ ps) (omega arith) in
+      let o = packed_out s.0 s.1 (subst IsPacked s.2 k) in
+      let many = ap (λ l. length (joined l)) s.2 ∙ length-joined-snoc s.0 s.1 in
+      let full = full_length s.0 o.0 in
+      subst AllFull (sym s.2) (full_snoc s.0 s.1 o.0 (omega (arith, many, full, o.1, o.2, even)))
+
+  last_snoc : (ps : List (List X)) (p : List X) → last_of (ps ++ p ∷ []) ≡ p
+  last_snoc ps p = get_or_at ps p [] [] (length (ps ++ p ∷ []) - 1) (omega (arith, length-snoc ps p))
+
+  set_snoc : (ps : List (List X)) (p w : List X) → set (ps ++ p ∷ []) (length (ps ++ p ∷ []) - 1) w ≡ ps ++ w ∷ []
+  set_snoc ps p w = set_at ps p [] w (length (ps ++ p ∷ []) - 1) (omega (arith, length-snoc ps p))
+
+  -- the pages with w in place of the last
+  abbrev pub relast : List (List X) → List X → List (List X)
+  relast ps w = set ps (length ps - 1) w
+
+  -- a page that holds one item comes after full ones
+  pub opened : (ps : List (List X)) (x : X) → IsPacked ps → length (joined ps) % 1024 ≡ 0
+      → IsPacked (ps ++ (x ∷ []) ∷ []) × (joined (ps ++ (x ∷ []) ∷ []) ≡ joined ps ++ x ∷ [])
+  opened ps x k even = (packed_in ps (x ∷ []) (packed_full ps k even) (omega arith) (omega arith), joined-snoc ps (x ∷ []))
+
+  -- the last page is not full
+  pub has_room : (ps : List (List X)) → IsPacked ps → (length (joined ps) % 1024 ≡ 0 → ⊥) → (0 < length ps) × (length (last_of ps) < 1024)
+  has_room [] k odd = absurd (odd refl)
+  has_room (x ∷ ps) k odd =
+      let s = split_last (x ∷ ps) (omega arith) in
+      let o = packed_out s.0 s.1 (subst IsPacked s.2 k) in
+      let many = ap (λ l. length (joined l)) s.2 ∙ length-joined-snoc s.0 s.1 in
+      let full = full_length s.0 o.0 in
+      (omega arith, omega (arith, many, full, o.1, o.2, odd, ap length (ap last_of s.2 ∙ last_snoc s.0 s.1)))
+
+  pub added : (ps : List (List X)) (x : X) → IsPacked ps → (length (joined ps) % 1024 ≡ 0 → ⊥)
+      → IsPacked (relast ps (last_of ps ++ x ∷ [])) × (joined (relast ps (last_of ps ++ x ∷ [])) ≡ joined ps ++ x ∷ []) × (length (relast ps (last_of ps ++ x ∷ [])) ≡ length ps)
+  added ps x k odd =
+      let room = has_room ps k odd in
+      let s = split_last ps room.0 in
+      let o = packed_out s.0 s.1 (subst IsPacked s.2 k) in
+      let is : relast ps (last_of ps ++ x ∷ []) ≡ s.0 ++ (s.1 ++ x ∷ []) ∷ [] =
+          ap (λ l. relast l (last_of l ++ x ∷ [])) s.2 ∙ set_snoc s.0 s.1 _ ∙ ap (λ l. s.0 ++ (l ++ x ∷ []) ∷ []) (last_snoc s.0 s.1) in
+      let short : length s.1 < 1024 = omega (arith, room.1, ap length (ap last_of s.2 ∙ last_snoc s.0 s.1)) in
+      (subst IsPacked (sym is) (packed_in s.0 (s.1 ++ x ∷ []) o.0 (omega (arith, length-append s.1 (x ∷ []))) (omega (arith, length-append s.1 (x ∷ [])))),
+      ap joined is ∙ joined-snoc s.0 (s.1 ++ x ∷ []) ∙ sym (append_assoc (joined s.0) s.1 (x ∷ [])) ∙ ap (λ l. l ++ x ∷ []) (sym (joined-snoc s.0 s.1) ∙ ap joined (sym s.2)),
+      ap length is ∙ length-snoc s.0 _ ∙ sym (length-snoc s.0 s.1) ∙ ap length (sym s.2))
