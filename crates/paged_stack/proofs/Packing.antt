@@ -1,6 +1,7 @@
 -- Pages that are packed stay so where an item comes or goes.
 use Rattle.std.proofs.Common.{◌≡◌, ℕ, zero, suc, ◌+◌, ◌-◌, ◌*◌, ◌%◌, ◌/◌, ◌<◌, ◌≤◌, List, [], ◌∷◌, ◌++◌, length, get_or, set, take, drop, refl, sym, ap, subst, ◌∙◌, arith, append_assoc, append-nil, length-append}
-use lib.Seq.{set_at, get_or_at, take_at}
+use lib.ListN.{get_or-append}
+use lib.Seq.{set_at, get_or_at, get_or-append_right}
 use Rattle.paged_stack.specs.Packed.{last_of, joined, IsFilled, IsPacked}
 
 module _ {X : Type 0} where
@@ -118,3 +119,62 @@ module _ {X : Type 0} where
       (subst IsPacked (sym is) (packed_in s.0 (s.1 ++ x ∷ []) o.0 (omega (arith, length-append s.1 (x ∷ []))) (omega (arith, length-append s.1 (x ∷ [])))),
       ap joined is ∙ joined-snoc s.0 (s.1 ++ x ∷ []) ∙ sym (append_assoc (joined s.0) s.1 (x ∷ [])) ∙ ap (λ l. l ++ x ∷ []) (sym (joined-snoc s.0 s.1) ∙ ap joined (sym s.2)),
       ap length is ∙ length-snoc s.0 _ ∙ sym (length-snoc s.0 s.1) ∙ ap length (sym s.2))
+
+  -- the last page holds items
+  pub some_last : (ps : List (List X)) → IsPacked ps → 0 < length (joined ps) → (0 < length ps) × (0 < length (last_of ps))
+  some_last [] k some = absurd (omega arith)
+  some_last (x ∷ ps) k some =
+      let s = split_last (x ∷ ps) (omega arith) in
+      let o = packed_out s.0 s.1 (subst IsPacked s.2 k) in
+      (omega arith, omega (arith, o.1, ap length (ap last_of s.2 ∙ last_snoc s.0 s.1)))
+
+  -- the last item goes, and others stay on its page
+  pub taken : (ps : List (List X)) (ys : List X) (x : X) → IsPacked ps → (length (joined ps) % 1024 ≡ 1 → ⊥) → 0 < length ps → last_of ps ≡ ys ++ x ∷ []
+      → IsPacked (relast ps ys) × (joined ps ≡ joined (relast ps ys) ++ x ∷ []) × (length (relast ps ys) ≡ length ps)
+  taken ps ys x k odd some e =
+      let s = split_last ps some in
+      let o = packed_out s.0 s.1 (subst IsPacked s.2 k) in
+      let ends : s.1 ≡ ys ++ x ∷ [] = sym (last_snoc s.0 s.1) ∙ ap last_of (sym s.2) ∙ e in
+      let is : relast ps ys ≡ s.0 ++ ys ∷ [] = ap (λ l. relast l ys) s.2 ∙ set_snoc s.0 s.1 ys in
+      let many = ap (λ l. length (joined l)) s.2 ∙ length-joined-snoc s.0 s.1 in
+      let full = full_length s.0 o.0 in
+      let long = ap length ends ∙ length-append ys (x ∷ []) in
+      let left : 0 < length ys = positive (length ys) (λ none. odd (omega (arith, many, full, long, none))) in
+      (subst IsPacked (sym is) (packed_in s.0 ys o.0 left (omega (arith, long, o.2))),
+      ap joined s.2 ∙ joined-snoc s.0 s.1 ∙ ap (λ l. joined s.0 ++ l) ends ∙ append_assoc (joined s.0) ys (x ∷ []) ∙ ap (λ l. l ++ x ∷ []) (sym (joined-snoc s.0 ys) ∙ ap joined (sym is)),
+      ap length is ∙ length-snoc s.0 ys ∙ sym (length-snoc s.0 s.1) ∙ ap length (sym s.2))
+    where
+      positive : (n : ℕ) → (n ≡ 0 → ⊥) → 0 < n
+      positive zero wrong = absurd (wrong refl)
+      positive (suc n) wrong = omega arith
+
+  -- the last item goes with its page
+  pub emptied : (ps qs : List (List X)) (p ys : List X) (x : X) → IsPacked ps → length (joined ps) % 1024 ≡ 1 → ps ≡ qs ++ p ∷ [] → p ≡ ys ++ x ∷ []
+      → IsPacked qs × (joined ps ≡ joined qs ++ x ∷ []) × (length ps ≡ length qs + 1)
+  emptied ps qs p ys x k one e ends =
+      let o = packed_out qs p (subst IsPacked e k) in
+      let many = ap (λ l. length (joined l)) e ∙ length-joined-snoc qs p in
+      let full = full_length qs o.0 in
+      let long = ap length ends ∙ length-append ys (x ∷ []) in
+      let none : ys ≡ [] = nothing ys (omega (arith, many, full, long, one, o.2)) in
+      (packed_of_full qs o.0, ap joined e ∙ joined-snoc qs p ∙ ap (λ l. joined qs ++ l) (ends ∙ ap (λ l. l ++ x ∷ []) none), ap length e ∙ length-snoc qs p)
+    where
+      nothing : (l : List X) → length l ≡ 0 → l ≡ []
+      nothing [] q = refl
+      nothing (y ∷ l) q = absurd (omega arith)
+
+  -- where an item lies
+  pub lies_at : (ps : List (List X)) (i j : ℕ) (d : List X) (x : X) → IsPacked ps → j < 1024 → 1024 * i + j < length (joined ps)
+      → (j < length (get_or ps i d)) × (get_or (joined ps) (1024 * i + j) x ≡ get_or (get_or ps i d) j x)
+  lies_at [] i j d x k low lt = absurd (omega arith)
+  lies_at (p ∷ []) zero j d x k low lt =
+      let short : j < length p = omega (arith, ap length (append-nil p)) in
+      (short, ap (λ n. get_or (p ++ []) n x) (omega arith) ∙ ap (λ l. get_or l j x) (append-nil p))
+  lies_at (p ∷ q ∷ ps) zero j d x k low lt =
+      let short : j < length p = omega (arith, k.0) in
+      (short, ap (λ n. get_or (p ++ joined (q ∷ ps)) n x) (omega arith) ∙ get_or-append p (joined (q ∷ ps)) j x short)
+  lies_at (p ∷ []) (suc i) j d x k low lt = absurd (omega (arith, k.0.1, ap length (append-nil p)))
+  lies_at (p ∷ q ∷ ps) (suc i) j d x k low lt =
+      let long = length-append p (joined (q ∷ ps)) in
+      let on = lies_at (q ∷ ps) i j d x k.1 low (omega (arith, k.0, long)) in
+      (on.0, get_or-append_right p (joined (q ∷ ps)) (1024 * suc i + j) x (omega (arith, k.0)) ∙ ap (λ n. get_or (joined (q ∷ ps)) n x) (omega (arith, k.0)) ∙ on.1)

@@ -1,5 +1,5 @@
 //! Items come off. Pages stay, as spare ones.
-ghost use Rattle.std.specs.Prelude.{◌≡◌, ◌+◌, ◌-◌, ◌<◌, ◌≤◌, [], ◌∷◌, ◌++◌, length, take, MatchOption};
+ghost use Rattle.std.specs.Prelude.{◌≡◌, ◌+◌, ◌-◌, ◌%◌, ◌<◌, ◌≤◌, [], ◌∷◌, ◌++◌, length, take, MatchOption};
 
 use super::PagedStack;
 use crate::block::PAGE_ITEMS;
@@ -14,13 +14,33 @@ impl<T: Copy> PagedStack<T> {
         if self.len == 0 {
             return None;
         }
-        let item = self.used.take();
-        self.len -= 1;
-        if self.len % PAGE_ITEMS == 0 {
-            let emptied = self.used.pop_back();
-            self.spare.push_front(emptied);
+        if self.len % PAGE_ITEMS == 1 {
+            return Some(self.pop_first());
         }
-        Some(item)
+        Some(self.pop_later())
+    }
+
+    // The last item is the first of its page, which is spare then.
+    fn pop_first(&mut self) -> T
+        requires { length self.old.items % 1024 ≡ 1 }
+        ensures items { self.old.items ≡ self.new.items ++ result ∷ [] }
+        ensures spare { self.new.spare ≡ self.old.spare + 1 }
+    {
+        let mut emptied = self.used.pop_back();
+        let item = emptied.page.pop();
+        self.spare.push_front(emptied);
+        self.len -= 1;
+        item
+    }
+
+    // The last item has others before it on its page.
+    fn pop_later(&mut self) -> T
+        requires { (0 < length self.old.items) × (length self.old.items % 1024 ≡ 1 → ⊥) }
+        ensures items { self.old.items ≡ self.new.items ++ result ∷ [] }
+        ensures spare { self.new.spare ≡ self.old.spare + 1 }
+    {
+        self.len -= 1;
+        self.used.take()
     }
 
     /// Keeps the first `len` items. It takes no memory, and gives no page back.

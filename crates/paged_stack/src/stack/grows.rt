@@ -1,5 +1,5 @@
 //! Items are appended, and memory is asked for.
-ghost use Rattle.std.specs.Prelude.{◌≡◌, ◌+◌, ◌-◌, ◌<◌, ◌≤◌, [], ◌∷◌, ◌++◌, IfOk, IsOk, OnOk, OnErr};
+ghost use Rattle.std.specs.Prelude.{◌≡◌, ◌+◌, ◌%◌, ◌<◌, ◌≤◌, [], ◌∷◌, ◌++◌, length, IsOk, OnOk, OnErr};
 
 use super::PagedStack;
 use crate::page::Loose;
@@ -46,12 +46,30 @@ impl<T: Copy> PagedStack<T> {
         ensures spare { self.new.spare + 1 ≡ self.old.spare }
     {
         if self.len % PAGE_ITEMS == 0 {
-            let mut loose = self.spare.pop_front();
-            loose.restart(item);
-            self.used.push_back(loose);
-        } else {
-            self.used.add(item);
+            return self.push_first(item);
         }
+        self.push_next(item)
+    }
+
+    // The item is the first of a page.
+    fn push_first(&mut self, item: T)
+        requires { (0 < self.old.spare) × (length self.old.items % 1024 ≡ 0) }
+        ensures items { self.new.items ≡ self.old.items ++ item ∷ [] }
+        ensures spare { self.new.spare + 1 ≡ self.old.spare }
+    {
+        let mut loose = self.spare.pop_front();
+        loose.restart(item);
+        self.used.push_back(loose);
+        self.len += 1;
+    }
+
+    // The item goes onto the last page.
+    fn push_next(&mut self, item: T)
+        requires { length self.old.items % 1024 ≡ 0 → ⊥ }
+        ensures items { self.new.items ≡ self.old.items ++ item ∷ [] }
+        ensures spare { self.new.spare + 1 ≡ self.old.spare }
+    {
+        self.used.add(item);
         self.len += 1;
     }
 

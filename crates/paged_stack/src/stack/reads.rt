@@ -1,5 +1,5 @@
 //! What a stack tells, and its start.
-ghost use Rattle.std.specs.Prelude.{◌≡◌, ◌<◌, [], length, slice_get};
+ghost use Rattle.std.specs.Prelude.{◌≡◌, ◌<◌, ◌≤◌, [], length, slice_index_or, MatchOption};
 
 use super::PagedStack;
 use crate::block::PAGE_ITEMS;
@@ -36,7 +36,7 @@ impl<T: Copy> PagedStack<T> {
     /// The item at place `k`, and `None` exactly where `k` is not below the length. It takes no memory, and walks from the
     /// nearer end of the pages.
     pub fn get(&self, k: usize) -> Option<T>
-        ensures { result ≡ slice_get self.now.items k }
+        ensures { MatchOption result (length self.now.items ≤ k) (λ item. (k < length self.now.items) × (item ≡ slice_index_or self.now.items k item)) }
     {
         if k >= self.len {
             return None;
