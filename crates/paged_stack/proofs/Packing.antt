@@ -1,8 +1,12 @@
 -- Pages that are packed stay so where an item comes or goes.
-use Rattle.std.proofs.Common.{◌≡◌, ℕ, zero, suc, ◌+◌, ◌-◌, ◌*◌, ◌%◌, ◌/◌, ◌<◌, ◌≤◌, List, [], ◌∷◌, ◌++◌, length, get_or, set, take, drop, refl, sym, ap, subst, ◌∙◌, arith, append_assoc, append-nil, length-append}
+use Rattle.std.proofs.Common.{◌≡◌, ℕ, zero, suc, ◌+◌, ◌-◌, ◌*◌, ◌%◌, ◌/◌, ◌<◌, ◌≤◌, List, [], ◌∷◌, ◌++◌, length, get_or, set, take, drop, refl, sym, ap, subst, ◌∙◌, arith, take_at, length-take-le, append_assoc, append-nil, length-append}
 use lib.ListN.{get_or-append}
 use lib.Seq.{set_at, get_or_at, get_or-append_right}
-use Rattle.paged_stack.specs.Packed.{last_of, joined, IsFilled, IsPacked}
+use Rattle.paged_stack.specs.Packed.{last_of, joined, IsFilled, IsPacked, before_last}
+
+take-past : {X : Type 0} (xs ys : List X) (m : ℕ) → take (length xs + m) (xs ++ ys) ≡ xs ++ take m ys
+take-past [] ys m = let e : 0 + m ≡ m = omega arith in ap (λ k. take k ys) e
+take-past (x ∷ xs) ys m = let e : suc (length xs) + m ≡ suc (length xs + m) = omega arith in ap (λ k. take k (x ∷ (xs ++ ys))) e ∙ ap (λ l. x ∷ l) (take-past xs ys m)
 
 module _ {X : Type 0} where
   -- each page is full
@@ -141,7 +145,7 @@ module _ {X : Type 0} where
       let long = ap length ends ∙ length-append ys (x ∷ []) in
       let left : 0 < length ys = positive (length ys) (λ none. odd (omega (arith, many, full, long, none))) in
       (subst IsPacked (sym is) (packed_in s.0 ys o.0 left (omega (arith, long, o.2))),
-      ap joined s.2 ∙ joined-snoc s.0 s.1 ∙ ap (λ l. joined s.0 ++ l) ends ∙ append_assoc (joined s.0) ys (x ∷ []) ∙ ap (λ l. l ++ x ∷ []) (sym (joined-snoc s.0 ys) ∙ ap joined (sym is)),
+      ap joined s.2 ∙ joined-snoc s.0 s.1 ∙ ap (λ l. joined s.0 ++ l) ends ∙ sym (append_assoc (joined s.0) ys (x ∷ [])) ∙ ap (λ l. l ++ x ∷ []) (sym (joined-snoc s.0 ys) ∙ ap joined (sym is)),
       ap length is ∙ length-snoc s.0 ys ∙ sym (length-snoc s.0 s.1) ∙ ap length (sym s.2))
     where
       positive : (n : ℕ) → (n ≡ 0 → ⊥) → 0 < n
@@ -172,9 +176,44 @@ module _ {X : Type 0} where
       (short, ap (λ n. get_or (p ++ []) n x) (omega arith) ∙ ap (λ l. get_or l j x) (append-nil p))
   lies_at (p ∷ q ∷ ps) zero j d x k low lt =
       let short : j < length p = omega (arith, k.0) in
-      (short, ap (λ n. get_or (p ++ joined (q ∷ ps)) n x) (omega arith) ∙ get_or-append p (joined (q ∷ ps)) j x short)
+      (short, ap (λ n. get_or (p ++ joined (q ∷ ps)) n x) (omega arith) ∙ get_or-append p (joined (q ∷ ps)) x j short)
   lies_at (p ∷ []) (suc i) j d x k low lt = absurd (omega (arith, k.0.1, ap length (append-nil p)))
   lies_at (p ∷ q ∷ ps) (suc i) j d x k low lt =
       let long = length-append p (joined (q ∷ ps)) in
       let on = lies_at (q ∷ ps) i j d x k.1 low (omega (arith, k.0, long)) in
       (on.0, get_or-append_right p (joined (q ∷ ps)) (1024 * suc i + j) x (omega (arith, k.0)) ∙ ap (λ n. get_or (joined (q ∷ ps)) n x) (omega (arith, k.0)) ∙ on.1)
+
+  -- the last page goes whole
+  pub dropped : (ps qs : List (List X)) (p : List X) → IsPacked ps → ps ≡ qs ++ p ∷ []
+      → IsPacked qs × (length (joined qs) ≡ before_last (joined ps)) × (joined qs ≡ take (before_last (joined ps)) (joined ps)) × (length ps ≡ length qs + 1)
+  dropped ps qs p k e =
+      let o = packed_out qs p (subst IsPacked e k) in
+      let many = ap (λ l. length (joined l)) e ∙ length-joined-snoc qs p in
+      let full = full_length qs o.0 in
+      let long : length (joined qs) ≡ before_last (joined ps) = omega (arith, many, full, o.1, o.2) in
+      (packed_of_full qs o.0, long,
+      sym (take_at (joined qs) p (before_last (joined ps)) long) ∙ ap (take (before_last (joined ps))) (sym (ap joined e ∙ joined-snoc qs p)),
+      ap length e ∙ length-snoc qs p)
+
+  -- the last page keeps its first n - (before it) items
+  pub shortened : (ps : List (List X)) (n : ℕ) → IsPacked ps → before_last (joined ps) < n → n ≤ length (joined ps)
+      → (0 < length ps) × (n - before_last (joined ps) ≤ length (last_of ps))
+      × IsPacked (relast ps (take (n - before_last (joined ps)) (last_of ps))) × (joined (relast ps (take (n - before_last (joined ps)) (last_of ps))) ≡ take n (joined ps))
+      × (length (relast ps (take (n - before_last (joined ps)) (last_of ps))) ≡ length ps)
+  shortened [] n k low high = absurd (omega arith)
+  shortened (y ∷ ys) n k low high =
+      let ps = y ∷ ys in
+      let s = split_last ps (omega arith) in
+      let o = packed_out s.0 s.1 (subst IsPacked s.2 k) in
+      let m = n - before_last (joined ps) in
+      let many = ap (λ l. length (joined l)) s.2 ∙ length-joined-snoc s.0 s.1 in
+      let full = full_length s.0 o.0 in
+      let ends : last_of ps ≡ s.1 = ap last_of s.2 ∙ last_snoc s.0 s.1 in
+      let is : relast ps (take m (last_of ps)) ≡ s.0 ++ take m s.1 ∷ [] = ap (λ l. relast l (take m (last_of l))) s.2 ∙ set_snoc s.0 s.1 _ ∙ ap (λ l. s.0 ++ take m l ∷ []) (last_snoc s.0 s.1) in
+      let fits : m ≤ length s.1 = omega (arith, many, full, o.1, o.2) in
+      let long : length (take m s.1) ≡ m = length-take-le m s.1 fits in
+      let parts : length (joined s.0) + m ≡ n = omega (arith, many, full, o.1, o.2) in
+      (omega arith, omega (arith, fits, ap length ends),
+      subst IsPacked (sym is) (packed_in s.0 (take m s.1) o.0 (omega (arith, long)) (omega (arith, long, fits, o.2))),
+      ap joined is ∙ joined-snoc s.0 (take m s.1) ∙ sym (take-past (joined s.0) s.1 m) ∙ ap (λ j. take j (joined s.0 ++ s.1)) parts ∙ ap (take n) (sym (joined-snoc s.0 s.1) ∙ ap joined (sym s.2)),
+      ap length is ∙ length-snoc s.0 _ ∙ sym (length-snoc s.0 s.1) ∙ ap length (sym s.2))

@@ -1,5 +1,5 @@
 -- How the items of a stack lie in its pages.
-use Rattle.std.specs.Prelude.{◌≡◌, ℕ, ◌-◌, ◌<◌, ◌≤◌, List, [], ◌∷◌, ◌++◌, length, slice_index_or}
+use Rattle.std.specs.Prelude.{◌≡◌, ℕ, ◌-◌, ◌<◌, ◌≤◌, ◌*◌, ◌/◌, List, [], ◌∷◌, ◌++◌, length, slice_index_or}
 
 module _ {X : Type 0} where
   -- what the last page holds
@@ -20,3 +20,7 @@ module _ {X : Type 0} where
   abbrev pub IsPacked : List (List X) → Type 0
   IsPacked [] = Unit {0}
   IsPacked (page ∷ pages) = IsFilled page pages × IsPacked pages
+
+  -- how many of a stack's items lie before its last page
+  abbrev pub before_last : List X → ℕ
+  before_last items = (length items - 1) / 1024 * 1024

@@ -1,5 +1,6 @@
 //! Items come off. Pages stay, as spare ones.
 ghost use Rattle.std.specs.Prelude.{◌≡◌, ◌+◌, ◌-◌, ◌%◌, ◌<◌, ◌≤◌, [], ◌∷◌, ◌++◌, length, take, MatchOption};
+ghost use Rattle.paged_stack.specs.Packed.{before_last};
 
 use super::PagedStack;
 use crate::block::PAGE_ITEMS;
@@ -49,14 +50,35 @@ impl<T: Copy> PagedStack<T> {
         ensures items { self.new.items ≡ take len self.old.items }
         ensures spare { self.new.spare ≡ self.old.spare + (length self.old.items - len) }
     {
-        let kept = len.div_ceil(PAGE_ITEMS);
-        while self.used.len() > kept {
-            let emptied = self.used.pop_back();
-            self.spare.push_front(emptied);
+        while self.len > len {
+            let before = (self.len - 1) / PAGE_ITEMS * PAGE_ITEMS;
+            if before < len {
+                self.shorten_last(len);
+            } else {
+                self.drop_last();
+            }
         }
-        if len % PAGE_ITEMS != 0 {
-            self.used.shorten(len % PAGE_ITEMS);
-        }
+    }
+
+    // The last page is spare then.
+    fn drop_last(&mut self)
+        requires { 0 < length self.old.items }
+        ensures items { self.new.items ≡ take (before_last self.old.items) self.old.items }
+        ensures spare { self.new.spare ≡ self.old.spare + (length self.old.items - before_last self.old.items) }
+    {
+        let emptied = self.used.pop_back();
+        self.spare.push_front(emptied);
+        self.len = (self.len - 1) / PAGE_ITEMS * PAGE_ITEMS;
+    }
+
+    // Only items of the last page go.
+    fn shorten_last(&mut self, len: usize)
+        requires { (before_last self.old.items < len) × (len ≤ length self.old.items) }
+        ensures items { self.new.items ≡ take len self.old.items }
+        ensures spare { self.new.spare ≡ self.old.spare + (length self.old.items - len) }
+    {
+        let before = (self.len - 1) / PAGE_ITEMS * PAGE_ITEMS;
+        self.used.shorten(len - before);
         self.len = len;
     }
 }

@@ -1,0 +1,31 @@
+//! A long run over several pages, compared with numbers computed apart.
+use crate::PagedStack;
+use std::alloc::AllocError;
+use std::test::Fail;
+
+#[test]
+fn items_keep_their_order_over_pages(rt: HostRuntime) -> Result<(), Fail> {
+    let mut stack = PagedStack::new(rt.alloc());
+    for k in 0..3000u32 {
+        stack.push(k)?;
+    }
+    assert_eq!(rt; stack.len(), 3000);
+    for k in 0..3000u32 {
+        assert_eq!(rt; stack.get(k as usize), Some(k));
+    }
+    assert_eq!(rt; stack.get(3000), None);
+    stack.cut(1025);
+    assert_eq!(rt; stack.pop(), Some(1024));
+    assert_eq!(rt; stack.len(), 1024);
+    stack.reserve(5000)?;
+    for k in 0..5000u32 {
+        assert!(rt; stack.spare() > 0);
+        stack.push_spare(10_000 + k);
+    }
+    assert_eq!(rt; stack.len(), 6024);
+    for k in 0..6024u32 {
+        let expected = if k < 1024 { k } else { k + 8976 };
+        assert_eq!(rt; stack.get(k as usize), Some(expected));
+    }
+    Ok(())
+}
