@@ -1,5 +1,5 @@
 -- Pages that are packed stay so where an item comes or goes.
-use Rattle.std.proofs.Common.{◌≡◌, ℕ, zero, suc, ◌+◌, ◌-◌, ◌*◌, ◌%◌, ◌/◌, ◌<◌, ◌≤◌, List, [], ◌∷◌, ◌++◌, length, get_or, set, take, drop, refl, sym, ap, subst, ◌∙◌, arith, take_at, length-take-le, append_assoc, append-nil, length-append}
+use Rattle.std.proofs.Common.{◌≡◌, ℕ, zero, suc, ◌+◌, ◌-◌, ◌*◌, ◌%◌, ◌<◌, ◌≤◌, List, [], ◌∷◌, ◌++◌, length, get_or, set, take, refl, sym, ap, subst, ◌∙◌, arith, take_at, length-take-le, append_assoc, append-nil, length-append}
 use lib.ListN.{get_or-append}
 use lib.Seq.{set_at, get_or_at, get_or-append_right}
 use Rattle.paged_stack.specs.Packed.{last_of, joined, IsFilled, IsPacked, before_last}
@@ -118,11 +118,12 @@ module _ {X : Type 0} where
       let s = split_last ps room.0 in
       let o = packed_out s.0 s.1 (subst IsPacked s.2 k) in
       let is : relast ps (last_of ps ++ x ∷ []) ≡ s.0 ++ (s.1 ++ x ∷ []) ∷ [] =
-          ap (λ l. relast l (last_of l ++ x ∷ [])) s.2 ∙ set_snoc s.0 s.1 _ ∙ ap (λ l. s.0 ++ (l ++ x ∷ []) ∷ []) (last_snoc s.0 s.1) in
-      let short : length s.1 < 1024 = omega (arith, room.1, ap length (ap last_of s.2 ∙ last_snoc s.0 s.1)) in
-      (subst IsPacked (sym is) (packed_in s.0 (s.1 ++ x ∷ []) o.0 (omega (arith, length-append s.1 (x ∷ []))) (omega (arith, length-append s.1 (x ∷ [])))),
-      ap joined is ∙ joined-snoc s.0 (s.1 ++ x ∷ []) ∙ sym (append_assoc (joined s.0) s.1 (x ∷ [])) ∙ ap (λ l. l ++ x ∷ []) (sym (joined-snoc s.0 s.1) ∙ ap joined (sym s.2)),
-      ap length is ∙ length-snoc s.0 _ ∙ sym (length-snoc s.0 s.1) ∙ ap length (sym s.2))
+      ap (λ l. relast l (last_of l ++ x ∷ [])) s.2 ∙ set_snoc s.0 s.1 _ ∙ ap (λ l. s.0 ++ (l ++ x ∷ []) ∷ []) (last_snoc s.0 s.1) in
+      let short : length s.1 < 1024 = omega (arith, room.1, ap length (ap last_of s.2 ∙ last_snoc s.0 s.1)) in (
+        subst IsPacked (sym is) (packed_in s.0 (s.1 ++ x ∷ []) o.0 (omega (arith, length-append s.1 (x ∷ []))) (omega (arith, length-append s.1 (x ∷ [])))),
+        ap joined is ∙ joined-snoc s.0 (s.1 ++ x ∷ []) ∙ sym (append_assoc (joined s.0) s.1 (x ∷ [])) ∙ ap (λ l. l ++ x ∷ []) (sym (joined-snoc s.0 s.1) ∙ ap joined (sym s.2)),
+        ap length is ∙ length-snoc s.0 _ ∙ sym (length-snoc s.0 s.1) ∙ ap length (sym s.2),
+      )
 
   -- the last page holds items
   pub some_last : (ps : List (List X)) → IsPacked ps → 0 < length (joined ps) → (0 < length ps) × (0 < length (last_of ps))
@@ -143,10 +144,11 @@ module _ {X : Type 0} where
       let many = ap (λ l. length (joined l)) s.2 ∙ length-joined-snoc s.0 s.1 in
       let full = full_length s.0 o.0 in
       let long = ap length ends ∙ length-append ys (x ∷ []) in
-      let left : 0 < length ys = positive (length ys) (λ none. odd (omega (arith, many, full, long, none))) in
-      (subst IsPacked (sym is) (packed_in s.0 ys o.0 left (omega (arith, long, o.2))),
-      ap joined s.2 ∙ joined-snoc s.0 s.1 ∙ ap (λ l. joined s.0 ++ l) ends ∙ sym (append_assoc (joined s.0) ys (x ∷ [])) ∙ ap (λ l. l ++ x ∷ []) (sym (joined-snoc s.0 ys) ∙ ap joined (sym is)),
-      ap length is ∙ length-snoc s.0 ys ∙ sym (length-snoc s.0 s.1) ∙ ap length (sym s.2))
+      let left : 0 < length ys = positive (length ys) (λ none. odd (omega (arith, many, full, long, none))) in (
+        subst IsPacked (sym is) (packed_in s.0 ys o.0 left (omega (arith, long, o.2))),
+        ap joined s.2 ∙ joined-snoc s.0 s.1 ∙ ap (λ l. joined s.0 ++ l) ends ∙ sym (append_assoc (joined s.0) ys (x ∷ [])) ∙ ap (λ l. l ++ x ∷ []) (sym (joined-snoc s.0 ys) ∙ ap joined (sym is)),
+        ap length is ∙ length-snoc s.0 ys ∙ sym (length-snoc s.0 s.1) ∙ ap length (sym s.2),
+      )
     where
       positive : (n : ℕ) → (n ≡ 0 → ⊥) → 0 < n
       positive zero wrong = absurd (wrong refl)
@@ -190,10 +192,12 @@ module _ {X : Type 0} where
       let o = packed_out qs p (subst IsPacked e k) in
       let many = ap (λ l. length (joined l)) e ∙ length-joined-snoc qs p in
       let full = full_length qs o.0 in
-      let long : length (joined qs) ≡ before_last (joined ps) = omega (arith, many, full, o.1, o.2) in
-      (packed_of_full qs o.0, long,
-      sym (take_at (joined qs) p (before_last (joined ps)) long) ∙ ap (take (before_last (joined ps))) (sym (ap joined e ∙ joined-snoc qs p)),
-      ap length e ∙ length-snoc qs p)
+      let long : length (joined qs) ≡ before_last (joined ps) = omega (arith, many, full, o.1, o.2) in (
+        packed_of_full qs o.0,
+        long,
+        sym (take_at (joined qs) p (before_last (joined ps)) long) ∙ ap (take (before_last (joined ps))) (sym (ap joined e ∙ joined-snoc qs p)),
+        ap length e ∙ length-snoc qs p,
+      )
 
   -- the last page keeps its first n - (before it) items
   pub shortened : (ps : List (List X)) (n : ℕ) → IsPacked ps → before_last (joined ps) < n → n ≤ length (joined ps)
@@ -212,8 +216,10 @@ module _ {X : Type 0} where
       let is : relast ps (take m (last_of ps)) ≡ s.0 ++ take m s.1 ∷ [] = ap (λ l. relast l (take m (last_of l))) s.2 ∙ set_snoc s.0 s.1 _ ∙ ap (λ l. s.0 ++ take m l ∷ []) (last_snoc s.0 s.1) in
       let fits : m ≤ length s.1 = omega (arith, many, full, o.1, o.2) in
       let long : length (take m s.1) ≡ m = length-take-le m s.1 fits in
-      let parts : length (joined s.0) + m ≡ n = omega (arith, many, full, o.1, o.2) in
-      (omega arith, omega (arith, fits, ap length ends),
-      subst IsPacked (sym is) (packed_in s.0 (take m s.1) o.0 (omega (arith, long)) (omega (arith, long, fits, o.2))),
-      ap joined is ∙ joined-snoc s.0 (take m s.1) ∙ sym (take-past (joined s.0) s.1 m) ∙ ap (λ j. take j (joined s.0 ++ s.1)) parts ∙ ap (take n) (sym (joined-snoc s.0 s.1) ∙ ap joined (sym s.2)),
-      ap length is ∙ length-snoc s.0 _ ∙ sym (length-snoc s.0 s.1) ∙ ap length (sym s.2))
+      let parts : length (joined s.0) + m ≡ n = omega (arith, many, full, o.1, o.2) in (
+        omega arith,
+        omega (arith, fits, ap length ends),
+        subst IsPacked (sym is) (packed_in s.0 (take m s.1) o.0 (omega (arith, long)) (omega (arith, long, fits, o.2))),
+        ap joined is ∙ joined-snoc s.0 (take m s.1) ∙ sym (take-past (joined s.0) s.1 m) ∙ ap (λ j. take j (joined s.0 ++ s.1)) parts ∙ ap (take n) (sym (joined-snoc s.0 s.1) ∙ ap joined (sym s.2)),
+        ap length is ∙ length-snoc s.0 _ ∙ sym (length-snoc s.0 s.1) ∙ ap length (sym s.2),
+      )

@@ -24,5 +24,7 @@ pub(crate) mod row;
 mod stack;
 #[cfg(test)]
 mod tests;
+mod walk;
 
 pub use stack::PagedStack;
+pub use walk::Cursor;

@@ -27,5 +27,16 @@ fn items_keep_their_order_over_pages(rt: HostRuntime) -> Result<(), Fail> {
         let expected = if k < 1024 { k } else { k + 8976 };
         assert_eq!(rt; stack.get(k as usize), Some(expected));
     }
+    let mut next = 0u32;
+    for item in stack.cursor() {
+        let expected = if next < 1024 {
+            next
+        } else {
+            next.saturating_add(8976)
+        };
+        assert_eq!(rt; item, expected);
+        next = next.saturating_add(1);
+    }
+    assert_eq!(rt; next, 6024);
     Ok(())
 }

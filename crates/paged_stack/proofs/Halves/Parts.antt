@@ -1,11 +1,11 @@
 -- A block comes apart into its row and the room for its node, and they make it whole again. Assumes `Logic`.
-use Rattle.std.proofs.Common.{◌≡◌, ℕ, zero, suc, ◌+◌, ◌*◌, ◌/◌, List, [], ◌∷◌, refl, sym, ap, subst, ◌∙◌, arith}
+use Rattle.std.proofs.Common.{◌≡◌, ℕ, zero, suc, ◌+◌, ◌*◌, ◌/◌, [], ◌∷◌, refl, sym, ap, subst, ◌∙◌, arith}
 use seplogic.Ra.Ura.{Ura}
 use mir.Syntax.{Ty, Width, w8, w16, w32, w64, w128, ty_int}
 use mir.Val.{bytes}
 use base.Logic.{SProp, ent, sep, apply∗}
 use base.Fml.{Fml, fsep, fwand, froom}
-use prog.Memory.{size, align}
+use prog.Memory.{align}
 use prog.Align.{align_w, align-bytes, Dv, →dv, dv_self}
 use mir.Raw.{raw as bare}
 use denote.RattleType.{RattleType}
@@ -13,7 +13,7 @@ use denote.Memory.{lone}
 use Rattle.std.specs.Align.{type_align}
 use types.Logic.{Logic, sem}
 use types.Kit.{‵, ◌⊛◌, ◌$◌, ◌∵◌, !, qed, by, move, keep, use1, use2, split, rewrite, fsplit3, fjoin, fjoin3, fpack, done}
-use denote.RawPtr.{Ptr, block_ptr, room_for, ◌+ₚ◌}
+use denote.RawPtr.{Ptr, block_ptr, room_for}
 use denote.RawPtr.Room.{room_cut, room_glue, past}
 use Rattle.std.specs.Mem.{type_size}
 use Rattle.paged_stack.proofs.Memory.El.{El, R}

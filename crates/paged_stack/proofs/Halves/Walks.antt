@@ -2,7 +2,7 @@
 use Rattle.std.proofs.Common.{ℕ, zero, suc, List, [], ◌∷◌}
 use seplogic.Ra.Ura.{Ura}
 use mir.Syntax.{Body}
-use prog.Wp.{Env, Calls, Loops, Wp, Tables, after_seq, after_block}
+use prog.Wp.{Env, Calls, Loops, Wp, after_seq, after_block}
 use prog.Model.{Model}
 use types.Logic.{Logic}
 use types.Kit.{Post, any_q, post}

@@ -1,6 +1,6 @@
 -- What a `Row` owns is taken apart and made, and a `&mut` to one is opened and closed. Assumes `Logic`.
 use mathlib.Core.Path.{◌≡◌, refl, sym, ap, ◌∙◌}
-use Prim.Native.Nat.{ℕ, ◌*◌, ◌<◌, ◌^◌}
+use Prim.Native.Nat.{ℕ, ◌<◌, ◌^◌}
 use mathlib.Core.List.{List, [], ◌∷◌}
 use seplogic.Ra.Ura.{Ura}
 use base.Fraction.{full_share}
@@ -9,7 +9,7 @@ use base.Logic.{id⊢, never}
 use base.Stored.{Gv}
 use base.Fml.{Lft, GName, Share, Fml, fsep, flt, flft, fobs, fauth, fbor, fobor}
 use types.Logic.{Logic}
-use types.Kit.{Goal, Soaks, Step, step, Seq, Item, ‵, ◌$◌, move, drop, rewrite, fsplit, fjoin, flt_l, flt_i}
+use types.Kit.{Goal, Soaks, Step, step, Seq, Item, ‵, ◌$◌, move, rewrite, fsplit, fjoin, flt_l, flt_i}
 use types.SemTy.{Body}
 use denote.RattleType.{RattleType}
 use denote.Memory.{cell_at, mem}
@@ -19,7 +19,7 @@ use denote.Struct.Struct.{Struct}
 use denote.Struct.Owning.{Owning, shape}
 use Rattle.std.proofs.RcSteps.{word}
 use Rattle.paged_stack.proofs.Memory.El.{El, R, X}
-use Rattle.paged_stack.proofs.Memory.Words.{Word, word_had, word_made}
+use Rattle.paged_stack.proofs.Memory.Words.{word_had, word_made}
 use Rattle.paged_stack.specs.Rows.{row_bytes, places}
 use Rattle.paged_stack.specs.declared.row.Row.{Row}
 use Rattle.paged_stack.specs.contracts.row.Row as C

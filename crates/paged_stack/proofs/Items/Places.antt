@@ -1,24 +1,22 @@
 -- One place comes out of a row and goes back, and a row is room. Assumes `Logic`.
-use mathlib.Core.Path.{◌≡◌, refl, sym, ap, subst, ◌∙◌}
+use mathlib.Core.Path.{refl, sym}
 use Prim.Native.Nat.{ℕ, zero, suc, ◌+◌, ◌*◌, ◌≤◌, ◌<◌}
 use native.Mathlib.Nat.{not-suc-le-zero, le_of_suc-le-suc}
-use native.Mathlib.Omega.{arith}
 use mathlib.Core.List.{List, [], ◌∷◌, ◌++◌}
 use lib.ListN.{length, take}
 use seplogic.Ra.Ura.{Ura}
 use base.Fraction.{full_share}
-use mir.Syntax.{ty_array}
 use mir.Val.{Val}
 use base.Logic.{SProp, ent, sep, id⊢}
 use base.Fml.{Fml, ftrue, fsep, fat, froom}
 use types.Logic.{Logic, sem}
-use types.Kit.{‵, ◌⊛◌, ◌$◌, ◌∵◌, !, qed, by, move, keep, use1, use2, split, rewrite, fsplit, fjoin, frame, done}
+use types.Kit.{‵, ◌⊛◌, ◌$◌, ◌∵◌, !, qed, by, move, use1, use2, split, rewrite, fsplit, frame, done}
 use denote.Memory.{part_at}
 use denote.RawPtr.{block_ptr}
 use denote.Index.{place, place_is}
 use Rattle.std.specs.Mem.{type_size}
 use Rattle.std.proofs.BoxSteps.Steps.{el_room}
-use Rattle.paged_stack.proofs.Memory.El.{El, R, X, el_x, elτ, boxed, el_in}
+use Rattle.paged_stack.proofs.Memory.El.{El, R, X, elτ, boxed, el_in}
 use Rattle.paged_stack.specs.Rows.{items_type, places}
 
 module _ (E : El) where

@@ -1,7 +1,6 @@
 -- A `&` to the nodes is made where one to an element is, and has the laws of what a `&` holds. Assumes `Logic`.
 use mathlib.Core.List.{List, [], ◌∷◌}
 use seplogic.Ra.Ura.{Ura}
-use mir.Syntax.{Ty}
 use base.Fml.{Lft, Fml, ftrue, ffalse, Incl}
 use base.Fraction.{full_share}
 use types.Logic.{Logic}

@@ -2,8 +2,8 @@
 ghost use Rattle.std.specs.Prelude.{◌≡◌, ◌+◌, ◌%◌, ◌<◌, ◌≤◌, [], ◌∷◌, ◌++◌, length, IsOk, OnOk, OnErr};
 
 use super::PagedStack;
-use crate::page::Loose;
 use crate::block::PAGE_ITEMS;
+use crate::page::Loose;
 use std::alloc::AllocError;
 
 // No stack has more pages, so that its counts fit a word.

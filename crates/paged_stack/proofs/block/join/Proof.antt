@@ -1,7 +1,7 @@
 -- `join` makes the block whole again. Assumes `Logic`.
-use Rattle.std.proofs.Common.{◌≡◌, ℕ, ◌+◌, ◌^◌, ◌<◌, List, [], ◌∷◌, ◌++◌, refl, sym, ap, subst, ◌∙◌, arith}
+use Rattle.std.proofs.Common.{◌≡◌, ℕ, List, [], ◌∷◌, ◌++◌, refl, sym, subst, ◌∙◌}
 use mir.Syntax.{Fn, Args, a_type, w64, dcons, dnil}
-use mir.Val.{Val, vint, vptr}
+use mir.Val.{Val, vint}
 use mir.MapTy.{inst_fn}
 use base.Logic.{SProp, emp}
 use base.Fml.{froom}
@@ -29,7 +29,7 @@ use Rattle.paged_stack.proofs.Halves.Walks.{slot_at}
 use Rattle.paged_stack.proofs.Halves.Values.{block_val, block_own, block_made, deed_val, deed_told}
 use Rattle.paged_stack.proofs.Halves.Parts.{goes_together, as_words}
 use Rattle.paged_stack.proofs.Memory.El.{El, R}
-use Rattle.paged_stack.proofs.Memory.Room.{Room, Room-had}
+use Rattle.paged_stack.proofs.Memory.Room.{Room-had}
 use Rattle.paged_stack.proofs.Items.Opens.{row_had}
 use Rattle.paged_stack.proofs.Items.Places.{to_room}
 use Rattle.paged_stack.specs.Rows.{items_type, row_bytes}

@@ -1,10 +1,10 @@
 -- `split` takes the block apart. Assumes `Logic`.
 use Rattle.std.proofs.Common.{◌≡◌, ℕ, ◌+◌, ◌^◌, ◌<◌, List, [], ◌∷◌, ◌++◌, refl, sym, ap, subst, ◌∙◌, arith, zero-le}
-use mir.Syntax.{Ty, Fn, Args, a_type, dcons, dnil}
+use mir.Syntax.{Fn, Args, a_type, dcons, dnil}
 use mir.Val.{Val, vptr}
 use mir.MapTy.{inst_fn}
 use base.Logic.{SProp, never, emp, fst∗}
-use base.Fml.{ftrue, froom}
+use base.Fml.{froom}
 use prog.Wp.{Env, WpFn}
 use contract.BorrowLft.{◌⊑◌}
 use contract.Monad.{fact, fact_i}

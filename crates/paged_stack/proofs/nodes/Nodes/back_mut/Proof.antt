@@ -2,7 +2,7 @@
 use mathlib.Core.Path.{◌≡◌, refl, sym, ap, subst, ◌∙◌}
 use Prim.Native.Nat.{ℕ, ◌+◌, ◌-◌, ◌<◌}
 use native.Mathlib.Omega.{arith}
-use mathlib.Core.List.{List, [], ◌∷◌, ◌++◌, map-append}
+use mathlib.Core.List.{List, [], ◌∷◌, ◌++◌}
 use lib.ListN.{length, get_or, set, length-append}
 use seplogic.Ra.Ura.{Ura}
 use base.Fraction.{full_share}
@@ -36,7 +36,7 @@ use denote.Triple.Spec.{Meets, triple_of}
 use denote.Triple.Table.{entered, run_framed}
 use denote.Triple.Walked.{says, needs, Stays, stay_dropped, walk_of, ends_at, Goes-spent_ref, walk_Meets}
 use Rattle.std.proofs.VecSteps.Shapes.{after}
-use Rattle.paged_stack.proofs.Memory.El.{El, boxed, Good, args, X, R}
+use Rattle.paged_stack.proofs.Memory.El.{El, args, X, R}
 use Rattle.paged_stack.specs.Links.{Link, IsChained}
 use Rattle.paged_stack.proofs.Memory.Chained.{IsChained-had, IsChained-init}
 use Rattle.paged_stack.proofs.Memory.Steps.{unsnoc, words, D, Nr, eo, Held, One, snoc_out, snoc_in, nodes_made, nodes_opens, one_opens, one_closes, pointer, Frees}

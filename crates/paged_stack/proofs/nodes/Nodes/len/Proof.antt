@@ -16,7 +16,7 @@ use contract.Running.{tables, tables_of}
 use sound.WpLaws.{WpFn-mono}
 use types.Kit.{Item, ⋆, ‵, ◌⊛◌, ◌$◌, ◌∵◌, !, qed, by, move, keep, split, join, fsplit, fjoin, feq_i, feq_l, flt_i, suffices, done}
 use types.Run.{look, stop, fld, load, of_opd, returns, enter}
-use types.ByLocal.{alloc_all, pass_all, free_all, look_at, through, sets, env}
+use types.ByLocal.{alloc_all, pass_all, free_all, look_at, through, sets}
 use denote.Exit.{yes}
 use denote.RattleType.{RattleType, owns}
 use denote.Memory.{hidden_shr}

@@ -15,7 +15,7 @@ use types.Logic.{Logic}
 use contract.Monad.{fact}
 use contract.Running.{tables, tables_of}
 use sound.WpLaws.{WpFn-mono}
-use types.Kit.{Item, ⋆, ‵, ◌⊛◌, at_ret, ◌$◌, ◌∵◌, !, qed, by, move, keep, use1, use2, split, join, group, rewrite, fsplit, fsplit3, fjoin, fjoin3, feq_i, feq_l, suffices, frame, done}
+use types.Kit.{Item, ⋆, ‵, ◌⊛◌, at_ret, ◌$◌, ◌∵◌, !, qed, by, move, keep, use1, use2, split, join, rewrite, fsplit, fsplit3, fjoin, fjoin3, feq_i, feq_l, suffices, frame, done}
 use types.Part.{whole, sub, agg, look_in, store_in}
 use types.Run.{store, init, stop, fld, load, lit, unit_lit, of_opd, bin, and_then, no_more, assigns, assigns_last, first, blocks, exec, returns, enter}
 use types.ByLocal.{alloc_all, pass_all, free_all, look_at, get, get_in, through, sets, is, env}
@@ -47,7 +47,7 @@ use Rattle.paged_stack.specs.Links.{places_of}
 use Rattle.paged_stack.specs.contracts.nodes.Node as Block
 use Rattle.paged_stack.specs.Links.{Link, IsChained}
 use Rattle.paged_stack.proofs.Memory.Chained.{IsChained-had, IsChained-init, IsChained-join}
-use Rattle.paged_stack.proofs.Memory.Steps.{unsnoc, words, node_val, D, Nr, room_ty, Held, One, snoc_out, snoc_in, nodes_opens, nodes_closes, one_opens, one_closes, node_made}
+use Rattle.paged_stack.proofs.Memory.Steps.{unsnoc, node_val, D, Nr, room_ty, Held, One, snoc_out, snoc_in, nodes_opens, nodes_closes, one_opens, one_closes, node_made}
 use Rattle.paged_stack.specs.contracts.nodes.Nodes.link_back.Key.{name as #self}
 use Rattle.paged_stack.proofs.nodes.Nodes.link_back.Statement as stated
 use Rattle.paged_stack.proofs.nodes.Nodes.link_back.Code as code

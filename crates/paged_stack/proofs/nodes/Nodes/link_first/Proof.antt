@@ -14,10 +14,10 @@ use types.Logic.{Logic}
 use contract.Monad.{fact}
 use contract.Running.{tables, tables_of}
 use sound.WpLaws.{WpFn-mono}
-use types.Kit.{Item, ⋆, ‵, ◌⊛◌, at_ret, ◌$◌, ◌∵◌, !, qed, by, move, keep, use1, use2, drop, split, join, group, fsplit, fsplit3, fjoin, fjoin3, feq_i, feq_l, suffices, frame, done}
+use types.Kit.{Item, ⋆, ‵, ◌⊛◌, at_ret, ◌$◌, ◌∵◌, !, qed, by, move, keep, use1, use2, drop, split, join, fsplit, fsplit3, fjoin, fjoin3, feq_i, feq_l, suffices, frame, done}
 use types.Part.{whole, sub, agg, store_in}
 use types.Run.{init, stop, fld, lit, unit_lit, of_opd, and_then, no_more, assigns, assigns_last, first, blocks, exec, returns, enter}
-use types.ByLocal.{alloc_all, pass_all, free_all, look_at, get, get_in, through, sets, is, env}
+use types.ByLocal.{alloc_all, pass_all, free_all, look_at, get, get_in, through, sets, env}
 use types.SemTy.{Body as Borrowed}
 use denote.Exit.{yes, no}
 use denote.RattleType.{RattleType, owns}
@@ -44,7 +44,7 @@ use Rattle.paged_stack.proofs.Memory.Room as Opened
 use Rattle.paged_stack.proofs.Memory.Room.{Room-had, Room-made}
 use Rattle.paged_stack.specs.Links.{places_of}
 use Rattle.paged_stack.specs.contracts.nodes.Node as Block
-use Rattle.paged_stack.proofs.Memory.Steps.{words, node_val, D, Nr, room_ty, Held, One, cons_in, nodes_opens, nodes_closes, node_made}
+use Rattle.paged_stack.proofs.Memory.Steps.{node_val, D, Nr, room_ty, Held, One, cons_in, nodes_opens, nodes_closes, node_made}
 use Rattle.paged_stack.specs.contracts.nodes.Nodes.link_first.Key.{name as #self}
 use Rattle.paged_stack.proofs.nodes.Nodes.link_first.Statement as stated
 use Rattle.paged_stack.proofs.nodes.Nodes.link_first.Code as code

@@ -14,9 +14,8 @@ use contract.Running.{tables, tables_of}
 use sound.WpLaws.{WpFn-mono}
 use types.Kit.{‵, ◌$◌, ◌∵◌, !, qed, keep, join, fjoin, suffices, done}
 use types.Part.{agg}
-use types.Run.{stop, from, lit, addr, and_then, no_more, blocks, returns, enter}
-use types.ByLocal.{alloc_all, pass_all, free_all, look_at, get, sets, env}
-use denote.RattleType.{owns}
+use types.Run.{stop, from, lit, addr, and_then, no_more, returns, enter}
+use types.ByLocal.{alloc_all, pass_all, free_all, look_at, get, sets}
 use denote.RawPtr.{Ptr, block_ptr}
 use denote.Signature.{plain}
 use denote.Steps.{nothing}
@@ -26,7 +25,7 @@ use denote.Triple.Entry.{on_entry}
 use denote.Triple.Spec.{Meets, triple_of}
 use denote.Triple.Table.{entered, run_framed}
 use denote.Triple.Walked.{says, Stays, walk_of, ends_at, walk_Meets}
-use Rattle.paged_stack.proofs.Memory.El.{El, boxed, Good, args}
+use Rattle.paged_stack.proofs.Memory.El.{El, args}
 use Rattle.paged_stack.proofs.Memory.Steps.{words, D, Nr, nodes_made}
 use Rattle.paged_stack.specs.contracts.nodes.Nodes.new.Key.{name as #self}
 use Rattle.paged_stack.proofs.nodes.Nodes.new.Statement as stated

@@ -36,7 +36,7 @@ use denote.Triple.Table.{entered, run_framed}
 use denote.Triple.Walked.{says, needs, Stays, stay_ref, walk_of, ends_at, Goes-ref, walk_Meets}
 use Rattle.std.proofs.VecSteps.Shapes.{after}
 use Rattle.std.proofs.RcSteps.{Good as Typed, Ptr-Good, word}
-use Rattle.paged_stack.proofs.Memory.El.{El, boxed, Good, args, X, τ, R}
+use Rattle.paged_stack.proofs.Memory.El.{El, args, X, τ, R}
 use Rattle.paged_stack.proofs.Memory.Room as Opened
 use Rattle.paged_stack.proofs.Memory.Room.{Room-had, Room-made}
 use Rattle.paged_stack.specs.Links.{places_of}
@@ -45,7 +45,7 @@ use denote.Struct.Tuple.{Tuple}
 use Rattle.paged_stack.specs.contracts.nodes.Node as Block
 use Rattle.paged_stack.specs.Links.{Link, IsChained}
 use Rattle.paged_stack.proofs.Memory.Chained.{IsChained-had, IsChained-tail}
-use Rattle.paged_stack.proofs.Memory.Steps.{uncons, words, D, Nr, Held, One, cons_out, nodes_opens, nodes_closes, one_opens, node_unmade, room_back}
+use Rattle.paged_stack.proofs.Memory.Steps.{uncons, D, Nr, Held, One, cons_out, nodes_opens, nodes_closes, one_opens, node_unmade, room_back}
 use Rattle.paged_stack.specs.contracts.nodes.Nodes.unlink_front.Key.{name as #self}
 use Rattle.paged_stack.proofs.nodes.Nodes.unlink_front.Statement as stated
 use Rattle.paged_stack.proofs.nodes.Nodes.unlink_front.Code as code

@@ -1,4 +1,4 @@
-use Rattle.std.proofs.Common.{◌≡◌, ◌-◌, ◌<◌, [], ◌∷◌, ◌++◌, length, map, set, take, sym, ap, ◌∙◌, arith}
+use Rattle.std.proofs.Common.{◌≡◌, ◌-◌, ◌<◌, length, map, set, take, sym, ap, ◌∙◌, arith}
 use lib.ListN.{length-map}
 use Rattle.paged_stack.specs.Packed.{last_of}
 use Rattle.paged_stack.specs.Leaves.{items_of, home_of}

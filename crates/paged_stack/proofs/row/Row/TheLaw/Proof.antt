@@ -2,7 +2,7 @@
 use mathlib.Core.List.{List, [], ◌∷◌, ◌++◌}
 use Prim.Native.Nat.{ℕ, zero, suc, ◌^◌}
 use seplogic.Ra.Ura.{Ura}
-use base.Fml.{Lft, ffalse, flt, Incl-trans}
+use base.Fml.{Lft, flt, Incl-trans}
 use types.Logic.{Logic}
 use contract.BorrowLft.{meet_⊑_left}
 use denote.RattleType.{RattleType, RowLaws}

@@ -1,6 +1,5 @@
 -- `get` hands on the `&` to the item at k that a `&` to the row holds. Assumes `Logic`.
-use mathlib.Core.Path.{◌≡◌, refl}
-use mathlib.Core.Bool.{true, false}
+use mathlib.Core.Path.{refl}
 use Prim.Native.Nat.{ℕ, ◌+◌, ◌*◌, ◌<◌, ◌^◌}
 use native.Mathlib.Omega.{arith}
 use mathlib.Core.List.{List, [], ◌∷◌}

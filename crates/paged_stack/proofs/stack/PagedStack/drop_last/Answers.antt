@@ -1,8 +1,8 @@
-use Rattle.std.proofs.Common.{◌≡◌, ℕ, ◌+◌, ◌-◌, ◌*◌, ◌/◌, ◌<◌, ◌≤◌, [], ◌∷◌, ◌++◌, length, take, refl, sym, ap, subst, ◌∙◌, arith}
+use Rattle.std.proofs.Common.{◌≡◌, ◌+◌, ◌-◌, ◌*◌, length, take, ap, ◌∙◌, arith}
 use Rattle.paged_stack.specs.Held.{Held}
 use Rattle.paged_stack.specs.Leaves.{items_of}
-use Rattle.paged_stack.specs.Packed.{last_of, joined, IsPacked, before_last}
-use Rattle.paged_stack.proofs.Packing.{packed_bounds, relast, dropped, shortened}
+use Rattle.paged_stack.specs.Packed.{joined, before_last}
+use Rattle.paged_stack.proofs.Packing.{packed_bounds, dropped}
 use Rattle.paged_stack.proofs.stack.PagedStack.drop_last.Goals as goal
 
 pub pop_back-emptied-requires : goal.pop_back-emptied-requires

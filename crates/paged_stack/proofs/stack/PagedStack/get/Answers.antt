@@ -1,4 +1,4 @@
-use Rattle.std.proofs.Common.{◌≡◌, ℕ, ◌+◌, ◌-◌, ◌*◌, ◌%◌, ◌/◌, ◌<◌, ◌≤◌, List, [], ◌∷◌, length, take, get_or, refl, sym, ap, ◌∙◌, arith, length-take}
+use Rattle.std.proofs.Common.{◌≡◌, ◌+◌, ◌*◌, ◌%◌, ◌/◌, ◌<◌, List, [], ◌∷◌, length, get_or, sym, ap, ◌∙◌, arith, length-take}
 use Rattle.paged_stack.specs.Held.{Held}
 use Rattle.paged_stack.specs.Leaves.{items_of}
 use Rattle.paged_stack.specs.Packed.{joined}
@@ -31,6 +31,7 @@ returns g c =
     let page = c.find-page.result.now in
     let parts : 1024 * (k / 1024) + k % 1024 ≡ k = omega arith in
     let held : joined s.used ≡ c.args.self.now.items = ap (λ (h : Held g.row.T.Denot). h.items) c.self.view_is in
-    let at = lies_at s.used (k / 1024) (k % 1024) (items_of page) x c.self.invariant.0 (omega arith) (omega (arith, parts, c.self.invariant.1, c.if-k-self.false)) in
-    (omega (arith, ap length held, c.self.invariant.1, c.if-k-self.false),
-    c.get.ensures ∙ ap (λ l. get_or l (k % 1024) x) c.find-page.ensures ∙ sym at.1 ∙ ap (λ n. get_or (joined s.used) n x) parts ∙ ap (λ l. get_or l k x) held)
+    let at = lies_at s.used (k / 1024) (k % 1024) (items_of page) x c.self.invariant.0 (omega arith) (omega (arith, parts, c.self.invariant.1, c.if-k-self.false)) in (
+      omega (arith, ap length held, c.self.invariant.1, c.if-k-self.false),
+      c.get.ensures ∙ ap (λ l. get_or l (k % 1024) x) c.find-page.ensures ∙ sym at.1 ∙ ap (λ n. get_or (joined s.used) n x) parts ∙ ap (λ l. get_or l k x) held,
+    )

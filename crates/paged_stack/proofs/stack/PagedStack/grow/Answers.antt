@@ -1,7 +1,6 @@
-use Rattle.std.proofs.Common.{◌≡◌, ℕ, ◌+◌, ◌-◌, ◌*◌, ◌%◌, ◌/◌, ◌<◌, ◌≤◌, List, [], ◌∷◌, ◌++◌, length, take, get_or, refl, sym, ap, subst, ◌∙◌, arith, length-append, div-add-mod'}
+use Rattle.std.proofs.Common.{◌≡◌, ◌+◌, ◌-◌, ◌*◌, [], ◌∷◌, length, ap, arith, length-append}
 use Rattle.paged_stack.specs.Held.{Held}
 use Rattle.paged_stack.specs.Leaves.{items_of}
-use Rattle.paged_stack.specs.Packed.{last_of, joined, IsPacked}
 use Rattle.paged_stack.proofs.Packing.{packed_bounds}
 use Rattle.paged_stack.proofs.stack.PagedStack.grow.Goals as goal
 

@@ -1,7 +1,7 @@
-use Rattle.std.proofs.Common.{◌≡◌, ℕ, ◌+◌, ◌-◌, ◌*◌, ◌%◌, ◌/◌, ◌<◌, ◌≤◌, List, [], ◌∷◌, ◌++◌, length, take, set, refl, sym, ap, subst, ◌∙◌, arith, length-append, length-take}
+use Rattle.std.proofs.Common.{◌≡◌, ◌+◌, ◌-◌, ◌*◌, [], ◌∷◌, length, sym, ap, subst, ◌∙◌, arith, length-append, length-take}
 use Rattle.paged_stack.specs.Held.{Held}
 use Rattle.paged_stack.specs.Leaves.{items_of}
-use Rattle.paged_stack.specs.Packed.{last_of, joined, IsPacked}
+use Rattle.paged_stack.specs.Packed.{joined, IsPacked}
 use Rattle.paged_stack.proofs.Packing.{packed_bounds, packed_out, emptied}
 use Rattle.paged_stack.proofs.stack.PagedStack.pop_first.Goals as goal
 

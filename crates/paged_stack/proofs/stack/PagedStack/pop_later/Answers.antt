@@ -1,6 +1,5 @@
-use Rattle.std.proofs.Common.{◌≡◌, ℕ, ◌+◌, ◌-◌, ◌*◌, ◌%◌, ◌/◌, ◌<◌, ◌≤◌, List, [], ◌∷◌, ◌++◌, length, take, set, refl, sym, ap, subst, ◌∙◌, arith, length-append}
+use Rattle.std.proofs.Common.{◌≡◌, ◌+◌, ◌-◌, ◌*◌, [], ◌∷◌, ◌++◌, length, take, sym, ap, subst, ◌∙◌, arith, length-append}
 use Rattle.paged_stack.specs.Held.{Held}
-use Rattle.paged_stack.specs.Leaves.{items_of}
 use Rattle.paged_stack.specs.Packed.{last_of, joined, IsPacked}
 use Rattle.paged_stack.proofs.Packing.{packed_bounds, relast, taken, some_last}
 use Rattle.paged_stack.proofs.stack.PagedStack.pop_later.Goals as goal

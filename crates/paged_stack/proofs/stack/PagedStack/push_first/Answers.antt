@@ -1,7 +1,6 @@
-use Rattle.std.proofs.Common.{◌≡◌, ℕ, ◌+◌, ◌-◌, ◌*◌, ◌%◌, ◌/◌, ◌<◌, ◌≤◌, List, [], ◌∷◌, ◌++◌, length, take, set, refl, sym, ap, subst, ◌∙◌, arith, length-append}
+use Rattle.std.proofs.Common.{◌≡◌, ◌+◌, ◌-◌, ◌*◌, [], ◌∷◌, ◌++◌, length, sym, ap, subst, ◌∙◌, arith, length-append}
 use Rattle.paged_stack.specs.Held.{Held}
-use Rattle.paged_stack.specs.Leaves.{items_of}
-use Rattle.paged_stack.specs.Packed.{last_of, joined, IsPacked}
+use Rattle.paged_stack.specs.Packed.{joined, IsPacked}
 use Rattle.paged_stack.proofs.Packing.{packed_bounds, full_length, packed_full, opened}
 use Rattle.paged_stack.proofs.stack.PagedStack.push_first.Goals as goal
 
@@ -25,10 +24,11 @@ invariant_of-self g c =
     let most = packed_bounds s.used c.self.invariant.0 in
     let count = c.self.invariant.1 in
     let new : c.push_back.new.self ≡ s.used ++ (c.args.item ∷ []) ∷ [] = c.push_back.ensures ∙ ap (λ p. s.used ++ p ∷ []) c.restart.ensures in
-    let on = opened s.used c.args.item c.self.invariant.0 (omega (arith, many, c.requires.1)) in
-    (subst IsPacked (sym new) on.0,
-    omega (arith, count, ap (λ ps. length (joined ps)) new, ap length on.1, length-append (joined s.used) (c.args.item ∷ [])),
-    omega (arith, c.self.invariant.2, ap length new, length-append s.used ((c.args.item ∷ []) ∷ []), ap length c.pop_front-loose.ensures))
+    let on = opened s.used c.args.item c.self.invariant.0 (omega (arith, many, c.requires.1)) in (
+      subst IsPacked (sym new) on.0,
+      omega (arith, count, ap (λ ps. length (joined ps)) new, ap length on.1, length-append (joined s.used) (c.args.item ∷ [])),
+      omega (arith, c.self.invariant.2, ap length new, length-append s.used ((c.args.item ∷ []) ∷ []), ap length c.pop_front-loose.ensures),
+    )
 
 pub returns-clause-items : goal.returns-clause-items
 returns-clause-items g c =

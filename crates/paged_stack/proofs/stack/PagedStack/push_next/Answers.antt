@@ -1,7 +1,6 @@
-use Rattle.std.proofs.Common.{◌≡◌, ℕ, ◌+◌, ◌-◌, ◌*◌, ◌%◌, ◌/◌, ◌<◌, ◌≤◌, List, [], ◌∷◌, ◌++◌, length, take, set, refl, sym, ap, subst, ◌∙◌, arith, length-append}
+use Rattle.std.proofs.Common.{◌≡◌, ◌+◌, ◌-◌, ◌*◌, [], ◌∷◌, ◌++◌, length, sym, ap, subst, ◌∙◌, arith, length-append}
 use Rattle.paged_stack.specs.Held.{Held}
-use Rattle.paged_stack.specs.Leaves.{items_of}
-use Rattle.paged_stack.specs.Packed.{last_of, joined, IsPacked}
+use Rattle.paged_stack.specs.Packed.{joined, IsPacked}
 use Rattle.paged_stack.proofs.Packing.{packed_bounds, has_room, added}
 use Rattle.paged_stack.proofs.stack.PagedStack.push_next.Goals as goal
 
@@ -34,10 +33,11 @@ invariant_of-self g c =
     let most = packed_bounds s.used c.self.invariant.0 in
     let count = c.self.invariant.1 in
     let on = added s.used c.args.item c.self.invariant.0 (λ e. c.requires (omega (arith, many, e))) in
-    let new = c.add.ensures in
-    (subst IsPacked (sym new) on.0,
-    omega (arith, count, ap (λ ps. length (joined ps)) new, ap length on.1, length-append (joined s.used) (c.args.item ∷ [])),
-    omega (arith, c.self.invariant.2, ap length new, on.2))
+    let new = c.add.ensures in (
+      subst IsPacked (sym new) on.0,
+      omega (arith, count, ap (λ ps. length (joined ps)) new, ap length on.1, length-append (joined s.used) (c.args.item ∷ [])),
+      omega (arith, c.self.invariant.2, ap length new, on.2),
+    )
 
 pub returns-clause-items : goal.returns-clause-items
 returns-clause-items g c =

@@ -1,8 +1,7 @@
-use Rattle.std.proofs.Common.{◌≡◌, ℕ, ◌+◌, ◌-◌, ◌*◌, ◌/◌, ◌<◌, ◌≤◌, [], ◌∷◌, ◌++◌, length, take, refl, sym, ap, subst, ◌∙◌, arith, length-take-le}
+use Rattle.std.proofs.Common.{◌≡◌, ◌+◌, ◌-◌, ◌*◌, ◌/◌, length, take, sym, ap, subst, ◌∙◌, arith, length-take-le}
 use Rattle.paged_stack.specs.Held.{Held}
-use Rattle.paged_stack.specs.Leaves.{items_of}
 use Rattle.paged_stack.specs.Packed.{last_of, joined, IsPacked, before_last}
-use Rattle.paged_stack.proofs.Packing.{packed_bounds, relast, dropped, shortened}
+use Rattle.paged_stack.proofs.Packing.{packed_bounds, relast, shortened}
 use Rattle.paged_stack.proofs.stack.PagedStack.shorten_last.Goals as goal
 
 pub shorten-requires : goal.shorten-requires

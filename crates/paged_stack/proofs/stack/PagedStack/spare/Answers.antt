@@ -1,6 +1,4 @@
-use Rattle.std.proofs.Common.{◌≡◌, ℕ, ◌+◌, ◌-◌, ◌*◌, ◌%◌, ◌/◌, ◌<◌, ◌≤◌, List, [], ◌∷◌, ◌++◌, length, take, get_or, refl, sym, ap, subst, ◌∙◌, arith, length-append, div-add-mod'}
-use Rattle.paged_stack.specs.Held.{Held}
-use Rattle.paged_stack.specs.Packed.{last_of, joined, IsPacked}
+use Rattle.std.proofs.Common.{arith}
 use Rattle.paged_stack.proofs.Packing.{packed_bounds}
 use Rattle.paged_stack.proofs.stack.PagedStack.spare.Goals as goal
 
