@@ -1,5 +1,5 @@
 -- Pages that are packed stay so where an item comes or goes.
-use Rattle.std.proofs.Common.{◌≡◌, ℕ, zero, suc, ◌+◌, ◌-◌, ◌*◌, ◌%◌, ◌<◌, ◌≤◌, List, [], ◌∷◌, ◌++◌, length, get_or, set, take, refl, sym, ap, subst, ◌∙◌, arith, take_at, length-take-le, append_assoc, append-nil, length-append}
+use Rattle.std.proofs.Common.{◌≡◌, ℕ, zero, suc, ◌+◌, ◌-◌, ◌*◌, ◌%◌, ◌/◌, ◌<◌, ◌≤◌, List, [], ◌∷◌, ◌++◌, length, get_or, set, take, refl, sym, ap, subst, ◌∙◌, arith, take_at, length-take-le, append_assoc, append-nil, length-append}
 use lib.ListN.{get_or-append}
 use lib.Seq.{set_at, get_or_at, get_or-append_right}
 use Rattle.paged_stack.specs.Packed.{last_of, joined, IsFilled, IsPacked, before_last}
@@ -184,6 +184,25 @@ module _ {X : Type 0} where
       let long = length-append p (joined (q ∷ ps)) in
       let on = lies_at (q ∷ ps) i j d x k.1 low (omega (arith, k.0, long)) in
       (on.0, get_or-append_right p (joined (q ∷ ps)) (1024 * suc i + j) x (omega (arith, k.0)) ∙ ap (λ n. get_or (joined (q ∷ ps)) n x) (omega (arith, k.0)) ∙ on.1)
+
+  -- the page that has an item is among the pages
+  pub page_in : (ps : List (List X)) (place : ℕ) → IsPacked ps → place < length (joined ps) → place / 1024 < length ps
+  page_in ps place k lt = omega (arith, lt, (packed_bounds ps k).0)
+
+  -- where that item lies on it
+  pub page_has : (ps : List (List X)) (place : ℕ) (page : List X) (x : X) → IsPacked ps → place < length (joined ps) → get_or ps (place / 1024) [] ≡ page
+      → (place % 1024 < length page) × (get_or (joined ps) place x ≡ get_or page (place % 1024) x)
+  page_has ps place page x k lt is =
+      let parts : 1024 * (place / 1024) + place % 1024 ≡ place = omega arith in
+      let at = lies_at ps (place / 1024) (place % 1024) [] x k (omega arith) (omega (arith, parts, lt)) in (
+        omega (arith, at.0, ap length is),
+        ap (λ n. get_or (joined ps) n x) (sym parts) ∙ at.1 ∙ ap (λ l. get_or l (place % 1024) x) is,
+      )
+
+  -- some item, where there is one
+  pub first_of : (xs : List X) → 0 < length xs → X
+  first_of [] p = absurd (omega arith)
+  first_of (x ∷ xs) p = x
 
   -- the last page goes whole
   pub dropped : (ps qs : List (List X)) (p : List X) → IsPacked ps → ps ≡ qs ++ p ∷ []

@@ -1,5 +1,5 @@
 -- What a clause sees of a stack.
-use Rattle.std.specs.Prelude.{ℕ, List, drop, refl}
+use Rattle.std.specs.Prelude.{ℕ, List, refl}
 use Rattle.std.specs.Coded.{Coded, code_by, coded×, coded_ℕ, coded_list}
 
 -- the items, from the first to the last, and how many more the stack takes with no new memory
@@ -9,7 +9,3 @@ pub record Held (X : Type 0) : Type 0 where
 
 abbrev pub held_code : {X : Type 0} → Coded X → Coded (Held X)
 held_code {X} c = code_by (List X × ℕ) (coded× (coded_list c) coded_ℕ) (λ h. (h.items, h.spare)) (λ p. record { items = p.0; spare = p.1 }) (λ _. refl)
-
--- the items from the given place on
-abbrev pub items_after : {X : Type 0} → List X → ℕ → List X
-items_after items place = drop place items

@@ -24,7 +24,6 @@ pub(crate) mod row;
 mod stack;
 #[cfg(test)]
 mod tests;
-mod walk;
 
 pub use stack::PagedStack;
-pub use walk::Cursor;
+pub use stack::walk::Cursor;

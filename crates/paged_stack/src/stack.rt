@@ -6,6 +6,7 @@ use std::marker::Model;
 mod falls;
 mod grows;
 mod reads;
+pub(crate) mod walk;
 
 /// A stack whose items never move in memory.
 ///

@@ -1,4 +1,4 @@
-//! A long run over several pages, compared with numbers computed apart.
+//! A long run over several pages, compared with numbers computed apart, and pages that cannot be had.
 use crate::PagedStack;
 use std::alloc::AllocError;
 use std::test::Fail;
@@ -38,5 +38,24 @@ fn items_keep_their_order_over_pages(rt: HostRuntime) -> Result<(), Fail> {
         next = next.saturating_add(1);
     }
     assert_eq!(rt; next, 6024);
+    Ok(())
+}
+
+// A page of these items has more bytes than a block may have.
+#[test]
+fn a_page_past_the_largest_block_is_refused(rt: HostRuntime) -> Result<(), Fail> {
+    let mut stack: PagedStack<[u64; 1 << 50]> = PagedStack::new(rt.alloc());
+    assert_eq!(rt; stack.reserve(1), Err(AllocError));
+    assert_eq!(rt; stack.reserve(0), Ok(()));
+    assert_eq!(rt; (stack.len(), stack.spare()), (0, 0));
+    Ok(())
+}
+
+// A page of these items may be asked for, and no machine has it.
+#[test]
+fn a_page_that_the_allocator_refuses(rt: HostRuntime) -> Result<(), Fail> {
+    let mut stack: PagedStack<[u64; 1 << 46]> = PagedStack::new(rt.alloc());
+    assert_eq!(rt; stack.reserve(1), Err(AllocError));
+    assert_eq!(rt; (stack.len(), stack.spare()), (0, 0));
     Ok(())
 }

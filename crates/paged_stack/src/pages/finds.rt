@@ -1,8 +1,9 @@
-//! A page is found by its number, from the nearer end.
-ghost use Rattle.std.specs.Prelude.{◌≡◌, ◌<◌, length, slice_index_or};
+//! A page is found by its number, from the nearer end, or by walking over the nodes.
+ghost use Rattle.std.specs.Prelude.{◌≡◌, ◌<◌, length, map, slice_index_or};
 ghost use Rattle.paged_stack.specs.Leaves.{items_of};
 
 use super::Pages;
+use crate::nodes::Nodes;
 use crate::page::Page;
 
 impl<T> Pages<T> {
@@ -16,5 +17,11 @@ impl<T> Pages<T> {
         } else {
             self.nodes.find_backward(number)
         }
+    }
+
+    pub(crate) fn nodes(&self) -> &Nodes<Page<T>>
+        ensures { map items_of result.now.items ≡ self.now }
+    {
+        &self.nodes
     }
 }
