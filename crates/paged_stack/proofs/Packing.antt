@@ -190,13 +190,13 @@ module _ {X : Type 0} where
   page_in ps place k lt = omega (arith, lt, (packed_bounds ps k).0)
 
   -- where that item lies on it
-  pub page_has : (ps : List (List X)) (place : ℕ) (page : List X) (x : X) → IsPacked ps → place < length (joined ps) → get_or ps (place / 1024) [] ≡ page
+  pub page_has : (ps : List (List X)) (place : ℕ) (page : List X) (x : X) → IsPacked ps → place < length (joined ps) → page ≡ get_or ps (place / 1024) page
       → (place % 1024 < length page) × (get_or (joined ps) place x ≡ get_or page (place % 1024) x)
   page_has ps place page x k lt is =
       let parts : 1024 * (place / 1024) + place % 1024 ≡ place = omega arith in
-      let at = lies_at ps (place / 1024) (place % 1024) [] x k (omega arith) (omega (arith, parts, lt)) in (
+      let at = lies_at ps (place / 1024) (place % 1024) page x k (omega arith) (omega (arith, parts, lt)) in (
         omega (arith, at.0, ap length is),
-        ap (λ n. get_or (joined ps) n x) (sym parts) ∙ at.1 ∙ ap (λ l. get_or l (place % 1024) x) is,
+        ap (λ n. get_or (joined ps) n x) (sym parts) ∙ at.1 ∙ ap (λ l. get_or l (place % 1024) x) (sym is),
       )
 
   -- some item, where there is one

@@ -10,13 +10,16 @@ use std::alloc::AllocError;
 const MOST_PAGES: usize = 1 << 50;
 
 impl<T: Copy> PagedStack<T> {
-    /// Makes sure that `n` items can be appended with no new memory. The items stay as they are.
+    /// Makes sure that `n` items can be appended with no new memory. The items stay as they are, and no more pages are
+    /// taken than that asks for. Where `spare` is at least `n` it takes no memory and answers `Ok`.
     ///
-    /// After a refusal `spare` is no smaller.
+    /// After a refusal `spare` is no smaller: the pages that were had are kept.
     pub fn reserve(&mut self, n: usize) -> Result<(), AllocError>
         ensures items { self.new.items ≡ self.old.items }
         ensures spare { self.old.spare ≤ self.new.spare }
         ensures reserved { OnOk result (n ≤ self.new.spare) }
+        ensures fewest { self.old.spare < n → self.new.spare < n + 1024 }
+        ensures succeeds { n ≤ self.old.spare → IsOk result × (self.new ≡ self.old) }
     {
         while self.spare() < n {
             self.grow()?;
@@ -24,11 +27,12 @@ impl<T: Copy> PagedStack<T> {
         Ok(())
     }
 
-    /// Appends the item. Where `spare` is above 0 it takes no memory and answers `Ok`.
+    /// Appends the item. Where `spare` is above 0 it takes no memory and answers `Ok`; where it is 0 one page is taken.
     ///
     /// After a refusal nothing has changed.
     pub fn push(&mut self, item: T) -> Result<(), AllocError>
         ensures pushed { OnOk result ((self.new.items ≡ self.old.items ++ item ∷ []) × (self.old.spare ≤ self.new.spare + 1)) }
+        ensures page { self.old.spare ≡ 0 → OnOk result (self.new.spare ≡ 1023) }
         ensures refused { OnErr result (self.new ≡ self.old) }
         ensures succeeds { 0 < self.old.spare → IsOk result × (self.new.spare + 1 ≡ self.old.spare) }
     {
