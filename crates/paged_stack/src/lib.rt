@@ -13,7 +13,7 @@
 //!
 //! Proved of each public function: it is safe, it ends, and it leaves exactly the list and the `spare` that its contract
 //! says. Left open is only whether the allocator has a page. Proved of the pages: none is given back while something can
-//! still reach it, and none twice. That a drop gives back every one is plain from its loop, and no clause says it.
+//! still reach it, and none twice. The compiler sees to it that a page is let go by no other way than its `free`.
 //!
 //! What a call costs:
 //!

@@ -1,4 +1,4 @@
--- The machine value of a `Block`: what is owned tells it, and is made of nothing.
+-- The machine values of a `Block` and of a `Deed`: what is owned tells them, and is made of nothing.
 use Rattle.std.proofs.Common.{◌≡◌, ℕ, ◌^◌, ◌<◌, List, [], ◌∷◌, ◌++◌, refl, ◌∙◌, w64}
 use seplogic.Ra.Ura.{Ura}
 use mir.Val.{Val, vint, vstruct, vcons, vnil, of_list}

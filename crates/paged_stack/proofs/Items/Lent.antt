@@ -19,7 +19,7 @@ use denote.Struct.Laws.{RawPtr-laws}
 use denote.Struct.Lending.{lent_at, lent_out}
 use denote.Opens.{Shut, unhide}
 use denote.Steps.{looks, shuts}
-use Rattle.paged_stack.proofs.Memory.El.{El, R, el_x}
+use Rattle.paged_stack.proofs.Memory.El.{El, R, X}
 use Rattle.paged_stack.specs.Rows.{row_bytes, places_lent}
 use Rattle.paged_stack.specs.contracts.row.Row as C
 use Rattle.paged_stack.proofs.Items.Places.{sz}
@@ -29,14 +29,14 @@ module _ (E : El) {M : Type 1} {𝓤 : Ura M} (𝓛 : Logic 𝓤) (κ : Lft) whe
   pub shown : (d : el_d E) (b o : ℕ) → ent 𝓤 (sem 𝓛 (hidden_shr (Sr E) κ d b o)) (sep 𝓤 (sem 𝓛 (hidden_shr RawPtr κ d.ptr b (o + 0)))
       (sep 𝓤 (sem 𝓛 (flt (row_bytes (R E)) (2 ^ 63))) (sem 𝓛 (places_lent (R E) d.ptr d.items κ))))
   shown d b o = qed 𝓛 (‵ (hidden_shr (Sr E) κ d b o) ∷ []) ∵
-      use1 𝓛 (‵ (hidden_shr (Words E) κ (d.ptr, tt) b o) ⊛ ‵ (fhide (C.the_lent (R E) d d.ptr κ))) (lent_out 𝓛 (C.struct (R E)) (C.the_codes (el_x E) (R E).coded) (C.the_heap (R E)) (C.the_lent (R E)) κ d b o) $ split ! $
+      use1 𝓛 (‵ (hidden_shr (Words E) κ (d.ptr, tt) b o) ⊛ ‵ (fhide (C.the_lent (R E) d d.ptr κ))) (lent_out 𝓛 (C.struct (R E)) (C.the_codes (X E) (R E).coded) (C.the_heap (R E)) (C.the_lent (R E)) κ d b o) $ split ! $
       unhide ! $ fsplit ! $ fsplit ! $ keep ! (0 ∷ 3 ∷ []) $ done !
 
-  pub none_at_null : (xs : List (el_x E)) (i : ℕ) → i < length xs → ent 𝓤 (sem 𝓛 (places_lent (R E) null_ptr xs κ)) (never 𝓤)
+  pub none_at_null : (xs : List (X E)) (i : ℕ) → i < length xs → ent 𝓤 (sem 𝓛 (places_lent (R E) null_ptr xs κ)) (never 𝓤)
   none_at_null [] i l = absurd (not-suc-le-zero l)
   none_at_null (x ∷ xs) i l = qed 𝓛 (‵ (lent_at (R E) null_ptr x κ) ∷ ‵ (places_lent (R E) null_ptr xs κ) ∷ []) ∵ fsplit ! $ keep ! (0 ∷ []) $ done !
 
-  one_lent : (b o : ℕ) (xs : List (el_x E)) (i : ℕ) (d : el_x E) → i < length xs
+  one_lent : (b o : ℕ) (xs : List (X E)) (i : ℕ) (d : X E) → i < length xs
       → ent 𝓤 (sem 𝓛 (places_lent (R E) (block_ptr b o) xs κ)) (sem 𝓛 (hidden_shr (R E) κ (get_or xs i d) b (place (sz E) o i)))
   one_lent b o [] i d l = absurd (not-suc-le-zero l)
   one_lent b o (x ∷ xs) zero d l = qed 𝓛 (‵ (lent_at (R E) (block_ptr b o) x κ) ∷ ‵ (places_lent (R E) (block_ptr b (o + sz E)) xs κ) ∷ []) ∵
@@ -44,7 +44,7 @@ module _ (E : El) {M : Type 1} {𝓤 : Ura M} (𝓛 : Logic 𝓤) (κ : Lft) whe
   one_lent b o (x ∷ xs) (suc i) d l = qed 𝓛 (‵ (lent_at (R E) (block_ptr b o) x κ) ∷ ‵ (places_lent (R E) (block_ptr b (o + sz E)) xs κ) ∷ []) ∵
       drop ! $ by ! (one_lent b (o + sz E) xs i d (le_of_suc-le-suc l))
 
-  pub value_lent : (b o : ℕ) (xs : List (el_x E)) (i : ℕ) (d : el_x E) → i < length xs
+  pub value_lent : (b o : ℕ) (xs : List (X E)) (i : ℕ) (d : X E) → i < length xs
       → ent 𝓤 (sem 𝓛 (places_lent (R E) (block_ptr b o) xs κ)) (sem 𝓛 (hidden_shr (R E) κ (get_or xs i d) b (i * sz E + o)))
   value_lent b o xs i d l = qed 𝓛 (‵ (places_lent (R E) (block_ptr b o) xs κ) ∷ []) ∵
       use1 𝓛 (‵ (hidden_shr (R E) κ (get_or xs i d) b (place (sz E) o i))) (one_lent b o xs i d l) $ rewrite ! 0 (λ (k : ℕ). ‵ (hidden_shr (R E) κ (get_or xs i d) b k)) (place_is (sz E) o i) refl $ done !

@@ -16,7 +16,7 @@ use denote.RawPtr.{block_ptr}
 use denote.Index.{place, place_is}
 use Rattle.std.specs.Mem.{type_size}
 use Rattle.std.proofs.BoxSteps.Steps.{el_room}
-use Rattle.paged_stack.proofs.Memory.El.{El, R, X, elτ, boxed, el_in}
+use Rattle.paged_stack.proofs.Memory.El.{El, R, X, τ, boxed, el_in}
 use Rattle.paged_stack.specs.Rows.{items_type, places}
 
 module _ (E : El) where
@@ -58,16 +58,16 @@ module _ (E : El) {M : Type 1} {𝓤 : Ura M} (𝓛 : Logic 𝓤) (b : ℕ) wher
   to_room o n [] le = id⊢ 𝓤 _
   to_room o zero (x ∷ xs) le = absurd (not-suc-le-zero le)
   to_room o (suc n) (x ∷ xs) le = qed 𝓛 (‵ (one x o) ∷ ‵ (all (o + s) n xs) ∷ []) ∵
-      use1 𝓛 (‵ (froom (elτ E) b o)) (el_room (boxed E) 𝓛 x b o) $ move ! (1 ∷ []) $
-      use1 𝓛 (‵ (froom (items_type (R E) n) b (o + s))) (to_room (o + s) n xs (le_of_suc-le-suc le)) $ move ! (1 ∷ []) $ by ! (𝓛.laws.room_cons (elτ E) n b o)
+      use1 𝓛 (‵ (froom (τ E) b o)) (el_room (boxed E) 𝓛 x b o) $ move ! (1 ∷ []) $
+      use1 𝓛 (‵ (froom (items_type (R E) n) b (o + s))) (to_room (o + s) n xs (le_of_suc-le-suc le)) $ move ! (1 ∷ []) $ by ! (𝓛.laws.room_cons (τ E) n b o)
 
-  takes : (o n : ℕ) (xs : List (X E)) (i : ℕ) → length xs ≤ n → i ≤ length xs → i < n → ⟦ all o n xs ⟧ ⊢ H.room (elτ E) b (place s o i) ∗ ⟦ besides E b o n xs i ⟧
+  takes : (o n : ℕ) (xs : List (X E)) (i : ℕ) → length xs ≤ n → i ≤ length xs → i < n → ⟦ all o n xs ⟧ ⊢ H.room (τ E) b (place s o i) ∗ ⟦ besides E b o n xs i ⟧
   takes o zero xs i le at lt = absurd (not-suc-le-zero lt)
   takes o (suc n) xs zero le at lt = qed 𝓛 (‵ (all o (suc n) xs) ∷ []) ∵
-      use1 𝓛 (‵ (froom (items_type (R E) (suc n)) b o)) (to_room o (suc n) xs le) $ by ! (𝓛.laws.room_uncons (elτ E) n b o)
+      use1 𝓛 (‵ (froom (items_type (R E) (suc n)) b o)) (to_room o (suc n) xs le) $ by ! (𝓛.laws.room_uncons (τ E) n b o)
   takes o (suc n) [] (suc i) le at lt = absurd (not-suc-le-zero at)
   takes o (suc n) (x ∷ xs) (suc i) le at lt = qed 𝓛 (‵ (one x o) ∷ ‵ (all (o + s) n xs) ∷ []) ∵ move ! (1 ∷ []) $
-      use1 𝓛 (‵ (froom (elτ E) b (place s (o + s) i)) ⊛ ‵ (besides E b (o + s) n xs i)) (takes (o + s) n xs i (le_of_suc-le-suc le) (le_of_suc-le-suc at) (le_of_suc-le-suc lt)) $ split ! $ frame ! $ move ! (1 ∷ 0 ∷ []) $ done !
+      use1 𝓛 (‵ (froom (τ E) b (place s (o + s) i)) ⊛ ‵ (besides E b (o + s) n xs i)) (takes (o + s) n xs i (le_of_suc-le-suc le) (le_of_suc-le-suc at) (le_of_suc-le-suc lt)) $ split ! $ frame ! $ move ! (1 ∷ 0 ∷ []) $ done !
 
   puts : (o n : ℕ) (xs : List (X E)) (i : ℕ) (y : X E) → i ≤ length xs → i < n → ⟦ one y (place s o i) ⟧ ∗ ⟦ besides E b o n xs i ⟧ ⊢ ⟦ all o n (take i xs ++ y ∷ []) ⟧
   puts o zero xs i y at lt = absurd (not-suc-le-zero lt)
@@ -77,12 +77,12 @@ module _ (E : El) {M : Type 1} {𝓤 : Ura M} (𝓛 : Logic 𝓤) (b : ℕ) wher
       use2 𝓛 (‵ (all (o + s) n (take i xs ++ y ∷ []))) (puts (o + s) n xs i y (le_of_suc-le-suc at) (le_of_suc-le-suc lt)) $ move ! (1 ∷ 0 ∷ []) $ done !
 
   module _ (o n : ℕ) (xs : List (X E)) (i : ℕ) (at : i ≤ length xs) (lt : i < n) where
-    pub room_out : length xs ≤ n → ⟦ all o n xs ⟧ ⊢ H.room (elτ E) b (i * s + o) ∗ ⟦ besides E b o n xs i ⟧
+    pub room_out : length xs ≤ n → ⟦ all o n xs ⟧ ⊢ H.room (τ E) b (i * s + o) ∗ ⟦ besides E b o n xs i ⟧
     room_out le = qed 𝓛 (‵ (all o n xs) ∷ []) ∵
-        use1 𝓛 (‵ (froom (elτ E) b (place s o i)) ⊛ ‵ (besides E b o n xs i)) (takes o n xs i le at lt) $ split ! $
-        rewrite ! 0 (λ (k : ℕ). ‵ (froom (elτ E) b k)) (place_is s o i) refl $ done !
+        use1 𝓛 (‵ (froom (τ E) b (place s o i)) ⊛ ‵ (besides E b o n xs i)) (takes o n xs i le at lt) $ split ! $
+        rewrite ! 0 (λ (k : ℕ). ‵ (froom (τ E) b k)) (place_is s o i) refl $ done !
 
-    pub value_in : (y : X E) (v : Val) → H.at full_share (elτ E) b (i * s + o) v ∗ ⟦ E.row.own_val y (v ∷ []) ⟧ ∗ ⟦ besides E b o n xs i ⟧ ⊢ ⟦ all o n (take i xs ++ y ∷ []) ⟧
-    value_in y v = qed 𝓛 (‵ (fat full_share (elτ E) b (i * s + o) v) ∷ ‵ (E.row.own_val y (v ∷ [])) ∷ ‵ (besides E b o n xs i) ∷ []) ∵
+    pub value_in : (y : X E) (v : Val) → H.at full_share (τ E) b (i * s + o) v ∗ ⟦ E.row.own_val y (v ∷ []) ⟧ ∗ ⟦ besides E b o n xs i ⟧ ⊢ ⟦ all o n (take i xs ++ y ∷ []) ⟧
+    value_in y v = qed 𝓛 (‵ (fat full_share (τ E) b (i * s + o) v) ∷ ‵ (E.row.own_val y (v ∷ [])) ∷ ‵ (besides E b o n xs i) ∷ []) ∵
         use2 𝓛 (‵ (one y (i * s + o))) (el_in E 𝓛 b y (i * s + o) v) $
         rewrite ! 0 (λ (k : ℕ). ‵ (one y k)) (sym (place_is s o i)) refl $ by ! (puts o n xs i y at lt)

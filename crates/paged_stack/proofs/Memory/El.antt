@@ -1,4 +1,4 @@
--- The element's type, under short names. Assumes `Logic`.
+-- The type of the elements of a chain, or of the items of a row, under short names. Assumes `Logic`.
 use mathlib.Core.List.{List, [], ◌∷◌}
 use mathlib.Core.Path.{◌≡◌, refl}
 use Prim.Native.Nat.{ℕ}
@@ -45,16 +45,10 @@ module _ (E : El) where
   abbrev pub boxed : Bx
   boxed = record { row = E.row; laws = E.laws; al = record { row = E.row; laws = E.laws; g = record { dealloc_token = λ _ _ _. ftrue }; d = given 0; drops = given 0 } }
 
-  abbrev pub el_x : Type 0
-  el_x = E.row.Denot
-
-  abbrev pub elτ : Ty
-  elτ = layout E.row
-
   abbrev pub lawful : {M : Type 1} {𝓤 : Ura M} (𝓛 : Logic 𝓤) → Lawful 𝓛 R
   lawful 𝓛 = (param_laws 0 E.row E.laws).lawful 𝓛
 
-  pub one : (vs : List Val) → Typed (elτ ∷ []) vs → (v : Val) × (vs ≡ v ∷ []) × Good v
+  pub one : (vs : List Val) → Typed (τ ∷ []) vs → (v : Val) × (vs ≡ v ∷ []) × Good v
   one [] t = absurd t
   one (v ∷ []) t = (v, refl, t.0)
   one (v ∷ w ∷ vs) t = absurd t.1

@@ -35,7 +35,7 @@ use denote.Plain.{uint_vals, uint_Tells}
 use denote.RawPtr.{RawPtr, in_a_block}
 use denote.Ref.{shr_vals, shr_Tells}
 use denote.Triple.Walked.{says, Stays, stay_dropped, walk_of, ends_at, walked, Goes-dropped, walk_Meets}
-use Rattle.paged_stack.proofs.Memory.El.{El, R, args, el_x}
+use Rattle.paged_stack.proofs.Memory.El.{El, R, args, X}
 use Rattle.std.proofs.SliceLists.{hd, any-default}
 use Rattle.paged_stack.proofs.Items.Products.{times_below, one_below}
 use Rattle.paged_stack.specs.Rows.{row_bytes, places_lent}
@@ -84,7 +84,7 @@ module _ (E : El) where
         qed 𝓛 (((‵ (flft κ q) ⊛ ‵ (flft κ₁ q₁) ⊛ ‵ ftrue) ⊛ ‵ (owns (types_at ended.signature.params z.0.0) z.0.3 (spelled z).0.4)) ∷ (raw (fact 𝓤 (κ₁ ⊑ E.row.lives)) ⊛ raw (fact 𝓤 Ok)) ∷ []) ∵
         move ! (1 ∷ []) $ split ! $ drop ! $ heard ! Ok (λ ok.
         let ix : i < length h.items = ok in
-        let d : el_x E = hd h.items (omega arith) in let x : el_x E = get_or h.items i d in
+        let d : X E = hd h.items (omega arith) in let x : X E = get_or h.items i d in
         split ! $ split ! $ move ! (2 ∷ []) $ fsplit ! $ fsplit ! $ drop ! $
         use1 𝓛 (‵ (hidden_shr RawPtr κ h.ptr rb (ro + 0)) ⊛ ‵ (flt (row_bytes (R E)) (2 ^ 63)) ⊛ ‵ (places_lent (R E) h.ptr h.items κ)) (shown E 𝓛 κ h rb ro) $
         split3 ! $ move ! (1 ∷ []) $ flt_l ! (λ fit. move ! (1 ∷ []) $

@@ -34,7 +34,7 @@ use denote.Exit.{yes, no}
 use denote.Builtin.{usize}
 use denote.Triple.Entry.{Vals}
 use denote.Triple.Walked.{says, Stays, stay_dropped, stay_ref, walk_of, ends_at, Goes-dropped, Goes-ref, walk_Meets}
-use Rattle.paged_stack.proofs.Memory.El.{El, R, args, el_x, elτ, Good, lawful, one}
+use Rattle.paged_stack.proofs.Memory.El.{El, R, args, X, τ, Good, lawful, one}
 use Rattle.paged_stack.proofs.Items.Products.{times_below, one_below}
 use Rattle.paged_stack.proofs.Items.Knows.{knowing}
 use Rattle.std.proofs.VecSteps.Shapes.{after}
@@ -76,7 +76,7 @@ module _ (E : El) where
     walk : (z : Bound) → z.0.3.1.0 < 2 ^ 64 → (v : Val) → Good E v → Goes (spelled z v)
     walk z fi v tv =
         let κ = z.0.0.0 in let κ₁ = z.0.0.1.0 in let q = z.0.1.0 in let q₁ = z.0.1.1.0 in
-        let rb : ℕ = z.0.3.0.ref_ptr.0 in let ro : ℕ = z.0.3.0.ref_ptr.1 in let h : el_d E = z.0.3.0.now in let i : ℕ = z.0.3.1.0 in let x : el_x E = z.0.3.1.1.0 in
+        let rb : ℕ = z.0.3.0.ref_ptr.0 in let ro : ℕ = z.0.3.0.ref_ptr.1 in let h : el_d E = z.0.3.0.now in let i : ℕ = z.0.3.1.0 in let x : X E = z.0.3.1.1.0 in
         let Post : Val → SProp 𝓤 = (walk_of 𝓛 ended stayed held).post (spelled z v) in
         let s : ℕ = sz E in
         let fits = h.fits in
@@ -91,7 +91,7 @@ module _ (E : El) where
         row_opens E ! tt h rb ro (λ b o at_b fit.
         let small : s < 2 ^ 63 = one_below 1024 s (2 ^ 63) (lit< tt) fit in let tiny : s < 2 ^ 64 = omega arith in
         let part : i * s < 2 ^ 63 = times_below i 1024 s (2 ^ 63) (omega (arith, ok.1)) fit in let fm : i * s < 2 ^ 64 = omega arith in
-        use1 𝓛 (‵ (froom (elτ E) b (i * s + o)) ⊛ ‵ (besides E b o 1024 h.items i)) (room_out E 𝓛 b o 1024 h.items i ok.0 ok.1 fits) $ split ! $
+        use1 𝓛 (‵ (froom (τ E) b (i * s + o)) ⊛ ‵ (besides E b o 1024 h.items i)) (room_out E 𝓛 b o 1024 h.items i ok.0 ok.1 fits) $ split ! $
         -- [the room; the other places; the word; the open borrow; obs; auth; what x owns; the other token]
         first ! $ blocks ! $
         sets ! (of_opd ! (load ! (through ! refl (fld ! refl (stop !))) (look_in ! 2 (sub ! 0 refl (whole !))))) refl (tt, tt) $

@@ -1,4 +1,4 @@
-use Rattle.std.proofs.Common.{◌≡◌, ◌%◌, ◌<◌, List, length, get_or, sym, ap, ◌∙◌, arith, length-take}
+use Rattle.std.proofs.Common.{◌≡◌, ◌<◌, length, get_or, sym, ap, ◌∙◌, arith, length-take}
 use Rattle.paged_stack.specs.Held.{Held}
 use Rattle.paged_stack.specs.Leaves.{items_of}
 use Rattle.paged_stack.specs.Packed.{joined}

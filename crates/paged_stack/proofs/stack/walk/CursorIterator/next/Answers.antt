@@ -1,4 +1,4 @@
-use Rattle.std.proofs.Common.{◌≡◌, ℕ, ◌+◌, ◌%◌, ◌/◌, ◌<◌, List, [], ◌∷◌, length, drop, get_or, map, sym, ap, ◌∙◌, arith, length-take}
+use Rattle.std.proofs.Common.{◌≡◌, ℕ, ◌+◌, ◌%◌, ◌/◌, ◌<◌, ◌∷◌, length, drop, get_or, map, sym, ap, ◌∙◌, arith, length-take}
 use Rattle.std.proofs.lemmas.List.{drop_more}
 use lib.ListN.{length-map}
 use Rattle.paged_stack.specs.declared.nodes.Nodes.{Nodes}
