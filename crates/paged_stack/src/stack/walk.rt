@@ -1,6 +1,7 @@
 //! The items of a stack, one after another.
-ghost use Rattle.std.specs.Prelude.{◌≡◌, ◌+◌, ◌/◌, ◌<◌};
-ghost use Rattle.std.specs.Iterator.{YieldsFirst, item_count};
+ghost use Rattle.std.specs.Prelude.{◌≡◌, ◌+◌, ◌/◌, ◌<◌, length, Some, IfSome};
+ghost use Rattle.std.specs.Iterator.{YieldsFirst, UpTo, at_most, item_count};
+ghost use Rattle.std.specs.Iterator.SizeHint.{IsWithinCount};
 ghost use Rattle.paged_stack.specs.Links.{place_of};
 
 use super::PagedStack;
@@ -68,7 +69,11 @@ impl<'a, T: Copy> Iterator for Cursor<'a, T> {
         Some(item)
     }
 
-    fn size_hint(&self) -> (usize, Option<usize>) {
+    fn size_hint(&self) -> (usize, Option<usize>)
+        ensures lower { IsWithinCount result.0 (at_most (length self.now)) }
+        ensures upper { IfSome result.1 (UpTo (at_most (length self.now))) }
+        ensures value { result ≡ (length self.now, Some (length self.now)) }
+    {
         let left = self.len - self.place;
         (left, Some(left))
     }
