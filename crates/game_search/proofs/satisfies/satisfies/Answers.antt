@@ -1,0 +1,4 @@
+use Rattle.game_search.proofs.satisfies.satisfies.Goals as goal
+
+pub returns : goal.returns
+returns c = ?

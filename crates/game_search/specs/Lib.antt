@@ -1,0 +1,3 @@
+pub mod Wins
+pub mod Enumeration
+pub mod Level

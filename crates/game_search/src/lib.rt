@@ -1,0 +1,7 @@
+//! Decides small games by going over all values, and shows it by a certificate.
+#![tactic(auto)]
+
+mod level;
+mod search;
+mod satisfies;
+
