@@ -1,6 +1,8 @@
 -- Tests that hold of each item of a list.
-use Rattle.std.proofs.Common.{◌≡◌, ℕ, zero, suc, ◌<◌, Bool, true, false, ◌&&◌, List, [], ◌∷◌, ◌++◌, length, filter, get_or, cond, refl, sym, ap, ◌∙◌, subst, arith, Some, ℤ}
-use Rattle.std.specs.Prelude.{slice_get, ◌==◌}
+use Rattle.std.proofs.Common.{◌≡◌, ℕ, zero, suc, ◌<◌, Bool, true, false, ◌&&◌, List, [], ◌∷◌, ◌++◌, length, filter, get_or, cond, refl, sym, ap, ◌∙◌, subst, arith, Some, ℤ, w64, to_z, of_z}
+use Rattle.std.proofs.lemmas.Int.{ints}
+use Rattle.std.proofs.lemmas.Bool.Decides.{nat_tests}
+use Rattle.std.specs.Prelude.{◌≤◌, slice_get, unsigned_abs, ◌==◌}
 use Rattle.std.specs.List.{list_all}
 use Rattle.qc_model.specs.declared.problem.Variable.{Variable}
 use Rattle.qc_model.specs.Content.{Game}
@@ -41,3 +43,13 @@ value_fits x k v h e = all_at is_number (domain_values x.domain) k v (domain_fit
 
 pub rules_valid : (g : Game) (i : ℕ) → list_all (is_constraint g.variables) g.constraints ≡ true → list_all (is_constraint g.variables) (restriction g i) ≡ true
 rules_valid g i h = all_filter (is_constraint g.variables) (λ c. c.owner.0 == i) g.constraints h
+
+-- a number as the machine passes it
+pub passed : (v : ℤ) → is_number v ≡ true → to_z w64 (of_z w64 v) ≡ v
+passed v e = same v (small v e)
+  where
+    small : (v : ℤ) → is_number v ≡ true → unsigned_abs v ≤ 1000000000
+    small v e = grind (arith, nat_tests)
+
+    same : (v : ℤ) → unsigned_abs v ≤ 1000000000 → to_z w64 (of_z w64 v) ≡ v
+    same v h = omega (arith, ints)
