@@ -5,3 +5,5 @@ pub mod Enumerated
 pub mod Steps
 pub mod Numbers
 pub mod Cases
+pub mod Decides
+pub mod Certificates

@@ -5,8 +5,8 @@ ghost use Rattle.qc_model.specs.Holds.{holds_on};
 ghost use Rattle.qc_model.specs.Valid.{is_constraint, is_number};
 ghost use Rattle.game_search.specs.Wins.{is_exists};
 
-use crate::satisfies::satisfies;
-use qc_model::{Constraint, Kind, Problem};
+
+use qc_model::{Constraint, Kind, Problem, satisfies};
 
 /// One node's scope: its number, its owner, its restriction, and how many variables have a value once
 /// its tuple is complete.

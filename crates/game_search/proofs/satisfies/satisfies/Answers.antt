@@ -1,4 +1,0 @@
-use Rattle.game_search.proofs.satisfies.satisfies.Goals as goal
-
-pub returns : goal.returns
-returns c = ?
