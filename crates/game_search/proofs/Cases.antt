@@ -1,12 +1,12 @@
 -- The cases of a branch, one by one.
-use Rattle.std.proofs.Common.{◌≡◌, ℕ, zero, suc, ◌+◌, ◌-◌, ◌<◌, ◌≤◌, Bool, true, false, not, cond, List, [], ◌∷◌, ◌++◌, length, drop, replicate, refl, sym, ap, ◌∙◌, subst, arith, ℤ, Some, append_assoc, length-drop, add-one, drop_of_length-le}
+use Rattle.std.proofs.Common.{◌≡◌, ℕ, zero, suc, ◌+◌, Bool, true, false, not, cond, List, [], ◌∷◌, ◌++◌, length, drop, replicate, refl, sym, ap, ◌∙◌, arith, ℤ, Some, length-drop, add-one, drop_of_length-le}
 use Rattle.std.specs.Prelude.{slice_get}
 use mathlib.Core.Bool.{beq}
 use Rattle.qc_model.specs.declared.problem.Kind.{Kind}
 use Rattle.qc_model.specs.declared.problem.Kind.TheVariants.{Exists, Forall}
 use Rattle.qc_model.specs.Domains.{Values}
 use Rattle.proof_tree.specs.Tree.{Ending, Branches, no_more, skip, go}
-use Rattle.proof_tree.specs.Shape.{ending_of, put_case, branches_of}
+use Rattle.proof_tree.specs.Shape.{put_case, branches_of}
 use Rattle.proof_tree.specs.declared.tree.Case.{Case, Skip}
 use Rattle.game_search.specs.Enumeration.{decides, skipped, case_tree}
 use Rattle.game_search.specs.Wins.{choice, is_exists}

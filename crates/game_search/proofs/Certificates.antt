@@ -1,7 +1,7 @@
 -- The whole tree proves who wins, and is in order.
-use Rattle.std.proofs.Common.{◌≡◌, ℕ, Bool, true, false, not, ◌&&◌, ◌||◌, List, [], ◌∷◌, length, map, refl, sym, ap, ◌∙◌, Option, Some, None}
-use Rattle.std.specs.Prelude.{is_some, ℤ}
-use Rattle.std.specs.List.{list_all, list_any, AllByRecursion}
+use Rattle.std.proofs.Common.{◌≡◌, Bool, true, false, not, ◌&&◌, ◌||◌, List, [], ◌∷◌, length, map, refl, sym, ap, ◌∙◌, Option, Some, None}
+use Rattle.std.specs.Prelude.{is_some}
+use Rattle.std.specs.List.{list_all}
 use Rattle.qc_model.specs.declared.problem.Kind.{Kind}
 use Rattle.qc_model.specs.declared.problem.Kind.TheVariants.{Exists, Forall}
 use Rattle.qc_model.specs.declared.problem.Condition.{Condition}
@@ -9,12 +9,11 @@ use Rattle.qc_model.specs.declared.problem.Scope.{Scope}
 use Rattle.qc_model.specs.declared.problem.Variable.{Variable}
 use Rattle.qc_model.specs.Content.{Game}
 use Rattle.qc_model.specs.Block.{of_kind}
-use Rattle.qc_model.specs.Domains.{declared_box, domain_values, has_empty, is_none_left}
+use Rattle.qc_model.specs.Domains.{declared_box, domain_values, has_empty}
 use Rattle.qc_model.specs.Valid.{IsValid, is_domain}
 use Rattle.qc_model.specs.Verdict.{is_exact, is_lost}
 use Rattle.qc_model.proofs.Before.{before-zero}
 use Rattle.qc_model.proofs.DomainValues.{domain_full}
-use Rattle.proof_tree.specs.Tree.{Tree}
 use Rattle.proof_tree.specs.Proves.{proves, shows, optimises_first}
 use Rattle.proof_tree.specs.Order.{in_order}
 use Rattle.proof_tree.specs.Plain.{NoConditions}

@@ -1,5 +1,5 @@
 -- The test by values decides who wins.
-use Rattle.std.proofs.Common.{◌≡◌, ◌⊎◌, inl, inr, ℕ, suc, Bool, true, false, not, ◌&&◌, ◌||◌, List, [], ◌∷◌, ◌++◌, refl, sym, ap, ◌∙◌, ℤ, append_assoc}
+use Rattle.std.proofs.Common.{◌≡◌, inl, inr, ℕ, suc, Bool, true, false, not, ◌&&◌, ◌||◌, List, [], ◌∷◌, ◌++◌, refl, sym, ap, ◌∙◌, ℤ, append_assoc}
 use Rattle.std.proofs.lemmas.List.{append-nil}
 use Rattle.std.specs.List.{list_any, list_all}
 use Rattle.qc_model.specs.declared.problem.Kind.{Kind}
@@ -7,7 +7,7 @@ use Rattle.qc_model.specs.declared.problem.Kind.TheVariants.{Exists, Forall}
 use Rattle.qc_model.specs.declared.problem.Scope.{Scope}
 use Rattle.qc_model.specs.Content.{Game}
 use Rattle.qc_model.specs.Lists.{Among, LiesIn}
-use Rattle.qc_model.specs.Game.{allows, scope_domains, IsMove, AfterMove, Wins}
+use Rattle.qc_model.specs.Game.{allows, scope_domains, AfterMove, Wins}
 use Rattle.game_search.specs.Wins.{after_allowed, search_values, wins_test}
 
 here_or_later : (p : ℤ → Bool) (x : ℤ) (d : List ℤ) (b : Bool) → p x ≡ b → (b || list_any p d) ≡ true →

@@ -1,28 +1,26 @@
 -- The enumerated tree is in its place and in order, and shows who wins.
-use Rattle.std.proofs.Common.{◌≡◌, ℕ, suc, ◌+◌, ◌<◌, ◌≤◌, Bool, true, false, not, ◌&&◌, cond, List, [], ◌∷◌, ◌++◌, length, map, take, drop, refl, sym, ap, ◌∙◌, subst, arith, None, length-append}
+use Rattle.std.proofs.Common.{◌≡◌, ℕ, suc, ◌<◌, ◌≤◌, Bool, true, false, not, ◌&&◌, cond, List, [], ◌∷◌, ◌++◌, length, take, drop, refl, sym, ap, ◌∙◌, subst, arith, None, length-append}
 use Rattle.std.proofs.lemmas.List.{length-map}
 use Rattle.std.specs.Prelude.{ℤ, nat_lt, nat_le}
-use Rattle.std.specs.List.{AllByRecursion}
 use Rattle.std.proofs.lemmas.Bool.Decides.{nat_tests}
 use Rattle.qc_model.specs.declared.problem.Kind.{Kind}
 use Rattle.qc_model.specs.declared.problem.Kind.TheVariants.{Exists, Forall}
 use Rattle.qc_model.specs.declared.problem.Scope.{Scope}
 use Rattle.qc_model.specs.Content.{Game}
-use Rattle.qc_model.specs.Domains.{Box, Values, declared_box, values_left, box_at, is_single, has_empty}
-use Rattle.qc_model.specs.Game.{before, allows, is_of_scope, scope_domains}
+use Rattle.qc_model.specs.Domains.{Box, Values, declared_box, values_left, is_single, has_empty}
+use Rattle.qc_model.specs.Game.{before, allows, scope_domains}
 use Rattle.qc_model.specs.Verdict.{Verdict, seen_barred, seen_node, is_unknown}
 use Rattle.qc_model.specs.ForallVerdict.{goal_verdict}
 use Rattle.qc_model.proofs.Before.{before-le, before_up}
-use Rattle.proof_tree.specs.Tree.{Tree, tree, goal, Ending, barred, next, branch, Branches, no_more}
-use Rattle.proof_tree.specs.Place.{position, is_fixed, list_after}
+use Rattle.proof_tree.specs.Tree.{tree, goal, Ending, barred, next, branch, Branches, no_more}
+use Rattle.proof_tree.specs.Place.{position, list_after}
 use Rattle.proof_tree.specs.InPlace.{in_place}
-use Rattle.proof_tree.specs.Read.{read, read_body}
-use Rattle.proof_tree.specs.Order.{skips, settled_last}
+use Rattle.proof_tree.specs.Read.{read}
+use Rattle.proof_tree.specs.Order.{settled_last}
 use Rattle.proof_tree.specs.Plain.{NoConditions}
-use Rattle.proof_tree.specs.Finding.{kind_finding}
 use Rattle.game_search.specs.Wins.{choice, after_allowed, search_values, wins_test, domains_left, tuple_test}
 use Rattle.game_search.specs.Enumeration.{case_tree, branch_tree, search_tree, plain_tree, tuple_tree}
-use Rattle.game_search.proofs.Positions.{filled, box_of, set_next, left_next, same_next, drop_next, values_filled, fixed_filled, full_filled, past_take, at_end}
+use Rattle.game_search.proofs.Positions.{box_of, set_next, left_next, same_next, drop_next, values_filled, fixed_filled, full_filled, past_take, at_end}
 use Rattle.game_search.proofs.Leaves.{verdict_of, Shows, choice_one, choice_none, kind_verdict, list_none, known}
 use Rattle.game_search.proofs.Right.{RightNode, Right, RightCases, two, not_false, cases_right, branch_right}
 
@@ -45,7 +43,10 @@ module _ (g : Game) (full : has_empty (declared_box g) ≡ false) where
   goal_right i a e = record {
     placed = refl;
     verdict = ap (λ w. goal_verdict g (allows g i w) [] w) (values_filled (before g i) a (declared_box g) e) ∙ by (allows g i a);
-    settled = refl; ordered = refl; closed = refl; stepless = refl;
+    settled = refl;
+    ordered = refl;
+    closed = refl;
+    stepless = refl;
   }
     where
       by : (b : Bool) → goal_verdict g b [] a ≡ verdict_of b
@@ -82,7 +83,10 @@ module _ (g : Game) (full : has_empty (declared_box g) ≡ false) where
             record {
               placed = two _ _ (two _ _ (not_false (has_empty box) (full_filled w (declared_box g) full)) (fixed_filled (before g i) (before g (suc i)) w (declared_box g) e)) (not_false (allows g i (position g (suc i) box)) (ap (allows g i) here ∙ h));
               shows = barred_shows s.kind (wins_test g later (suc i) w);
-              settled = refl; ordered = refl; closed = refl; stepless = refl;
+              settled = refl;
+              ordered = refl;
+              closed = refl;
+              stepless = refl;
             }
 
     branched : (a : List ℤ) (zs : Box) → before g i ≤ length a → length a < before g (suc i) → (d : Values) → drop (length a) (declared_box g) ≡ d ∷ zs → is_single d ≡ false →

@@ -10,9 +10,7 @@ use Rattle.qc_model.specs.Content.{Game}
 use Rattle.qc_model.specs.Block.{of_kind}
 use Rattle.qc_model.specs.Demands.{demands_after, demands_through, aggregate_of}
 use Rattle.qc_model.specs.Verdict.{Verdict, lost, exact, unknown, Seen, seen_barred, seen_skipped, seen_bound, seen_node, is_exact, is_lost, is_unknown, some_node, each_node, is_none_of}
-use Rattle.qc_model.specs.ExistsVerdict.{exists_verdict}
-use Rattle.qc_model.specs.ForallVerdict.{forall_verdict}
-use Rattle.proof_tree.specs.Finding.{Finding, Leaf, leaf_barred, leaf_skipped, leaf_bound, leaf_node, seen_of, comes_to, kind_finding}
+use Rattle.proof_tree.specs.Finding.{Leaf, leaf_barred, leaf_skipped, leaf_bound, leaf_node, seen_of, comes_to, kind_finding}
 use Rattle.proof_tree.specs.Place.{list_after}
 use Rattle.game_search.specs.Wins.{choice}
 use Rattle.game_search.specs.Enumeration.{decides}

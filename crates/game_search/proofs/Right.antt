@@ -1,17 +1,14 @@
 -- What is shown of each part of the tree: it is in its place and in order, and shows who wins. Here of the cases
 -- of one branch.
-use Rattle.std.proofs.Common.{◌≡◌, ℕ, suc, ◌+◌, ◌<◌, ◌≤◌, Bool, true, false, not, ◌&&◌, cond, List, [], ◌∷◌, ◌++◌, length, map, refl, sym, ap, ◌∙◌, subst, arith, None}
+use Rattle.std.proofs.Common.{◌≡◌, ℕ, ◌+◌, ◌<◌, Bool, true, false, not, ◌&&◌, cond, List, [], ◌∷◌, length, map, refl, sym, ap, subst, arith, None}
 use Rattle.std.specs.Prelude.{ℤ, nat_lt}
 use Rattle.std.specs.List.{list_any}
 use Rattle.std.proofs.lemmas.Bool.Decides.{nat_tests}
-use Rattle.qc_model.specs.declared.problem.Kind.{Kind}
 use Rattle.qc_model.specs.declared.problem.Scope.{Scope}
 use Rattle.qc_model.specs.Content.{Game}
 use Rattle.qc_model.specs.Domains.{Box, Values, values_left, box_at, is_single, has_empty}
 use Rattle.qc_model.specs.Game.{is_of_scope}
-use Rattle.qc_model.specs.Verdict.{Seen, is_exact, is_lost, is_none_of}
-use Rattle.qc_model.specs.Block.{of_kind}
-use Rattle.proof_tree.specs.Tree.{Tree, Ending, branch, Branches, no_more, skip, go}
+use Rattle.proof_tree.specs.Tree.{Tree, Ending, branch, Branches, go}
 use Rattle.proof_tree.specs.Counts.{opens_of, ending_opens, branch_opens}
 use Rattle.proof_tree.specs.Finding.{seen_of, comes_to}
 use Rattle.proof_tree.specs.Place.{list_after}

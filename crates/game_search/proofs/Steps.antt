@@ -1,7 +1,6 @@
 -- One step of the search.
-use Rattle.std.proofs.Common.{◌≡◌, ℕ, zero, suc, ◌+◌, ◌<◌, ◌≤◌, Bool, true, false, not, ◌&&◌, ◌||◌, List, [], ◌∷◌, ◌++◌, length, map, take, drop, replicate, refl, sym, ap, ◌∙◌, subst, arith, ℤ, pos, Some, None, cond, get_or, length-append, add-one, drop_of_length-le, length-take}
+use Rattle.std.proofs.Common.{◌≡◌, ℕ, zero, suc, ◌+◌, ◌<◌, Bool, true, false, not, List, [], ◌∷◌, ◌++◌, length, map, take, drop, refl, sym, ap, ◌∙◌, arith, ℤ, Some, None, cond, get_or, length-append, add-one, drop_of_length-le, length-take}
 use Rattle.std.specs.Prelude.{slice_get}
-use Rattle.std.specs.List.{list_any, list_all}
 use Rattle.std.proofs.Math.Path.{fun_ext}
 use mathlib.Core.Bool.{beq}
 use Rattle.qc_model.specs.declared.problem.Kind.{Kind}
@@ -11,7 +10,7 @@ use Rattle.qc_model.specs.declared.problem.Variable.{Variable}
 use Rattle.qc_model.specs.Content.{Game}
 use Rattle.qc_model.specs.Domains.{Values, Box, declared_box, domain_values, values_left, is_single}
 use Rattle.qc_model.specs.Game.{before, allows}
-use Rattle.proof_tree.specs.Tree.{Tree, tree, goal, cases, Ending, barred, next, branch, Branches, no_more, go}
+use Rattle.proof_tree.specs.Tree.{tree, goal, cases, Ending, barred, next, branch}
 use Rattle.game_search.specs.Wins.{choice, after_allowed, search_values, wins_test, scope_test, tuple_test, values_test, is_exists}
 use Rattle.game_search.specs.Enumeration.{decides, branch_tree, case_tree, search_tree, plain_tree, tuple_tree, scope_tree}
 use Rattle.game_search.proofs.Leaves.{choice_one}

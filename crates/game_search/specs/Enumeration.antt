@@ -8,7 +8,7 @@ use Rattle.qc_model.specs.Content.{Game}
 use Rattle.qc_model.specs.Domains.{Values, Box}
 use Rattle.qc_model.specs.Game.{allows, scope_domains}
 use Rattle.proof_tree.specs.Tree.{Tree, tree, goal, cases, Ending, barred, next, branch, Branches, no_more, skip, go}
-use Rattle.game_search.specs.Wins.{search_values, wins_test, tuple_test, scope_test, domains_left}
+use Rattle.game_search.specs.Wins.{search_values, tuple_test, scope_test, domains_left}
 
 -- a won position settles an existential scope, a lost one a universal scope
 abbrev pub decides : Kind → Bool → Bool

@@ -8,7 +8,6 @@ ghost use Rattle.proof_tree.specs.Shape.{tree_of};
 ghost use Rattle.proof_tree.specs.Proves.{proves};
 ghost use Rattle.proof_tree.specs.Order.{in_order};
 ghost use Rattle.proof_tree.specs.Stepless.{is_stepless};
-
 ghost use Rattle.game_search.specs.Outcomes.{outcome_by};
 
 use crate::search::node;

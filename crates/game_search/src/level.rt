@@ -5,7 +5,6 @@ ghost use Rattle.qc_model.specs.Holds.{holds_on};
 ghost use Rattle.qc_model.specs.Valid.{is_constraint, is_number};
 ghost use Rattle.game_search.specs.Wins.{is_exists};
 
-
 use qc_model::{Constraint, Kind, Problem, satisfies};
 
 /// One node's scope: its number, its owner, its restriction, and how many variables have a value once

@@ -11,7 +11,6 @@ ghost use Rattle.proof_tree.specs.Shape.{ending_of, tree_of};
 ghost use Rattle.game_search.specs.Level.{IsLevel};
 ghost use Rattle.game_search.specs.Wins.{wins_test, scope_test, tuple_test};
 ghost use Rattle.game_search.specs.Enumeration.{plain_tree, scope_tree, tuple_tree};
-
 ghost use Rattle.proof_tree.specs.declared.tree.Case.TheVariants.{Skip};
 
 use crate::level::{Level, all_hold, is_existential};

@@ -1,5 +1,4 @@
 use Rattle.std.proofs.Common.{◌≡◌, ◌∙◌, sym, ap, subst, [], ℕ, ℤ, List, length, None, true, false, Bool, IsTrue}
-use Rattle.qc_model.specs.Game.{IsWon}
 use Rattle.qc_model.proofs.Before.{before-zero}
 use Rattle.proof_tree.specs.declared.tree.Outcome.TheVariants.{True}
 use Rattle.proof_tree.specs.Tree.{Tree}

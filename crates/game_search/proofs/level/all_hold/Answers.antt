@@ -1,4 +1,3 @@
-use Rattle.std.proofs.Common.{arith}
 use Rattle.qc_model.specs.Valid.{is_constraint}
 use Rattle.game_search.proofs.Numbers.{all_item}
 use Rattle.game_search.proofs.level.all_hold.Goals as goal

@@ -1,7 +1,6 @@
-use Rattle.std.proofs.Common.{◌≡◌, ◌∙◌, sym, ap, refl, subst, ◌<◌, ◌≤◌, ◌+◌, ◌-◌, ◌∷◌, ◌++◌, [], ℕ, ℤ, suc, length, drop, IfOk, OnOk, Some, None, IsTrue, w64, to_z, of_z, arith, true, false, not, Bool, List, length-append, add-one}
+use Rattle.std.proofs.Common.{◌≡◌, ◌∙◌, sym, ap, refl, subst, ◌<◌, ◌≤◌, ◌+◌, ◌-◌, ◌∷◌, ◌++◌, [], ℕ, ℤ, length, drop, Some, None, w64, to_z, of_z, arith, true, false, not, Bool, List, add-one}
 use Rattle.std.specs.Prelude.{slice_get}
 use Rattle.std.specs.List.{list_all}
-use Rattle.std.proofs.lemmas.Grind.{common_steps}
 use Rattle.std.proofs.lemmas.List.{length-map}
 use Rattle.std.proofs.lemmas.Result.{IfOk-weaker}
 use Rattle.qc_model.specs.declared.problem.Variable.{Variable}
@@ -15,11 +14,11 @@ use Rattle.proof_tree.specs.Tree.{tree, cases, next, branch, go}
 use Rattle.proof_tree.specs.Shape.{ending_of, branches_of, tree_of}
 use Rattle.proof_tree.proofs.Shapes.{ending_branch}
 use Rattle.game_search.specs.Level.{IsLevel}
-use Rattle.game_search.specs.Wins.{wins_test, scope_test, tuple_test, values_test}
-use Rattle.game_search.specs.Enumeration.{plain_tree, scope_tree, tuple_tree, values_tree}
-use Rattle.game_search.proofs.Numbers.{all_at, all_push, value_fits, rules_valid, passed}
-use Rattle.game_search.proofs.Steps.{declared_at, next_test, next_tree, full_test, full_tree, barred_test, barred_tree, allowed_test, allowed_tree, goal_test, enter_test, enter_tree, one_tree, one_test, not_single, many_tree, decides_same, decides_other}
-use Rattle.game_search.proofs.Cases.{onto, stop_test, go_test, end_test, stop_tree, go_tree, end_tree}
+use Rattle.game_search.specs.Wins.{scope_test}
+use Rattle.game_search.specs.Enumeration.{scope_tree}
+use Rattle.game_search.proofs.Numbers.{all_at, value_fits, rules_valid, passed}
+use Rattle.game_search.proofs.Steps.{declared_at, next_test, next_tree, full_test, barred_test, barred_tree, allowed_test, allowed_tree, goal_test, enter_test, enter_tree, one_tree, one_test, not_single, many_tree}
+use Rattle.game_search.proofs.Cases.{stop_test, go_test, end_test, stop_tree, go_tree, end_tree}
 use Rattle.game_search.proofs.search.+search.Goals as goal
 
 -- the call's answer is whether the values are allowed
@@ -130,9 +129,16 @@ over_values-with_value-requires t c =
     let valid = all_at (λ y. is_domain y.domain) g.variables c.len.result x c.known.ensures.domains c.variable.ensures in
     let v = c.value_at.result in
     let fits : is_number v ≡ true = value_fits x c.loop-k.k v valid c.value_at.ensures in
-    let same : length c.loop-k.values.items ≡ length c.args.values.now.items = ap length c.loop-k.invariant.same in
-    (omega (arith, same), (c.requires.level, (omega (arith, same),
-    (subst (λ vs. list_all is_number vs ≡ true) (sym c.loop-k.invariant.same) c.requires.numbers, subst (λ u. is_number u ≡ true) (sym (passed v fits)) fits))))
+    let same : length c.loop-k.values.items ≡ length c.args.values.now.items = ap length c.loop-k.invariant.same in (
+      omega (arith, same),
+      (
+        c.requires.level,
+        (
+          omega (arith, same),
+          (subst (λ vs. list_all is_number vs ≡ true) (sym c.loop-k.invariant.same) c.requires.numbers, subst (λ u. is_number u ≡ true) (sym (passed v fits)) fits),
+        ),
+      ),
+    )
 
 pub over_values-returns-then-found-stop-clause-tree :
     goal.over_values-returns-then-found-stop-clause-tree
