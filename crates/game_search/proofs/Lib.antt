@@ -7,3 +7,5 @@ pub mod Numbers
 pub mod Cases
 pub mod Decides
 pub mod Certificates
+pub mod Sizes
+pub mod Bounds

@@ -3,6 +3,7 @@ ghost use Rattle.std.specs.Prelude.{◌≡◌, ◌≤◌, ◌⊎◌, ◌↔◌, 
 ghost use Rattle.qc_model.specs.Game.{IsWon};
 ghost use Rattle.qc_model.specs.Turns.{full_turns_of};
 ghost use Rattle.proof_tree.specs.declared.tree.Outcome.TheVariants.{True, False};
+ghost use Rattle.proof_tree.specs.Counts.{turns_of};
 ghost use Rattle.proof_tree.specs.Plain.{NoConditions};
 ghost use Rattle.proof_tree.specs.Shape.{tree_of};
 ghost use Rattle.proof_tree.specs.Proves.{proves};
@@ -29,6 +30,7 @@ pub fn solve(alloc: Global, problem: &Problem, turns: u64) -> Result<Certificate
     ensures settled { IfOk result (λ c. (c.outcome ≡ True) ⊎ (c.outcome ≡ False)) }
     ensures plain_optimum { IfOk result (λ c. c.optimum ≡ None) }
     ensures won { IfOk result (λ c. (c.outcome ≡ True) ↔ IsWon problem.now) }
+    ensures few { IfOk result (λ c. turns_of (tree_of c.root) ≤ turns) }
     ensures stepless { IfOk result (λ c. IsTrue (is_stepless (length problem.now.variables) (tree_of c.root))) }
 {
     problem.known();

@@ -1,4 +1,4 @@
-use Rattle.std.proofs.Common.{◌≡◌, ◌∙◌, sym, ap, subst, [], ℕ, ℤ, List, length, None, true, false, Bool, IsTrue}
+use Rattle.std.proofs.Common.{◌≡◌, ◌≤◌, ◌^◌, ◌∙◌, sym, ap, subst, [], ℕ, ℤ, List, length, None, true, false, Bool, IsTrue}
 use Rattle.qc_model.proofs.Before.{before-zero}
 use Rattle.proof_tree.specs.declared.tree.Outcome.TheVariants.{True}
 use Rattle.proof_tree.specs.Tree.{Tree}
@@ -11,6 +11,8 @@ use Rattle.game_search.specs.Outcomes.{outcome_by}
 use Rattle.game_search.specs.Wins.{wins_test}
 use Rattle.game_search.specs.Enumeration.{plain_tree}
 use Rattle.game_search.proofs.Certificates.{plain_proves, plain_ordered, plain_stepless}
+use Rattle.proof_tree.specs.Counts.{turns_of, depth_of, ends_of}
+use Rattle.game_search.proofs.Bounds.{plain_turns, plain_depth, plain_ends}
 use Rattle.game_search.proofs.Decides.{decide_to, decide_from}
 use Rattle.game_search.proofs.certify.solve.Goals as goal
 
@@ -56,3 +58,19 @@ returns-clause-stepless c =
     let g = c.args.problem.now in
     let t = tree_of c.in_ok-found.found.node in
     ap (is_stepless (length g.variables)) (whole_tree g c.in_ok-values.values.items t c.in_ok-values.ensures.items c.in_ok-found.ensures.tree) ∙ plain_stepless g c.known.ensures c.requires.plain
+
+pub returns-clause-few : goal.returns-clause-few
+returns-clause-few c =
+    let g = c.args.problem.now in
+    let t = tree_of c.in_ok-found.found.node in
+    subst (λ u. turns_of u ≤ c.args.turns) (sym (whole_tree g c.in_ok-values.values.items t c.in_ok-values.ensures.items c.in_ok-found.ensures.tree)) (plain_turns g c.known.ensures c.args.turns c.requires.room c.requires.turns)
+
+pub invariant_of-result : goal.invariant_of-result
+invariant_of-result c =
+    let g = c.args.problem.now in
+    let t = tree_of c.in_ok-found.found.node in
+    let same = sym (whole_tree g c.in_ok-values.values.items t c.in_ok-values.ensures.items c.in_ok-found.ensures.tree) in
+    record {
+      shallow = subst (λ u. depth_of u ≤ 1000) same (plain_depth g c.known.ensures);
+      few_ends = subst (λ u. ends_of u ≤ 2 ^ 30) same (plain_ends g c.known.ensures c.args.turns c.requires.room c.requires.turns);
+    }
