@@ -38,7 +38,7 @@ or_false : (t : Bool) → (t || false) ≡ t
 or_false true = refl
 or_false false = refl
 
-differ_up : (a b : ℤ) → a <ℤ b → int_eq a b ≡ false
+pub differ_up : (a b : ℤ) → a <ℤ b → int_eq a b ≡ false
 differ_up a b h = go (int_eq a b) (Decides-int_eq a b).0
   where
     go : (t : Bool) → (t ≡ true → a ≡ b) → t ≡ false

@@ -1,6 +1,7 @@
 //! Whether a constraint holds on values.
 mod arithmetic;
 mod comparisons;
+mod differing;
 mod elements;
 mod reading;
 mod rows;
@@ -50,7 +51,7 @@ fn holds_plainly(meaning: Meaning, args: &[Argument], values: &[i64]) -> bool
         Meaning::SomeItem => truths::some_item(args, values),
         Meaning::OddItems => truths::odd_items(args, values),
         Meaning::Clause => truths::clause(args, values),
-        Meaning::AllDifferent => rows::all_different(args, values),
+        Meaning::AllDifferent => differing::all_different(args, values),
         Meaning::Table => rows::table(args, values),
     }
 }
@@ -73,8 +74,8 @@ pub fn satisfies(problem: &Problem, rule: &Constraint, values: &[i64]) -> bool
 }
 
 /// Whether a constraint of the problem holds on values within the number limit, one for each
-/// variable. It takes no memory, and time in the order of the constraint's size; `all_different_int`
-/// compares each two of its items.
+/// variable. It takes no memory but the stack, and time in the order of the constraint's size, times
+/// its logarithm for `all_different_int`.
 pub fn holds(problem: &Problem, c: ConId, values: &[i64]) -> bool
     requires constraint { c.0 < length problem.now.constraints }
     requires each { length values.now ≡ length problem.now.variables }

@@ -4,7 +4,7 @@ ghost use Rattle.qc_model.specs.Game.{before, restriction as restriction_of};
 ghost use Rattle.qc_model.specs.Valid.{IsValid};
 
 use crate::order::{constraints_below, variables_below};
-use crate::problem::{ConId, Constraint, Draft, Scope, ScopeId, VarId, Variable};
+use crate::problem::{Aggregate, ConId, Constraint, Draft, Scope, ScopeId, VarId, Variable};
 use std::marker::Model;
 
 /// A valid draft.
@@ -50,6 +50,18 @@ impl Problem {
         ensures { result.now ≡ self.now.constraints }
     {
         self.draft.constraints.as_slice()
+    }
+
+    pub(crate) fn all_scopes(&self) -> &[Scope]
+        ensures { result.now ≡ self.now.scopes }
+    {
+        self.draft.scopes.as_slice()
+    }
+
+    pub(crate) fn all_aggregates(&self) -> &[Aggregate]
+        ensures { result.now ≡ self.now.aggregates }
+    {
+        self.draft.aggregates.as_slice()
     }
 
     /// The number of scopes.

@@ -1,40 +1,13 @@
-//! Arrays of values that differ from each other, and that are one of the rows of a table.
+//! Arrays of values that are one of the rows of a table.
 ghost use Rattle.std.specs.Prelude.{◌≡◌, IsTrue, length};
 ghost use Rattle.std.specs.List.{list_any};
-ghost use Rattle.std.specs.Ordering.{int_eq};
 ghost use Rattle.qc_model.specs.Evaluation.{given, item_values, are_readable};
-ghost use Rattle.qc_model.specs.Holds.{holds_as, all_differ, rows};
+ghost use Rattle.qc_model.specs.Holds.{holds_as, rows};
 ghost use Rattle.qc_model.specs.Lists.{same_values};
-ghost use Rattle.qc_model.specs.Meaning.{all_different as AllDifferent, table as Table};
+ghost use Rattle.qc_model.specs.Meaning.{table as Table};
 
 use super::reading::{items_at, numbers_at, value_of};
 use crate::problem::{Arg, Argument};
-
-fn some_value_is(items: &[Arg], values: &[i64], number: i64) -> bool
-    ensures { result ≡ list_any (int_eq number) (item_values values.now items.now) }
-{
-    items.iter().any(|item| number == value_of(item, values))
-}
-
-fn all_values_differ(items: &[Arg], values: &[i64]) -> bool
-    ensures { result ≡ all_differ (item_values values.now items.now) }
-{
-    let mut rest = items;
-    while let Some((item, later)) = rest.split_first() {
-        if some_value_is(later, values, value_of(item, values)) {
-            return false;
-        }
-        rest = later;
-    }
-    true
-}
-
-pub(super) fn all_different(args: &[Argument], values: &[i64]) -> bool
-    requires { IsTrue (are_readable values.now args.now) }
-    ensures { result ≡ holds_as AllDifferent (given values.now args.now) }
-{
-    all_values_differ(items_at(args, 0, values), values)
-}
 
 fn is_row(items: &[Arg], values: &[i64], row: &[i64]) -> bool
     requires { length items.now ≡ length row.now }

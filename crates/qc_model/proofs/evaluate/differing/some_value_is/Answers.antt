@@ -4,7 +4,7 @@ use Rattle.std.proofs.lemmas.Iterator.{YieldsList-from_slice}
 use Rattle.std.proofs.lemmas.Iterator.Search.{any_from_yields_List}
 use Rattle.qc_model.specs.Holds.{arg_value}
 use Rattle.qc_model.proofs.Items.{list_any-map}
-use Rattle.qc_model.proofs.evaluate.rows.some_value_is.Goals as goal
+use Rattle.qc_model.proofs.evaluate.differing.some_value_is.Goals as goal
 
 pub returns : goal.returns
 returns c =
