@@ -9,3 +9,4 @@ pub mod Decides
 pub mod Certificates
 pub mod Sizes
 pub mod Bounds
+pub mod Conditions

@@ -34,7 +34,6 @@ pub fn solve(alloc: Global, problem: &Problem, turns: u64) -> Result<Certificate
     ensures stepless { IfOk result (λ c. IsTrue (is_stepless (length problem.now.variables) (tree_of c.root))) }
 {
     problem.known();
-    let _ = turns;
     let mut values = Vec::with_capacity(alloc, problem.variables())?;
     let found = node(alloc, problem, 0, &mut values)?;
     Ok(Certificate {

@@ -3,6 +3,10 @@
 
 mod certify;
 mod level;
+mod plain;
 mod search;
+#[cfg(test)]
+mod tests;
 
 pub use certify::solve;
+pub use plain::is_plain;
