@@ -1,5 +1,5 @@
 use crate::{is_plain, solve};
-use proof_tree::{Certificate, Outcome, turns};
+use proof_tree::{Outcome, turns};
 use qc_model::{
     Arg, Argument, Constraint, Domain, Draft, Kind, Name, Pred, Problem, Scope, ScopeId, VarId,
     Variable, build, full_turns,
@@ -49,13 +49,16 @@ fn variable(alloc: Global, name: &str, scope: u8) -> Result<Variable, AllocError
     })
 }
 
-fn solved(alloc: Global, problem: Option<Problem>) -> Result<Option<Certificate>, AllocError> {
+/// The outcome, and how many turns the certificate takes.
+fn solved(alloc: Global, problem: Option<Problem>) -> Result<Option<(Outcome, u64)>, AllocError> {
     let Some(problem) = problem else {
         return Ok(None);
     };
     let all = full_turns(&problem);
     if is_plain(&problem) && all <= 10_000_000 {
-        return Ok(Some(solve(alloc, &problem, all)?));
+        let certificate = solve(alloc, &problem, all)?;
+        let count = turns(&certificate.root);
+        return Ok(Some((certificate.outcome, count)));
     }
     Ok(None)
 }
@@ -64,9 +67,9 @@ fn solved(alloc: Global, problem: Option<Problem>) -> Result<Option<Certificate>
 fn player_moves_first(rt: HostRuntime) -> Result<(), Fail> {
     let alloc = rt.alloc();
     let game = two_scopes(alloc, Kind::Exists, Kind::Forall, Pred::IntLe)?;
-    let certificate = solved(alloc, game)?.ok_or("no game")?;
-    assert!(rt; certificate.outcome == Outcome::True);
-    assert_eq!(rt; turns(&certificate.root), 6);
+    let (outcome, count) = solved(alloc, game)?.ok_or("no game")?;
+    assert!(rt; outcome == Outcome::True);
+    assert_eq!(rt; count, 6);
     Ok(())
 }
 
@@ -74,9 +77,9 @@ fn player_moves_first(rt: HostRuntime) -> Result<(), Fail> {
 fn player_stops_at_a_won_value(rt: HostRuntime) -> Result<(), Fail> {
     let alloc = rt.alloc();
     let game = two_scopes(alloc, Kind::Forall, Kind::Exists, Pred::IntLe)?;
-    let certificate = solved(alloc, game)?.ok_or("no game")?;
-    assert!(rt; certificate.outcome == Outcome::True);
-    assert_eq!(rt; turns(&certificate.root), 4);
+    let (outcome, count) = solved(alloc, game)?.ok_or("no game")?;
+    assert!(rt; outcome == Outcome::True);
+    assert_eq!(rt; count, 4);
     Ok(())
 }
 
@@ -84,8 +87,8 @@ fn player_stops_at_a_won_value(rt: HostRuntime) -> Result<(), Fail> {
 fn opponent_stops_at_a_lost_value(rt: HostRuntime) -> Result<(), Fail> {
     let alloc = rt.alloc();
     let game = two_scopes(alloc, Kind::Forall, Kind::Exists, Pred::IntLt)?;
-    let certificate = solved(alloc, game)?.ok_or("no game")?;
-    assert!(rt; certificate.outcome == Outcome::False);
-    assert_eq!(rt; turns(&certificate.root), 3);
+    let (outcome, count) = solved(alloc, game)?.ok_or("no game")?;
+    assert!(rt; outcome == Outcome::False);
+    assert_eq!(rt; count, 3);
     Ok(())
 }
