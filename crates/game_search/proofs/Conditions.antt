@@ -1,5 +1,5 @@
 -- Games without conditions, scope by scope.
-use Rattle.std.proofs.Common.{◌≡◌, ℕ, zero, suc, ◌+◌, ◌≤◌, List, [], ◌∷◌, length, drop, refl, sym, ap, subst, arith, Option, Some, None, add-one, drop_of_length-le}
+use Rattle.std.proofs.Common.{◌≡◌, ℕ, zero, suc, ◌+◌, ◌≤◌, List, [], ◌∷◌, length, drop, sym, subst, Some, None, add-one, drop_of_length-le}
 use Rattle.std.specs.Prelude.{slice_get}
 use Rattle.qc_model.specs.declared.problem.Scope.{Scope}
 use Rattle.proof_tree.specs.Plain.{NoConditions}

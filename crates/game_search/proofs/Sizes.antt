@@ -1,18 +1,14 @@
 -- How deep the enumerated tree is, and how many turns it takes.
-use Rattle.std.proofs.Common.{◌≡◌, ℕ, zero, suc, ◌+◌, ◌-◌, ◌*◌, ◌<◌, ◌≤◌, Bool, true, false, cond, List, [], ◌∷◌, ◌++◌, length, map, take, drop, refl, sym, ap, ◌∙◌, subst, arith, ℤ, max, length-append}
-use Rattle.std.specs.List.{list_all}
-use Rattle.std.proofs.Math.Nat.{mul-le-mul_left}
+use Rattle.std.proofs.Common.{◌≡◌, ℕ, suc, ◌+◌, ◌-◌, ◌*◌, ◌<◌, ◌≤◌, Bool, true, false, cond, List, [], ◌∷◌, ◌++◌, length, take, drop, refl, sym, ap, subst, arith, ℤ, length-append}
 use Rattle.qc_model.specs.declared.problem.Kind.{Kind}
 use Rattle.qc_model.specs.declared.problem.Scope.{Scope}
-use Rattle.qc_model.specs.declared.problem.Variable.{Variable}
 use Rattle.qc_model.specs.Content.{Game}
-use Rattle.qc_model.specs.Domains.{Box, Values, declared_box, domain_values}
+use Rattle.qc_model.specs.Domains.{Box, Values, declared_box}
 use Rattle.qc_model.specs.Game.{before, allows, scope_domains}
-use Rattle.qc_model.specs.Turns.{value_product}
 use Rattle.qc_model.proofs.Before.{before-le, before_up}
-use Rattle.proof_tree.specs.Tree.{Tree, Ending, barred, next, branch, Branches, no_more, go}
+use Rattle.proof_tree.specs.Tree.{Tree, Ending, barred, next, Branches, go}
 use Rattle.proof_tree.specs.Counts.{turns_of, ending_turns, branch_turns, depth_of, ending_depth, branch_depth}
-use Rattle.game_search.specs.Wins.{choice, search_values, tuple_test, domains_left}
+use Rattle.game_search.specs.Wins.{search_values, tuple_test, domains_left}
 use Rattle.game_search.specs.Enumeration.{decides, skipped, case_tree, branch_tree, search_tree, plain_tree, tuple_tree}
 use Rattle.game_search.proofs.Positions.{drop_next, past_take, at_end}
 
