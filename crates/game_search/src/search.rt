@@ -1,7 +1,8 @@
 //! Goes over the values of the variables, one variable after the other.
 //!
-//! The tree is that of `enumerated`: no step, and the cases after the one that settles their scope
-//! left out. One list of values grows and shrinks with the place of the search.
+//! The tree has no step and no horizon. In an existential scope the first won tuple settles the
+//! scope, in a universal one the first lost tuple, and the cases after it are left out. One list of
+//! values grows and shrinks with the place of the search.
 ghost use Rattle.std.specs.Prelude.{◌≡◌, ◌≤◌, ◌<◌, ◌+◌, ◌++◌, ◌∷◌, [], replicate, length, drop, IfOk, OnOk, IsTrue, IsFalse};
 ghost use Rattle.std.specs.List.{list_all};
 ghost use Rattle.qc_model.specs.Domains.{declared_box, is_single, values_left};

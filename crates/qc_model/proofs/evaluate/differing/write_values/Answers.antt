@@ -20,8 +20,8 @@ loop-k-preserved c =
     let room : k < length c.loop-k.buffer = omega (arith, c.requires, c.loop-k.auto.buffer, c.loop-k-test.true) in
     let value : v ≡ get_or vs k (pos 0) = c.value_of.ensures ∙ sym (get_or-map f c.args.items.now k (Var (record { 0 = 0 })) (pos 0) c.loop-k-test.true) in
     let written : take (k + 1) (set c.loop-k.buffer k v) ≡ take (k + 1) vs =
-        take_more_set c.loop-k.buffer k v room
-        ∙ ap (λ l. l ++ v ∷ []) c.loop-k.invariant
-        ∙ ap (λ z. take k vs ++ z ∷ []) value
-        ∙ sym (take_more vs k (pos 0) within) in
+    take_more_set c.loop-k.buffer k v room
+    ∙ ap (λ l. l ++ v ∷ []) c.loop-k.invariant
+    ∙ ap (λ z. take k vs ++ z ∷ []) value
+    ∙ sym (take_more vs k (pos 0) within) in
     simp to_z-of_z written
