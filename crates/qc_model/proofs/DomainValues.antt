@@ -1,5 +1,5 @@
 -- The values of a range by their places, and that each value of a domain is a number within the limits.
-use Rattle.std.proofs.Common.{◌≡◌, ℕ, zero, suc, ◌+◌, ◌<◌, ◌≤◌, Bool, true, false, not, ◌&&◌, [], length, refl, sym, ap, ◌∙◌, subst, arith, ℤ, ◌+ℤ◌, ◌-ℤ◌, ◌≤ℤ◌, pos, Some, cond}
+use Rattle.std.proofs.Common.{◌≡◌, ℕ, zero, suc, ◌+◌, ◌<◌, ◌≤◌, Bool, true, false, not, ◌&&◌, [], length, refl, sym, ap, ◌∙◌, subst, arith, ℤ, ◌+ℤ◌, ◌-ℤ◌, ◌≤ℤ◌, pos, Some, cond, add-one}
 use Rattle.std.specs.Prelude.{slice_get, nat_abs, unsigned_abs, int_lt, int_le, nat_le}
 use Rattle.std.specs.List.{list_all}
 use Rattle.std.proofs.lemmas.Int.{ints}
@@ -93,3 +93,19 @@ domain_fits (Listed ns) e =
     let r = both (not (is_none_left ns)) (is_listed ns) q.0 in
     let s = both (nat_le (length ns) 100000 && list_all is_number ns) (is_ascending ns) r.1 in
     (both (nat_le (length ns) 100000) (list_all is_number ns) s.0).1
+
+-- a domain has a value
+pub domain_full : (d : Domain) → is_domain d ≡ true → is_none_left (domain_values d) ≡ false
+domain_full Bits e = refl
+domain_full (Range low high) e = ap is_none_left (range_values low high e) ∙ some (nat_abs (high -ℤ low))
+  where
+    some : (n : ℕ) → is_none_left (numbers_from low (n + 1)) ≡ false
+    some n = rw add-one refl
+domain_full (Listed ns) e =
+    let p = both (not (is_none_left ns) && is_listed ns && has_gap ns) (nat_le (width_of ns) 1048576) e in
+    let q = both (not (is_none_left ns) && is_listed ns) (has_gap ns) p.0 in
+    not_none (is_none_left ns) (both (not (is_none_left ns)) (is_listed ns) q.0).0
+  where
+    not_none : (b : Bool) → not b ≡ true → b ≡ false
+    not_none true e = cc
+    not_none false e = refl

@@ -1,0 +1,4 @@
+pub mod Wins
+pub mod Enumeration
+pub mod Level
+pub mod Outcomes
