@@ -66,12 +66,6 @@ impl Problem {
         self.draft.scopes.as_slice()
     }
 
-    pub(crate) fn all_aggregates(&self) -> &[Aggregate]
-        ensures { result.now ≡ self.now.aggregates }
-    {
-        self.draft.aggregates.as_slice()
-    }
-
     /// The number of scopes.
     pub fn scopes(&self) -> usize
         ensures { result ≡ length self.now.scopes }
