@@ -10,3 +10,4 @@ pub mod Readable
 pub mod Again
 pub mod Steps
 pub mod Found
+pub mod SumArguments

@@ -92,9 +92,17 @@ comparison_text : (xs : List Variable) (s : ScopeId) (a b : Arg) (rest : List �
     ≡ codes "constraint int_le(" ++ (text_of xs a ++ (codes "," ++ (text_of xs b ++ (codes ");\n" ++ rest))))
 comparison_text xs s a b rest = simp (append_assoc, append-nil)
 
+bracketed : (u v rest : List ℕ) → ((u ++ codes "]") ++ v) ++ rest ≡ u ++ (codes "]" ++ (v ++ rest))
+bracketed u v rest = append_assoc (u ++ codes "]") v rest ∙ append_assoc u (codes "]") (v ++ rest)
+
 sum_layout : (ns items a rest : List ℕ) → (codes "constraint " ++ codes "int_lin_le" ++ codes "(" ++ ((codes "[" ++ ns ++ codes "]") ++ ((codes "," ++ (codes "[" ++ items ++ codes "]")) ++ ((codes "," ++ a) ++ []))) ++ codes ");\n") ++ rest
     ≡ codes "constraint int_lin_le([" ++ (ns ++ (codes "],[" ++ (items ++ (codes "]," ++ (a ++ (codes ");\n" ++ rest))))))
-sum_layout ns items a rest = simp (append_assoc, append-nil)
+sum_layout ns items a rest =
+    let end = codes ");\n" ++ rest in
+    ap (λ x. codes "constraint int_lin_le(" ++ x) (append_assoc (codes "[" ++ ns ++ codes "]" ++ (codes ",[" ++ ((items ++ codes "]") ++ (codes "," ++ (a ++ []))))) (codes ");\n") rest)
+    ∙ ap (λ x. codes "constraint int_lin_le([" ++ x) (bracketed ns (codes ",[" ++ ((items ++ codes "]") ++ (codes "," ++ (a ++ [])))) end)
+    ∙ ap (λ x. codes "constraint int_lin_le([" ++ (ns ++ (codes "],[" ++ x))) (bracketed items (codes "," ++ (a ++ [])) end)
+    ∙ ap (λ x. codes "constraint int_lin_le([" ++ (ns ++ (codes "],[" ++ (items ++ (codes "]," ++ (x ++ end)))))) (append-nil a)
 
 sum_text : (xs : List Variable) (s : ScopeId) (ns : List ℤ) (items : List Arg) (a : Arg) (rest : List ℕ) → constraint_text xs (record { owner = s; pred = IntLinLe; args = Numbers ns ∷ Many items ∷ One a ∷ [] }) ++ rest
     ≡ codes "constraint int_lin_le([" ++ (with_commas (map signed_decimal ns) ++ (codes "],[" ++ (with_commas (map (text_of xs) items) ++ (codes "]," ++ (text_of xs a ++ (codes ");\n" ++ rest))))))

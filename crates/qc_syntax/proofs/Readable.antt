@@ -14,7 +14,8 @@ use Rattle.qc_model.specs.declared.problem.Argument.{Argument}
 use Rattle.qc_model.specs.declared.problem.Argument.TheVariants.{One, Many, Numbers, Members}
 use Rattle.qc_model.specs.Content.{Rule}
 use Rattle.qc_model.specs.Names.{is_word, is_name, reserved_words}
-use Rattle.qc_model.specs.Signature.{Sort, integer, integers, numbers, sorts_of}
+use Rattle.qc_model.specs.declared.signature.Sort.TheVariants.{Integer as integer, Integers as integers, Numbers as numbers}
+use Rattle.qc_model.specs.Signature.{sorts_of}
 use Rattle.qc_model.specs.Meaning.{meaning_of}
 use Rattle.qc_model.specs.Valid.{is_number, is_domain, is_range, domain_width, is_integer, is_of_sort, are_of_sorts, have_lengths, item_count, is_literal, is_constraint, argument_sees, arg_sees}
 use Rattle.qc_syntax.specs.FirstForm.{is_range as is_range_domain, is_comparison}

@@ -1,9 +1,10 @@
 -- A step of the loop over bytes.
 use Rattle.std.proofs.Common.{◌≡◌, ◌∙◌, sym, ap, refl, ◌<◌, ◌≤◌, ◌+◌, ◌-◌, ℕ, zero, suc, List, [], ◌∷◌, ◌++◌, length, map, get_or, take, drop, arith, Option, Some, None, drop-cons, add-one, length-take, length-drop}
+use Rattle.qc_syntax.specs.declared.words.ByteClass.{ByteClass}
 use Rattle.qc_syntax.specs.declared.words.ByteClass.TheVariants.{InWord, LineEnd, Between}
 use Rattle.qc_syntax.specs.Words.{class_of, with_word}
 use Rattle.qc_syntax.specs.Arguments.{◌>>=◌}
-use Rattle.qc_syntax.specs.Lines.{Progress, after_line}
+use Rattle.qc_syntax.specs.Lines.{Progress, at_start, after_line}
 use Rattle.qc_syntax.specs.Text.{after_text}
 
 -- the bytes from s to i
@@ -35,10 +36,14 @@ take_next (x ∷ xs) zero lt = refl
 take_next (x ∷ xs) (suc n) lt = ap (λ ys. x ∷ ys) (take_next xs n (omega arith))
 
 at_drop : (xs : List ℕ) (s n : ℕ) → get_or (drop s xs) n 0 ≡ get_or xs (s + n) 0
-at_drop [] zero n = ap (λ k. get_or {A = ℕ} [] k 0) (omega arith)
-at_drop [] (suc s) n = refl
-at_drop (x ∷ xs) zero n = ap (λ k. get_or (x ∷ xs) k 0) (omega arith)
-at_drop (x ∷ xs) (suc s) n = at_drop xs s n ∙ ap (λ k. get_or (x ∷ xs) k 0) (omega arith)
+at_drop [] zero n = let e : n ≡ zero + n = omega arith in ap (λ k. get_or {A = ℕ} [] k 0) e
+at_drop [] (suc s) n = past_end n ∙ sym (past_end (suc s + n))
+  where
+    past_end : (k : ℕ) → get_or {A = ℕ} [] k 0 ≡ 0
+    past_end zero = refl
+    past_end (suc k) = refl
+at_drop (x ∷ xs) zero n = let e : n ≡ zero + n = omega arith in ap (λ k. get_or (x ∷ xs) k 0) e
+at_drop (x ∷ xs) (suc s) n = let e : suc (s + n) ≡ suc s + n = omega arith in at_drop xs s n ∙ ap (λ k. get_or (x ∷ xs) k 0) e
 
 part_more : (text : List ℕ) (s i : ℕ) → s ≤ i → i < length text → part text s (i + 1) ≡ part text s i ++ get_or text i 0 ∷ []
 part_more text s i le lt =
@@ -87,3 +92,39 @@ with_part ws text s i lt le = nonempty ws (part text s i) (simp (length-take, le
 
 pub without_part : (ws : List (List ℕ)) (text : List ℕ) (s i : ℕ) → i ≤ s → with_word ws (part text s i) ≡ ws
 without_part ws text s i le = ap (with_word ws) (part_none text s i le)
+
+-- what was read before byte i, and what is left
+pub record IsRead (p : Progress) (ws : List (List ℕ)) (text : List ℕ) (s i : ℕ) : Type 0 where
+  pub order : s ≤ i
+  pub left : after_text p ws (part text s i) (drop i text) ≡ after_text at_start [] [] text
+
+other : (k : ByteClass) → (k ≡ InWord → ⊥) → (k ≡ Between → ⊥) → k ≡ LineEnd
+other InWord a b = absurd (a refl)
+other Between a b = absurd (b refl)
+other LineEnd a b = refl
+
+pub read_word : (p : Progress) (ws : List (List ℕ)) (text : List ℕ) (s i : ℕ) (k : ByteClass) → IsRead p ws text s i → i < length text → k ≡ class_of (get_or text i 0) → k ≡ InWord → IsRead p ws text s (i + 1)
+read_word p ws text s i k r lt e h = record { order = omega (arith, r.order); left = sym (step_word p ws text s i r.order lt (sym e ∙ h)) ∙ r.left }
+
+pub read_gap : (p : Progress) (ws vs : List (List ℕ)) (text : List ℕ) (s i : ℕ) (k : ByteClass) → IsRead p ws text s i → i < length text → k ≡ class_of (get_or text i 0) → k ≡ Between → vs ≡ with_word ws (part text s i)
+    → IsRead p vs text (i + 1) (i + 1)
+read_gap p ws vs text s i k r lt e h w = record { order = omega arith; left = ap (λ x. after_text p x (part text (i + 1) (i + 1)) (drop (i + 1) text)) w ∙ sym (step_gap p ws text s i lt (sym e ∙ h)) ∙ r.left }
+
+line_left : (p : Progress) (ws vs : List (List ℕ)) (text : List ℕ) (s i : ℕ) (k : ByteClass) → IsRead p ws text s i → i < length text → k ≡ class_of (get_or text i 0) → (k ≡ InWord → ⊥) → (k ≡ Between → ⊥) → vs ≡ with_word ws (part text s i)
+    → (after_line p vs >>= λ q. after_text q [] (part text (i + 1) (i + 1)) (drop (i + 1) text)) ≡ after_text at_start [] [] text
+line_left p ws vs text s i k r lt e a b w =
+    ap (λ x. after_line p x >>= λ q. after_text q [] (part text (i + 1) (i + 1)) (drop (i + 1) text)) w ∙ sym (step_line p ws text s i lt (sym e ∙ other k a b)) ∙ r.left
+
+pub read_line : (p q : Progress) (ws vs : List (List ℕ)) (text : List ℕ) (s i : ℕ) (k : ByteClass) → IsRead p ws text s i → i < length text → k ≡ class_of (get_or text i 0) → (k ≡ InWord → ⊥) → (k ≡ Between → ⊥) → vs ≡ with_word ws (part text s i)
+    → after_line p vs ≡ Some q → IsRead q [] text (i + 1) (i + 1)
+read_line p q ws vs text s i k r lt e a b w f = record {
+  order = omega arith;
+  left = sym (ap (λ x. x >>= λ q. after_text q [] (part text (i + 1) (i + 1)) (drop (i + 1) text)) f) ∙ line_left p ws vs text s i k r lt e a b w;
+}
+
+pub read_fault : (p : Progress) (ws vs : List (List ℕ)) (text : List ℕ) (s i : ℕ) (k : ByteClass) → IsRead p ws text s i → i < length text → k ≡ class_of (get_or text i 0) → (k ≡ InWord → ⊥) → (k ≡ Between → ⊥) → vs ≡ with_word ws (part text s i)
+    → after_line p vs ≡ None → after_text at_start [] [] text ≡ None
+read_fault p ws vs text s i k r lt e a b w f = sym (line_left p ws vs text s i k r lt e a b w) ∙ ap (λ x. x >>= λ q. after_text q [] (part text (i + 1) (i + 1)) (drop (i + 1) text)) f
+
+pub read_all : (p : Progress) (ws : List (List ℕ)) (text : List ℕ) (s i : ℕ) → IsRead p ws text s i → length text ≤ i → after_text at_start [] [] text ≡ Some p
+read_all p ws text s i r le = sym r.left ∙ step_end p ws (part text s i) text i le

@@ -33,3 +33,9 @@ abbrev pub GivesNext : Progress → Result Unit TextFault → Option Progress �
 GivesNext new (Ok u) read = read ≡ Some new
 GivesNext new (Err Refused) read = read ≡ None
 GivesNext new (Err (Memory e)) read = Unit {0}
+
+-- the words became these, or memory was refused
+abbrev pub GivesWords : Result Unit TextFault → List (List ℕ) → List (List ℕ) → Type 0
+GivesWords (Ok u) new words = new ≡ words
+GivesWords (Err Refused) new words = ⊥
+GivesWords (Err (Memory e)) new words = Unit {0}

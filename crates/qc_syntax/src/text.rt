@@ -1,7 +1,8 @@
 //! A text, word by word.
-ghost use Rattle.std.specs.Prelude.{◌≡◌, [], map};
+ghost use Rattle.std.specs.Prelude.{◌≡◌, ◌≤◌, [], map, length, slice_range};
+ghost use Rattle.qc_syntax.specs.Words.{with_word};
 ghost use Rattle.qc_syntax.specs.Lines.{at_start};
-ghost use Rattle.qc_syntax.specs.Text.{Gives, after_text};
+ghost use Rattle.qc_syntax.specs.Text.{Gives, GivesWords, after_text};
 
 use crate::fault::TextFault;
 use crate::progress::Progress;
@@ -20,14 +21,30 @@ pub(crate) fn read_text(alloc: Global, text: &[u8]) -> Result<Progress, TextFaul
         if class == ByteClass::InWord {
             continue;
         }
-        if start < i {
-            words.push(&text[start..i])?;
-        }
+        end_word(&mut words, text, start, i)?;
         start = i + 1;
-        if class == ByteClass::LineEnd {
-            progress.take_line(alloc, words.as_slice())?;
-            words.clear();
+        if class == ByteClass::Between {
+            continue;
         }
+        progress.take_line(alloc, words.as_slice())?;
+        words.clear();
     }
     Ok(progress)
+}
+
+// Adds the bytes from start to end as a word, if there are any.
+fn end_word<'a>(
+    words: &mut Vec<&'a [u8]>,
+    text: &'a [u8],
+    start: usize,
+    end: usize,
+) -> Result<(), TextFault>
+    requires order { start ≤ end }
+    requires bound { end ≤ length text.now }
+    ensures { GivesWords result (map (λ w. w.now) words.new.items) (with_word (map (λ w. w.now) words.old.items) (slice_range text.now start end)) }
+{
+    if start < end {
+        words.push(&text[start..end])?;
+    }
+    Ok(())
 }
