@@ -11,3 +11,4 @@ pub mod Again
 pub mod Steps
 pub mod Found
 pub mod SumArguments
+pub mod Passed

@@ -5,11 +5,8 @@ use Rattle.qc_model.specs.declared.problem.Variable.{Variable}
 use Rattle.qc_model.specs.declared.problem.Arg.{Arg}
 use Rattle.qc_model.specs.declared.problem.Argument.{Argument}
 use Rattle.qc_model.specs.declared.problem.Argument.TheVariants.{Many, Numbers}
-use Rattle.qc_syntax.specs.declared.fault.TextFault.{TextFault}
-use Rattle.qc_syntax.specs.declared.fault.TextFault.TheVariants.{Refused, Memory}
 use Rattle.qc_syntax.specs.Numbers.{number_of}
 use Rattle.qc_syntax.specs.Arguments.{◌>>=◌, each, arg_of, one_of, sum_arguments}
-use Rattle.qc_syntax.specs.Text.{Gives}
 
 abbrev sum_from : List Variable → List (List ℕ) → List (List ℕ) → List (List ℕ) → Option (List Argument)
 sum_from xs a b c = each number_of a >>= λ ns. each (arg_of xs) b >>= λ items. each (one_of xs) c >>= λ rest. Some (Numbers ns ∷ Many items ∷ rest)
@@ -34,10 +31,3 @@ module _ {W : Type 0} (g : W → List ℕ) (xs : List Variable) (k : ℕ) (ws a 
       → sum_arguments xs k (map g ws) ≡ Some (Numbers ns ∷ Many items ∷ rest)
   whole_sum ns items rest e f h = sum_is ∙ rw (e, f, h) refl
 
--- a fault passed on
-pub passed : {V W R Q : Type 0} (view : V → R) (inner : W → Q) (fault : TextFault) (r : Result V TextFault) (s : Option R) (t : Option Q) → r ≡ Err fault → Gives inner (Err fault) t → (t ≡ None → s ≡ None) → Gives view r s
-passed view inner fault r s t e g none = rw e (at fault g)
-  where
-    at : (f : TextFault) → Gives inner (Err f) t → Gives view (Err f) s
-    at Refused g = none g
-    at (Memory m) g = tt
