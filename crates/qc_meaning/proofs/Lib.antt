@@ -1,0 +1,4 @@
+pub mod Reach
+pub mod Taken
+pub mod Owners
+pub mod Frames
