@@ -3,3 +3,5 @@ pub mod Taken
 pub mod Owners
 pub mod Frames
 pub mod Entering
+pub mod LeafLists
+pub mod LeafRules
