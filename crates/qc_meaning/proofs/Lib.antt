@@ -5,3 +5,4 @@ pub mod Frames
 pub mod Entering
 pub mod LeafLists
 pub mod LeafRules
+pub mod StepRules
