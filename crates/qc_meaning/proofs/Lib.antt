@@ -6,3 +6,5 @@ pub mod Entering
 pub mod LeafLists
 pub mod LeafRules
 pub mod StepRules
+pub mod Picking
+pub mod ExistsNodes
