@@ -8,3 +8,4 @@ pub mod LeafRules
 pub mod StepRules
 pub mod Picking
 pub mod ExistsNodes
+pub mod ForallNodes
