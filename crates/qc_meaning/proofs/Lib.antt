@@ -9,3 +9,4 @@ pub mod StepRules
 pub mod Picking
 pub mod ExistsNodes
 pub mod ForallNodes
+pub mod EndNodes
