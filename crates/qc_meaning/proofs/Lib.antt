@@ -10,3 +10,5 @@ pub mod Picking
 pub mod ExistsNodes
 pub mod ForallNodes
 pub mod EndNodes
+pub mod Trees
+pub mod Outcomes
