@@ -17,7 +17,7 @@ use Rattle.proof_tree.specs.Place.{position}
 use Rattle.proof_tree.specs.Steps.{is_refuted_within}
 use Rattle.proof_tree.specs.Good.{Good, GoodThrough}
 use Rattle.proof_tree.specs.Plain.{IsTableSound, IsOrdered}
-use Rattle.proof_tree.specs.Fair.{free_stop}
+use Rattle.proof_tree.specs.Fair.{free_stop, KeepsGood, LeavesRest}
 use Rattle.proof_tree.proofs.HorizonHolds.{not_refuted}
 use Rattle.proof_tree.proofs.Passing.{GoodAfter, move_count, after_passes}
 use Rattle.proof_tree.proofs.Widths.{part_rest, width}
@@ -42,8 +42,8 @@ pub record Frame (g : Game) (i : ℕ) (a : List ℤ) (box : Box) : Type 0 where
 -- at a node of scope i; later has the scopes from i on
 pub record FairNode (g : Game) (is_bounded : Bool) (later : List Scope) (i : ℕ) (a : List ℤ) (box : Box) : Type 0 where
   pub frame : Frame g i a box
-  pub keeps : (w : List ℤ) → Good g later i a w → InBox (take (before g (stop_of is_bounded later i)) w) box → InBox w box
-  pub rest : (w : List ℤ) → Good g later i a w → InBox w box → drop (length w) box ≡ drop (length w) (declared_box g)
+  pub keeps : KeepsGood g later i (stop_of is_bounded later i) a box
+  pub rest : LeavesRest g later i a box
 
 -- within the tree of scope i; later has the scopes after i
 pub record FairPart (g : Game) (is_bounded : Bool) (k : Kind) (later : List Scope) (i : ℕ) (a : List ℤ) (box : Box) : Type 0 where
