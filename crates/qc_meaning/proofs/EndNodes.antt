@@ -1,5 +1,5 @@
 -- The goal, and a scope that nobody passes, mean what they say.
-use Rattle.std.proofs.Common.{◌≡◌, ◌⊎◌, inl, inr, ℕ, suc, ◌+◌, Bool, true, false, List, [], ◌∷◌, ◌++◌, length, map, refl, sym, ap, ◌∙◌, subst, arith, Option, Some, None, append-nil}
+use Rattle.std.proofs.Common.{◌≡◌, inr, ℕ, suc, ◌+◌, Bool, true, false, List, [], ◌∷◌, ◌++◌, length, refl, sym, ap, ◌∙◌, subst, arith, Option, None, append-nil}
 use Rattle.std.specs.Prelude.{ℤ, IsTrue}
 use Rattle.qc_model.specs.declared.problem.Kind.{Kind}
 use Rattle.qc_model.specs.declared.problem.Kind.TheVariants.{Exists, Forall}
@@ -8,10 +8,9 @@ use Rattle.qc_model.specs.declared.problem.Target.TheVariants.{Var, Aggregate as
 use Rattle.qc_model.specs.declared.problem.Scope.{Scope}
 use Rattle.qc_model.specs.declared.problem.Condition.{Condition}
 use Rattle.qc_model.specs.Content.{Game}
-use Rattle.qc_model.specs.Lists.{Among}
 use Rattle.qc_model.specs.Domains.{Box, InBox, has_empty}
 use Rattle.qc_model.specs.Game.{allows, IsMove, moves}
-use Rattle.qc_model.specs.Plan.{Plan, finish, choose, answer, Entries, no_entries, entry, Covers}
+use Rattle.qc_model.specs.Plan.{Plan, finish, choose, answer, no_entries, entry}
 use Rattle.qc_model.specs.Value.{value}
 use Rattle.qc_model.specs.Optimal.{Optimal}
 use Rattle.qc_model.specs.Counter.{CanPassBlock, RepliesTo, CounterWins}
@@ -21,14 +20,14 @@ use Rattle.qc_model.specs.ForallVerdict.{entry_value, entry_values, goal_verdict
 use Rattle.qc_model.proofs.Moves.{moves_to}
 use Rattle.qc_model.proofs.Vectors.{no_better_self}
 use Rattle.proof_tree.specs.InPlace.{is_horizon}
-use Rattle.proof_tree.specs.Finding.{Finding, kind_stuck, stuck_finding, goal_finding}
-use Rattle.proof_tree.specs.Meaning.{PlanLies, ExactMeans, LostMeans, VerdictMeans}
+use Rattle.proof_tree.specs.Finding.{kind_stuck, stuck_finding, goal_finding}
+use Rattle.proof_tree.specs.Meaning.{PlanLies, VerdictMeans}
 use Rattle.proof_tree.specs.Plain.{IsOrdered}
 use Rattle.proof_tree.proofs.Boxes.{differ, in_front}
 use Rattle.proof_tree.proofs.Passing.{goal_move}
 use Rattle.proof_tree.proofs.Fairness.{good_front, pass_good}
 use Rattle.proof_tree.proofs.Found.{Blocked, none_pass, none_among}
-use Rattle.qc_meaning.proofs.Reach.{reach, lies_to}
+use Rattle.qc_meaning.proofs.Reach.{lies_to}
 use Rattle.qc_meaning.proofs.Frames.{stop_of, Frame, FairNode, front_in}
 use Rattle.qc_meaning.proofs.Entering.{declared_move, rest_declared, all_good}
 use Rattle.qc_meaning.proofs.LeafRules.{choice_front}

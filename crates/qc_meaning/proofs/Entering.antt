@@ -1,6 +1,6 @@
 -- From a node into its scope's own tree, and from a leaf to the next node.
-use Rattle.std.proofs.Common.{◌≡◌, inl, inr, ℕ, zero, suc, ◌+◌, ◌-◌, ◌<◌, ◌≤◌, Bool, true, false, ◌&&◌, List, [], ◌∷◌, ◌++◌, length, map, take, drop, refl, sym, ap, ◌∙◌, subst, arith, cond, Option, Some, None}
-use Rattle.std.specs.Prelude.{ℤ, IsTrue, is_some}
+use Rattle.std.proofs.Common.{◌≡◌, ℕ, suc, ◌≤◌, Bool, true, false, ◌&&◌, List, [], ◌∷◌, ◌++◌, length, map, take, drop, refl, sym, ap, ◌∙◌, subst, arith, Option, Some, None}
+use Rattle.std.specs.Prelude.{ℤ, IsTrue}
 use Rattle.std.specs.List.{list_all}
 use Rattle.std.proofs.lemmas.List.{length-take, length-drop, length-map, length-append, map-append, drop-drop}
 use Rattle.std.proofs.lemmas.List.Folds.{list_all-append}
@@ -12,20 +12,18 @@ use Rattle.qc_model.specs.Content.{Game}
 use Rattle.qc_model.specs.Lists.{LiesIn}
 use Rattle.qc_model.specs.Domains.{Box, InBox, declared_box, is_single, least_value, has_empty}
 use Rattle.qc_model.specs.Game.{before, part, scope_domains, allows, IsMove}
-use Rattle.qc_model.specs.Block.{of_kind}
 use Rattle.qc_model.proofs.Before.{before-le, before-zero}
 use Rattle.qc_laws.specs.Distinct.{EachDistinct}
 use Rattle.proof_tree.specs.Place.{position, is_fixed}
-use Rattle.proof_tree.specs.Good.{Good, GoodThrough}
-use Rattle.proof_tree.specs.Fair.{free_stop}
-use Rattle.proof_tree.proofs.Passing.{GoodAfter, move_count}
+use Rattle.proof_tree.specs.Good.{Good}
+use Rattle.proof_tree.proofs.Passing.{move_count}
 use Rattle.proof_tree.proofs.Places.{only_heads}
 use Rattle.proof_tree.proofs.Widths.{take_scope, part_rest, width}
-use Rattle.proof_tree.proofs.Boxes.{singles, in_take, from_take, in_append, in_front, in_rest, in_singles, singles_of, all_single, heads_singles}
+use Rattle.proof_tree.proofs.Boxes.{singles, in_take, from_take, in_append, in_rest, in_singles, singles_of, all_single, heads_singles}
 use Rattle.proof_tree.proofs.FairBoxes.{before_wider, free_above}
 use Rattle.proof_tree.proofs.Fairness.{within_in, good_front, declared_keeps}
-use Rattle.qc_meaning.proofs.Taken.{taken_less, taken_all, taken_from, taken_front}
-use Rattle.qc_meaning.proofs.Frames.{stop_of, Frame, FairNode, FairPart, front_in, stop_above}
+use Rattle.qc_meaning.proofs.Taken.{taken_less, taken_all, taken_front}
+use Rattle.qc_meaning.proofs.Frames.{stop_of, Frame, FairNode, FairPart, front_in}
 
 -- values that go on where all later domains are the declared ones
 pub declared_move : (g : Game) (i : ℕ) (a t : List ℤ) (box : Box) → length a ≡ before g i → InBox a box → drop (length a) box ≡ drop (length a) (declared_box g) → IsMove g i a t → InBox (a ++ t) box
@@ -56,7 +54,7 @@ enter g b Exists c later i a box full f = record {
   frame = f.frame;
   keeps = λ t w m good h.
       f.keeps w (t, m, good) (taken_less (before g (stop_of b (record { kind = Exists; condition = c } ∷ later) i)) (before g (stop_of b later (suc i))) w box
-          (before_wider g (stop_of b (record { kind = Exists; condition = c } ∷ later) i) (stop_of b later (suc i)) (less b c)) h);
+      (before_wider g (stop_of b (record { kind = Exists; condition = c } ∷ later) i) (stop_of b later (suc i)) (less b c)) h);
   rest = λ t w m good h. f.rest w (t, m, good) h;
 }
   where

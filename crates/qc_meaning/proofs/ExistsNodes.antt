@@ -1,11 +1,9 @@
 -- The verdict of an existential scope means what it says, where its leaves do.
-use Rattle.std.proofs.Common.{◌≡◌, ◌⊎◌, inl, inr, ℕ, suc, Bool, true, false, not, ◌&&◌, ◌||◌, List, [], ◌∷◌, ◌++◌, length, map, drop, refl, sym, ap, ◌∙◌, subst, cond, Option, Some, None, arith}
-use Rattle.std.specs.Prelude.{ℤ, pos, IsTrue, IsFalse, is_none}
-use Rattle.std.specs.List.{list_all}
+use Rattle.std.proofs.Common.{◌≡◌, inl, inr, ℕ, suc, Bool, true, false, not, ◌&&◌, List, [], ◌∷◌, ◌++◌, length, map, drop, refl, sym, ap, ◌∙◌, subst, cond, Option, Some, None, arith}
+use Rattle.std.specs.Prelude.{ℤ, pos}
 use Rattle.std.specs.Ordering.{int_eq}
 use Rattle.std.proofs.lemmas.Bool.Decides.{Decides-int_eq}
-use Rattle.qc_model.specs.declared.problem.Kind.{Kind}
-use Rattle.qc_model.specs.declared.problem.Kind.TheVariants.{Exists, Forall}
+use Rattle.qc_model.specs.declared.problem.Kind.TheVariants.{Exists}
 use Rattle.qc_model.specs.declared.problem.Scope.{Scope}
 use Rattle.qc_model.specs.declared.problem.Condition.{Condition}
 use Rattle.qc_model.specs.Content.{Game}
@@ -18,14 +16,14 @@ use Rattle.qc_model.specs.Optimal.{Optimal, is_better}
 use Rattle.qc_model.specs.Counter.{CanPassBlock, RepliesTo, CounterWins}
 use Rattle.qc_model.specs.Demands.{vector, is_better_vector, with_condition}
 use Rattle.qc_model.specs.Verdict.{Verdict, lost, exact, at_most, unknown, Seen, seen_barred, seen_skipped, seen_bound, seen_node, is_lost, is_exact, some_node, each_node, exact_vectors, bounds, is_none_of, first_value}
-use Rattle.qc_model.specs.ExistsVerdict.{best_vector, best_number, without_own, beats, plain_exists, some_open, bounded_exists, exists_verdict, exists_own}
+use Rattle.qc_model.specs.ExistsVerdict.{best_vector, without_own, some_open, exists_verdict, exists_own}
 use Rattle.qc_model.proofs.Vectors.{AllLong}
 use Rattle.qc_model.proofs.ExistsMeans.{SomeAllows, exact_is_best}
 use Rattle.qc_laws.proofs.Better.{or_none, not_better}
 use Rattle.qc_laws.proofs.Existence.{neither_better}
 use Rattle.qc_laws.proofs.Choosing.{best_one, vector_long, choose_vector}
-use Rattle.proof_tree.specs.Finding.{Finding, Leaf, seen_of, is_exact_at, first_choice, all_replies, exists_finding}
-use Rattle.proof_tree.specs.Meaning.{PlanLies, IsOptimalIn, FirstIsNoBetter, ExactMeans, LostMeans, VerdictMeans}
+use Rattle.proof_tree.specs.Finding.{Leaf, seen_of, all_replies, exists_finding}
+use Rattle.proof_tree.specs.Meaning.{PlanLies, FirstIsNoBetter, ExactMeans, VerdictMeans}
 use Rattle.proof_tree.proofs.Places.{both}
 use Rattle.proof_tree.proofs.Boxes.{differ}
 use Rattle.proof_tree.proofs.Leaves.{exists_lost, none_skipped, decide_reached}

@@ -1,6 +1,6 @@
 -- The verdict of a universal scope means what it says, where its leaves do.
-use Rattle.std.proofs.Common.{◌≡◌, ◌⊎◌, inl, inr, ℕ, suc, Bool, true, false, ◌&&◌, ◌||◌, List, [], ◌∷◌, ◌++◌, length, map, drop, refl, sym, ap, ◌∙◌, subst, cond, Option, Some, None}
-use Rattle.std.specs.Prelude.{ℤ, IsTrue, slice_get}
+use Rattle.std.proofs.Common.{◌≡◌, ◌⊎◌, inl, inr, ℕ, suc, Bool, true, false, ◌||◌, List, [], ◌∷◌, ◌++◌, length, map, drop, refl, sym, ap, ◌∙◌, subst, cond, Option, Some, None}
+use Rattle.std.specs.Prelude.{ℤ, slice_get}
 use Rattle.std.specs.List.{list_all}
 use Rattle.std.proofs.Math.Seq.{drop-append_seam}
 use Rattle.qc_model.specs.declared.problem.Kind.{Kind}
@@ -12,7 +12,7 @@ use Rattle.qc_model.specs.Content.{Game}
 use Rattle.qc_model.specs.Lists.{Among, same_values}
 use Rattle.qc_model.specs.Domains.{Box, InBox, has_empty}
 use Rattle.qc_model.specs.Game.{IsMove, moves}
-use Rattle.qc_model.specs.Plan.{Plan, choose, answer, Chooses}
+use Rattle.qc_model.specs.Plan.{Plan, choose, answer}
 use Rattle.qc_model.specs.Value.{value, branch_values, aggregate_fold, inner_target}
 use Rattle.qc_model.specs.Optimal.{ChoosesBest, Optimal}
 use Rattle.qc_model.specs.Counter.{CounterWins}
@@ -21,17 +21,17 @@ use Rattle.qc_model.specs.Verdict.{Verdict, lost, exact, at_most, unknown, is_lo
 use Rattle.qc_model.specs.ForallVerdict.{entry_values, forall_verdict}
 use Rattle.qc_model.proofs.Moves.{moves_to, moves_from}
 use Rattle.qc_laws.specs.Branches.{AllOwn, AtMost}
-use Rattle.qc_laws.specs.Distinct.{Distinct, IsReordering, EachListedDiffers}
-use Rattle.qc_laws.specs.Verdicts.{Means, none_skipped, tuples_of}
-use Rattle.qc_laws.specs.Verdicts.{Leaf as LawLeaf, seen_of as law_seen, EachLeaf as EachLawLeaf, IsComplete}
+use Rattle.qc_laws.specs.Distinct.{EachListedDiffers}
+use Rattle.qc_laws.specs.Verdicts.{Means, none_skipped}
+use Rattle.qc_laws.specs.Verdicts.{seen_of as law_seen, EachLeaf as EachLawLeaf, IsComplete}
 use Rattle.qc_laws.proofs.Order.{moves_distinct}
 use Rattle.qc_laws.proofs.Domains.{domains_differ}
 use Rattle.qc_laws.proofs.Universal.{scope_fold, named, entries_at, number_under, names_or_fixed, demand_is, vector_is, entries_are, optimal_universal}
 use Rattle.qc_laws.proofs.Existence.{best_is_one}
 use Rattle.qc_laws.proofs.Leaves.{best_each}
 use Rattle.qc_laws.proofs.Joins.{leaves_mean}
-use Rattle.proof_tree.specs.Finding.{Finding, Leaf, leaf_barred, leaf_skipped, leaf_bound, leaf_node, seen_of, first_choice, strategy_at, answers, forall_finding}
-use Rattle.proof_tree.specs.Meaning.{FirstIsNoBetter, IsOptimalIn, ExactMeans, LostMeans, VerdictMeans}
+use Rattle.proof_tree.specs.Finding.{Leaf, leaf_barred, leaf_skipped, leaf_bound, leaf_node, seen_of, first_choice, strategy_at, answers, forall_finding}
+use Rattle.proof_tree.specs.Meaning.{FirstIsNoBetter, ExactMeans, VerdictMeans}
 use Rattle.proof_tree.proofs.Places.{both}
 use Rattle.proof_tree.proofs.Boxes.{differ}
 use Rattle.proof_tree.proofs.Leaves.{Reached, not_skipped, same_true, same_self, answer_tuples, answer_each}
@@ -39,7 +39,7 @@ use Rattle.proof_tree.proofs.Leaves.{none_skipped as none_left_out}
 use Rattle.proof_tree.proofs.Sides.{any_forall_lost, any_forall_exact}
 use Rattle.qc_meaning.proofs.Frames.{FairNode, front_in}
 use Rattle.qc_meaning.proofs.Entering.{declared_move, rest_declared}
-use Rattle.qc_meaning.proofs.LeafLists.{Shown, LeafMeans, EachLeaf, EachLoses, is_unmarked, law, leaf_tuples, LeavesMean, tuple_lies, reached_tuple}
+use Rattle.qc_meaning.proofs.LeafLists.{EachLeaf, EachLoses, law, LeavesMean, tuple_lies, reached_tuple}
 
 -- the leaves in the words of the laws
 law_seen_is : (n : ℕ) (ls : List Leaf) → map law_seen (map (law n) ls) ≡ map seen_of ls
@@ -100,9 +100,10 @@ module _ (g : Game) (later : List Scope) (i : ℕ) (a : List ℤ) (box : Box) (e
       pick true q v r rest =
           let s = h.0.shown v.0 v.1 in
           let b = means_exact g e u (Optimal g later (suc i) u) f.verdict v.0 v.1 (h.0.means refl) in
-          let k = same_true u w q in
-          (subst (λ z. Optimal g later (suc i) z f.strategy) k s.optimal,
-          subst (λ z. IsBestVector g e z (Optimal g later (suc i) z) (vector g e z f.strategy)) k (subst (IsBestVector g e u (Optimal g later (suc i) u)) (sym s.has_vector) b))
+          let k = same_true u w q in (
+            subst (λ z. Optimal g later (suc i) z f.strategy) k s.optimal,
+            subst (λ z. IsBestVector g e z (Optimal g later (suc i) z) (vector g e z f.strategy)) k (subst (IsBestVector g e u (Optimal g later (suc i) u)) (sym s.has_vector) b),
+          )
       pick false q v r rest =
           elim r [ inl k ↦ absurd (differ (sym q ∙ subst (λ z. same_values u z ≡ true) k (same_self u))) | inr m ↦ rest m ]
 

@@ -1,30 +1,28 @@
 -- Fair boxes, with bounds or without, and what keeps them fair.
-use Rattle.std.proofs.Common.{◌≡◌, ◌⊎◌, inl, inr, ℕ, zero, suc, ◌+◌, ◌<◌, ◌≤◌, Bool, true, false, not, List, [], ◌∷◌, ◌++◌, length, take, drop, set, get_or, filter, refl, sym, ap, ◌∙◌, subst, arith, cond, Option, Some, None}
+use Rattle.std.proofs.Common.{◌≡◌, ◌⊎◌, inl, inr, ℕ, suc, ◌+◌, ◌<◌, ◌≤◌, Bool, true, false, not, List, [], ◌∷◌, ◌++◌, length, take, drop, set, get_or, filter, refl, ap, ◌∙◌, arith, cond, Option, Some, None}
 use Rattle.std.specs.Prelude.{ℤ, slice_get, is_some}
-use Rattle.std.proofs.lemmas.List.{take-set-le, drop-set-lt, length-append, drop-drop}
+use Rattle.std.proofs.lemmas.List.{take-set-le, drop-set-lt, length-append}
 use Rattle.std.proofs.Math.ListN.{length-set}
 use Rattle.qc_model.specs.declared.problem.Kind.{Kind}
 use Rattle.qc_model.specs.declared.problem.Kind.TheVariants.{Exists, Forall}
 use Rattle.qc_model.specs.declared.problem.Scope.{Scope}
 use Rattle.qc_model.specs.declared.problem.Condition.{Condition}
 use Rattle.qc_model.specs.Content.{Game}
-use Rattle.qc_model.specs.Lists.{Among, LiesIn}
+use Rattle.qc_model.specs.Lists.{Among}
 use Rattle.qc_model.specs.Domains.{Box, InBox, declared_box, values_left, is_within, values_within, values_outside, box_within, box_without, has_empty}
 use Rattle.qc_model.specs.Game.{before, IsMove}
 use Rattle.qc_model.specs.Block.{of_kind, block_stop}
-use Rattle.qc_laws.specs.Distinct.{Distinct, EachDistinct}
-use Rattle.proof_tree.specs.Place.{position}
+use Rattle.qc_laws.specs.Distinct.{EachDistinct}
 use Rattle.proof_tree.specs.Steps.{is_refuted_within}
 use Rattle.proof_tree.specs.Good.{Good, GoodThrough}
 use Rattle.proof_tree.specs.Plain.{IsTableSound, IsOrdered}
 use Rattle.proof_tree.specs.Fair.{free_stop, KeepsGood, LeavesRest}
 use Rattle.proof_tree.proofs.HorizonHolds.{not_refuted}
 use Rattle.proof_tree.proofs.Passing.{GoodAfter, move_count, after_passes}
-use Rattle.proof_tree.proofs.Widths.{part_rest, width}
-use Rattle.proof_tree.proofs.Boxes.{singles, from_take, in_append, in_singles, filter_widen, filter_split, value_widen, singles_stay}
+use Rattle.proof_tree.proofs.Boxes.{singles, in_singles, filter_widen, filter_split, value_widen, singles_stay}
 use Rattle.proof_tree.proofs.FairBoxes.{before_wider, free_above}
-use Rattle.proof_tree.proofs.Fairness.{IsWithin, good_front, after_front, within_filter, within_value, within_in, past_set, declared_keeps}
-use Rattle.qc_meaning.proofs.Taken.{taken_less, taken_all, taken_from, still_in, filtered_distinct, set_distinct}
+use Rattle.proof_tree.proofs.Fairness.{IsWithin, good_front, after_front, within_filter, within_value, within_in, past_set}
+use Rattle.qc_meaning.proofs.Taken.{taken_less, still_in, filtered_distinct, set_distinct}
 
 -- the first number from i on whose scope's values aren't asked to lie in the box; is_bounded says that a bound of the block stands above
 abbrev pub stop_of : Bool → List Scope → ℕ → ℕ

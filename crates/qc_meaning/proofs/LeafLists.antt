@@ -1,5 +1,5 @@
 -- What the leaves of a scope's own tree say, as a list.
-use Rattle.std.proofs.Common.{◌≡◌, ◌⊎◌, inl, inr, ℕ, suc, Bool, true, false, ◌&&◌, List, [], ◌∷◌, ◌++◌, length, map, drop, refl, sym, ap, ◌∙◌, subst}
+use Rattle.std.proofs.Common.{◌≡◌, inl, inr, ℕ, suc, Bool, true, false, ◌&&◌, List, [], ◌∷◌, ◌++◌, length, map, drop, refl, sym, ap, ◌∙◌, subst}
 use Rattle.std.specs.Prelude.{ℤ, ⊤, IsTrue}
 use Rattle.std.specs.List.{list_all}
 use Rattle.std.proofs.Math.Seq.{drop-append_seam}
@@ -18,8 +18,8 @@ use Rattle.qc_model.specs.Demands.{vector}
 use Rattle.qc_model.specs.Verdict.{Seen, exact, is_lost}
 use Rattle.qc_model.proofs.ExistsMeans.{SomeAllows}
 use Rattle.qc_laws.specs.Distinct.{Distinct}
-use Rattle.qc_laws.specs.Verdicts.{Means, barred, skipped, marked, reaches, tuples_of, none_skipped}
-use Rattle.qc_laws.specs.Verdicts.{Leaf as LawLeaf, seen_of as law_seen}
+use Rattle.qc_laws.specs.Verdicts.{Means, barred, skipped, marked, reaches, tuples_of}
+use Rattle.qc_laws.specs.Verdicts.{Leaf as LawLeaf}
 use Rattle.proof_tree.specs.Finding.{Finding, Leaf, leaf_barred, leaf_skipped, leaf_bound, leaf_node, seen_of}
 use Rattle.proof_tree.proofs.Passing.{GoodAfter}
 use Rattle.proof_tree.proofs.Leaves.{Reached, not_skipped}
@@ -125,12 +125,14 @@ each_wider g k later i e a small box [] f h = tt
 each_wider g k later i e a small box (leaf_barred ∷ ls) f h = each_wider g k later i e a small box ls f h
 each_wider g k later i e a small box (leaf_skipped ∷ ls) f h = each_wider g k later i e a small box ls f h
 each_wider g k later i e a small box (leaf_bound m ∷ ls) f h = each_wider g k later i e a small box ls f h
-each_wider g k later i e a small box (leaf_node w x ∷ ls) f h =
-    (record {
-      move = record { tuple = h.0.move.tuple; after = h.0.move.after; is_move = h.0.move.is_move; lies = f w h.0.move.lies };
-      shown = λ v q. let s = h.0.shown v q in record { optimal = s.optimal; lies = f (reach w x.strategy) s.lies; has_vector = s.has_vector };
-      means = h.0.means;
-    }, each_wider g k later i e a small box ls f h.1)
+each_wider g k later i e a small box (leaf_node w x ∷ ls) f h = (
+  record {
+    move = record { tuple = h.0.move.tuple; after = h.0.move.after; is_move = h.0.move.is_move; lies = f w h.0.move.lies };
+    shown = λ v q. let s = h.0.shown v q in record { optimal = s.optimal; lies = f (reach w x.strategy) s.lies; has_vector = s.has_vector };
+    means = h.0.means;
+  },
+  each_wider g k later i e a small box ls f h.1,
+)
 
 -- each tuple of the leaves is a move in the box
 pub tuple_lies : (g : Game) (k : Kind) (later : List Scope) (i : ℕ) (e : List Condition) (a : List ℤ) (box : Box) (ls : List Leaf) → EachLeaf g k later i e a box ls → (t : List ℤ) → Among t (leaf_tuples (length a) ls) → IsMove g i a t × InBox (a ++ t) box

@@ -1,8 +1,8 @@
 -- What each ending of a scope's own tree makes of the leaves.
-use Rattle.std.proofs.Common.{◌≡◌, ◌⊎◌, inl, inr, ℕ, suc, ◌+◌, ◌<◌, ◌≤◌, Bool, true, false, ◌&&◌, List, [], ◌∷◌, ◌++◌, length, map, set, get_or, take, drop, refl, sym, ap, ◌∙◌, subst, arith}
+use Rattle.std.proofs.Common.{◌≡◌, ◌⊎◌, inl, inr, ℕ, suc, ◌<◌, Bool, true, false, ◌&&◌, List, [], ◌∷◌, ◌++◌, length, map, set, take, refl, sym, ap, ◌∙◌, subst, arith}
 use Rattle.std.specs.Prelude.{ℤ, IsTrue}
 use Rattle.std.specs.List.{list_all}
-use Rattle.std.proofs.lemmas.List.{map-append, length-append}
+use Rattle.std.proofs.lemmas.List.{map-append}
 use Rattle.std.proofs.lemmas.List.Folds.{list_all-append}
 use Rattle.qc_model.specs.declared.problem.Kind.{Kind}
 use Rattle.qc_model.specs.declared.problem.Kind.TheVariants.{Exists, Forall}
@@ -25,18 +25,18 @@ use Rattle.qc_laws.proofs.Order.{distinct_append}
 use Rattle.proof_tree.specs.Place.{position}
 use Rattle.proof_tree.specs.Finding.{Finding, Leaf, leaf_barred, leaf_skipped, leaf_bound, leaf_node, seen_of}
 use Rattle.proof_tree.specs.Good.{Good}
-use Rattle.proof_tree.specs.Meaning.{IsOptimalIn, FirstIsNoBetter, ExactMeans, LostMeans, VerdictMeans}
+use Rattle.proof_tree.specs.Meaning.{FirstIsNoBetter, VerdictMeans}
 use Rattle.proof_tree.proofs.Places.{both}
 use Rattle.proof_tree.proofs.Boxes.{differ, in_front, empty_past, none_past, none_at, values_split}
 use Rattle.proof_tree.proofs.Passing.{GoodAfter, move_count}
-use Rattle.proof_tree.proofs.Leaves.{Reached, not_skipped, reached_left, reached_right}
+use Rattle.proof_tree.proofs.Leaves.{not_skipped, reached_left, reached_right}
 use Rattle.proof_tree.proofs.Fairness.{good_front, after_front}
 use Rattle.proof_tree.proofs.Found.{first_widen, rest_widen}
 use Rattle.qc_meaning.proofs.Taken.{apart}
 use Rattle.qc_meaning.proofs.Reach.{reach, lies_to, lies_from, plan_good}
 use Rattle.qc_meaning.proofs.Frames.{Frame, FairPart}
 use Rattle.qc_meaning.proofs.Entering.{TheMove, the_only}
-use Rattle.qc_meaning.proofs.LeafLists.{Shown, LeafMeans, EachLeaf, EachLoses, is_unmarked, leaf_tuples, LeavesMean, each_append, loses_append, unmarked_append, tuples_append, allows_left, allows_right, each_wider, tuple_lies}
+use Rattle.qc_meaning.proofs.LeafLists.{is_unmarked, leaf_tuples, LeavesMean, each_append, loses_append, unmarked_append, tuples_append, allows_left, allows_right, each_wider, tuple_lies}
 
 -- a choice goes through good values
 pub choice_good : (g : Game) (k : Kind) (later : List Scope) (i : ℕ) (b : List ℤ) (s : Plan) → k ≡ Exists → Optimal g later (suc i) b s → GoodAfter k g later i b (reach b s)
@@ -125,11 +125,14 @@ pub next_mean : (g : Game) (b : Bool) (k : Kind) (later : List Scope) (i : ℕ) 
     w ≡ position g (suc i) box → TheMove g i a w box → (k ≡ Forall → (u : List ℤ) → Good g later (suc i) w u → InBox u box) → VerdictMeans f.verdict g later (suc i) e w box f b →
     LeavesMean g b k later i e a box (leaf_node w f ∷ [])
 next_mean g b k later i e a w box f frame fixed p m all h = record {
-  each = (record {
-    move = m;
-    shown = λ v q. let s = node_shown g b later (suc i) e w box f f.verdict h v q in record { optimal = s.0; lies = s.1; has_vector = s.2 };
-    means = λ q. node_means g b later (suc i) e w box f f.verdict h (λ s o. all q (reach w s) (plan_good g later (suc i) w s o));
-  }, tt);
+  each = (
+    record {
+      move = m;
+      shown = λ v q. let s = node_shown g b later (suc i) e w box f f.verdict h v q in record { optimal = s.0; lies = s.1; has_vector = s.2 };
+      means = λ q. node_means g b later (suc i) e w box f f.verdict h (λ s o. all q (reach w s) (plan_good g later (suc i) w s o));
+    },
+    tt,
+  );
   loses = λ q _. (node_loses g b later (suc i) e w box f f.verdict h q, tt);
   complete = λ _ _ t u mv good j. inl (only t mv (good_start g k later i (a ++ t) u box good j));
   covers = λ q t s mv o j.

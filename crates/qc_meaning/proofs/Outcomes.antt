@@ -1,7 +1,6 @@
 -- What a certificate that proves its outcome says of the game.
-use Rattle.std.proofs.Common.{◌≡◌, inl, inr, ℕ, suc, ◌+◌, Bool, true, false, ◌&&◌, not, List, [], ◌∷◌, length, map, take, refl, sym, ap, ◌∙◌, subst, arith, Option, Some, None}
+use Rattle.std.proofs.Common.{◌≡◌, true, false, ◌&&◌, not, List, [], ◌∷◌, map, take, refl, sym, ap, ◌∙◌, subst, arith, Option, Some, None}
 use Rattle.std.specs.Prelude.{ℤ, IsTrue, is_some}
-use Rattle.std.specs.Ordering.{int_eq}
 use Rattle.std.proofs.lemmas.Bool.Decides.{Decides-int_eq}
 use Rattle.qc_model.specs.declared.problem.Kind.{Kind}
 use Rattle.qc_model.specs.declared.problem.Kind.TheVariants.{Exists, Forall}
@@ -9,11 +8,10 @@ use Rattle.qc_model.specs.declared.problem.Scope.{Scope}
 use Rattle.qc_model.specs.declared.problem.Condition.{Condition}
 use Rattle.qc_model.specs.Content.{Game}
 use Rattle.qc_model.specs.Domains.{Box, declared_box, least_value}
-use Rattle.qc_model.specs.Value.{value}
 use Rattle.qc_model.specs.Optimal.{Optimal}
 use Rattle.qc_model.specs.Block.{of_kind}
 use Rattle.qc_model.specs.Sees.{AllVisible}
-use Rattle.qc_model.specs.Verdict.{Verdict, lost, exact, at_most, unknown, is_exact, is_lost, is_unknown}
+use Rattle.qc_model.specs.Verdict.{Verdict, lost, exact, at_most, unknown, is_exact, is_lost}
 use Rattle.qc_model.proofs.Plans.{optimal_wins, counter_loses}
 use Rattle.qc_model.proofs.Before.{before-zero}
 use Rattle.qc_laws.proofs.Domains.{domains_differ}
@@ -26,13 +24,13 @@ use Rattle.proof_tree.specs.InPlace.{root_in_place}
 use Rattle.proof_tree.specs.Finding.{Finding}
 use Rattle.proof_tree.specs.Read.{root_finding, strategy_of, counter_of}
 use Rattle.proof_tree.specs.Proves.{optimises_first, is_value, shows, proves}
-use Rattle.proof_tree.specs.Meaning.{ExactMeans, LostMeans, VerdictMeans, OptimumBy, IsOptimum, TrueMeans, FalseMeans, OutcomeMeans}
+use Rattle.proof_tree.specs.Meaning.{LostMeans, VerdictMeans, OptimumBy, IsOptimum, TrueMeans, FalseMeans, OutcomeMeans}
 use Rattle.proof_tree.proofs.Places.{both}
 use Rattle.proof_tree.proofs.Boxes.{differ}
 use Rattle.qc_meaning.specs.Premises.{IsSound}
 use Rattle.qc_meaning.proofs.Frames.{FairNode}
 use Rattle.qc_meaning.proofs.Entering.{root_fair}
-use Rattle.qc_meaning.proofs.Trees.{Ground, OwnBy, OwnMeans, NodeMeans, tree_means}
+use Rattle.qc_meaning.proofs.Trees.{OwnBy, OwnMeans, NodeMeans, tree_means}
 use Rattle.qc_meaning.proofs.Listed.{listed_differ}
 
 no_position : (g : Game) (box : Box) → position g 0 box ≡ []

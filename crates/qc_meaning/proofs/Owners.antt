@@ -1,6 +1,6 @@
 -- A variable that may be bounded stands before the first scope that isn't free.
-use Rattle.std.proofs.Common.{◌≡◌, ◌∙◌, sym, ap, refl, subst, inl, inr, ◌⊎◌, ℕ, zero, suc, ◌<◌, ◌≤◌, ◌+◌, Bool, true, false, List, [], ◌∷◌, length, map, cond, arith, Option, Some, None}
-use Rattle.std.specs.Prelude.{ℤ, nat_lt, nat_le, slice_get, count_by}
+use Rattle.std.proofs.Common.{◌≡◌, ◌∙◌, sym, ap, refl, subst, inl, inr, ◌⊎◌, ℕ, zero, suc, ◌<◌, ◌≤◌, ◌+◌, Bool, true, false, List, [], ◌∷◌, length, map, cond, arith, Some, None}
+use Rattle.std.specs.Prelude.{nat_lt, slice_get}
 use Rattle.std.proofs.lemmas.Bool.Decides.{nat_tests}
 use Rattle.qc_model.specs.declared.problem.Kind.{Kind}
 use Rattle.qc_model.specs.declared.problem.Kind.TheVariants.{Exists, Forall}
@@ -73,6 +73,7 @@ high n j (u ∷ xs) (suc x) v h e l =
       | inl p ↦ (let c : below owner j (u ∷ xs) ≡ 1 + below owner j xs = counted owner j u xs ∙ ap (λ b. cond b 1 0 + below owner j xs) p.0 in omega arith)
       | inr p ↦ absurd (omega arith)
     ]
+
 -- a variable that is visible from scope i on stands before the block's end
 visible_before : (g : Game) (later : List Scope) (i : ℕ) (x : VarId) → IsVisible g later i (Var x) → x.0 < before g (run_stop later i)
 visible_before g [] i x h = h
@@ -92,7 +93,7 @@ bound_target g valid later i s (Var x) t h e = by (no_condition_to (owner_of (sl
         let r = low (length g.scopes) (run_stop later i) g.variables x.0 valid.variable_order (visible_before g later i x h) in
         let o : owner_of (slice_get g.variables x.0) ≡ owner r.0 = ap owner_of r.1 in
         let f : owner r.0 < free_stop later i =
-            bounded_is_free (owner r.0) later i (subst (λ k. no_condition_to k later i ≡ true) o q) r.2 in
+        bounded_is_free (owner r.0) later i (subst (λ k. no_condition_to k later i ≡ true) o q) r.2 in
         let u : record { sense = s; variable = x.0 } ≡ t = cc in
         subst (λ (z : Tracked). z.variable < before g (free_stop later i)) u (high (length g.scopes) (free_stop later i) g.variables x.0 r.0 valid.variable_order r.1 f)
 

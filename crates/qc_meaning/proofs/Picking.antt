@@ -1,32 +1,30 @@
 -- The leaves of an existential scope: the first with a vector, those that are lost, and the numbers that hold choices back.
-use Rattle.std.proofs.Common.{◌≡◌, ◌⊎◌, inl, inr, ℕ, suc, Bool, true, false, not, ◌&&◌, ◌||◌, List, [], ◌∷◌, ◌++◌, length, map, drop, refl, sym, ap, ◌∙◌, subst, cond, Option, Some, None, arith}
-use Rattle.std.specs.Prelude.{ℤ, IsTrue, is_none}
-use Rattle.std.specs.List.{list_all}
+use Rattle.std.proofs.Common.{◌≡◌, inl, inr, ℕ, suc, Bool, true, false, List, [], ◌∷◌, ◌++◌, length, map, drop, refl, sym, ap, ◌∙◌, subst, cond, arith}
+use Rattle.std.specs.Prelude.{ℤ}
 use Rattle.std.proofs.Math.Seq.{drop-append_seam}
 use Rattle.qc_model.specs.declared.problem.Kind.{Kind}
-use Rattle.qc_model.specs.declared.problem.Kind.TheVariants.{Exists, Forall}
 use Rattle.qc_model.specs.declared.problem.Scope.{Scope}
 use Rattle.qc_model.specs.declared.problem.Condition.{Condition}
 use Rattle.qc_model.specs.Content.{Game}
 use Rattle.qc_model.specs.Lists.{Among, same_values}
 use Rattle.qc_model.specs.Domains.{Box}
 use Rattle.qc_model.specs.Game.{IsMove}
-use Rattle.qc_model.specs.Plan.{Plan, finish, choose}
+use Rattle.qc_model.specs.Plan.{Plan, choose}
 use Rattle.qc_model.specs.Optimal.{is_better}
 use Rattle.qc_model.specs.Counter.{HasEntry, CounterWins}
 use Rattle.qc_model.specs.Demands.{is_better_vector}
-use Rattle.qc_model.specs.Verdict.{Verdict, lost, exact, at_most, unknown, is_lost, is_exact, some_node, each_node, exact_vectors, bounds, is_none_of, first_value}
-use Rattle.qc_model.specs.ExistsVerdict.{best_number, some_open, best_vector}
+use Rattle.qc_model.specs.Verdict.{Verdict, lost, exact, at_most, unknown, is_lost, each_node, exact_vectors, bounds, is_none_of, first_value}
+use Rattle.qc_model.specs.ExistsVerdict.{best_number, some_open}
 use Rattle.qc_model.proofs.Moves.{among_left, among_right, among_map}
 use Rattle.qc_model.proofs.Vectors.{AllLong}
 use Rattle.qc_model.proofs.ExistsMeans.{SomeAllows, cover}
 use Rattle.qc_laws.proofs.Better.{or_none}
 use Rattle.qc_laws.proofs.Choosing.{best_weaker, vector_long}
-use Rattle.proof_tree.specs.Finding.{Finding, Leaf, leaf_barred, leaf_skipped, leaf_bound, leaf_node, seen_of, is_exact_at, first_choice, all_replies}
+use Rattle.proof_tree.specs.Finding.{Leaf, leaf_barred, leaf_skipped, leaf_bound, leaf_node, seen_of, is_exact_at, first_choice, all_replies}
 use Rattle.proof_tree.proofs.Places.{both}
 use Rattle.proof_tree.proofs.Boxes.{differ}
 use Rattle.proof_tree.proofs.Leaves.{Reached, same_true, same_self}
-use Rattle.qc_meaning.proofs.LeafLists.{Shown, LeafMeans, EachLeaf, EachLoses, is_unmarked}
+use Rattle.qc_meaning.proofs.LeafLists.{Shown, EachLeaf, EachLoses, is_unmarked}
 
 exact_at_is : (v : List ℤ) (x : Verdict) → is_exact_at v x ≡ true → x ≡ exact v
 exact_at_is v lost e = absurd (differ e)

@@ -1,5 +1,5 @@
 -- What the steps of a scope's own tree make of the box and of the leaves.
-use Rattle.std.proofs.Common.{◌≡◌, ◌⊎◌, inl, inr, ℕ, zero, suc, ◌+◌, ◌<◌, ◌≤◌, Bool, true, false, not, ◌&&◌, List, [], ◌∷◌, ◌++◌, length, map, set, refl, sym, ap, ◌∙◌, subst, arith, cond, Option, Some, None}
+use Rattle.std.proofs.Common.{◌≡◌, ◌⊎◌, inl, inr, ℕ, zero, suc, ◌+◌, ◌<◌, ◌≤◌, Bool, true, false, not, List, [], ◌∷◌, ◌++◌, length, map, set, refl, sym, ap, ◌∙◌, subst, arith, cond, Option, Some, None}
 use Rattle.std.specs.Prelude.{ℤ, pos, slice_get, slice_index_or, ◌==◌, int_lt}
 use Rattle.std.proofs.lemmas.Bool.Decides.{nat_tests}
 use Rattle.qc_model.specs.declared.problem.Kind.{Kind}
@@ -13,13 +13,13 @@ use Rattle.qc_model.specs.declared.problem.Condition.{Condition}
 use Rattle.qc_model.specs.Content.{Game}
 use Rattle.qc_model.specs.Lists.{Among}
 use Rattle.qc_model.specs.Domains.{Values, Box, InBox, values_left, is_within, values_within, values_outside, box_within, box_without, has_empty, is_none_left, least_from, greatest_from}
-use Rattle.qc_model.specs.Game.{before, IsMove}
+use Rattle.qc_model.specs.Game.{before}
 use Rattle.qc_model.specs.Plan.{Plan}
 use Rattle.qc_model.specs.Value.{value}
-use Rattle.qc_model.specs.Optimal.{Optimal, is_better}
+use Rattle.qc_model.specs.Optimal.{is_better}
 use Rattle.qc_model.specs.Demands.{vector}
 use Rattle.qc_model.specs.Sees.{AllVisible}
-use Rattle.qc_model.specs.Block.{of_kind, block_stop, force_stop, no_condition_to}
+use Rattle.qc_model.specs.Block.{of_kind, force_stop, no_condition_to}
 use Rattle.qc_model.specs.ExistsVerdict.{best_number, best_number_from}
 use Rattle.qc_model.proofs.ExistsMeans.{FirstNoBetter}
 use Rattle.qc_laws.proofs.Better.{better_false}

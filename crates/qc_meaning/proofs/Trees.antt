@@ -1,5 +1,5 @@
 -- Each tree in place means what it says at its node: the induction over the tree.
-use Rattle.std.proofs.Common.{◌≡◌, inl, inr, ℕ, suc, ◌+◌, ◌<◌, ◌≤◌, Bool, true, false, ◌&&◌, not, List, [], ◌∷◌, ◌++◌, length, map, set, refl, sym, ap, ◌∙◌, subst, arith, Option, Some, None}
+use Rattle.std.proofs.Common.{◌≡◌, inl, inr, ℕ, suc, ◌+◌, ◌<◌, ◌≤◌, Bool, false, ◌&&◌, not, List, [], ◌∷◌, ◌++◌, length, set, refl, sym, ◌∙◌, subst, arith, Option, Some, None}
 use Rattle.std.specs.Prelude.{ℤ, IsTrue, ⊤}
 use Rattle.std.proofs.lemmas.List.{set-get_or}
 use Rattle.qc_model.specs.declared.problem.Kind.{Kind}
@@ -8,14 +8,13 @@ use Rattle.qc_model.specs.declared.problem.Scope.{Scope}
 use Rattle.qc_model.specs.declared.problem.Condition.{Condition}
 use Rattle.qc_model.specs.Content.{Game}
 use Rattle.qc_model.specs.Lists.{Among}
-use Rattle.qc_model.specs.Domains.{Box, InBox, declared_box, values_left, is_single, box_at, has_empty}
+use Rattle.qc_model.specs.Domains.{Box, InBox, values_left, is_single, box_at, has_empty}
 use Rattle.qc_model.specs.Game.{before, allows, is_of_scope}
 use Rattle.qc_model.specs.Value.{value}
 use Rattle.qc_model.specs.Demands.{demands_after}
 use Rattle.qc_model.specs.Sees.{AllVisible, SeesRight}
 use Rattle.qc_laws.specs.Distinct.{Distinct, EachListedDiffers}
 use Rattle.qc_laws.proofs.Seen.{visible_own, after_visible}
-use Rattle.proof_tree.specs.declared.tree.Step.{Step}
 use Rattle.proof_tree.specs.Tree.{Tree, tree, Body, stuck, goal, cases, Ending, empty, barred, next, branch, Branches, no_more, skip, left_open, go}
 use Rattle.proof_tree.specs.Place.{position, is_fixed, list_after, tracked_variable}
 use Rattle.proof_tree.specs.Steps.{after_steps}
@@ -24,7 +23,6 @@ use Rattle.proof_tree.specs.Finding.{Finding, Leaf, kind_finding, stuck_finding,
 use Rattle.proof_tree.specs.Read.{marks, read, read_body, leaves, branch_leaves}
 use Rattle.proof_tree.specs.Good.{Good}
 use Rattle.proof_tree.specs.Meaning.{VerdictMeans}
-use Rattle.proof_tree.proofs.HorizonHolds.{none_empty_set}
 use Rattle.proof_tree.proofs.Passing.{move_count}
 use Rattle.proof_tree.proofs.Widths.{in_scope}
 use Rattle.proof_tree.proofs.Places.{both, not_true}
