@@ -13,3 +13,4 @@ pub mod EndNodes
 pub mod Trees
 pub mod Listed
 pub mod Outcomes
+mod Examples

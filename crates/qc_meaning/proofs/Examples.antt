@@ -1,0 +1,126 @@
+-- Games that meet the premise, and what their certificates show: a bound, and an aggregate over no branch.
+use Rattle.std.proofs.Common.{◌≡◌, ℕ, zero, suc, [], ◌∷◌, map, refl, subst, arith, Some, None, true}
+use Rattle.std.specs.Prelude.{pos, slice_get, codes}
+use Rattle.qc_model.specs.declared.problem.Kind.TheVariants.{Forall}
+use Rattle.qc_model.specs.declared.problem.Sense.TheVariants.{Min, Max}
+use Rattle.qc_model.specs.declared.problem.Arg.TheVariants.{Var}
+use Rattle.qc_model.specs.declared.problem.Argument.TheVariants.{One}
+use Rattle.qc_model.specs.declared.problem.Pred.TheVariants.{IntLt}
+use Rattle.qc_model.specs.declared.problem.Fold.TheVariants.{Greatest}
+use Rattle.qc_model.specs.declared.problem.Target.TheVariants.{Var as TVar, Aggregate as TAgg}
+use Rattle.qc_model.specs.declared.problem.Domain.TheVariants.{Range}
+use Rattle.qc_model.specs.Content.{Game, Rule}
+use Rattle.qc_model.specs.Arguments.{fill}
+use Rattle.qc_model.specs.Meaning.{meaning_of}
+use Rattle.qc_model.specs.Holds.{arg_value, holds_as}
+use Rattle.qc_model.specs.Refuted.{left_to, refuted_as}
+use Rattle.qc_model.specs.Game.{before}
+use Rattle.qc_model.specs.Plan.{Plan}
+use Rattle.qc_model.specs.Value.{value}
+use Rattle.qc_model.specs.Optimal.{Optimal}
+use Rattle.qc_model.specs.Visible.{ArgumentsBelow}
+use Rattle.qc_model.specs.Valid.{IsValid}
+use Rattle.qc_model.proofs.Visible.{given_fits}
+use Rattle.qc_model.proofs.Sound.{below_sound}
+use Rattle.proof_tree.specs.declared.tree.Outcome.TheVariants.{True}
+use Rattle.proof_tree.specs.Plain.{IsTableSound}
+use Rattle.proof_tree.specs.Tree.{Tree, tree, goal, cases, empty, next, branch, no_more, go}
+use Rattle.proof_tree.proofs.Build.{var, scope, optimising, rule, prune}
+use Rattle.proof_tree.proofs.BoundMarks.{bound_above}
+use Rattle.qc_meaning.specs.Premises.{IsSound}
+use Rattle.qc_meaning.proofs.Outcomes.{outcome_means}
+
+-- exists minimize x; var 0..2: x; goal; solve;
+abbrev least_x : Game
+least_x = record {
+  scopes = optimising Min (TVar (var 0)) ∷ [];
+  variables = record { name = codes "x"; scope = record { 0 = 0 }; domain = Range (pos 0) (pos 2) } ∷ [];
+  aggregates = [];
+  constraints = [];
+}
+
+-- exists maximize g; var 0..1: x; forall; var 0..2: t; aggregate g = greatest(t) else 7; constraint int_lt(t,x); goal; solve;
+abbrev greatest_of_none : Game
+greatest_of_none = record {
+  scopes = optimising Max (TAgg (record { 0 = 0 })) ∷ scope Forall ∷ [];
+  variables = record { name = codes "x"; scope = record { 0 = 0 }; domain = Range (pos 0) (pos 1) }
+      ∷ record { name = codes "t"; scope = record { 0 = 1 }; domain = Range (pos 0) (pos 2) } ∷ [];
+  aggregates = record { name = codes "g"; scope = record { 0 = 1 }; fold = Greatest (pos 7); target = TVar (var 1) } ∷ [];
+  constraints = rule 1 IntLt (One (Var (var 1)) ∷ One (Var (var 0)) ∷ []) ∷ [];
+}
+
+-- v 1, n, p 2 0 2 1, e, n, p 2 1 2 1, n, g, .
+abbrev no_branch : Tree
+no_branch = tree None (cases [] (branch (var 0) (go [] (next (tree None (cases (prune 1 (pos 0) (pos 2) 0 ∷ []) empty))) (go [] (next (tree None (cases (prune 1 (pos 1) (pos 2) 0 ∷ []) (next (tree None goal))))) no_more))))
+
+least_is_valid : IsValid least_x
+least_is_valid = record {
+  few_scopes = omega arith;
+  few_variables = omega arith;
+  few_constraints = omega arith;
+  variable_order = refl;
+  constraint_order = refl;
+  aggregate_order = refl;
+  names = refl;
+  distinct_names = refl;
+  domains = refl;
+  widths = omega arith;
+  scopes = refl;
+  aggregates = refl;
+  constraints = refl;
+  sees = (omega arith, tt);
+}
+
+greatest_is_valid : IsValid greatest_of_none
+greatest_is_valid = record {
+  few_scopes = omega arith;
+  few_variables = omega arith;
+  few_constraints = omega arith;
+  variable_order = refl;
+  constraint_order = refl;
+  aggregate_order = refl;
+  names = refl;
+  distinct_names = refl;
+  domains = refl;
+  widths = omega arith;
+  scopes = refl;
+  aggregates = refl;
+  constraints = refl;
+  sees = (refl, (omega arith, tt));
+}
+
+least_is_sound : IsSound least_x
+least_is_sound = record {
+  valid = least_is_valid;
+  table = λ k c box w e. cc;
+  ordered = record { no_empty = refl; visible = λ k c e. cc; goal = refl };
+}
+
+-- a bound: every optimal strategy gives x its least value
+pub least_is_least : (s : Plan) → Optimal least_x least_x.scopes 0 [] s → value least_x s (TVar (var 0)) [] ≡ pos 0
+least_is_least = (outcome_means least_x True (Some (pos 0)) bound_above least_is_sound refl).1
+
+the_rule : (k : ℕ) (c : Rule) → slice_get greatest_of_none.constraints k ≡ Some c → rule 1 IntLt (One (Var (var 1)) ∷ One (Var (var 0)) ∷ []) ≡ c
+the_rule zero c e = cc
+the_rule (suc k) c e = cc
+
+below_only : (g : Game) → ((k : ℕ) (c : Rule) → slice_get g.constraints k ≡ Some c → c.pred ≡ IntLt) → IsTableSound g
+below_only g f k c box w e below d r h holds =
+    below_sound (map (fill (arg_value w)) c.args) (map (fill (left_to box)) c.args) (given_fits w box c.args h below)
+    (subst (λ p. refuted_as (meaning_of p) (map (fill (left_to box)) c.args) ≡ true) (f k c e) r)
+    (subst (λ p. holds_as (meaning_of p) (map (fill (arg_value w)) c.args) ≡ true) (f k c e) holds)
+
+greatest_is_sound : IsSound greatest_of_none
+greatest_is_sound = record {
+  valid = greatest_is_valid;
+  table = below_only greatest_of_none (λ k c e. subst (λ x. x.pred ≡ IntLt) (the_rule k c e) refl);
+  ordered = record {
+    no_empty = refl;
+    visible = λ k c e. subst (λ x. ArgumentsBelow (before greatest_of_none (suc x.owner.0)) x.args) (the_rule k c e) (omega arith, (omega arith, tt));
+    goal = refl;
+  };
+}
+
+-- an aggregate: every optimal strategy leaves the other side no move, and gets the number for none
+pub greatest_is_seven : (s : Plan) → Optimal greatest_of_none greatest_of_none.scopes 0 [] s → value greatest_of_none s (TAgg (record { 0 = 0 })) [] ≡ pos 7
+greatest_is_seven = (outcome_means greatest_of_none True (Some (pos 7)) no_branch greatest_is_sound refl).1
