@@ -20,12 +20,12 @@ use Rattle.qc_model.specs.Demands.{vector, IsBestVector, demands_through, aggreg
 use Rattle.qc_model.specs.Verdict.{Verdict, lost, exact, at_most, unknown, is_lost, is_exact, some_node, each_node, first_value}
 use Rattle.qc_model.specs.ForallVerdict.{entry_values, forall_verdict}
 use Rattle.qc_model.proofs.Moves.{moves_to, moves_from}
-use Rattle.qc_laws.specs.Branches.{AllOwn, AtMost}
-use Rattle.qc_laws.specs.Distinct.{EachListedDiffers}
+use Rattle.qc_laws.specs.Branches.{AllOwn}
+use Rattle.qc_laws.specs.Positions.{AtMost}
 use Rattle.qc_laws.specs.Verdicts.{Means, none_skipped}
-use Rattle.qc_laws.specs.Verdicts.{seen_of as law_seen, EachLeaf as EachLawLeaf, IsComplete}
+use Rattle.qc_laws.specs.Verdicts.{seen_in, EachClaim, IsComplete}
 use Rattle.qc_laws.proofs.Order.{moves_distinct}
-use Rattle.qc_laws.proofs.Domains.{domains_differ}
+use Rattle.qc_laws.proofs.Domains.{EachListedDiffers, domains_differ}
 use Rattle.qc_laws.proofs.Universal.{scope_fold, named, entries_at, number_under, names_or_fixed, demand_is, vector_is, entries_are, optimal_universal}
 use Rattle.qc_laws.proofs.Existence.{best_is_one}
 use Rattle.qc_laws.proofs.Leaves.{best_each}
@@ -39,22 +39,22 @@ use Rattle.proof_tree.proofs.Leaves.{none_skipped as none_left_out}
 use Rattle.proof_tree.proofs.Sides.{any_forall_lost, any_forall_exact}
 use Rattle.qc_meaning.proofs.Frames.{FairNode, front_in}
 use Rattle.qc_meaning.proofs.Entering.{declared_move, rest_declared}
-use Rattle.qc_meaning.proofs.LeafLists.{EachLeaf, EachLoses, law, LeavesMean, tuple_lies, reached_tuple}
+use Rattle.qc_meaning.proofs.LeafLists.{EachLeaf, EachLoses, claim, LeavesMean, tuple_lies, reached_tuple}
 
--- the leaves in the words of the laws
-law_seen_is : (n : ℕ) (ls : List Leaf) → map law_seen (map (law n) ls) ≡ map seen_of ls
-law_seen_is n [] = refl
-law_seen_is n (leaf_barred ∷ ls) = ap (λ xs. seen_of leaf_barred ∷ xs) (law_seen_is n ls)
-law_seen_is n (leaf_skipped ∷ ls) = ap (λ xs. seen_of leaf_skipped ∷ xs) (law_seen_is n ls)
-law_seen_is n (leaf_bound m ∷ ls) = ap (λ xs. seen_of (leaf_bound m) ∷ xs) (law_seen_is n ls)
-law_seen_is n (leaf_node w f ∷ ls) = ap (λ xs. seen_of (leaf_node w f) ∷ xs) (law_seen_is n ls)
+-- the leaves as claims
+claims_seen : (n : ℕ) (ls : List Leaf) → map seen_in (map (claim n) ls) ≡ map seen_of ls
+claims_seen n [] = refl
+claims_seen n (leaf_barred ∷ ls) = ap (λ xs. seen_of leaf_barred ∷ xs) (claims_seen n ls)
+claims_seen n (leaf_skipped ∷ ls) = ap (λ xs. seen_of leaf_skipped ∷ xs) (claims_seen n ls)
+claims_seen n (leaf_bound m ∷ ls) = ap (λ xs. seen_of (leaf_bound m) ∷ xs) (claims_seen n ls)
+claims_seen n (leaf_node w f ∷ ls) = ap (λ xs. seen_of (leaf_node w f) ∷ xs) (claims_seen n ls)
 
-law_skipped : (n : ℕ) (ls : List Leaf) → none_skipped (map (law n) ls) ≡ true → list_all not_skipped ls ≡ true
-law_skipped n [] h = refl
-law_skipped n (leaf_barred ∷ ls) h = law_skipped n ls h
-law_skipped n (leaf_skipped ∷ ls) h = absurd (differ h)
-law_skipped n (leaf_bound m ∷ ls) h = law_skipped n ls h
-law_skipped n (leaf_node w f ∷ ls) h = law_skipped n ls h
+claims_skipped : (n : ℕ) (ls : List Leaf) → none_skipped (map (claim n) ls) ≡ true → list_all not_skipped ls ≡ true
+claims_skipped n [] h = refl
+claims_skipped n (leaf_barred ∷ ls) h = claims_skipped n ls h
+claims_skipped n (leaf_skipped ∷ ls) h = absurd (differ h)
+claims_skipped n (leaf_bound m ∷ ls) h = claims_skipped n ls h
+claims_skipped n (leaf_node w f ∷ ls) h = claims_skipped n ls h
 
 never : Forall ≡ Exists → ⊥
 never q = cc
@@ -73,16 +73,16 @@ exact_one (at_most p) e = absurd (differ e)
 exact_one unknown e = absurd (differ e)
 
 module _ (g : Game) (later : List Scope) (i : ℕ) (a : List ℤ) (box : Box) (e : List Condition) where
-  law_leaves : (ls : List Leaf) → EachLeaf g Forall later i e a box ls → EachLawLeaf g e i a (Optimal g later (suc i)) (map (law (length a)) ls)
-  law_leaves [] h = tt
-  law_leaves (leaf_barred ∷ ls) h = (tt, law_leaves ls h)
-  law_leaves (leaf_skipped ∷ ls) h = (tt, law_leaves ls h)
-  law_leaves (leaf_bound m ∷ ls) h = (tt, law_leaves ls h)
-  law_leaves (leaf_node w f ∷ ls) h =
+  claims_mean : (ls : List Leaf) → EachLeaf g Forall later i e a box ls → EachClaim g e i a (Optimal g later (suc i)) (map (claim (length a)) ls)
+  claims_mean [] h = tt
+  claims_mean (leaf_barred ∷ ls) h = (tt, claims_mean ls h)
+  claims_mean (leaf_skipped ∷ ls) h = (tt, claims_mean ls h)
+  claims_mean (leaf_bound m ∷ ls) h = (tt, claims_mean ls h)
+  claims_mean (leaf_node w f ∷ ls) h =
       let p = h.0.move in
       let t : drop (length a) w ≡ p.tuple = ap (drop (length a)) p.after ∙ drop-append_seam a p.tuple in
       let u : w ≡ a ++ drop (length a) w = p.after ∙ ap (λ z. a ++ z) (sym t) in
-      ((subst (IsMove g i a) (sym t) p.is_move, subst (λ z. Means g e z (Optimal g later (suc i) z) f.verdict) u (h.0.means refl)), law_leaves ls h.1)
+      ((subst (IsMove g i a) (sym t) p.is_move, subst (λ z. Means g e z (Optimal g later (suc i) z) f.verdict) u (h.0.means refl)), claims_mean ls h.1)
 
   -- the strategy at each tuple is optimal there, and has the best vector
   strategy_best : (w : List ℤ) (ls : List Leaf) → EachLeaf g Forall later i e a box ls → each_node is_exact (map seen_of ls) ≡ true → Reached w ls →
@@ -169,18 +169,18 @@ module _ (g : Game) (later : List Scope) (i : ℕ) (a : List ℤ) (box : Box) (b
   complete : list_all not_skipped ls ≡ true → (t : List ℤ) → IsMove g i a t → Reached (a ++ t) ls
   complete q t m = mean.complete (λ n. absurd (never n)) q t (a ++ t) m refl (lies t m)
 
-  reordering : IsComplete g i a (map (law (length a)) ls)
+  reordering : IsComplete g i a (map (claim (length a)) ls)
   reordering q = record {
     first = moves_distinct g i a (domains_differ g differs);
     second = mean.distinct;
-    there = λ t m. reached_tuple a t ls (complete (law_skipped (length a) ls q) t (moves_to g i a t m));
+    there = λ t m. reached_tuple a t ls (complete (claims_skipped (length a) ls q) t (moves_to g i a t m));
     back = λ t m. moves_from g i a t (tuple_lies g Forall later i after a box ls mean.each t m).0;
   }
 
   all_mean : Means g d a (Optimal g (scope ∷ later) i a) (forall_verdict g d a (map seen_of ls))
   all_mean =
-      subst (λ xs. Means g d a (Optimal g (scope ∷ later) i a) (forall_verdict g d a xs)) (law_seen_is (length a) ls)
-      (leaves_mean g i a (Optimal g later (suc i)) (ChoosesBest x g i a (Optimal g later (suc i))) (aggregate_of g i) d (map (law (length a)) ls) own (law_leaves g later i a box after ls mean.each) reordering)
+      subst (λ xs. Means g d a (Optimal g (scope ∷ later) i a) (forall_verdict g d a xs)) (claims_seen (length a) ls)
+      (leaves_mean g i a (Optimal g later (suc i)) (ChoosesBest x g i a (Optimal g later (suc i))) (aggregate_of g i) d (map (claim (length a)) ls) own (claims_mean g later i a box after ls mean.each) reordering)
 
   the_answer : each_node is_exact (map seen_of ls) ≡ true → (v : List ℤ) → IsBestVector g d a (Optimal g (scope ∷ later) i a) v → ExactMeans g (scope ∷ later) i d a box (answer (answers a ls (moves g i a))) v
   the_answer q v best =

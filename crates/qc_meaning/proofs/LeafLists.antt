@@ -19,7 +19,7 @@ use Rattle.qc_model.specs.Verdict.{Seen, exact, is_lost}
 use Rattle.qc_model.proofs.ExistsMeans.{SomeAllows}
 use Rattle.qc_laws.specs.Distinct.{Distinct}
 use Rattle.qc_laws.specs.Verdicts.{Means, barred, skipped, marked, reaches, tuples_of}
-use Rattle.qc_laws.specs.Verdicts.{Leaf as LawLeaf}
+use Rattle.qc_laws.specs.Verdicts.{Claim}
 use Rattle.proof_tree.specs.Finding.{Finding, Leaf, leaf_barred, leaf_skipped, leaf_bound, leaf_node, seen_of}
 use Rattle.proof_tree.proofs.Passing.{GoodAfter}
 use Rattle.proof_tree.proofs.Leaves.{Reached, not_skipped}
@@ -61,15 +61,15 @@ is_unmarked (leaf_skipped ∷ ls) = is_unmarked ls
 is_unmarked (leaf_bound m ∷ ls) = false
 is_unmarked (leaf_node w f ∷ ls) = is_unmarked ls
 
--- the leaf in the words of the laws of optimal play; n values stand before the scope
-abbrev pub law : ℕ → Leaf → LawLeaf
-law n leaf_barred = barred
-law n leaf_skipped = skipped
-law n (leaf_bound m) = marked m
-law n (leaf_node w f) = reaches (drop n w) f.verdict
+-- what is claimed at a leaf, in the words of the laws of optimal play; n values stand before the scope
+abbrev pub claim : ℕ → Leaf → Claim
+claim n leaf_barred = barred
+claim n leaf_skipped = skipped
+claim n (leaf_bound m) = marked m
+claim n (leaf_node w f) = reaches (drop n w) f.verdict
 
 abbrev pub leaf_tuples : ℕ → List Leaf → List (List ℤ)
-leaf_tuples n ls = tuples_of (map (law n) ls)
+leaf_tuples n ls = tuples_of (map (claim n) ls)
 
 pub record LeavesMean (g : Game) (is_bounded : Bool) (k : Kind) (later : List Scope) (i : ℕ) (e : List Condition) (a : List ℤ) (box : Box) (ls : List Leaf) : Type 0 where
   pub each : EachLeaf g k later i e a box ls

@@ -18,7 +18,7 @@ use Rattle.qc_model.specs.Counter.{CounterWins}
 use Rattle.qc_model.specs.Demands.{vector}
 use Rattle.qc_model.specs.Verdict.{Verdict, lost, exact, at_most, unknown, seen_node, is_lost}
 use Rattle.qc_model.proofs.ExistsMeans.{Allows, FirstNoBetter, SomeAllows}
-use Rattle.qc_laws.specs.Branches.{AtMost}
+use Rattle.qc_laws.specs.Positions.{AtMost}
 use Rattle.qc_laws.specs.Distinct.{Distinct}
 use Rattle.qc_laws.specs.Verdicts.{Means}
 use Rattle.qc_laws.proofs.Order.{distinct_append}

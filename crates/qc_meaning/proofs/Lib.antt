@@ -11,6 +11,5 @@ pub mod ExistsNodes
 pub mod ForallNodes
 pub mod EndNodes
 pub mod Trees
-pub mod Listed
 pub mod Outcomes
 mod Examples

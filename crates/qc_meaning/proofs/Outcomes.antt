@@ -15,6 +15,7 @@ use Rattle.qc_model.specs.Verdict.{Verdict, lost, exact, at_most, unknown, is_ex
 use Rattle.qc_model.proofs.Plans.{optimal_wins, counter_loses}
 use Rattle.qc_model.proofs.Before.{before-zero}
 use Rattle.qc_laws.proofs.Domains.{domains_differ}
+use Rattle.qc_laws.proofs.Validity.{valid_differs}
 use Rattle.qc_laws.proofs.Existence.{optimum_same}
 use Rattle.proof_tree.specs.declared.tree.Outcome.{Outcome}
 use Rattle.proof_tree.specs.declared.tree.Outcome.TheVariants.{True, False, Open}
@@ -31,14 +32,13 @@ use Rattle.qc_meaning.specs.Premises.{IsSound}
 use Rattle.qc_meaning.proofs.Frames.{FairNode}
 use Rattle.qc_meaning.proofs.Entering.{root_fair}
 use Rattle.qc_meaning.proofs.Trees.{OwnBy, OwnMeans, NodeMeans, tree_means}
-use Rattle.qc_meaning.proofs.Listed.{listed_differ}
 
 no_position : (g : Game) (box : Box) → position g 0 box ≡ []
 no_position g box = ap (λ n. map least_value (take n box)) (before-zero g)
 
 pub root_means : (g : Game) (t : Tree) → IsSound g → IsTrue (root_in_place g t) → NodeMeans g false g.scopes 0 [] [] (declared_box g) (root_finding g t)
 root_means g t r e =
-    let differs = listed_differ g r.valid in
+    let differs = valid_differs g r.valid in
     let fair : FairNode g false g.scopes 0 (position g 0 (declared_box g)) (declared_box g) =
     subst (λ a. FairNode g false g.scopes 0 a (declared_box g)) (sym (no_position g (declared_box g))) (root_fair g (domains_differ g differs)) in
     subst (λ a. NodeMeans g false g.scopes 0 [] a (declared_box g) (root_finding g t)) (no_position g (declared_box g))

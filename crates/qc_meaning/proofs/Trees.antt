@@ -13,7 +13,8 @@ use Rattle.qc_model.specs.Game.{before, allows, is_of_scope}
 use Rattle.qc_model.specs.Value.{value}
 use Rattle.qc_model.specs.Demands.{demands_after}
 use Rattle.qc_model.specs.Sees.{AllVisible, SeesRight}
-use Rattle.qc_laws.specs.Distinct.{Distinct, EachListedDiffers}
+use Rattle.qc_laws.specs.Distinct.{Distinct}
+use Rattle.qc_laws.proofs.Domains.{EachListedDiffers}
 use Rattle.qc_laws.proofs.Seen.{visible_own, after_visible}
 use Rattle.proof_tree.specs.Tree.{Tree, tree, Body, stuck, goal, cases, Ending, empty, barred, next, branch, Branches, no_more, skip, left_open, go}
 use Rattle.proof_tree.specs.Place.{position, is_fixed, list_after, tracked_variable}

@@ -1,18 +1,9 @@
 -- Which arguments each predicate takes, and its name.
 use Rattle.std.specs.Prelude.{ℕ, List, [], ◌∷◌, codes}
+pub use Rattle.qc_model.specs.declared.signature.Sort.{Sort}
+pub use Rattle.qc_model.specs.declared.signature.Sort.TheVariants.{Integer as integer, Boolean as boolean, Integers as integers, Booleans as booleans, Numbers as numbers, Truths as truths, Members as members}
 use Rattle.qc_model.specs.declared.problem.Pred.{Pred}
 use Rattle.qc_model.specs.declared.problem.Pred.TheVariants.{IntEq, IntNe, IntLe, IntLt, IntLinEq, IntLinNe, IntLinLe, IntPlus, IntTimes, IntAbs, IntMin, IntMax, IntDiv, IntMod, BoolEq, Bool2int, BoolNot, BoolLe, BoolLt, ArrayIntElement, ArrayBoolElement, ArrayVarIntElement, ArrayVarBoolElement, ArrayIntMinimum, ArrayIntMaximum, SetIn, BoolAnd, BoolOr, BoolXor, ArrayBoolAnd, ArrayBoolOr, ArrayBoolXor, BoolClause, AllDifferentInt, TableInt, IntEqReif, IntNeReif, IntLeReif, IntLtReif, IntLinEqReif, IntLinNeReif, IntLinLeReif, SetInReif, BoolEqReif, BoolLeReif, BoolLtReif, BoolClauseReif}
-
--- an argument: an integer variable or a number; a Boolean variable or a truth value; an array of either; an array of
--- numbers or of truth values alone; a set of numbers
-pub data Sort : Type 0 where
-  integer : Sort
-  boolean : Sort
-  integers : Sort
-  booleans : Sort
-  numbers : Sort
-  truths : Sort
-  members : Sort
 
 abbrev pub sorts_of : Pred → List Sort
 sorts_of IntEq = integer ∷ integer ∷ []

@@ -1,10 +1,10 @@
 //! A problem: a draft that is valid, behind calls that keep it so.
-ghost use Rattle.std.specs.Prelude.{◌≡◌, ◌<◌, ◌≤◌, ◌^◌, length, slice_get};
+ghost use Rattle.std.specs.Prelude.{◌≡◌, ◌<◌, ◌≤◌, ◌^◌, ◌==◌, filter, length, slice_get};
 ghost use Rattle.qc_model.specs.Game.{before, restriction as restriction_of};
 ghost use Rattle.qc_model.specs.Valid.{IsValid};
 
 use crate::order::{constraints_below, variables_below};
-use crate::problem::{ConId, Constraint, Draft, Scope, ScopeId, VarId, Variable};
+use crate::problem::{Aggregate, ConId, Constraint, Draft, Scope, ScopeId, VarId, Variable};
 use std::marker::Model;
 
 /// A valid draft.
@@ -40,10 +40,18 @@ impl Problem {
         let _ = &self.draft;
     }
 
-    pub(crate) fn all_variables(&self) -> &[Variable]
+    /// All variables, in order.
+    pub fn all_variables(&self) -> &[Variable]
         ensures { result.now ≡ self.now.variables }
     {
         self.draft.variables.as_slice()
+    }
+
+    /// All aggregates, in order.
+    pub fn all_aggregates(&self) -> &[Aggregate]
+        ensures { result.now ≡ self.now.aggregates }
+    {
+        self.draft.aggregates.as_slice()
     }
 
     pub(crate) fn all_constraints(&self) -> &[Constraint]
@@ -109,6 +117,20 @@ impl Problem {
     {
         self.known();
         variables_below(self.all_variables(), i)
+    }
+
+    /// The variables of scope i.
+    pub fn variables_of(&self, i: usize) -> &[Variable]
+        requires { i < 2 ^ 63 }
+        ensures { result.now ≡ filter (λ x. x.scope.0 == i) self.now.variables }
+    {
+        self.known();
+        let all = self.all_variables();
+        let from = variables_below(all, i);
+        let to = variables_below(all, i + 1);
+        let (_earlier, rest) = all.split_at(from);
+        let (here, _later) = rest.split_at(to - from);
+        here
     }
 
     /// The constraints of scope i, or of the goal where i is the number of scopes.

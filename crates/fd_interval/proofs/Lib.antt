@@ -1,0 +1,9 @@
+pub mod Ends
+pub mod ProductSteps
+pub mod Products
+pub mod Sums
+pub mod Divisors
+pub mod Quotients
+pub mod Listed
+pub mod ListedEnds
+pub mod Remainders

@@ -1,0 +1,12 @@
+use mir.Syntax.{w128}
+use Rattle.std.proofs.Common.{arith, ◌≡◌, ◌∙◌, pos, ap}
+use Rattle.std.specs.Int.{int_min, int_max}
+use Rattle.std.proofs.lemmas.Int.{ints, clamps, to_z-of_z}
+use Rattle.fd_interval.proofs.Remainders.{upper_is}
+use Rattle.fd_interval.proofs.division.greatest_remainder.Goals as goal
+
+pub returns-clause-value : goal.returns-clause-value
+returns-clause-value c =
+    let first : c.max.result ≡ int_max c.args.hi (pos 0) = omega (arith, ints, clamps) in
+    let second : c.min.result ≡ int_min c.max.result c.args.far = omega (arith, ints, clamps) in
+    to_z-of_z w128 c.min.result record { sfits = c.min.type_inv } ∙ upper_is c.args.hi c.args.far c.min.result c.requires (second ∙ ap (λ n. int_min n c.args.far) first)

@@ -1,0 +1,12 @@
+use mir.Syntax.{w128}
+use Rattle.std.proofs.Common.{arith, ◌≡◌, ◌∙◌, neg_ℤ, pos, ap}
+use Rattle.std.specs.Int.{int_min, int_max}
+use Rattle.std.proofs.lemmas.Int.{ints, clamps, to_z-of_z}
+use Rattle.fd_interval.proofs.Remainders.{lower_is}
+use Rattle.fd_interval.proofs.division.least_remainder.Goals as goal
+
+pub returns-clause-value : goal.returns-clause-value
+returns-clause-value c =
+    let first : c.min.result ≡ int_min c.args.lo (pos 0) = omega (arith, ints, clamps) in
+    let second : c.max.result ≡ int_max c.min.result (neg_ℤ c.args.far) = omega (arith, ints, clamps) in
+    to_z-of_z w128 c.max.result record { sfits = c.max.type_inv } ∙ lower_is c.args.lo c.args.far c.max.result c.requires (second ∙ ap (λ n. int_max n (neg_ℤ c.args.far)) first)

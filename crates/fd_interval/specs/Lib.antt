@@ -1,0 +1,4 @@
+pub mod Limit
+pub mod Spans
+pub mod Quotients
+pub mod Remainders
