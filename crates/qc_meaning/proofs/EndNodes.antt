@@ -23,10 +23,10 @@ use Rattle.proof_tree.specs.InPlace.{is_horizon}
 use Rattle.proof_tree.specs.Finding.{kind_stuck, stuck_finding, goal_finding}
 use Rattle.proof_tree.specs.Meaning.{PlanLies, VerdictMeans}
 use Rattle.proof_tree.specs.Plain.{IsOrdered}
-use Rattle.proof_tree.proofs.Boxes.{differ, in_front}
-use Rattle.proof_tree.proofs.Passing.{goal_move}
-use Rattle.proof_tree.proofs.Fairness.{good_front, pass_good}
-use Rattle.proof_tree.proofs.Found.{Blocked, none_pass, none_among}
+use Rattle.qc_meaning.proofs.Blocks.{Blocked, none_pass, none_among}
+use Rattle.qc_meaning.proofs.Boxes.{differ, in_front}
+use Rattle.qc_meaning.proofs.GoodValues.{good_front, pass_good}
+use Rattle.qc_meaning.proofs.Passing.{goal_move}
 use Rattle.qc_meaning.proofs.Reach.{lies_to}
 use Rattle.qc_meaning.proofs.Frames.{stop_of, Frame, FairNode, front_in}
 use Rattle.qc_meaning.proofs.Entering.{declared_move, rest_declared, all_good}

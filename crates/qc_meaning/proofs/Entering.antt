@@ -16,12 +16,13 @@ use Rattle.qc_model.proofs.Before.{before-le, before-zero}
 use Rattle.qc_laws.specs.Distinct.{EachDistinct}
 use Rattle.proof_tree.specs.Place.{position, is_fixed}
 use Rattle.proof_tree.specs.Good.{Good}
-use Rattle.proof_tree.proofs.Passing.{move_count}
-use Rattle.proof_tree.proofs.Places.{only_heads}
-use Rattle.proof_tree.proofs.Widths.{take_scope, part_rest, width}
-use Rattle.proof_tree.proofs.Boxes.{singles, in_take, from_take, in_append, in_rest, in_singles, singles_of, all_single, heads_singles}
-use Rattle.proof_tree.proofs.FairBoxes.{before_wider, free_above}
-use Rattle.proof_tree.proofs.Fairness.{within_in, good_front, declared_keeps}
+use Rattle.qc_meaning.proofs.Boxes.{singles, in_take, from_take, in_append, in_rest, in_singles, singles_of, all_single, heads_singles}
+use Rattle.qc_meaning.proofs.FreeFront.{before_wider, free_above}
+use Rattle.qc_meaning.proofs.GoodValues.{good_front, declared_keeps}
+use Rattle.qc_meaning.proofs.Narrowed.{within_in}
+use Rattle.qc_meaning.proofs.Passing.{move_count}
+use Rattle.qc_meaning.proofs.Places.{only_heads}
+use Rattle.qc_meaning.proofs.Widths.{take_scope, part_rest, width}
 use Rattle.qc_meaning.proofs.Taken.{taken_less, taken_all, taken_front}
 use Rattle.qc_meaning.proofs.Frames.{stop_of, Frame, FairNode, FairPart, front_in}
 

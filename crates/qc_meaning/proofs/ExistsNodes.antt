@@ -24,10 +24,10 @@ use Rattle.qc_laws.proofs.Existence.{neither_better}
 use Rattle.qc_laws.proofs.Choosing.{best_one, vector_long, choose_vector}
 use Rattle.proof_tree.specs.Finding.{Leaf, seen_of, all_replies, exists_finding}
 use Rattle.proof_tree.specs.Meaning.{PlanLies, FirstIsNoBetter, ExactMeans, VerdictMeans}
-use Rattle.proof_tree.proofs.Places.{both}
-use Rattle.proof_tree.proofs.Boxes.{differ}
-use Rattle.proof_tree.proofs.Leaves.{exists_lost, none_skipped, decide_reached}
-use Rattle.proof_tree.proofs.Fairness.{pass_good}
+use Rattle.qc_meaning.proofs.Boxes.{differ}
+use Rattle.qc_meaning.proofs.GoodValues.{pass_good}
+use Rattle.qc_meaning.proofs.LeafWords.{exists_lost, none_skipped, decide_reached}
+use Rattle.qc_meaning.proofs.Places.{both}
 use Rattle.qc_meaning.proofs.Reach.{reach, lies_to, lies_from, plan_good}
 use Rattle.qc_meaning.proofs.Frames.{stop_of, FairNode}
 use Rattle.qc_meaning.proofs.Entering.{all_good}

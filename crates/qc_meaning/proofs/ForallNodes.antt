@@ -32,11 +32,10 @@ use Rattle.qc_laws.proofs.Leaves.{best_each}
 use Rattle.qc_laws.proofs.Joins.{leaves_mean}
 use Rattle.proof_tree.specs.Finding.{Leaf, leaf_barred, leaf_skipped, leaf_bound, leaf_node, seen_of, first_choice, strategy_at, answers, forall_finding}
 use Rattle.proof_tree.specs.Meaning.{FirstIsNoBetter, ExactMeans, VerdictMeans}
-use Rattle.proof_tree.proofs.Places.{both}
-use Rattle.proof_tree.proofs.Boxes.{differ}
-use Rattle.proof_tree.proofs.Leaves.{Reached, not_skipped, same_true, same_self, answer_tuples, answer_each}
-use Rattle.proof_tree.proofs.Leaves.{none_skipped as none_left_out}
-use Rattle.proof_tree.proofs.Sides.{any_forall_lost, any_forall_exact}
+use Rattle.qc_meaning.proofs.Boxes.{differ}
+use Rattle.qc_meaning.proofs.ForallRules.{any_forall_lost, any_forall_exact}
+use Rattle.qc_meaning.proofs.LeafWords.{Reached, not_skipped, same_true, same_self, answer_tuples, answer_each, none_skipped as none_left_out}
+use Rattle.qc_meaning.proofs.Places.{both}
 use Rattle.qc_meaning.proofs.Frames.{FairNode, front_in}
 use Rattle.qc_meaning.proofs.Entering.{declared_move, rest_declared}
 use Rattle.qc_meaning.proofs.LeafLists.{EachLeaf, EachLoses, claim, LeavesMean, tuple_lies, reached_tuple}

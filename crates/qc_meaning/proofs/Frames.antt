@@ -17,11 +17,12 @@ use Rattle.proof_tree.specs.Steps.{is_refuted_within}
 use Rattle.proof_tree.specs.Good.{Good, GoodThrough}
 use Rattle.proof_tree.specs.Plain.{IsTableSound, IsOrdered}
 use Rattle.proof_tree.specs.Fair.{free_stop, KeepsGood, LeavesRest}
-use Rattle.proof_tree.proofs.HorizonHolds.{not_refuted}
-use Rattle.proof_tree.proofs.Passing.{GoodAfter, move_count, after_passes}
-use Rattle.proof_tree.proofs.Boxes.{singles, in_singles, filter_widen, filter_split, value_widen, singles_stay}
-use Rattle.proof_tree.proofs.FairBoxes.{before_wider, free_above}
-use Rattle.proof_tree.proofs.Fairness.{IsWithin, good_front, after_front, within_filter, within_value, within_in, past_set}
+use Rattle.qc_meaning.proofs.Boxes.{singles, in_singles, filter_widen, filter_split, value_widen, singles_stay}
+use Rattle.qc_meaning.proofs.FreeFront.{before_wider, free_above}
+use Rattle.qc_meaning.proofs.GoodValues.{good_front, after_front}
+use Rattle.qc_meaning.proofs.HorizonHolds.{not_refuted}
+use Rattle.qc_meaning.proofs.Narrowed.{IsWithin, within_filter, within_value, within_in, past_set}
+use Rattle.qc_meaning.proofs.Passing.{GoodAfter, move_count, after_passes}
 use Rattle.qc_meaning.proofs.Taken.{taken_less, still_in, filtered_distinct, set_distinct}
 
 -- the first number from i on whose scope's values aren't asked to lie in the box; is_bounded says that a bound of the block stands above

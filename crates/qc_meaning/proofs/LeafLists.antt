@@ -21,8 +21,8 @@ use Rattle.qc_laws.specs.Distinct.{Distinct}
 use Rattle.qc_laws.specs.Verdicts.{Means, barred, skipped, marked, reaches, tuples_of}
 use Rattle.qc_laws.specs.Verdicts.{Claim}
 use Rattle.proof_tree.specs.Finding.{Finding, Leaf, leaf_barred, leaf_skipped, leaf_bound, leaf_node, seen_of}
-use Rattle.proof_tree.proofs.Passing.{GoodAfter}
-use Rattle.proof_tree.proofs.Leaves.{Reached, not_skipped}
+use Rattle.qc_meaning.proofs.LeafWords.{Reached, not_skipped}
+use Rattle.qc_meaning.proofs.Passing.{GoodAfter}
 use Rattle.qc_meaning.proofs.Reach.{reach}
 use Rattle.qc_meaning.proofs.Entering.{TheMove}
 

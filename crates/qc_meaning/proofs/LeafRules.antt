@@ -26,12 +26,12 @@ use Rattle.proof_tree.specs.Place.{position}
 use Rattle.proof_tree.specs.Finding.{Finding, Leaf, leaf_barred, leaf_skipped, leaf_bound, leaf_node, seen_of}
 use Rattle.proof_tree.specs.Good.{Good}
 use Rattle.proof_tree.specs.Meaning.{FirstIsNoBetter, VerdictMeans}
-use Rattle.proof_tree.proofs.Places.{both}
-use Rattle.proof_tree.proofs.Boxes.{differ, in_front, empty_past, none_past, none_at, values_split}
-use Rattle.proof_tree.proofs.Passing.{GoodAfter, move_count}
-use Rattle.proof_tree.proofs.Leaves.{not_skipped, reached_left, reached_right}
-use Rattle.proof_tree.proofs.Fairness.{good_front, after_front}
-use Rattle.proof_tree.proofs.Found.{first_widen, rest_widen}
+use Rattle.qc_meaning.proofs.Boxes.{differ, in_front, empty_past, none_past, none_at, values_split}
+use Rattle.qc_meaning.proofs.GoodValues.{good_front, after_front}
+use Rattle.qc_meaning.proofs.LeafWords.{not_skipped, reached_left, reached_right}
+use Rattle.qc_meaning.proofs.Narrowed.{first_widen, rest_widen}
+use Rattle.qc_meaning.proofs.Passing.{GoodAfter, move_count}
+use Rattle.qc_meaning.proofs.Places.{both}
 use Rattle.qc_meaning.proofs.Taken.{apart}
 use Rattle.qc_meaning.proofs.Reach.{reach, lies_to, lies_from, plan_good}
 use Rattle.qc_meaning.proofs.Frames.{Frame, FairPart}

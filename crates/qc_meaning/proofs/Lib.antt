@@ -1,3 +1,15 @@
+pub mod Places
+pub mod Widths
+pub mod Boxes
+pub mod HorizonHolds
+pub mod Passing
+pub mod GoodValues
+pub mod Narrowed
+pub mod Blocks
+pub mod FreeScopes
+pub mod FreeFront
+pub mod LeafWords
+pub mod ForallRules
 pub mod Reach
 pub mod Taken
 pub mod Owners

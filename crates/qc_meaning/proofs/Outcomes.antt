@@ -26,8 +26,8 @@ use Rattle.proof_tree.specs.Finding.{Finding}
 use Rattle.proof_tree.specs.Read.{root_finding, strategy_of, counter_of}
 use Rattle.proof_tree.specs.Proves.{optimises_first, is_value, shows, proves}
 use Rattle.proof_tree.specs.Meaning.{LostMeans, VerdictMeans, OptimumBy, IsOptimum, TrueMeans, FalseMeans, OutcomeMeans}
-use Rattle.proof_tree.proofs.Places.{both}
-use Rattle.proof_tree.proofs.Boxes.{differ}
+use Rattle.qc_meaning.proofs.Boxes.{differ}
+use Rattle.qc_meaning.proofs.Places.{both}
 use Rattle.qc_meaning.specs.Premises.{IsSound}
 use Rattle.qc_meaning.proofs.Frames.{FairNode}
 use Rattle.qc_meaning.proofs.Entering.{root_fair}

@@ -19,7 +19,7 @@ use Rattle.qc_model.specs.Block.{of_kind, no_condition_to}
 use Rattle.qc_model.proofs.InOrder.{below, none_below, tail_order, next_up, counted}
 use Rattle.proof_tree.specs.Place.{Tracked, owner_of, tracked_target, tracked_first, tracked_variable}
 use Rattle.proof_tree.specs.Fair.{free_stop}
-use Rattle.proof_tree.proofs.FreeScopes.{run_stop, bounded_is_free}
+use Rattle.qc_meaning.proofs.FreeScopes.{run_stop, bounded_is_free}
 
 abbrev owner : Variable → ℕ
 owner x = x.scope.0

@@ -21,9 +21,9 @@ use Rattle.qc_model.proofs.ExistsMeans.{SomeAllows, cover}
 use Rattle.qc_laws.proofs.Better.{or_none}
 use Rattle.qc_laws.proofs.Choosing.{best_weaker, vector_long}
 use Rattle.proof_tree.specs.Finding.{Leaf, leaf_barred, leaf_skipped, leaf_bound, leaf_node, seen_of, is_exact_at, first_choice, all_replies}
-use Rattle.proof_tree.proofs.Places.{both}
-use Rattle.proof_tree.proofs.Boxes.{differ}
-use Rattle.proof_tree.proofs.Leaves.{Reached, same_true, same_self}
+use Rattle.qc_meaning.proofs.Boxes.{differ}
+use Rattle.qc_meaning.proofs.LeafWords.{Reached, same_true, same_self}
+use Rattle.qc_meaning.proofs.Places.{both}
 use Rattle.qc_meaning.proofs.LeafLists.{Shown, EachLeaf, EachLoses, is_unmarked}
 
 exact_at_is : (v : List ℤ) (x : Verdict) → is_exact_at v x ≡ true → x ≡ exact v

@@ -31,9 +31,9 @@ use Rattle.proof_tree.specs.Place.{Tracked, owner_of, tracked_target, tracked_fi
 use Rattle.proof_tree.specs.Steps.{after_step, after_steps, is_legal, are_legal, removes_some, is_refuted_within, is_tracked, best_value, step_marks}
 use Rattle.proof_tree.specs.Finding.{Leaf, leaf_bound}
 use Rattle.proof_tree.specs.Fair.{free_stop}
-use Rattle.proof_tree.proofs.Places.{both, not_true}
-use Rattle.proof_tree.proofs.Boxes.{differ, filter_widen, filter_split}
-use Rattle.proof_tree.proofs.Fairness.{past_set}
+use Rattle.qc_meaning.proofs.Boxes.{differ, filter_widen, filter_split}
+use Rattle.qc_meaning.proofs.Narrowed.{past_set}
+use Rattle.qc_meaning.proofs.Places.{both, not_true}
 use Rattle.qc_meaning.specs.Premises.{IsSound}
 use Rattle.qc_meaning.proofs.Owners.{bound_free}
 use Rattle.qc_meaning.proofs.Reach.{reach, value_reach}

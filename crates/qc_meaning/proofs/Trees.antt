@@ -24,12 +24,13 @@ use Rattle.proof_tree.specs.Finding.{Finding, Leaf, kind_finding, stuck_finding,
 use Rattle.proof_tree.specs.Read.{marks, read, read_body, leaves, branch_leaves}
 use Rattle.proof_tree.specs.Good.{Good}
 use Rattle.proof_tree.specs.Meaning.{VerdictMeans}
-use Rattle.proof_tree.proofs.Passing.{move_count}
-use Rattle.proof_tree.proofs.Widths.{in_scope}
-use Rattle.proof_tree.proofs.Places.{both, not_true}
-use Rattle.proof_tree.proofs.Boxes.{differ, value_widen}
-use Rattle.proof_tree.proofs.Fairness.{steps_widen, declared_keeps}
-use Rattle.proof_tree.proofs.Found.{Blocked, blocked_less, blocked_next, blocked_below}
+use Rattle.qc_meaning.proofs.Blocks.{Blocked, blocked_less, blocked_next, blocked_below}
+use Rattle.qc_meaning.proofs.Boxes.{differ, value_widen}
+use Rattle.qc_meaning.proofs.GoodValues.{declared_keeps}
+use Rattle.qc_meaning.proofs.Narrowed.{steps_widen}
+use Rattle.qc_meaning.proofs.Passing.{move_count}
+use Rattle.qc_meaning.proofs.Places.{both, not_true}
+use Rattle.qc_meaning.proofs.Widths.{in_scope}
 use Rattle.qc_meaning.specs.Premises.{IsSound}
 use Rattle.qc_meaning.proofs.Taken.{get_distinct}
 use Rattle.qc_meaning.proofs.Frames.{FairNode, FairPart, front_in, narrow_fair}
@@ -98,7 +99,7 @@ mutual
   tree_means g r (tree z c) later i d box b h len sees v full f blocked e =
       let p = both (horizon_in_place g z later i box h) (body_in_place g c later i d box (horizon_below z h)) e in
       body_means g r c later i d box b (horizon_below z h) len sees v full f
-      (blocked_below g (record { sound = r.sound.table; ordered = r.sound.ordered }) z later i (position g i box) box h f.frame.count f.frame.within full p.0 blocked) p.1
+      (blocked_below g r.sound.table r.sound.ordered z later i (position g i box) box h f.frame.count f.frame.within full p.0 blocked) p.1
 
   body_means : (g : Game) (r : Ground g) (c : Body) (later : List Scope) (i : ℕ) (d : List Condition) (box : Box) (b : Bool) (h : Option ℕ) → i + length later ≡ length g.scopes → SeesRight g later i → AllVisible g later i d → has_empty box ≡ false →
       FairNode g b later i (position g i box) box → Blocked g i (position g i box) box h → IsTrue (body_in_place g c later i d box h) → NodeMeans g b later i d (position g i box) box (read_body g c later i d box)
