@@ -15,6 +15,7 @@ pub mod Taken
 pub mod Owners
 pub mod Frames
 pub mod Entering
+pub mod FairBoxes
 pub mod LeafLists
 pub mod LeafRules
 pub mod StepRules
