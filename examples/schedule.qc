@@ -1,0 +1,13 @@
+exists;
+var 0..3: start1;
+forall;
+var 0..2: delay1;
+exists;
+var 0..8: start2;
+constraint int_lin_le([1,1,-1],[start1,delay1,start2],-2);
+forall;
+var 0..2: delay2;
+constraint int_lin_le([1,1],[delay1,delay2],2);
+goal;
+constraint int_lin_le([1,1],[start2,delay2],5);
+solve;
