@@ -10,7 +10,7 @@ use Rattle.qc_model.specs.Game.{before, IsMove}
 use Rattle.proof_tree.specs.declared.tree.Horizon.{Horizon}
 use Rattle.proof_tree.specs.Steps.{after_steps, are_legal}
 use Rattle.proof_tree.specs.InPlace.{horizon_below, is_horizon, horizon_in_place}
-use Rattle.proof_tree.specs.Plain.{IsOrdered, IsTableSound}
+use Rattle.qc_model.specs.Table.{IsOrdered, IsTableSound}
 use Rattle.qc_meaning.proofs.Boxes.{differ}
 use Rattle.qc_meaning.proofs.HorizonHolds.{horizon_holds}
 use Rattle.qc_meaning.proofs.Narrowed.{IsWithin, within_in}

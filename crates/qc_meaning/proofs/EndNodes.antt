@@ -22,7 +22,7 @@ use Rattle.qc_model.proofs.Vectors.{no_better_self}
 use Rattle.proof_tree.specs.InPlace.{is_horizon}
 use Rattle.proof_tree.specs.Finding.{kind_stuck, stuck_finding, goal_finding}
 use Rattle.proof_tree.specs.Meaning.{PlanLies, VerdictMeans}
-use Rattle.proof_tree.specs.Plain.{IsOrdered}
+use Rattle.qc_model.specs.Table.{IsOrdered}
 use Rattle.qc_meaning.proofs.Blocks.{Blocked, none_pass, none_among}
 use Rattle.qc_meaning.proofs.Boxes.{differ, in_front}
 use Rattle.qc_meaning.proofs.GoodValues.{good_front, pass_good}

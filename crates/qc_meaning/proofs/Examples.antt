@@ -1,4 +1,4 @@
--- Games that meet the premise, and what their certificates show: a bound, and an aggregate over no branch.
+-- Valid games, and what their certificates show: a bound, and an aggregate over no branch.
 use Rattle.std.proofs.Common.{◌≡◌, ℕ, zero, suc, [], ◌∷◌, map, refl, subst, arith, Some, None, true}
 use Rattle.std.specs.Prelude.{pos, slice_get, codes}
 use Rattle.qc_model.specs.declared.problem.Kind.TheVariants.{Forall}
@@ -23,11 +23,11 @@ use Rattle.qc_model.specs.Valid.{IsValid}
 use Rattle.qc_model.proofs.Visible.{given_fits}
 use Rattle.qc_model.proofs.Sound.{below_sound}
 use Rattle.proof_tree.specs.declared.tree.Outcome.TheVariants.{True}
-use Rattle.proof_tree.specs.Plain.{IsTableSound}
+use Rattle.qc_model.specs.Table.{IsTableSound}
 use Rattle.proof_tree.specs.Tree.{Tree, tree, goal, cases, empty, next, branch, no_more, go}
 use Rattle.proof_tree.proofs.Build.{var, scope, optimising, rule, prune}
 use Rattle.proof_tree.proofs.BoundMarks.{bound_above}
-use Rattle.qc_meaning.specs.Premises.{IsSound}
+use Rattle.qc_meaning.proofs.Premises.{IsSound}
 use Rattle.qc_meaning.proofs.Outcomes.{outcome_means}
 
 -- exists minimize x; var 0..2: x; goal; solve;
@@ -89,38 +89,10 @@ greatest_is_valid = record {
   sees = (refl, (omega arith, tt));
 }
 
-least_is_sound : IsSound least_x
-least_is_sound = record {
-  valid = least_is_valid;
-  table = λ k c box w e. cc;
-  ordered = record { no_empty = refl; visible = λ k c e. cc; goal = refl };
-}
-
 -- a bound: every optimal strategy gives x its least value
 pub least_is_least : (s : Plan) → Optimal least_x least_x.scopes 0 [] s → value least_x s (TVar (var 0)) [] ≡ pos 0
-least_is_least = (outcome_means least_x True (Some (pos 0)) bound_above least_is_sound refl).1
-
-the_rule : (k : ℕ) (c : Rule) → slice_get greatest_of_none.constraints k ≡ Some c → rule 1 IntLt (One (Var (var 1)) ∷ One (Var (var 0)) ∷ []) ≡ c
-the_rule zero c e = cc
-the_rule (suc k) c e = cc
-
-below_only : (g : Game) → ((k : ℕ) (c : Rule) → slice_get g.constraints k ≡ Some c → c.pred ≡ IntLt) → IsTableSound g
-below_only g f k c box w e below d r h holds =
-    below_sound (map (fill (arg_value w)) c.args) (map (fill (left_to box)) c.args) (given_fits w box c.args h below)
-    (subst (λ p. refuted_as (meaning_of p) (map (fill (left_to box)) c.args) ≡ true) (f k c e) r)
-    (subst (λ p. holds_as (meaning_of p) (map (fill (arg_value w)) c.args) ≡ true) (f k c e) holds)
-
-greatest_is_sound : IsSound greatest_of_none
-greatest_is_sound = record {
-  valid = greatest_is_valid;
-  table = below_only greatest_of_none (λ k c e. subst (λ x. x.pred ≡ IntLt) (the_rule k c e) refl);
-  ordered = record {
-    no_empty = refl;
-    visible = λ k c e. subst (λ x. ArgumentsBelow (before greatest_of_none (suc x.owner.0)) x.args) (the_rule k c e) (omega arith, (omega arith, tt));
-    goal = refl;
-  };
-}
+least_is_least = (outcome_means least_x True (Some (pos 0)) bound_above least_is_valid refl).1
 
 -- an aggregate: every optimal strategy leaves the other side no move, and gets the number for none
 pub greatest_is_seven : (s : Plan) → Optimal greatest_of_none greatest_of_none.scopes 0 [] s → value greatest_of_none s (TAgg (record { 0 = 0 })) [] ≡ pos 7
-greatest_is_seven = (outcome_means greatest_of_none True (Some (pos 7)) no_branch greatest_is_sound refl).1
+greatest_is_seven = (outcome_means greatest_of_none True (Some (pos 7)) no_branch greatest_is_valid refl).1

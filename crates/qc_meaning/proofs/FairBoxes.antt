@@ -8,7 +8,7 @@ use Rattle.qc_model.specs.declared.problem.Scope.{Scope}
 use Rattle.qc_model.specs.Content.{Game}
 use Rattle.qc_model.specs.Domains.{Box, InBox, declared_box, box_at, box_within, box_without, has_empty}
 use Rattle.qc_model.specs.Game.{before, IsMove}
-use Rattle.proof_tree.specs.Plain.{IsOrdered, IsTableSound}
+use Rattle.qc_model.specs.Table.{IsOrdered, IsTableSound}
 use Rattle.proof_tree.specs.Steps.{is_refuted_within}
 use Rattle.proof_tree.specs.Fair.{free_stop, Taken, Agrees, FairAt, FairAtKind, FairWithinKind}
 use Rattle.qc_meaning.proofs.Passing.{move_count}

@@ -15,7 +15,7 @@ use Rattle.qc_model.specs.Block.{of_kind, block_stop}
 use Rattle.qc_laws.specs.Distinct.{EachDistinct}
 use Rattle.proof_tree.specs.Steps.{is_refuted_within}
 use Rattle.proof_tree.specs.Good.{Good, GoodThrough}
-use Rattle.proof_tree.specs.Plain.{IsTableSound, IsOrdered}
+use Rattle.qc_model.specs.Table.{IsTableSound, IsOrdered}
 use Rattle.proof_tree.specs.Fair.{free_stop, KeepsGood, LeavesRest}
 use Rattle.qc_meaning.proofs.Boxes.{singles, in_singles, filter_widen, filter_split, value_widen, singles_stay}
 use Rattle.qc_meaning.proofs.FreeFront.{before_wider, free_above}

@@ -1,3 +1,4 @@
+pub mod Premises
 pub mod Places
 pub mod Widths
 pub mod Boxes

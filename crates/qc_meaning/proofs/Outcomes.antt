@@ -28,7 +28,8 @@ use Rattle.proof_tree.specs.Proves.{optimises_first, is_value, shows, proves}
 use Rattle.proof_tree.specs.Meaning.{LostMeans, VerdictMeans, OptimumBy, IsOptimum, TrueMeans, FalseMeans, OutcomeMeans}
 use Rattle.qc_meaning.proofs.Boxes.{differ}
 use Rattle.qc_meaning.proofs.Places.{both}
-use Rattle.qc_meaning.specs.Premises.{IsSound}
+use Rattle.qc_meaning.proofs.Premises.{sound_of}
+use Rattle.qc_model.specs.Valid.{IsValid}
 use Rattle.qc_meaning.proofs.Frames.{FairNode}
 use Rattle.qc_meaning.proofs.Entering.{root_fair}
 use Rattle.qc_meaning.proofs.Trees.{OwnBy, OwnMeans, NodeMeans, tree_means}
@@ -36,9 +37,10 @@ use Rattle.qc_meaning.proofs.Trees.{OwnBy, OwnMeans, NodeMeans, tree_means}
 no_position : (g : Game) (box : Box) → position g 0 box ≡ []
 no_position g box = ap (λ n. map least_value (take n box)) (before-zero g)
 
-pub root_means : (g : Game) (t : Tree) → IsSound g → IsTrue (root_in_place g t) → NodeMeans g false g.scopes 0 [] [] (declared_box g) (root_finding g t)
-root_means g t r e =
-    let differs = valid_differs g r.valid in
+pub root_means : (g : Game) (t : Tree) → IsValid g → IsTrue (root_in_place g t) → NodeMeans g false g.scopes 0 [] [] (declared_box g) (root_finding g t)
+root_means g t valid e =
+    let r = sound_of g valid in
+    let differs = valid_differs g valid in
     let fair : FairNode g false g.scopes 0 (position g 0 (declared_box g)) (declared_box g) =
     subst (λ a. FairNode g false g.scopes 0 a (declared_box g)) (sym (no_position g (declared_box g))) (root_fair g (domains_differ g differs)) in
     subst (λ a. NodeMeans g false g.scopes 0 [] a (declared_box g) (root_finding g t)) (no_position g (declared_box g))
@@ -48,7 +50,7 @@ root_means g t r e =
     nothing [] = tt
     nothing (x ∷ xs) = tt
 
-pub root_verdict : (g : Game) (t : Tree) → IsSound g → IsTrue (root_in_place g t) → VerdictMeans (root_finding g t).verdict g g.scopes 0 [] [] (declared_box g) (root_finding g t) false
+pub root_verdict : (g : Game) (t : Tree) → IsValid g → IsTrue (root_in_place g t) → VerdictMeans (root_finding g t).verdict g g.scopes 0 [] [] (declared_box g) (root_finding g t) false
 root_verdict g t r e = (root_means g t r e).verdict
 
 exact_optimal : (g : Game) (f : Finding) (v : Verdict) → VerdictMeans v g g.scopes 0 [] [] (declared_box g) f false → IsTrue (is_exact v) → Optimal g g.scopes 0 [] f.strategy
@@ -63,12 +65,12 @@ lost_counter g f (exact v) m e = absurd (differ e)
 lost_counter g f (at_most p) m e = absurd (differ e)
 lost_counter g f unknown m e = absurd (differ e)
 
-pub root_true : (g : Game) (t : Tree) → IsSound g → IsTrue (root_in_place g t) → IsTrue (is_exact (root_finding g t).verdict) → TrueMeans g t
+pub root_true : (g : Game) (t : Tree) → IsValid g → IsTrue (root_in_place g t) → IsTrue (is_exact (root_finding g t).verdict) → TrueMeans g t
 root_true g t r e x =
     let o = exact_optimal g (root_finding g t) (root_finding g t).verdict (root_verdict g t r e) x in
     record { won = optimal_wins g g.scopes 0 [] (strategy_of g t) o; optimal = o }
 
-pub root_false : (g : Game) (t : Tree) → IsSound g → IsTrue (root_in_place g t) → IsTrue (is_lost (root_finding g t).verdict) → FalseMeans g t
+pub root_false : (g : Game) (t : Tree) → IsValid g → IsTrue (root_in_place g t) → IsTrue (is_lost (root_finding g t).verdict) → FalseMeans g t
 root_false g t r e x =
     let c = (lost_counter g (root_finding g t) (root_finding g t).verdict (root_verdict g t r e) x).loses refl in
     record { not_won = counter_loses g g.scopes 0 [] (counter_of g t) c; loses = c }
@@ -88,7 +90,7 @@ optimum_is g f v (s ∷ later) q h own x o = by s.kind s.condition q h own
     by Exists (Some c) q h own = λ p w.
         optimum_same g later c 0 [] p f.strategy (subst (λ z. Optimal g z 0 [] p) q w) (subst (λ z. Optimal g z 0 [] f.strategy) q o) ∙ own v x
 
-pub outcome_means : (g : Game) (outcome : Outcome) (optimum : Option ℤ) (t : Tree) → IsSound g → IsTrue (proves g outcome optimum t) → OutcomeMeans outcome optimum g t
+pub outcome_means : (g : Game) (outcome : Outcome) (optimum : Option ℤ) (t : Tree) → IsValid g → IsTrue (proves g outcome optimum t) → OutcomeMeans outcome optimum g t
 outcome_means g True None t r e =
     let p = both (root_in_place g t) (shows g t (root_finding g t) True None) e in
     let q = both (is_exact (root_finding g t).verdict) (not (optimises_first g.scopes)) p.1 in

@@ -34,7 +34,7 @@ use Rattle.proof_tree.specs.Fair.{free_stop}
 use Rattle.qc_meaning.proofs.Boxes.{differ, filter_widen, filter_split}
 use Rattle.qc_meaning.proofs.Narrowed.{past_set}
 use Rattle.qc_meaning.proofs.Places.{both, not_true}
-use Rattle.qc_meaning.specs.Premises.{IsSound}
+use Rattle.qc_meaning.proofs.Premises.{IsSound}
 use Rattle.qc_meaning.proofs.Owners.{bound_free}
 use Rattle.qc_meaning.proofs.Reach.{reach, value_reach}
 use Rattle.qc_meaning.proofs.Frames.{FairPart, prune_stays, prune_fair, bound_fair}

@@ -31,7 +31,7 @@ use Rattle.qc_meaning.proofs.Narrowed.{steps_widen}
 use Rattle.qc_meaning.proofs.Passing.{move_count}
 use Rattle.qc_meaning.proofs.Places.{both, not_true}
 use Rattle.qc_meaning.proofs.Widths.{in_scope}
-use Rattle.qc_meaning.specs.Premises.{IsSound}
+use Rattle.qc_meaning.proofs.Premises.{IsSound}
 use Rattle.qc_meaning.proofs.Taken.{get_distinct}
 use Rattle.qc_meaning.proofs.Frames.{FairNode, FairPart, front_in, narrow_fair}
 use Rattle.qc_meaning.proofs.Entering.{bounded_in, enter, all_fixed, TheMove, the_move, child_fair}
