@@ -1,6 +1,6 @@
 -- Valid games, and what their certificates show: a bound, and an aggregate over no branch.
-use Rattle.std.proofs.Common.{◌≡◌, ℕ, zero, suc, [], ◌∷◌, map, refl, subst, arith, Some, None, true}
-use Rattle.std.specs.Prelude.{pos, slice_get, codes}
+use Rattle.std.proofs.Common.{◌≡◌, [], ◌∷◌, refl, arith, Some, None}
+use Rattle.std.specs.Prelude.{pos, codes}
 use Rattle.qc_model.specs.declared.problem.Kind.TheVariants.{Forall}
 use Rattle.qc_model.specs.declared.problem.Sense.TheVariants.{Min, Max}
 use Rattle.qc_model.specs.declared.problem.Arg.TheVariants.{Var}
@@ -9,25 +9,15 @@ use Rattle.qc_model.specs.declared.problem.Pred.TheVariants.{IntLt}
 use Rattle.qc_model.specs.declared.problem.Fold.TheVariants.{Greatest}
 use Rattle.qc_model.specs.declared.problem.Target.TheVariants.{Var as TVar, Aggregate as TAgg}
 use Rattle.qc_model.specs.declared.problem.Domain.TheVariants.{Range}
-use Rattle.qc_model.specs.Content.{Game, Rule}
-use Rattle.qc_model.specs.Arguments.{fill}
-use Rattle.qc_model.specs.Meaning.{meaning_of}
-use Rattle.qc_model.specs.Holds.{arg_value, holds_as}
-use Rattle.qc_model.specs.Refuted.{left_to, refuted_as}
-use Rattle.qc_model.specs.Game.{before}
+use Rattle.qc_model.specs.Content.{Game}
 use Rattle.qc_model.specs.Plan.{Plan}
 use Rattle.qc_model.specs.Value.{value}
 use Rattle.qc_model.specs.Optimal.{Optimal}
-use Rattle.qc_model.specs.Visible.{ArgumentsBelow}
 use Rattle.qc_model.specs.Valid.{IsValid}
-use Rattle.qc_model.proofs.Visible.{given_fits}
-use Rattle.qc_model.proofs.Sound.{below_sound}
 use Rattle.proof_tree.specs.declared.tree.Outcome.TheVariants.{True}
-use Rattle.qc_model.specs.Table.{IsTableSound}
 use Rattle.proof_tree.specs.Tree.{Tree, tree, goal, cases, empty, next, branch, no_more, go}
 use Rattle.proof_tree.proofs.Build.{var, scope, optimising, rule, prune}
 use Rattle.proof_tree.proofs.BoundMarks.{bound_above}
-use Rattle.qc_meaning.proofs.Premises.{IsSound}
 use Rattle.qc_meaning.proofs.Outcomes.{outcome_means}
 
 -- exists minimize x; var 0..2: x; goal; solve;
