@@ -44,7 +44,7 @@ root_means g t valid e =
     let fair : FairNode g false g.scopes 0 (position g 0 (declared_box g)) (declared_box g) =
     subst (λ a. FairNode g false g.scopes 0 a (declared_box g)) (sym (no_position g (declared_box g))) (root_fair g (domains_differ g differs)) in
     subst (λ a. NodeMeans g false g.scopes 0 [] a (declared_box g) (root_finding g t)) (no_position g (declared_box g))
-    (tree_means g (record { sound = r; differs = differs }) t g.scopes 0 [] (declared_box g) false None (omega arith) r.valid.sees (nothing g.scopes) r.ordered.no_empty fair tt e)
+    (tree_means g r t g.scopes 0 [] (declared_box g) false None (omega arith) r.valid.sees (nothing g.scopes) r.ordered.no_empty fair tt e)
   where
     nothing : (scopes : List Scope) → AllVisible g scopes 0 []
     nothing [] = tt

@@ -14,7 +14,7 @@ use Rattle.qc_model.specs.Value.{value}
 use Rattle.qc_model.specs.Demands.{demands_after}
 use Rattle.qc_model.specs.Sees.{AllVisible, SeesRight}
 use Rattle.qc_laws.specs.Distinct.{Distinct}
-use Rattle.qc_laws.proofs.Domains.{EachListedDiffers}
+use Rattle.qc_laws.proofs.Validity.{valid_differs}
 use Rattle.qc_laws.proofs.Seen.{visible_own, after_visible}
 use Rattle.proof_tree.specs.Tree.{Tree, tree, Body, stuck, goal, cases, Ending, empty, barred, next, branch, Branches, no_more, skip, left_open, go}
 use Rattle.proof_tree.specs.Place.{position, is_fixed, list_after, tracked_variable}
@@ -42,11 +42,6 @@ use Rattle.qc_meaning.proofs.ExistsNodes.{exists_node, own_value}
 use Rattle.qc_meaning.proofs.ForallNodes.{forall_node}
 use Rattle.qc_meaning.proofs.EndNodes.{goal_node, stuck_node}
 
--- what the proofs rest on
-pub record Ground (g : Game) : Type 0 where
-  pub sound : IsSound g
-  pub differs : EachListedDiffers g.variables
-
 -- the strategy has the value that is stated for the scope's own condition
 abbrev pub OwnBy : Option Condition → Game → List ℤ → Finding → Type 0
 OwnBy None g a f = ⊤
@@ -67,14 +62,14 @@ no_own (Some c) g a f e = λ n q. absurd (none n (sym e ∙ q))
     none : (n : ℤ) → ¬ (None ≡ Some n)
     none n q = cc
 
-kind_node : (g : Game) (r : Ground g) (later : List Scope) (i : ℕ) (d : List Condition) (a : List ℤ) (box : Box) (b : Bool) (k : Kind) (x : Option Condition) (ls : List Leaf) →
+kind_node : (g : Game) (r : IsSound g) (later : List Scope) (i : ℕ) (d : List Condition) (a : List ℤ) (box : Box) (b : Bool) (k : Kind) (x : Option Condition) (ls : List Leaf) →
     LeavesMean g (bounded_in k b) k later i (demands_after g k x i d) a box ls → FairNode g b (record { kind = k; condition = x } ∷ later) i a box → has_empty box ≡ false →
     AllVisible g (record { kind = k; condition = x } ∷ later) i d → NodeMeans g b (record { kind = k; condition = x } ∷ later) i d a box (kind_finding k x g i d a ls)
 kind_node g r later i d a box b Exists None ls m f full v = record { verdict = exists_node g later i a box b None d ls m f full; own = tt }
 kind_node g r later i d a box b Exists (Some c) ls m f full v =
     record { verdict = exists_node g later i a box b (Some c) d ls m f full; own = own_value g later i a box b c d ls m f full }
 kind_node g r later i d a box b Forall x ls m f full v = record {
-  verdict = forall_node g later i a box b x d ls m f full (visible_own g later x i d v) r.differs;
+  verdict = forall_node g later i a box b x d ls m f full (visible_own g later x i d v) (valid_differs g r.valid);
   own = no_own x g a (kind_finding Forall x g i d a ls) refl;
 }
 
@@ -94,17 +89,17 @@ child_all g b k later i a w box f m q u good =
     (declared_keeps g later (suc i) (a ++ m.tuple) u box (subst (λ z. Good g later (suc i) z u) m.after good) at (move_count g i a m.tuple f.frame.count m.is_move) (f'.rest m.tuple (a ++ m.tuple) m.is_move refl at)).0
 
 mutual
-  pub tree_means : (g : Game) (r : Ground g) (t : Tree) (later : List Scope) (i : ℕ) (d : List Condition) (box : Box) (b : Bool) (h : Option ℕ) → i + length later ≡ length g.scopes → SeesRight g later i → AllVisible g later i d → has_empty box ≡ false →
+  pub tree_means : (g : Game) (r : IsSound g) (t : Tree) (later : List Scope) (i : ℕ) (d : List Condition) (box : Box) (b : Bool) (h : Option ℕ) → i + length later ≡ length g.scopes → SeesRight g later i → AllVisible g later i d → has_empty box ≡ false →
       FairNode g b later i (position g i box) box → Blocked g i (position g i box) box h → IsTrue (in_place g t later i d box h) → NodeMeans g b later i d (position g i box) box (read g t later i d box)
   tree_means g r (tree z c) later i d box b h len sees v full f blocked e =
       let p = both (horizon_in_place g z later i box h) (body_in_place g c later i d box (horizon_below z h)) e in
       body_means g r c later i d box b (horizon_below z h) len sees v full f
-      (blocked_below g r.sound.table r.sound.ordered z later i (position g i box) box h f.frame.count f.frame.within full p.0 blocked) p.1
+      (blocked_below g r.table r.ordered z later i (position g i box) box h f.frame.count f.frame.within full p.0 blocked) p.1
 
-  body_means : (g : Game) (r : Ground g) (c : Body) (later : List Scope) (i : ℕ) (d : List Condition) (box : Box) (b : Bool) (h : Option ℕ) → i + length later ≡ length g.scopes → SeesRight g later i → AllVisible g later i d → has_empty box ≡ false →
+  body_means : (g : Game) (r : IsSound g) (c : Body) (later : List Scope) (i : ℕ) (d : List Condition) (box : Box) (b : Bool) (h : Option ℕ) → i + length later ≡ length g.scopes → SeesRight g later i → AllVisible g later i d → has_empty box ≡ false →
       FairNode g b later i (position g i box) box → Blocked g i (position g i box) box h → IsTrue (body_in_place g c later i d box h) → NodeMeans g b later i d (position g i box) box (read_body g c later i d box)
   body_means g r stuck later i d box b h len sees v full f blocked e =
-      record { verdict = stuck_node g r.sound.ordered later i d (position g i box) box b h len blocked e full f; own = stuck_own g later d (position g i box) }
+      record { verdict = stuck_node g r.ordered later i d (position g i box) box b h len blocked e full f; own = stuck_own g later d (position g i box) }
   body_means g r goal [] i d box b h len sees v full f blocked e =
       record { verdict = goal_node g i d (position g i box) box b v (front_in g i (position g i box) box f.frame full); own = tt }
   body_means g r goal (s ∷ later) i d box b h len sees v full f blocked e = absurd (differ (both (not (is_horizon h i)) false e).1)
@@ -121,16 +116,16 @@ mutual
       let up : suc i + length later ≡ length g.scopes = omega arith in
       let w = after_visible g later s.kind s.condition i d v sees.0 in
       let part = enter g b s.kind s.condition later i a box full f in
-      let part1 = steps_fair g r.sound s later i x a up w (tracked_variable g (s ∷ later) i x) refl steps (bounded_in s.kind b) box p1.1 part in
+      let part1 = steps_fair g r s later i x a up w (tracked_variable g (s ∷ later) i x) refl steps (bounded_in s.kind b) box p1.1 part in
       let m = ending_means g r end s later i d after a (flag_after steps (bounded_in s.kind b)) h up sees v part1 (blocked_less g i a box after h (steps_widen steps box) blocked) p.1 in
       kind_node g r later i d a box b s.kind s.condition (marks g (s ∷ later) i d steps box ++ leaves g end (s ∷ later) i d after)
-      (steps_mean g r.sound s later i x a up w (tracked_variable g (s ∷ later) i x) refl steps (bounded_in s.kind b) box (leaves g end (s ∷ later) i d after) p1.1 part m) f full v
+      (steps_mean g r s later i x a up w (tracked_variable g (s ∷ later) i x) refl steps (bounded_in s.kind b) box (leaves g end (s ∷ later) i d after) p1.1 part m) f full v
 
   -- later has the scopes after i
-  ending_means : (g : Game) (r : Ground g) (end : Ending) (s : Scope) (later : List Scope) (i : ℕ) (d : List Condition) (box : Box) (a : List ℤ) (b : Bool) (h : Option ℕ) → suc i + length later ≡ length g.scopes →
+  ending_means : (g : Game) (r : IsSound g) (end : Ending) (s : Scope) (later : List Scope) (i : ℕ) (d : List Condition) (box : Box) (a : List ℤ) (b : Bool) (h : Option ℕ) → suc i + length later ≡ length g.scopes →
       SeesRight g (s ∷ later) i → AllVisible g (s ∷ later) i d → FairPart g b s.kind later i a box → Blocked g i a box h → IsTrue (ending_in_place g end (s ∷ later) i d box h) →
       LeavesMean g b s.kind later i (list_after g (s ∷ later) i d) a box (leaves g end (s ∷ later) i d box)
-  ending_means g r empty s later i d box a b h len sees v f blocked e = empty_mean g b s.kind later i (list_after g (s ∷ later) i d) a box r.sound.ordered.no_empty f e
+  ending_means g r empty s later i d box a b h len sees v f blocked e = empty_mean g b s.kind later i (list_after g (s ∷ later) i d) a box r.ordered.no_empty f e
   ending_means g r barred s later i d box a b h len sees v f blocked e =
       let p = both (not (has_empty box) && is_fixed g i box) (not (allows g i (position g (suc i) box))) e in
       let q = both (not (has_empty box)) (is_fixed g i box) p.0 in
@@ -155,7 +150,7 @@ mutual
       let m = branches_mean g r bs x.0 (values_left box x.0) s later i d box a b h len sees v f blocked (not_true (has_empty box) p2.0) q.0 q.1 (get_distinct box x.0 f.frame.distinct) (λ u k. k) p.1 in
       subst (λ c. LeavesMean g b s.kind later i (list_after g (s ∷ later) i d) a c (branch_leaves g bs x.0 (values_left box x.0) (s ∷ later) i d box)) (set-get_or box x.0 []) m
 
-  branches_mean : (g : Game) (r : Ground g) (bs : Branches) (x : ℕ) (vs : List ℤ) (s : Scope) (later : List Scope) (i : ℕ) (d : List Condition) (box : Box) (a : List ℤ) (b : Bool) (h : Option ℕ) → suc i + length later ≡ length g.scopes →
+  branches_mean : (g : Game) (r : IsSound g) (bs : Branches) (x : ℕ) (vs : List ℤ) (s : Scope) (later : List Scope) (i : ℕ) (d : List Condition) (box : Box) (a : List ℤ) (b : Bool) (h : Option ℕ) → suc i + length later ≡ length g.scopes →
       SeesRight g (s ∷ later) i → AllVisible g (s ∷ later) i d → FairPart g b s.kind later i a box → Blocked g i a box h → has_empty box ≡ false → before g i ≤ x → x < before g (suc i) → Distinct vs →
       ((u : ℤ) → Among u vs → Among u (values_left box x)) → IsTrue (branches_in_place g bs x vs (s ∷ later) i d box h) →
       LeavesMean g b s.kind later i (list_after g (s ∷ later) i d) a (set box x vs) (branch_leaves g bs x vs (s ∷ later) i d box)
@@ -179,10 +174,10 @@ mutual
       let t = tracked_variable g (s ∷ later) i y in
       let w = after_visible g later s.kind s.condition i d v sees.0 in
       let part = narrow_fair g b s.kind later i a box x n low high (sub n (inl refl)) full f in
-      let part1 = steps_fair g r.sound s later i y a len w t refl steps b small p1.0 part in
+      let part1 = steps_fair g r s later i y a len w t refl steps b small p1.0 part in
       let less = blocked_less g i a box after h (λ u k. value_widen box x n u (sub n (inl refl)) (steps_widen steps small u k)) blocked in
       let one = ending_means g r end s later i d after a (flag_after steps b) h len sees v part1 less p1.1 in
-      let marked = steps_mean g r.sound s later i y a len w t refl steps b small (leaves g end (s ∷ later) i d after) p1.0 part one in
+      let marked = steps_mean g r s later i y a len w t refl steps b small (leaves g end (s ∷ later) i d after) p1.0 part one in
       let others = branches_mean g r bs x vs s later i d box a b h len sees v f blocked full low high new.1 (λ u k. sub u (inr k)) p.1 in
       go_mean g b s.kind later i y a box x n vs (marks g (s ∷ later) i d steps small ++ leaves g end (s ∷ later) i d after) (branch_leaves g bs x vs (s ∷ later) i d box)
       f.frame.count high new.0 marked others
