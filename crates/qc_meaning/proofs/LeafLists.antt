@@ -13,11 +13,11 @@ use Rattle.qc_model.specs.Domains.{Box, InBox}
 use Rattle.qc_model.specs.Game.{IsMove}
 use Rattle.qc_model.specs.Plan.{Plan}
 use Rattle.qc_model.specs.Optimal.{Optimal}
-use Rattle.qc_model.specs.Counter.{CounterWins}
+use Rattle.qc_model.specs.Counter.{CounterWins, AnswersOnce}
 use Rattle.qc_model.specs.Demands.{vector}
 use Rattle.qc_model.specs.Verdict.{Seen, exact, is_lost}
 use Rattle.qc_model.proofs.ExistsMeans.{SomeAllows}
-use Rattle.qc_laws.specs.Distinct.{Distinct}
+use Rattle.qc_model.specs.Lists.{Distinct}
 use Rattle.qc_laws.specs.Verdicts.{Means, barred, skipped, marked, reaches, tuples_of}
 use Rattle.qc_laws.specs.Verdicts.{Claim}
 use Rattle.proof_tree.specs.Finding.{Finding, Leaf, leaf_barred, leaf_skipped, leaf_bound, leaf_node, seen_of}
@@ -53,6 +53,14 @@ EachLoses g later i (leaf_skipped ∷ ls) = EachLoses g later i ls
 EachLoses g later i (leaf_bound m ∷ ls) = EachLoses g later i ls
 EachLoses g later i (leaf_node w f ∷ ls) = (IsTrue (is_lost f.verdict) → CounterWins g later (suc i) w f.counter) × EachLoses g later i ls
 
+-- the counterstrategies of the leaves have one reply for each tuple
+abbrev pub EachOnce : List Leaf → Type 0
+EachOnce [] = ⊤
+EachOnce (leaf_barred ∷ ls) = EachOnce ls
+EachOnce (leaf_skipped ∷ ls) = EachOnce ls
+EachOnce (leaf_bound m ∷ ls) = EachOnce ls
+EachOnce (leaf_node w f ∷ ls) = AnswersOnce f.counter × EachOnce ls
+
 -- no mark of a bound stands among the leaves
 abbrev pub is_unmarked : List Leaf → Bool
 is_unmarked [] = true
@@ -79,6 +87,7 @@ pub record LeavesMean (g : Game) (is_bounded : Bool) (k : Kind) (later : List Sc
   -- each choice in the box is left possible by some leaf or mark
   pub covers : k ≡ Exists → (t : List ℤ) (s : Plan) → IsMove g i a t → Optimal g later (suc i) (a ++ t) s → InBox (reach (a ++ t) s) box → SomeAllows e (map seen_of ls) (vector g e (a ++ t) s)
   pub distinct : Distinct (leaf_tuples (length a) ls)
+  pub once : EachOnce ls
   pub no_marks : e ≡ [] → is_unmarked ls ≡ true
 
 -- lists one after the other
@@ -95,6 +104,13 @@ loses_append g later i (leaf_barred ∷ ks) ls h j = loses_append g later i ks l
 loses_append g later i (leaf_skipped ∷ ks) ls h j = loses_append g later i ks ls h j
 loses_append g later i (leaf_bound m ∷ ks) ls h j = loses_append g later i ks ls h j
 loses_append g later i (leaf_node w f ∷ ks) ls h j = (h.0, loses_append g later i ks ls h.1 j)
+
+pub once_append : (ks ls : List Leaf) → EachOnce ks → EachOnce ls → EachOnce (ks ++ ls)
+once_append [] ls h j = j
+once_append (leaf_barred ∷ ks) ls h j = once_append ks ls h j
+once_append (leaf_skipped ∷ ks) ls h j = once_append ks ls h j
+once_append (leaf_bound m ∷ ks) ls h j = once_append ks ls h j
+once_append (leaf_node w f ∷ ks) ls h j = (h.0, once_append ks ls h.1 j)
 
 pub unmarked_append : (ks ls : List Leaf) → is_unmarked (ks ++ ls) ≡ (is_unmarked ks && is_unmarked ls)
 unmarked_append [] ls = refl

@@ -14,12 +14,12 @@ use Rattle.qc_model.specs.Domains.{Box, InBox, declared_box, has_empty, is_singl
 use Rattle.qc_model.specs.Game.{before, allows, IsMove}
 use Rattle.qc_model.specs.Plan.{Plan}
 use Rattle.qc_model.specs.Optimal.{Optimal}
-use Rattle.qc_model.specs.Counter.{CounterWins}
+use Rattle.qc_model.specs.Counter.{CounterWins, AnswersOnce}
 use Rattle.qc_model.specs.Demands.{vector}
 use Rattle.qc_model.specs.Verdict.{Verdict, lost, exact, at_most, unknown, seen_node, is_lost}
 use Rattle.qc_model.proofs.ExistsMeans.{Allows, FirstNoBetter, SomeAllows}
 use Rattle.qc_laws.specs.Positions.{AtMost}
-use Rattle.qc_laws.specs.Distinct.{Distinct}
+use Rattle.qc_model.specs.Lists.{Distinct}
 use Rattle.qc_laws.specs.Verdicts.{Means}
 use Rattle.qc_laws.proofs.Order.{distinct_append}
 use Rattle.proof_tree.specs.Place.{position}
@@ -36,7 +36,7 @@ use Rattle.qc_meaning.proofs.Taken.{apart}
 use Rattle.qc_meaning.proofs.Reach.{reach, lies_to, lies_from, plan_good}
 use Rattle.qc_meaning.proofs.Frames.{Frame, FairPart}
 use Rattle.qc_meaning.proofs.Entering.{TheMove, the_only}
-use Rattle.qc_meaning.proofs.LeafLists.{is_unmarked, leaf_tuples, LeavesMean, each_append, loses_append, unmarked_append, tuples_append, allows_left, allows_right, each_wider, tuple_lies}
+use Rattle.qc_meaning.proofs.LeafLists.{is_unmarked, leaf_tuples, LeavesMean, each_append, loses_append, once_append, unmarked_append, tuples_append, allows_left, allows_right, each_wider, tuple_lies}
 
 -- a choice goes through good values
 pub choice_good : (g : Game) (k : Kind) (later : List Scope) (i : ℕ) (b : List ℤ) (s : Plan) → k ≡ Exists → Optimal g later (suc i) b s → GoodAfter k g later i b (reach b s)
@@ -59,6 +59,7 @@ empty_mean g b k later i e a box none f h = record {
   complete = λ _ _ t w m good j. nothing t w m good j;
   covers = λ q t s m o j. nothing t (reach (a ++ t) s) m (choice_good g k later i (a ++ t) s q o) j;
   distinct = tt;
+  once = tt;
   no_marks = λ _. refl;
 }
   where
@@ -75,6 +76,7 @@ barred_mean g b k later i e a box f fixed h = record {
   complete = λ _ _ t w m good j. nothing t m (good_start g k later i (a ++ t) w box good j);
   covers = λ q t s m o j. absurd (nothing t m (choice_front g later (suc i) (a ++ t) s box o j));
   distinct = tt;
+  once = tt;
   no_marks = λ _. refl;
 }
   where
@@ -122,9 +124,9 @@ node_loses g b later i e w box f (at_most p) h q l = absurd (differ l)
 node_loses g b later i e w box f unknown h q l = absurd (differ l)
 
 pub next_mean : (g : Game) (b : Bool) (k : Kind) (later : List Scope) (i : ℕ) (e : List Condition) (a w : List ℤ) (box : Box) (f : Finding) → Frame g i a box → list_all is_single (take (before g (suc i)) box) ≡ true →
-    w ≡ position g (suc i) box → TheMove g i a w box → (k ≡ Forall → (u : List ℤ) → Good g later (suc i) w u → InBox u box) → VerdictMeans f.verdict g later (suc i) e w box f b →
+    w ≡ position g (suc i) box → TheMove g i a w box → (k ≡ Forall → (u : List ℤ) → Good g later (suc i) w u → InBox u box) → VerdictMeans f.verdict g later (suc i) e w box f b → AnswersOnce f.counter →
     LeavesMean g b k later i e a box (leaf_node w f ∷ [])
-next_mean g b k later i e a w box f frame fixed p m all h = record {
+next_mean g b k later i e a w box f frame fixed p m all h once = record {
   each = (
     record {
       move = m;
@@ -140,6 +142,7 @@ next_mean g b k later i e a w box f frame fixed p m all h = record {
       inl (subst (λ z. Allows e (seen_node f.verdict) (vector g e z s)) r
       (node_allows g b later (suc i) e w box f f.verdict h s (subst (λ z. Optimal g later (suc i) z s) (sym r) o) (subst (λ z. InBox (reach z s) box) (sym r) j)));
   distinct = (λ n. n, tt);
+  once = (once, tt);
   no_marks = λ _. refl;
 }
   where
@@ -155,6 +158,7 @@ same_mean g b k later i e a small box ls wider stays h = record {
   complete = λ u z t w m good j. h.complete u z t w m good (stays t w m good j);
   covers = λ q t s m o j. h.covers q t s m o (stays t (reach (a ++ t) s) m (choice_good g k later i (a ++ t) s q o) j);
   distinct = h.distinct;
+  once = h.once;
   no_marks = h.no_marks;
 }
 
@@ -168,6 +172,7 @@ bound_mean g b later i e a small box m ls wider some held h = record {
   complete = λ u. absurd (differ (u refl));
   covers = λ q t s mv o j. elim (held t s mv o j) [ inl r ↦ inr (h.covers q t s mv o r) | inr n ↦ inl n ];
   distinct = h.distinct;
+  once = h.once;
   no_marks = λ q. absurd (some q);
 }
 
@@ -179,6 +184,7 @@ none_mean g b k later i e a box x n high = record {
   complete = λ _ _ t w m good j. nothing t m (good_start g k later i (a ++ t) w (set box x []) good j);
   covers = λ q t s m o j. absurd (nothing t m (choice_front g later (suc i) (a ++ t) s (set box x []) o j));
   distinct = tt;
+  once = tt;
   no_marks = λ _. refl;
 }
   where
@@ -194,6 +200,7 @@ skipped_mean g b k later i e a box x v vs ls h = record {
   complete = λ _ z. absurd (differ z);
   covers = λ q t s m o j. inl tt;
   distinct = h.distinct;
+  once = h.once;
   no_marks = h.no_marks;
 }
 
@@ -221,6 +228,7 @@ go_mean g b k later i e a box x v vs ks ls n high new one rest = record {
       let z = tuple_lies g k later i e a others ls rest.each t q in
       let c = move_count g i a t n y.0 in
       apart box x v vs (a ++ t) (omega arith) new y.1 z.1));
+  once = once_append ks ls one.once rest.once;
   no_marks = λ q. unmarked_append ks ls ∙ (ap (λ y. y && is_unmarked ls) (one.no_marks q) ∙ rest.no_marks q);
 }
   where

@@ -18,6 +18,7 @@ pub mod Frames
 pub mod Entering
 pub mod FairBoxes
 pub mod LeafLists
+pub mod Once
 pub mod LeafRules
 pub mod StepRules
 pub mod Picking

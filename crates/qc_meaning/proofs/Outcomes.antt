@@ -73,7 +73,7 @@ root_true g t r e x =
 pub root_false : (g : Game) (t : Tree) → IsValid g → IsTrue (root_in_place g t) → IsTrue (is_lost (root_finding g t).verdict) → FalseMeans g t
 root_false g t r e x =
     let c = (lost_counter g (root_finding g t) (root_finding g t).verdict (root_verdict g t r e) x).loses refl in
-    record { not_won = counter_loses g g.scopes 0 [] (counter_of g t) c; loses = c }
+    record { not_won = counter_loses g g.scopes 0 [] (counter_of g t) c; loses = c; once = (root_means g t r e).once }
 
 own_is : (v : ℤ) (x : Option ℤ) → is_value v x ≡ true → x ≡ Some v
 own_is v None e = absurd (differ e)

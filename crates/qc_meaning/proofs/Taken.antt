@@ -3,7 +3,8 @@ use Rattle.std.proofs.Common.{inl, inr, ℕ, zero, suc, ◌<◌, ◌≤◌, Bool
 use Rattle.std.specs.Prelude.{ℤ}
 use Rattle.qc_model.specs.Lists.{Among}
 use Rattle.qc_model.specs.Domains.{Box, InBox}
-use Rattle.qc_laws.specs.Distinct.{Distinct, EachDistinct}
+use Rattle.qc_model.specs.Lists.{Distinct}
+use Rattle.qc_laws.specs.Distinct.{EachDistinct}
 use Rattle.qc_laws.proofs.Order.{distinct_filter}
 
 pub taken_less : (m n : ℕ) (w : List ℤ) (ds : Box) → m ≤ n → InBox (take n w) ds → InBox (take m w) ds

@@ -11,9 +11,10 @@ use Rattle.qc_model.specs.Lists.{Among}
 use Rattle.qc_model.specs.Domains.{Box, InBox, values_left, is_single, box_at, has_empty}
 use Rattle.qc_model.specs.Game.{before, allows, is_of_scope}
 use Rattle.qc_model.specs.Value.{value}
+use Rattle.qc_model.specs.Counter.{AnswersOnce}
 use Rattle.qc_model.specs.Demands.{demands_after}
 use Rattle.qc_model.specs.Sees.{AllVisible, SeesRight}
-use Rattle.qc_laws.specs.Distinct.{Distinct}
+use Rattle.qc_model.specs.Lists.{Distinct}
 use Rattle.qc_laws.proofs.Validity.{valid_differs}
 use Rattle.qc_laws.proofs.Seen.{visible_own, after_visible}
 use Rattle.proof_tree.specs.Tree.{Tree, tree, Body, stuck, goal, cases, Ending, empty, barred, next, branch, Branches, no_more, skip, left_open, go}
@@ -40,6 +41,7 @@ use Rattle.qc_meaning.proofs.LeafRules.{empty_mean, barred_mean, next_mean, none
 use Rattle.qc_meaning.proofs.StepRules.{flag_after, steps_fair, steps_mean}
 use Rattle.qc_meaning.proofs.ExistsNodes.{exists_node, own_value}
 use Rattle.qc_meaning.proofs.ForallNodes.{forall_node}
+use Rattle.qc_meaning.proofs.Once.{kind_once, stuck_once}
 use Rattle.qc_meaning.proofs.EndNodes.{goal_node, stuck_node}
 
 -- the strategy has the value that is stated for the scope's own condition
@@ -54,6 +56,7 @@ OwnMeans (s ∷ later) g a f = OwnBy s.condition g a f
 pub record NodeMeans (g : Game) (is_bounded : Bool) (later : List Scope) (i : ℕ) (d : List Condition) (a : List ℤ) (box : Box) (f : Finding) : Type 0 where
   pub verdict : VerdictMeans f.verdict g later i d a box f is_bounded
   pub own : OwnMeans later g a f
+  pub once : AnswersOnce f.counter
 
 no_own : (x : Option Condition) (g : Game) (a : List ℤ) (f : Finding) → f.own ≡ None → OwnBy x g a f
 no_own None g a f e = tt
@@ -65,12 +68,13 @@ no_own (Some c) g a f e = λ n q. absurd (none n (sym e ∙ q))
 kind_node : (g : Game) (r : IsSound g) (later : List Scope) (i : ℕ) (d : List Condition) (a : List ℤ) (box : Box) (b : Bool) (k : Kind) (x : Option Condition) (ls : List Leaf) →
     LeavesMean g (bounded_in k b) k later i (demands_after g k x i d) a box ls → FairNode g b (record { kind = k; condition = x } ∷ later) i a box → has_empty box ≡ false →
     AllVisible g (record { kind = k; condition = x } ∷ later) i d → NodeMeans g b (record { kind = k; condition = x } ∷ later) i d a box (kind_finding k x g i d a ls)
-kind_node g r later i d a box b Exists None ls m f full v = record { verdict = exists_node g later i a box b None d ls m f full; own = tt }
+kind_node g r later i d a box b Exists None ls m f full v = record { verdict = exists_node g later i a box b None d ls m f full; own = tt; once = kind_once Exists None g i d a ls m.once m.distinct }
 kind_node g r later i d a box b Exists (Some c) ls m f full v =
-    record { verdict = exists_node g later i a box b (Some c) d ls m f full; own = own_value g later i a box b c d ls m f full }
+    record { verdict = exists_node g later i a box b (Some c) d ls m f full; own = own_value g later i a box b c d ls m f full; once = kind_once Exists (Some c) g i d a ls m.once m.distinct }
 kind_node g r later i d a box b Forall x ls m f full v = record {
   verdict = forall_node g later i a box b x d ls m f full (visible_own g later x i d v) (valid_differs g r.valid);
   own = no_own x g a (kind_finding Forall x g i d a ls) refl;
+  once = kind_once Forall x g i d a ls m.once m.distinct;
 }
 
 stuck_own : (g : Game) (later : List Scope) (d : List Condition) (a : List ℤ) → OwnMeans later g a (stuck_finding later g d a)
@@ -99,9 +103,9 @@ mutual
   body_means : (g : Game) (r : IsSound g) (c : Body) (later : List Scope) (i : ℕ) (d : List Condition) (box : Box) (b : Bool) (h : Option ℕ) → i + length later ≡ length g.scopes → SeesRight g later i → AllVisible g later i d → has_empty box ≡ false →
       FairNode g b later i (position g i box) box → Blocked g i (position g i box) box h → IsTrue (body_in_place g c later i d box h) → NodeMeans g b later i d (position g i box) box (read_body g c later i d box)
   body_means g r stuck later i d box b h len sees v full f blocked e =
-      record { verdict = stuck_node g r.ordered later i d (position g i box) box b h len blocked e full f; own = stuck_own g later d (position g i box) }
+      record { verdict = stuck_node g r.ordered later i d (position g i box) box b h len blocked e full f; own = stuck_own g later d (position g i box); once = stuck_once later g d (position g i box) }
   body_means g r goal [] i d box b h len sees v full f blocked e =
-      record { verdict = goal_node g i d (position g i box) box b v (front_in g i (position g i box) box f.frame full); own = tt }
+      record { verdict = goal_node g i d (position g i box) box b v (front_in g i (position g i box) box f.frame full); own = tt; once = tt }
   body_means g r goal (s ∷ later) i d box b h len sees v full f blocked e = absurd (differ (both (not (is_horizon h i)) false e).1)
   body_means g r (cases steps end) [] i d box b h len sees v full f blocked e =
       let p = both _ (ending_in_place g end [] i d (after_steps steps box) h) e in
@@ -141,7 +145,7 @@ mutual
       let x = list_after g (s ∷ later) i d in
       let child = tree_means g r u later (suc i) x box b h len sees.1 (after_visible g later s.kind s.condition i d v sees.0) full (child_fair g b s.kind later i a w box f fixed refl m)
       (blocked_next g i a m.tuple w box h m.after m.is_move blocked) p.1 in
-      next_mean g b s.kind later i x a w box (read g u later (suc i) x box) f.frame fixed refl m (child_all g b s.kind later i a w box f m) child.verdict
+      next_mean g b s.kind later i x a w box (read g u later (suc i) x box) f.frame fixed refl m (child_all g b s.kind later i a w box f m) child.verdict child.once
   ending_means g r (branch x bs) s later i d box a b h len sees v f blocked e =
       let p = both _ (branches_in_place g bs x.0 (values_left box x.0) (s ∷ later) i d box h) e in
       let p1 = both _ (not (is_single (values_left box x.0))) p.0 in

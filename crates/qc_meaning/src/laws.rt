@@ -13,7 +13,8 @@ ghost use Rattle.qc_model.specs.Valid.{IsValid};
 /// What a certificate that proves its outcome says of a valid game is so: where it states True, the
 /// game is won and the strategy read from the tree is optimal; where it states an optimum too, that
 /// is the value of the first scope's condition under every optimal strategy; where it states False,
-/// the game isn't won and the counterstrategy read from the tree wins.
+/// the game isn't won and the counterstrategy read from the tree wins, with one reply for each tuple
+/// that it answers.
 pub fn outcomes_are_true()
     ensures { (g : Game) (outcome : Outcome) (optimum : Option ℤ) (t : Tree) → IsValid g → IsTrue (proves g outcome optimum t) → OutcomeMeans outcome optimum g t }
 {}
