@@ -16,7 +16,8 @@ use Rattle.qc_model.specs.Arguments.{Filled, filled_one, filled_many, filled_num
 use Rattle.qc_model.specs.Holds.{Given, value_at, values_at, last_value, arg_value}
 use Rattle.qc_model.specs.Left.{Lefts, left_at}
 use Rattle.qc_model.specs.Refuted.{left_to}
-use Rattle.qc_model.specs.Signature.{Sort, boolean, integers, booleans}
+use Rattle.qc_model.specs.declared.signature.Sort.{Sort}
+use Rattle.qc_model.specs.declared.signature.Sort.TheVariants.{Boolean as boolean, Integers as integers, Booleans as booleans}
 use Rattle.qc_model.specs.Valid.{is_bits, is_variable_with, is_boolean, is_of_sort, are_of_sorts, item_count, is_literal}
 use Rattle.qc_model.specs.Visible.{ArgBelow, ArgsBelow, ArgumentBelow, ArgumentsBelow}
 use Rattle.qc_model.proofs.Sound.{differ, both}
