@@ -1,5 +1,5 @@
 -- Lines are read back from their texts.
-use Rattle.std.proofs.Common.{◌≡◌, ◌∙◌, sym, ap, refl, ◌<◌, ◌≤◌, ◌+◌, ◌&&◌, ◌/◌, ℕ, ℤ, Bool, true, false, cond, List, [], ◌∷◌, ◌++◌, length, map, append_assoc, append-nil, arith, Option, Some, None, length-append}
+use Rattle.std.proofs.Common.{◌≡◌, ◌∙◌, sym, ap, refl, ◌<◌, ◌≤◌, ◌+◌, ℕ, ℤ, true, List, [], ◌∷◌, ◌++◌, length, map, append_assoc, append-nil, arith, Some, length-append}
 use Rattle.std.specs.Prelude.{codes, nat_lt, flat_map}
 use Rattle.std.specs.Fmt.{signed_decimal}
 use Rattle.std.specs.List.{AllByRecursion}
@@ -13,17 +13,16 @@ use Rattle.qc_model.specs.declared.problem.Pred.TheVariants.{IntLe, IntLinLe}
 use Rattle.qc_model.specs.declared.problem.Arg.{Arg}
 use Rattle.qc_model.specs.declared.problem.Argument.{Argument}
 use Rattle.qc_model.specs.declared.problem.Argument.TheVariants.{One, Many, Numbers}
-use Rattle.qc_model.specs.Content.{Game, Rule}
+use Rattle.qc_model.specs.Content.{Rule}
 use Rattle.qc_model.specs.Canonical.{with_commas, variable_text, constraint_text}
 use Rattle.qc_model.specs.Names.{is_word}
-use Rattle.qc_syntax.specs.Numbers.{IsWithin, number_of}
-use Rattle.qc_syntax.specs.Arguments.{◌>>=◌, each, one_of, predicate_of, arguments_of}
+use Rattle.qc_syntax.specs.Numbers.{IsWithin}
+use Rattle.qc_syntax.specs.Arguments.{◌>>=◌, predicate_of, arguments_of}
 use Rattle.qc_syntax.specs.Lines.{Progress, with_variable, with_constraint, after_line, after_declaration, after_restriction}
 use Rattle.qc_syntax.specs.Text.{after_text}
-use Rattle.qc_syntax.proofs.Scan.{IsToken}
 use Rattle.qc_syntax.proofs.Numbers.{number_token, number_of-some}
 use Rattle.qc_syntax.proofs.Names.{name_token}
-use Rattle.qc_syntax.proofs.LineTexts.{line_first, declaration_words, comparison_words, sum_words}
+use Rattle.qc_syntax.proofs.LineTexts.{declaration_words, comparison_words, sum_words}
 use Rattle.qc_syntax.proofs.ReadArguments.{IsReadable, text_of, text_token, text_tokens, number_tokens, one_again, sum_again}
 
 -- a range with both ends within the bounds, and a name
