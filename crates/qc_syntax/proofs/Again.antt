@@ -1,5 +1,5 @@
 -- Each canonical text of the first form is read back.
-use Rattle.std.proofs.Common.{◌≡◌, ◌∙◌, sym, ap, refl, ◌<◌, ◌≤◌, ◌+◌, ◌==◌, ◌&&◌, ℕ, zero, suc, Bool, true, false, List, [], ◌∷◌, ◌++◌, length, map, filter, take, drop, get_or, append_assoc, append-nil, arith, Option, Some, None, length-append, length-take, add-one}
+use Rattle.std.proofs.Common.{◌≡◌, ◌∙◌, sym, ap, refl, ◌<◌, ◌≤◌, ◌+◌, ◌==◌, ℕ, zero, suc, true, List, [], ◌∷◌, ◌++◌, length, map, filter, take, drop, get_or, append_assoc, append-nil, arith, Option, Some, None, length-append, length-take, add-one}
 use Rattle.std.specs.Prelude.{codes, nat_lt, nat_le, slice_get, flat_map, is_none}
 use Rattle.std.specs.List.{list_all}
 use Rattle.std.proofs.lemmas.Bool.{leb-true, lt-ltb, le-leb, eqb-true}
@@ -17,9 +17,9 @@ use Rattle.qc_model.specs.declared.problem.Arg.TheVariants.{Var, Num}
 use Rattle.qc_model.specs.Content.{Game, Rule}
 use Rattle.qc_model.specs.Canonical.{kind_text, condition_text, aggregate_text, variable_text, constraints_text, scope_text, text_from, canonical_text}
 use Rattle.qc_model.specs.Names.{is_word, is_name, names_differ}
-use Rattle.qc_model.specs.Valid.{IsValid, is_in_order, is_integer, arg_sees, is_declared_by, is_domain, is_constraint, declared_names}
+use Rattle.qc_model.specs.Valid.{IsValid, is_integer, arg_sees, is_declared_by}
 use Rattle.qc_syntax.specs.FirstForm.{IsFirstForm, is_range, is_comparison}
-use Rattle.qc_syntax.specs.Arguments.{◌>>=◌, variable_of}
+use Rattle.qc_syntax.specs.Arguments.{variable_of}
 use Rattle.qc_syntax.specs.Lines.{Progress, at_start, with_scope, after_line, after_head, after_goal}
 use Rattle.qc_syntax.specs.Text.{after_text}
 use Rattle.qc_syntax.proofs.Scan.{both}

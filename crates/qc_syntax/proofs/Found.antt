@@ -1,8 +1,6 @@
 -- The problem that was read is the one whose text it is.
-use Rattle.std.proofs.Common.{◌≡◌, ◌∙◌, sym, ap, List, [], ℕ, Option, Some, None, length}
+use Rattle.std.proofs.Common.{◌≡◌, ◌∙◌, ap, List, [], ℕ, Some, None, length}
 use Rattle.qc_model.specs.Content.{Game}
-use Rattle.qc_model.specs.Valid.{IsValid}
-use Rattle.qc_model.specs.Canonical.{canonical_text}
 use Rattle.qc_syntax.specs.FirstForm.{HasFirstForm}
 use Rattle.qc_syntax.specs.Lines.{Progress, at_start}
 use Rattle.qc_syntax.specs.Text.{after_text}

@@ -1,6 +1,6 @@
 -- The words of the lines of a canonical text.
-use Rattle.std.proofs.Common.{◌≡◌, ◌∙◌, sym, ap, refl, ℕ, List, [], ◌∷◌, ◌++◌, append_assoc, append-nil}
-use Rattle.std.specs.Prelude.{codes, flat_map, Option}
+use Rattle.std.proofs.Common.{◌≡◌, ◌∙◌, refl, ℕ, List, [], ◌∷◌, ◌++◌}
+use Rattle.std.specs.Prelude.{codes, Option}
 use Rattle.std.specs.List.{AllByRecursion}
 use Rattle.qc_model.specs.Canonical.{with_commas}
 use Rattle.qc_syntax.specs.Arguments.{◌>>=◌}

@@ -1,7 +1,7 @@
 -- Names as words, and the variable that a name tells.
-use Rattle.std.proofs.Common.{◌≡◌, ◌∙◌, sym, ap, refl, ◌<◌, ◌≤◌, ◌==◌, ℕ, zero, suc, Bool, true, false, cond, not, ◌&&◌, ◌||◌, List, [], ◌∷◌, ◌++◌, length, map, get_or, arith, Option, Some, None}
-use Rattle.std.specs.Prelude.{position, nat_lt, slice_get}
-use Rattle.std.specs.Char.{is_ascii_alphabetic, is_ascii_digit}
+use Rattle.std.proofs.Common.{◌≡◌, ◌∙◌, sym, refl, ◌<◌, ◌==◌, ℕ, zero, suc, Bool, true, false, not, ◌||◌, List, [], ◌∷◌, ◌++◌, length, map, get_or, arith, Some}
+use Rattle.std.specs.Prelude.{nat_lt}
+use Rattle.std.specs.Char.{is_ascii_digit}
 use Rattle.std.specs.List.{list_all, list_any, position_or_len}
 use Rattle.std.specs.Str.{bytes_eq, IsAscii, IsUtf8}
 use Rattle.std.proofs.lemmas.Str.{IsUtf8-from_ascii}
@@ -10,10 +10,9 @@ use Rattle.std.proofs.lemmas.Bool.Decides.{nat_tests}
 use Rattle.std.proofs.lemmas.List.Folds.{list_any-append}
 use Rattle.std.proofs.lemmas.Slice.Eq.{bytes_eq-Decides}
 use Rattle.qc_model.specs.declared.problem.Variable.{Variable}
-use Rattle.qc_model.specs.declared.problem.Arg.{Arg}
-use Rattle.qc_model.specs.declared.problem.Arg.TheVariants.{Var, Num}
+use Rattle.qc_model.specs.declared.problem.Arg.TheVariants.{Var}
 use Rattle.qc_model.specs.Names.{is_word, is_word_byte, is_first_byte, names_differ}
-use Rattle.qc_syntax.specs.Arguments.{◌>>=◌, begins_number, variable_of, variable_at}
+use Rattle.qc_syntax.specs.Arguments.{begins_number, variable_of}
 use Rattle.qc_syntax.proofs.Scan.{IsToken, in_word, both}
 
 or_first : (a b : Bool) → a ≡ true → (a || b) ≡ true

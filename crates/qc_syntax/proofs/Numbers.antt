@@ -1,5 +1,5 @@
 -- Numbers in their one spelling.
-use Rattle.std.proofs.Common.{◌≡◌, ◌≢◌, ◌≤◌, ◌<◌, ◌^◌, ◌&&◌, ◌||◌, ◌==◌, ℕ, ℤ, pos, negsuc, suc, Result, Ok, w64, arith, rules, refl, List, [], ◌∷◌, ap, ◌∙◌, sym, to_z, of_z, to_z-of_z, Bool, true, false, cond, get_or, length, subst, Some, None}
+use Rattle.std.proofs.Common.{◌≡◌, ◌≢◌, ◌≤◌, ◌<◌, ◌^◌, ◌&&◌, ◌||◌, ℕ, ℤ, pos, negsuc, suc, Result, Ok, w64, arith, rules, refl, List, [], ◌∷◌, ap, ◌∙◌, sym, to_z, of_z, to_z-of_z, Bool, true, false, cond, get_or, length, subst, Some, None}
 use Rattle.std.specs.Prelude.{FitsSigned, unsigned_abs, nat_le}
 use Rattle.std.specs.Char.{is_ascii_digit}
 use Rattle.std.specs.Fmt.{signed_decimal, decimal}

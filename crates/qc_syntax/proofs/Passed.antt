@@ -1,5 +1,5 @@
 -- A fault that is passed on.
-use Rattle.std.proofs.Common.{◌≡◌, ◌∙◌, sym, ap, refl, List, Option, Some, None, Result, Ok, Err}
+use Rattle.std.proofs.Common.{◌≡◌, ◌∙◌, sym, refl, List, Option, None, Result, Ok, Err}
 use Rattle.std.specs.Prelude.{IsErrAnd, IsErrOf}
 use Rattle.qc_syntax.specs.declared.fault.TextFault.{TextFault}
 use Rattle.qc_syntax.specs.declared.fault.TextFault.TheVariants.{Refused, Memory}

@@ -1,24 +1,22 @@
 -- Arguments are read back from their texts.
-use Rattle.std.proofs.Common.{◌≡◌, ◌∙◌, sym, ap, refl, ◌<◌, ◌≤◌, ◌+◌, ◌/◌, ◌==◌, ◌&&◌, ℕ, ℤ, Bool, true, false, cond, List, [], ◌∷◌, ◌++◌, length, map, get_or, take, drop, append_assoc, arith, Option, Some, None, length-append}
-use Rattle.std.specs.Prelude.{slice_get, nat_le, codes}
+use Rattle.std.proofs.Common.{◌≡◌, ◌∙◌, sym, ap, refl, ◌+◌, ◌/◌, ℕ, ℤ, true, List, [], ◌∷◌, ◌++◌, length, map, append_assoc, arith, Some, length-append}
+use Rattle.std.specs.Prelude.{slice_get}
 use Rattle.std.specs.Fmt.{signed_decimal}
 use Rattle.std.specs.List.{AllByRecursion}
 use Rattle.std.proofs.lemmas.List.{take_at, drop_at, length-map}
-use Rattle.std.proofs.lemmas.Option.{get_or_from_slice_get, slice_get_within}
 use Rattle.qc_model.specs.declared.problem.VarId.{VarId}
 use Rattle.qc_model.specs.declared.problem.Variable.{Variable}
 use Rattle.qc_model.specs.declared.problem.Arg.{Arg}
 use Rattle.qc_model.specs.declared.problem.Arg.TheVariants.{Var, Num}
 use Rattle.qc_model.specs.declared.problem.Argument.{Argument}
 use Rattle.qc_model.specs.declared.problem.Argument.TheVariants.{One, Many, Numbers}
-use Rattle.qc_model.specs.Canonical.{arg_text, variable_name}
-use Rattle.qc_model.specs.Names.{is_word, names_differ}
+use Rattle.qc_model.specs.Canonical.{arg_text}
+use Rattle.qc_model.specs.Names.{is_word}
 use Rattle.qc_syntax.specs.Numbers.{IsWithin, number_of}
-use Rattle.qc_syntax.specs.Arguments.{◌>>=◌, each, arg_of, one_of, variable_of, sum_arguments}
+use Rattle.qc_syntax.specs.Arguments.{each, arg_of, one_of, variable_of, sum_arguments}
 use Rattle.qc_syntax.proofs.Scan.{IsToken}
 use Rattle.qc_syntax.proofs.Numbers.{number_token, number_begins, number_of-some}
-use Rattle.qc_syntax.proofs.Names.{name_token, name_begins, found}
-use Rattle.qc_syntax.proofs.Each.{each_again}
+use Rattle.qc_syntax.proofs.Names.{name_token, name_begins}
 
 abbrev pub text_of : List Variable → Arg → List ℕ
 text_of xs a = arg_text signed_decimal xs a

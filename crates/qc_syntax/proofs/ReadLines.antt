@@ -1,5 +1,5 @@
 -- Lines are read back from their texts.
-use Rattle.std.proofs.Common.{◌≡◌, ◌∙◌, sym, ap, refl, ◌<◌, ◌≤◌, ◌+◌, ◌&&◌, ◌/◌, ℕ, ℤ, Bool, true, false, cond, List, [], ◌∷◌, ◌++◌, length, map, append_assoc, append-nil, arith, Option, Some, None, length-append}
+use Rattle.std.proofs.Common.{◌≡◌, ◌∙◌, sym, ap, refl, ◌<◌, ◌≤◌, ◌+◌, ℕ, ℤ, true, List, [], ◌∷◌, ◌++◌, length, map, append_assoc, append-nil, arith, Some, length-append}
 use Rattle.std.specs.Prelude.{codes, nat_lt, flat_map}
 use Rattle.std.specs.Fmt.{signed_decimal}
 use Rattle.std.specs.List.{AllByRecursion}
@@ -13,17 +13,16 @@ use Rattle.qc_model.specs.declared.problem.Pred.TheVariants.{IntLe, IntLinLe}
 use Rattle.qc_model.specs.declared.problem.Arg.{Arg}
 use Rattle.qc_model.specs.declared.problem.Argument.{Argument}
 use Rattle.qc_model.specs.declared.problem.Argument.TheVariants.{One, Many, Numbers}
-use Rattle.qc_model.specs.Content.{Game, Rule}
+use Rattle.qc_model.specs.Content.{Rule}
 use Rattle.qc_model.specs.Canonical.{with_commas, variable_text, constraint_text}
 use Rattle.qc_model.specs.Names.{is_word}
-use Rattle.qc_syntax.specs.Numbers.{IsWithin, number_of}
-use Rattle.qc_syntax.specs.Arguments.{◌>>=◌, each, one_of, predicate_of, arguments_of}
+use Rattle.qc_syntax.specs.Numbers.{IsWithin}
+use Rattle.qc_syntax.specs.Arguments.{◌>>=◌, predicate_of, arguments_of}
 use Rattle.qc_syntax.specs.Lines.{Progress, with_variable, with_constraint, after_line, after_declaration, after_restriction}
 use Rattle.qc_syntax.specs.Text.{after_text}
-use Rattle.qc_syntax.proofs.Scan.{IsToken}
 use Rattle.qc_syntax.proofs.Numbers.{number_token, number_of-some}
 use Rattle.qc_syntax.proofs.Names.{name_token}
-use Rattle.qc_syntax.proofs.LineTexts.{line_first, declaration_words, comparison_words, sum_words}
+use Rattle.qc_syntax.proofs.LineTexts.{declaration_words, comparison_words, sum_words}
 use Rattle.qc_syntax.proofs.ReadArguments.{IsReadable, text_of, text_token, text_tokens, number_tokens, one_again, sum_again}
 
 -- a range with both ends within the bounds, and a name
@@ -49,7 +48,7 @@ declaration_first p rest (declared {low = low} {high = high} {name = name} l h w
     ∙ ap (λ r. r >>= λ q. after_text q [] [] rest) (declaration_line p low high name l h w few)
 
 abbrev pub with_variables : Progress → List Variable → Progress
-with_variables p xs = record { content = record { scopes = p.content.scopes; variables = p.content.variables ++ xs; aggregates = p.content.aggregates; constraints = p.content.constraints }; owner = p.owner }
+with_variables p xs = record p { content = record p.content { variables = p.content.variables ++ xs } }
 
 pub record IsDeclaredIn (i : ℕ) (x : Variable) : Type 0 where
   pub here : x.scope.0 ≡ i
@@ -58,7 +57,7 @@ pub record IsDeclaredIn (i : ℕ) (x : Variable) : Type 0 where
 pub declarations : (p : Progress) (xs : List Variable) (rest : List ℕ) → AllByRecursion (IsDeclaredIn p.owner) xs → length p.content.variables + length xs ≤ 500
     → after_text p [] [] (flat_map variable_text xs ++ rest) ≡ after_text (with_variables p xs) [] [] rest
 declarations p [] rest r few =
-    ap (λ vs. after_text (record { content = record { scopes = p.content.scopes; variables = vs; aggregates = p.content.aggregates; constraints = p.content.constraints }; owner = p.owner }) [] [] rest) (sym (append-nil p.content.variables))
+    ap (λ vs. after_text (record p { content = record p.content { variables = vs } }) [] [] rest) (sym (append-nil p.content.variables))
 declarations p (x ∷ xs) rest r few =
     let here : Variable = record { name = x.name; scope = record { 0 = p.owner }; domain = x.domain } in
     let same : x ≡ here = ap (λ i. record { name = x.name; scope = record { 0 = i }; domain = x.domain }) r.0.here in
@@ -69,7 +68,7 @@ declarations p (x ∷ xs) rest r few =
     ∙ declaration_first p (flat_map variable_text xs ++ rest) r.0.plain room
     ∙ ap (λ y. after_text (with_variable p y) [] [] (flat_map variable_text xs ++ rest)) (sym same)
     ∙ declarations (with_variable p x) xs rest r.1 more
-    ∙ ap (λ vs. after_text (record { content = record { scopes = p.content.scopes; variables = vs; aggregates = p.content.aggregates; constraints = p.content.constraints }; owner = p.owner }) [] [] rest) (append_assoc p.content.variables (x ∷ []) xs)
+    ∙ ap (λ vs. after_text (record p { content = record p.content { variables = vs } }) [] [] rest) (append_assoc p.content.variables (x ∷ []) xs)
 
 -- the arguments of a predicate of the first form, each readable
 pub data AreReadable (xs ys : List Variable) : Pred → List Argument → Type 0 where
@@ -122,7 +121,7 @@ restriction_first p xs rest (sum {ns = ns} {items = items} {a = a} same w r s) f
     ∙ ap (λ r. r >>= λ q. after_text q [] [] rest) (restriction_line p (codes "int_lin_le") ((map signed_decimal ns ++ map (text_of xs) items) ++ text_of xs a ∷ []) IntLinLe (Numbers ns ∷ Many items ∷ One a ∷ []) refl (sum_again xs ys ns items a same w r s) few)
 
 abbrev pub with_constraints : Progress → List Rule → Progress
-with_constraints p cs = record { content = record { scopes = p.content.scopes; variables = p.content.variables; aggregates = p.content.aggregates; constraints = p.content.constraints ++ cs }; owner = p.owner }
+with_constraints p cs = record p { content = record p.content { constraints = p.content.constraints ++ cs } }
 
 pub record IsReadableIn (xs ys : List Variable) (i : ℕ) (c : Rule) : Type 0 where
   pub here : c.owner.0 ≡ i
@@ -131,7 +130,7 @@ pub record IsReadableIn (xs ys : List Variable) (i : ℕ) (c : Rule) : Type 0 wh
 pub restrictions : (p : Progress) (xs : List Variable) (cs : List Rule) (rest : List ℕ) → AllByRecursion (IsReadableIn xs p.content.variables p.owner) cs → length p.content.constraints + length cs ≤ 20000
     → after_text p [] [] (flat_map (constraint_text xs) cs ++ rest) ≡ after_text (with_constraints p cs) [] [] rest
 restrictions p xs [] rest r few =
-    ap (λ vs. after_text (record { content = record { scopes = p.content.scopes; variables = p.content.variables; aggregates = p.content.aggregates; constraints = vs }; owner = p.owner }) [] [] rest) (sym (append-nil p.content.constraints))
+    ap (λ vs. after_text (record p { content = record p.content { constraints = vs } }) [] [] rest) (sym (append-nil p.content.constraints))
 restrictions p xs (c ∷ cs) rest r few =
     let same : c ≡ rule_here p c.pred c.args = ap (λ i. record { owner = record { 0 = i }; pred = c.pred; args = c.args }) r.0.here in
     let room : length p.content.constraints < 20000 = omega arith in
@@ -141,4 +140,4 @@ restrictions p xs (c ∷ cs) rest r few =
     ∙ restriction_first p xs (flat_map (constraint_text xs) cs ++ rest) r.0.plain room
     ∙ ap (λ y. after_text (with_constraint p y) [] [] (flat_map (constraint_text xs) cs ++ rest)) (sym same)
     ∙ restrictions (with_constraint p c) xs cs rest r.1 more
-    ∙ ap (λ vs. after_text (record { content = record { scopes = p.content.scopes; variables = p.content.variables; aggregates = p.content.aggregates; constraints = vs }; owner = p.owner }) [] [] rest) (append_assoc p.content.constraints (c ∷ []) cs)
+    ∙ ap (λ vs. after_text (record p { content = record p.content { constraints = vs } }) [] [] rest) (append_assoc p.content.constraints (c ∷ []) cs)

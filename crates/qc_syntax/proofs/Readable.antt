@@ -1,6 +1,6 @@
 -- What validity and the first form say of each variable and each constraint.
-use Rattle.std.proofs.Common.{◌≡◌, ◌∙◌, sym, ap, refl, ◌<◌, ◌≤◌, ◌+◌, ◌==◌, ◌&&◌, ℕ, ℤ, Bool, true, false, cond, List, [], ◌∷◌, length, map, filter, arith, Option, Some, None, inl, inr, eqb}
-use Rattle.std.specs.Prelude.{nat_lt, nat_le, slice_get, unsigned_abs}
+use Rattle.std.proofs.Common.{◌≡◌, ◌∙◌, sym, ap, refl, ◌==◌, ◌&&◌, ℕ, ℤ, Bool, true, false, cond, List, [], ◌∷◌, length, map, filter, Some}
+use Rattle.std.specs.Prelude.{nat_le}
 use Rattle.std.specs.List.{list_all, AllByRecursion}
 use Rattle.std.proofs.lemmas.Bool.{leb-true, eqb-true}
 use Rattle.qc_model.specs.declared.problem.Domain.{Domain}
@@ -9,11 +9,10 @@ use Rattle.qc_model.specs.declared.problem.Variable.{Variable}
 use Rattle.qc_model.specs.declared.problem.Pred.{Pred}
 use Rattle.qc_model.specs.declared.problem.Pred.TheVariants.{IntLe, IntLinLe}
 use Rattle.qc_model.specs.declared.problem.Arg.{Arg}
-use Rattle.qc_model.specs.declared.problem.Arg.TheVariants.{Var, Num}
 use Rattle.qc_model.specs.declared.problem.Argument.{Argument}
 use Rattle.qc_model.specs.declared.problem.Argument.TheVariants.{One, Many, Numbers, Members}
 use Rattle.qc_model.specs.Content.{Rule}
-use Rattle.qc_model.specs.Names.{is_word, is_name, reserved_words}
+use Rattle.qc_model.specs.Names.{is_word, is_name}
 use Rattle.qc_model.specs.declared.signature.Sort.TheVariants.{Integer as integer, Integers as integers, Numbers as numbers}
 use Rattle.qc_model.specs.Signature.{sorts_of}
 use Rattle.qc_model.specs.Meaning.{meaning_of}

@@ -4,10 +4,9 @@ use Rattle.std.specs.Prelude.{codes, flat_map}
 use Rattle.std.specs.List.{list_all, AllByRecursion}
 use Rattle.qc_model.specs.Names.{is_word_byte}
 use Rattle.qc_model.specs.Canonical.{with_commas}
-use Rattle.qc_syntax.specs.declared.words.ByteClass.TheVariants.{InWord, LineEnd, Between}
+use Rattle.qc_syntax.specs.declared.words.ByteClass.TheVariants.{InWord, Between}
 use Rattle.qc_syntax.specs.Words.{class_of, with_word}
-use Rattle.qc_syntax.specs.Arguments.{◌>>=◌}
-use Rattle.qc_syntax.specs.Lines.{Progress, after_line}
+use Rattle.qc_syntax.specs.Lines.{Progress}
 use Rattle.qc_syntax.specs.Text.{after_text}
 
 abbrev pub in_word : ℕ → Bool
@@ -27,7 +26,7 @@ pub both : (a b : Bool) → (a && b) ≡ true → (a ≡ true) × (b ≡ true)
 both true b e = (refl, e)
 both false b e = absurd cc
 
-at_word : (p : Progress) (ws : List (List ℕ)) (w : List ℕ) (b : ℕ) (bs : List ℕ) → in_word b ≡ true → after_text p ws w (b ∷ bs) ≡ after_text p ws (w ++ b ∷ []) bs
+pub at_word : (p : Progress) (ws : List (List ℕ)) (w : List ℕ) (b : ℕ) (bs : List ℕ) → class_of b ≡ InWord → after_text p ws w (b ∷ bs) ≡ after_text p ws (w ++ b ∷ []) bs
 unfolding after_text
 at_word p ws w b bs h = rw (h, after_text) refl
 
@@ -35,11 +34,14 @@ pub at_gap : (p : Progress) (ws : List (List ℕ)) (w : List ℕ) (b : ℕ) (bs 
 unfolding after_text
 at_gap p ws w b bs h = rw (h, after_text) refl
 
+class_in_word : (b : ℕ) → in_word b ≡ true → class_of b ≡ InWord
+class_in_word b h = rw h refl
+
 word_more : (p : Progress) (ws : List (List ℕ)) (w u rest : List ℕ) → list_all in_word u ≡ true → after_text p ws w (u ++ rest) ≡ after_text p ws (w ++ u) rest
 word_more p ws w [] rest h = ap (λ x. after_text p ws x rest) (sym (append-nil w))
 word_more p ws w (b ∷ u) rest h =
     let t = both (in_word b) (list_all in_word u) h in
-    at_word p ws w b (u ++ rest) t.0 ∙ word_more p ws (w ++ b ∷ []) u rest t.1 ∙ ap (λ x. after_text p ws x rest) (append_assoc w (b ∷ []) u)
+    at_word p ws w b (u ++ rest) (class_in_word b t.0) ∙ word_more p ws (w ++ b ∷ []) u rest t.1 ∙ ap (λ x. after_text p ws x rest) (append_assoc w (b ∷ []) u)
 
 with_token : (ws : List (List ℕ)) (u : List ℕ) → 0 < length u → with_word ws u ≡ ws ++ u ∷ []
 with_token ws [] h = absurd (omega arith)
@@ -77,4 +79,3 @@ tokens p ws (u ∷ us) rest ts g =
     ∙ token p ws u (flat_map comma us ++ rest) ts.0 (gap_after us rest g)
     ∙ tokens_after p (ws ++ u ∷ []) us rest ts.1 g
     ∙ ap (λ x. after_text p x [] rest) (append_assoc ws (u ∷ []) us)
-

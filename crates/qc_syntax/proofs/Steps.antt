@@ -1,23 +1,16 @@
 -- A step of the loop over bytes.
-use Rattle.std.proofs.Common.{◌≡◌, ◌∙◌, sym, ap, refl, ◌<◌, ◌≤◌, ◌+◌, ◌-◌, ℕ, zero, suc, List, [], ◌∷◌, ◌++◌, length, map, get_or, take, drop, arith, Option, Some, None, drop-cons, add-one, length-take, length-drop}
+use Rattle.std.proofs.Common.{◌≡◌, ◌∙◌, sym, ap, refl, ◌<◌, ◌≤◌, ◌+◌, ◌-◌, ℕ, zero, suc, List, [], ◌∷◌, ◌++◌, length, get_or, take, drop, arith, Some, None, drop-cons, add-one, length-take, length-drop}
 use Rattle.qc_syntax.specs.declared.words.ByteClass.{ByteClass}
 use Rattle.qc_syntax.specs.declared.words.ByteClass.TheVariants.{InWord, LineEnd, Between}
 use Rattle.qc_syntax.specs.Words.{class_of, with_word}
 use Rattle.qc_syntax.specs.Arguments.{◌>>=◌}
 use Rattle.qc_syntax.specs.Lines.{Progress, at_start, after_line}
 use Rattle.qc_syntax.specs.Text.{after_text}
+use Rattle.qc_syntax.proofs.Scan.{at_word, at_gap}
 
 -- the bytes from s to i
 abbrev pub part : List ℕ → ℕ → ℕ → List ℕ
 part text s i = take (i - s) (drop s text)
-
-at_word : (p : Progress) (ws : List (List ℕ)) (w : List ℕ) (b : ℕ) (bs : List ℕ) → class_of b ≡ InWord → after_text p ws w (b ∷ bs) ≡ after_text p ws (w ++ b ∷ []) bs
-unfolding after_text
-at_word p ws w b bs h = rw (h, after_text) refl
-
-at_gap : (p : Progress) (ws : List (List ℕ)) (w : List ℕ) (b : ℕ) (bs : List ℕ) → class_of b ≡ Between → after_text p ws w (b ∷ bs) ≡ after_text p (with_word ws w) [] bs
-unfolding after_text
-at_gap p ws w b bs h = rw (h, after_text) refl
 
 at_line : (p : Progress) (ws : List (List ℕ)) (w : List ℕ) (b : ℕ) (bs : List ℕ) → class_of b ≡ LineEnd → after_text p ws w (b ∷ bs) ≡ (after_line p (with_word ws w) >>= λ q. after_text q [] [] bs)
 unfolding after_text

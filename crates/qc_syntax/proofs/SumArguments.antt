@@ -1,5 +1,5 @@
 -- The arguments of a sum, from its three parts.
-use Rattle.std.proofs.Common.{◌≡◌, ◌∙◌, sym, ap, refl, ℕ, ℤ, List, [], ◌∷◌, ◌++◌, map, take, drop, Option, Some, None, Result, Ok, Err}
+use Rattle.std.proofs.Common.{◌≡◌, ◌∙◌, sym, ap, refl, ℕ, ℤ, List, ◌∷◌, map, take, drop, Option, Some, None}
 use Rattle.std.specs.List.{take-map, drop-map}
 use Rattle.qc_model.specs.declared.problem.Variable.{Variable}
 use Rattle.qc_model.specs.declared.problem.Arg.{Arg}
@@ -30,4 +30,3 @@ module _ {W : Type 0} (g : W → List ℕ) (xs : List Variable) (k : ℕ) (ws a 
   pub whole_sum : (ns : List ℤ) (items : List Arg) (rest : List Argument) → each number_of (map g a) ≡ Some ns → each (arg_of xs) (map g b) ≡ Some items → each (one_of xs) (map g c) ≡ Some rest
       → sum_arguments xs k (map g ws) ≡ Some (Numbers ns ∷ Many items ∷ rest)
   whole_sum ns items rest e f h = sum_is ∙ rw (e, f, h) refl
-

@@ -1,5 +1,5 @@
 -- The arguments of a constraint, from its words.
-use Rattle.std.specs.Prelude.{◌==◌, ◌/◌, ◌+◌, ℕ, ℤ, Bool, false, ◌||◌, cond, List, [], ◌∷◌, ◌++◌, length, take, drop, nat_lt, codes, position, Option, None, Some}
+use Rattle.std.specs.Prelude.{◌==◌, ◌/◌, ℕ, Bool, false, ◌||◌, cond, List, [], ◌∷◌, length, take, drop, nat_lt, codes, position, Option, None, Some}
 use Rattle.std.specs.Char.{is_ascii_digit}
 use Rattle.std.specs.Option.{option_map}
 use Rattle.std.specs.Str.{bytes_eq}

@@ -28,19 +28,19 @@ item_of word =
     (cond (bytes_eq word (codes "var")) (Some Declaration) (cond (bytes_eq word (codes "constraint")) (Some Restriction) None)))))
 
 abbrev pub with_scope : Progress → Scope → Progress
-with_scope p s = record { content = record { scopes = p.content.scopes ++ s ∷ []; variables = p.content.variables; aggregates = p.content.aggregates; constraints = p.content.constraints }; owner = length p.content.scopes }
+with_scope p s = record { content = record p.content { scopes = p.content.scopes ++ s ∷ [] }; owner = length p.content.scopes }
 
 abbrev pub with_variable : Progress → Variable → Progress
-with_variable p x = record { content = record { scopes = p.content.scopes; variables = p.content.variables ++ x ∷ []; aggregates = p.content.aggregates; constraints = p.content.constraints }; owner = p.owner }
+with_variable p x = record p { content = record p.content { variables = p.content.variables ++ x ∷ [] } }
 
 abbrev pub with_constraint : Progress → Rule → Progress
-with_constraint p c = record { content = record { scopes = p.content.scopes; variables = p.content.variables; aggregates = p.content.aggregates; constraints = p.content.constraints ++ c ∷ [] }; owner = p.owner }
+with_constraint p c = record p { content = record p.content { constraints = p.content.constraints ++ c ∷ [] } }
 
 unfoldable pub after_head : Progress → Kind → Option Progress
 after_head p kind = cond (nat_lt (length p.content.scopes) 64) (Some (with_scope p (record { kind = kind; condition = None }))) None
 
 unfoldable pub after_goal : Progress → Option Progress
-after_goal p = cond (nat_le (length p.content.scopes) 64) (Some (record { content = p.content; owner = length p.content.scopes })) None
+after_goal p = cond (nat_le (length p.content.scopes) 64) (Some (record p { owner = length p.content.scopes })) None
 
 -- the least value, the greatest value and the name
 unfoldable pub after_declaration : Progress → List (List ℕ) → Option Progress

@@ -11,10 +11,10 @@ use Rattle.qc_syntax.specs.Lines.{Progress, after_line}
 unfoldable pub after_text : Progress → List (List ℕ) → List ℕ → List ℕ → Option Progress
 after_text p words word [] = Some p
 after_text p words word (b ∷ bs) = elim (class_of b) [
-    | InWord ↦ after_text p words (word ++ b ∷ []) bs
-    | LineEnd ↦ after_line p (with_word words word) >>= λ q. after_text q [] [] bs
-    | Between ↦ after_text p (with_word words word) [] bs
-  ]
+  | InWord ↦ after_text p words (word ++ b ∷ []) bs
+  | LineEnd ↦ after_line p (with_word words word) >>= λ q. after_text q [] [] bs
+  | Between ↦ after_text p (with_word words word) [] bs
+]
 
 -- what was read, or a refusal
 abbrev pub Gives : {V R : Type 0} → (V → R) → Result V TextFault → Option R → Type 0

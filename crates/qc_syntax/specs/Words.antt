@@ -1,5 +1,5 @@
 -- The words of a line.
-use Rattle.std.specs.Prelude.{◌==◌, ℕ, Bool, ◌||◌, cond, List, [], ◌∷◌, ◌++◌}
+use Rattle.std.specs.Prelude.{◌==◌, ℕ, ◌||◌, cond, List, [], ◌∷◌, ◌++◌}
 use Rattle.qc_model.specs.Names.{is_word_byte}
 use Rattle.qc_syntax.specs.declared.words.ByteClass.{ByteClass}
 use Rattle.qc_syntax.specs.declared.words.ByteClass.TheVariants.{InWord, LineEnd, Between}

@@ -23,7 +23,8 @@ fn begins_number(word: &[u8]) -> bool
     }
 }
 
-// A look at each of at most 500 names takes no memory, and no problem of the first form is large.
+// A look at each of at most 500 names takes no memory, and problems of the first form are small. A
+// reader of all problem texts needs a table of names.
 fn place_of(variables: &[Variable], word: &[u8]) -> Option<usize>
     ensures { result ≡ position (λ x. bytes_eq x.name word.now) variables.now }
 {
@@ -68,11 +69,7 @@ fn read_numbers(alloc: Global, words: &[&[u8]]) -> Result<Numbers, TextFault>
     Ok(numbers)
 }
 
-fn read_args(
-    alloc: Global,
-    variables: &[Variable],
-    words: &[&[u8]],
-) -> Result<Args, TextFault>
+fn read_args(alloc: Global, variables: &[Variable], words: &[&[u8]]) -> Result<Args, TextFault>
     ensures { Gives (λ items. items) result (each (arg_of_word variables.now) (map (λ w. w.now) words.now)) }
 {
     let mut items = Args::new(alloc);

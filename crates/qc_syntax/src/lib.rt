@@ -15,8 +15,8 @@ mod progress;
 mod text;
 mod words;
 
-#[cfg(test)]
-mod tests;
-
 pub use fault::TextFault;
 pub use problem::read_problem;
+
+#[cfg(test)]
+mod tests;

@@ -1,6 +1,6 @@
 use Rattle.std.proofs.Common.{◌≡◌, map}
 use Rattle.qc_syntax.specs.Numbers.{number_of}
-use Rattle.qc_syntax.specs.Arguments.{arg_of, one_of, each}
+use Rattle.qc_syntax.specs.Arguments.{each}
 use Rattle.qc_syntax.proofs.Each.{with_front, left_from}
 use Rattle.qc_syntax.proofs.arguments.read_numbers.Given as goal
 

@@ -1,9 +1,7 @@
 use Rattle.std.proofs.Common.{◌≡◌, ◌∙◌, sym, ap, arith, rules, true, false, subst}
-use Rattle.qc_model.specs.Content.{Game}
 use Rattle.qc_model.specs.Valid.{IsValid}
 use Rattle.qc_model.specs.Turns.{full_turns_of}
 use Rattle.qc_model.specs.Canonical.{canonical_text}
-use Rattle.std.specs.Str.{bytes_eq}
 use Rattle.std.proofs.lemmas.Slice.Eq.{bytes_eq-Decides}
 use Rattle.qc_syntax.specs.FirstForm.{has_plain_items}
 use Rattle.qc_syntax.specs.Lines.{Progress}

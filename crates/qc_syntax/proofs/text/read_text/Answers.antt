@@ -1,9 +1,8 @@
-use Rattle.std.proofs.Common.{◌≡◌, ◌∙◌, sym, ap, rules, ℕ, List, [], ◌∷◌, ◌++◌, map, length, get_or, Some, None, Bor}
+use Rattle.std.proofs.Common.{◌≡◌, ◌∙◌, ap, rules, map, get_or}
 use Rattle.qc_syntax.specs.declared.words.ByteClass.TheVariants.{InWord, Between}
-use Rattle.qc_syntax.specs.Words.{class_of, with_word}
-use Rattle.qc_syntax.specs.Lines.{after_line}
+use Rattle.qc_syntax.specs.Words.{class_of}
 use Rattle.qc_syntax.proofs.Passed.{passed, none_next}
-use Rattle.qc_syntax.proofs.Steps.{part, read_word, read_gap, read_line, read_fault, read_all}
+use Rattle.qc_syntax.proofs.Steps.{read_word, read_gap, read_line, read_fault, read_all}
 use Rattle.qc_syntax.proofs.text.read_text.Goals as goal
 
 pub loop-i-preserved-then-eq : goal.loop-i-preserved-then-eq
@@ -25,8 +24,8 @@ returns-in_err-take_line c =
     let between : c.class_of-class.result ≡ Between → ⊥ = search rules in
     passed _ _ c.in_err-take_line.field-0.0 _ c.from_residual-in_err-take_line.ensures.1
     (λ e. read_fault c.loop-i.progress (map (λ w. w.now) c.loop-i.words.items) (map (λ w. w.now) c.as_slice.result.now) c.args.text.now c.loop-i.start c.loop-i.i c.class_of-class.result c.loop-i.invariant c.loop-i-test.true class inside between
-      (ap (map (λ w. w.now)) c.as_slice.ensures.value ∙ c.in_ok-end_word.ensures)
-      (none_next c.take_line.new.self _ c.in_err-take_line.field-0.0 c.in_err-take_line.ensures e))
+    (ap (map (λ w. w.now)) c.as_slice.ensures.value ∙ c.in_ok-end_word.ensures)
+    (none_next c.take_line.new.self _ c.in_err-take_line.field-0.0 c.in_err-take_line.ensures e))
 
 pub loop-i-preserved : goal.loop-i-preserved
 loop-i-preserved c =
@@ -35,8 +34,8 @@ loop-i-preserved c =
     let between : c.class_of-class.result ≡ Between → ⊥ = search rules in
     rw c.clear.ensures.items
     (read_line c.loop-i.progress c.take_line.new.self (map (λ w. w.now) c.loop-i.words.items) (map (λ w. w.now) c.as_slice.result.now) c.args.text.now c.loop-i.start c.loop-i.i c.class_of-class.result c.loop-i.invariant c.loop-i-test.true class inside between
-      (ap (map (λ w. w.now)) c.as_slice.ensures.value ∙ c.in_ok-end_word.ensures)
-      c.in_ok-take_line.ensures)
+    (ap (map (λ w. w.now)) c.as_slice.ensures.value ∙ c.in_ok-end_word.ensures)
+    c.in_ok-take_line.ensures)
 
 pub returns : goal.returns
 returns c = read_all c.loop-i.progress (map (λ w. w.now) c.loop-i.words.items) c.args.text.now c.loop-i.start c.loop-i.i c.loop-i.invariant c.loop-i-test.false
