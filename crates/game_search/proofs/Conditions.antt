@@ -2,7 +2,7 @@
 use Rattle.std.proofs.Common.{◌≡◌, ℕ, zero, suc, ◌+◌, ◌≤◌, List, [], ◌∷◌, length, drop, sym, subst, Some, None, add-one, drop_of_length-le}
 use Rattle.std.specs.Prelude.{slice_get}
 use Rattle.qc_model.specs.declared.problem.Scope.{Scope}
-use Rattle.proof_tree.specs.Plain.{NoConditions}
+use Rattle.game_search.specs.Plain.{NoConditions}
 use Rattle.game_search.proofs.Steps.{drop_at}
 
 pub plain_at : (ss : List Scope) (i : ℕ) (s : Scope) → NoConditions ss → slice_get ss i ≡ Some s → s.condition ≡ None

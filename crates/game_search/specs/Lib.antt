@@ -2,3 +2,4 @@ pub mod Wins
 pub mod Enumeration
 pub mod Level
 pub mod Outcomes
+pub mod Plain

@@ -1,6 +1,6 @@
 //! Whether a game is one that `solve` takes.
 ghost use Rattle.std.specs.Prelude.{◌↔◌, IsTrue};
-ghost use Rattle.proof_tree.specs.Plain.{NoConditions};
+ghost use Rattle.game_search.specs.Plain.{NoConditions};
 
 use qc_model::{Problem, ScopeId};
 

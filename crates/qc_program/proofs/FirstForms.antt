@@ -4,7 +4,7 @@ use Rattle.std.specs.Prelude.{is_none}
 use Rattle.std.specs.List.{list_all}
 use Rattle.qc_model.specs.declared.problem.Scope.{Scope}
 use Rattle.qc_model.specs.Content.{Game}
-use Rattle.proof_tree.specs.Plain.{NoConditions}
+use Rattle.game_search.specs.Plain.{NoConditions}
 use Rattle.qc_syntax.specs.FirstForm.{IsFirstForm}
 
 none : {X : Type 0} (o : Option X) → is_none o ≡ true → o ≡ None

@@ -1,5 +1,5 @@
 use Rattle.std.proofs.Common.{drop}
-use Rattle.proof_tree.specs.Plain.{NoConditions}
+use Rattle.game_search.specs.Plain.{NoConditions}
 use Rattle.game_search.proofs.plain.is_plain.Given as goal
 
 abbrev pub invariant-loop-i : goal.invariant-loop-i
