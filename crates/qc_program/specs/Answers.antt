@@ -10,13 +10,15 @@ use Rattle.proof_tree.specs.declared.tree.Outcome.TheVariants.{True, False}
 use Rattle.proof_tree.specs.Tree.{Tree}
 use Rattle.proof_tree.specs.Proves.{proves}
 use Rattle.proof_tree.specs.Order.{in_order}
+use Rattle.proof_tree.specs.Meaning.{OutcomeMeans}
 use Rattle.proof_tree.specs.Text.{certificate_text, has_text}
 use Rattle.qc_syntax.specs.FirstForm.{HasFirstForm}
 use Rattle.qc_program.specs.declared.status.Status.{Status}
 use Rattle.qc_program.specs.declared.status.Status.TheVariants.{Done, Usage, BadProblem, TooLong, ReadFault, WriteFault, Memory}
 use Rattle.qc_program.specs.Words.{Command, solves}
 
--- the text is that of a certificate that proves and is in order; its outcome is true exactly where the game is won, and else false
+-- The text is that of a certificate that proves and is in order. Its outcome is true exactly where the game is won, and
+-- else false; the strategy read from its tree is optimal then, and else the counterstrategy read from it wins.
 pub record Certifies (g : Game) (text : List ℕ) : Type 0 where
   pub outcome : Outcome
   pub optimum : Option ℤ
@@ -27,6 +29,7 @@ pub record Certifies (g : Game) (text : List ℕ) : Type 0 where
   pub spelled : text ≡ certificate_text outcome optimum root
   pub settled : (outcome ≡ True) ⊎ (outcome ≡ False)
   pub won : (outcome ≡ True) ↔ IsWon g
+  pub means : OutcomeMeans outcome optimum g root
 
 -- what `solve` answers for the bytes of a problem's text
 abbrev pub SolvesText : List ℕ → Status → List ℕ → Type 0

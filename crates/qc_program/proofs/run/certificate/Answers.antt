@@ -25,4 +25,5 @@ returns c =
       spelled = c.in_ok-written.ensures;
       settled = e.settled;
       won = e.won;
+      means = e.means;
     }
