@@ -46,4 +46,6 @@ fn answer<R: Files + Print + AllocGlobal>(rt: &R, words: &[String]) -> Result<St
 }
 
 #[cfg(test)]
+mod examples;
+#[cfg(test)]
 mod tests;
