@@ -13,14 +13,14 @@ both false b e = absurd cc
 
 module _ {X : Type 0} (f : X → ℕ) where
   -- from the second on, the list is in order too, and none is below the first
-  tail_order : (n k : ℕ) (xs : List X) → is_in_order n (k ∷ map f xs) ≡ true → is_in_order n (map f xs) ≡ true
+  pub tail_order : (n k : ℕ) (xs : List X) → is_in_order n (k ∷ map f xs) ≡ true → is_in_order n (map f xs) ≡ true
   tail_order n k [] h = refl
   tail_order n k (x ∷ xs) h = (both _ _ h).1
 
-  next_up : (n k : ℕ) (x : X) (xs : List X) → is_in_order n (k ∷ map f (x ∷ xs)) ≡ true → k ≤ f x
+  pub next_up : (n k : ℕ) (x : X) (xs : List X) → is_in_order n (k ∷ map f (x ∷ xs)) ≡ true → k ≤ f x
   next_up n k x xs h = leb-true k (f x) (both _ _ h).0
 
-  first_least : (n k : ℕ) (xs : List X) → is_in_order n (k ∷ map f xs) ≡ true → (j : ℕ) (d : X) → j < length xs → k ≤ f (get_or xs j d)
+  pub first_least : (n k : ℕ) (xs : List X) → is_in_order n (k ∷ map f xs) ≡ true → (j : ℕ) (d : X) → j < length xs → k ≤ f (get_or xs j d)
   first_least n k [] h j d lt = absurd (omega arith)
   first_least n k (x ∷ xs) h zero d lt = next_up n k x xs h
   first_least n k (x ∷ xs) h (suc j) d lt =
@@ -35,11 +35,11 @@ module _ {X : Type 0} (f : X → ℕ) where
   in_order_rises n (x ∷ xs) h (suc i) zero d le lt = absurd (omega arith)
   in_order_rises n (x ∷ xs) h (suc i) (suc j) d le lt = in_order_rises n xs (tail_order n (f x) xs h) i j d (omega arith) (omega arith)
 
-  abbrev below : ℕ → List X → ℕ
+  abbrev pub below : ℕ → List X → ℕ
   below i xs = count_by (λ x. nat_lt (f x) i) xs
 
   -- none of them is below i
-  none_below : (n k i : ℕ) (xs : List X) → is_in_order n (k ∷ map f xs) ≡ true → i ≤ k → below i xs ≡ 0
+  pub none_below : (n k i : ℕ) (xs : List X) → is_in_order n (k ∷ map f xs) ≡ true → i ≤ k → below i xs ≡ 0
   none_below n k i [] h le = refl
   none_below n k i (x ∷ xs) h le =
       let up = next_up n k x xs h in
@@ -58,7 +58,7 @@ module _ {X : Type 0} (f : X → ℕ) where
       apart : (m : ℕ) → i < m → (m == i) ≡ false
       apart m lt = grind (arith, nat_tests)
 
-  counted : (j : ℕ) (x : X) (xs : List X) → below j (x ∷ xs) ≡ cond (nat_lt (f x) j) 1 0 + below j xs
+  pub counted : (j : ℕ) (x : X) (xs : List X) → below j (x ∷ xs) ≡ cond (nat_lt (f x) j) 1 0 + below j xs
   counted j x xs = sum_by-cons _ x xs
 
   skip_low : (a b c e : ℕ) (x : X) (xs : List X) → c ≡ 1 + a → e ≡ 1 + b → take (e - c) (drop c (x ∷ xs)) ≡ take (b - a) (drop a xs)

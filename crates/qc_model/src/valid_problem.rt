@@ -7,7 +7,7 @@ use crate::order::{constraints_below, variables_below};
 use crate::problem::{Aggregate, ConId, Constraint, Draft, Scope, ScopeId, VarId, Variable};
 use std::marker::Model;
 
-/// A valid draft.
+/// A valid draft. Only `build` makes one.
 #[derive(Drop)]
 pub struct Problem {
     draft: Draft,
@@ -60,34 +60,41 @@ impl Problem {
         self.draft.constraints.as_slice()
     }
 
-    /// The number of scopes.
+    pub(crate) fn all_scopes(&self) -> &[Scope]
+        ensures { result.now ≡ self.now.scopes }
+    {
+        self.draft.scopes.as_slice()
+    }
+
+    /// The number of scopes, at most 64. It is the goal's own number too.
     pub fn scopes(&self) -> usize
         ensures { result ≡ length self.now.scopes }
     {
         self.draft.scopes.len()
     }
 
-    /// The number of variables.
+    /// The number of variables, at most 500.
     pub fn variables(&self) -> usize
         ensures { result ≡ length self.now.variables }
     {
         self.draft.variables.len()
     }
 
-    /// The number of constraints, the goal's included.
+    /// The number of constraints, the goal's included, at most 20,000.
     pub fn constraints(&self) -> usize
         ensures { result ≡ length self.now.constraints }
     {
         self.draft.constraints.len()
     }
 
-    /// The number of aggregates.
+    /// The number of aggregates, at most one for each universal scope.
     pub fn aggregates(&self) -> usize
         ensures { result ≡ length self.now.aggregates }
     {
         self.draft.aggregates.len()
     }
 
+    /// The scope with this number, which exists.
     pub fn scope(&self, i: ScopeId) -> &Scope
         requires { i.0 < length self.now.scopes }
         ensures { slice_get self.now.scopes i.0 ≡ Some result.now }
@@ -95,6 +102,7 @@ impl Problem {
         &self.draft.scopes[i.0 as usize]
     }
 
+    /// The variable with this number, which exists.
     pub fn variable(&self, x: VarId) -> &Variable
         requires { x.0 < length self.now.variables }
         ensures { slice_get self.now.variables x.0 ≡ Some result.now }
@@ -102,6 +110,7 @@ impl Problem {
         &self.draft.variables[x.0 as usize]
     }
 
+    /// The constraint with this number, which exists. Those of the goal come last.
     pub fn constraint(&self, c: ConId) -> &Constraint
         requires { c.0 < length self.now.constraints }
         ensures { slice_get self.now.constraints c.0 ≡ Some result.now }

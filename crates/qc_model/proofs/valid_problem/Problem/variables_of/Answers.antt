@@ -1,4 +1,4 @@
-use Rattle.std.proofs.Common.{length, ◌+◌}
+use Rattle.std.proofs.Common.{length}
 use Rattle.qc_model.proofs.InOrder.{in_order_rises, below_up, part_equal}
 use Rattle.qc_model.proofs.valid_problem.Problem.variables_of.Goals as goal
 

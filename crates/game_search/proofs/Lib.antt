@@ -1,0 +1,12 @@
+pub mod Positions
+pub mod Leaves
+pub mod Right
+pub mod Enumerated
+pub mod Steps
+pub mod Numbers
+pub mod Cases
+pub mod Decides
+pub mod Certificates
+pub mod Sizes
+pub mod Bounds
+pub mod Conditions

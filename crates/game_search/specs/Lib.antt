@@ -1,0 +1,5 @@
+pub mod Wins
+pub mod Enumeration
+pub mod Level
+pub mod Outcomes
+pub mod Plain

@@ -1,0 +1,12 @@
+//! Decides small games by going over all values, and shows it by a certificate.
+#![tactic(auto)]
+
+mod certify;
+mod level;
+mod plain;
+mod search;
+#[cfg(test)]
+mod tests;
+
+pub use certify::solve;
+pub use plain::is_plain;

@@ -1,0 +1,162 @@
+-- `unlink_back` moves the element and the handle out of the last node. Assumes `Logic`.
+use mathlib.Core.Path.{◌≡◌, refl, sym, ap, subst, ◌∙◌}
+use Prim.Native.Nat.{ℕ, ◌-◌, ◌≤◌, ◌<◌, ◌^◌}
+use native.Mathlib.Omega.{arith}
+use mathlib.Core.List.{List, [], ◌∷◌, ◌++◌, map-append}
+use lib.ListN.{length, length-append}
+use seplogic.Ra.Ura.{Ura}
+use mir.Syntax.{Fn, Ty, named, ty_ptr, ty_struct, tcons, tnil}
+use mir.MapTy.{inst_fn}
+use mir.Val.{Val, vptr}
+use base.Logic.{SProp, ent, sep}
+use base.Fml.{Lft, GName, Share, ftrue, flft, fobs, fbor}
+use prog.Wp.{Env, Calls, Loops, WpFn, Tables}
+use types.Logic.{Logic, sem}
+use contract.Monad.{fact}
+use contract.Running.{tables, tables_of}
+use sound.WpLaws.{WpFn-mono}
+use types.Kit.{Item, ⋆, ‵, ◌⊛◌, at_ret, ◌$◌, ◌∵◌, !, qed, by, move, keep, use1, use2, split, join, rewrite, fsplit, fsplit3, fjoin, fjoin3, feq_i, feq_l, suffices, frame, done}
+use types.Part.{whole, sub, agg, look_in, store_in}
+use types.Run.{look, stop, fld, load, lit, of_opd, bin, addr, and_then, no_more, assigns, first, blocks, exec, returns, enter}
+use types.ByLocal.{alloc_all, pass_all, free_all, look_at, get, through, sets, sets_last, is, env}
+use types.SemTy.{Body as Borrowed}
+use denote.Exit.{yes}
+use denote.RattleType.{RattleType, owns}
+use denote.Memory.{mem}
+use denote.RawPtr.{Ptr, block_ptr, ptr_val}
+use denote.Ref.{MutBor, MutRef}
+use denote.Builtin.{RefMutOf}
+use denote.Signature.{plain}
+use denote.Steps.{nothing}
+use denote.Triple.Carry.{spared}
+use denote.Triple.Clauses.{Clauses, Ended, closing}
+use denote.Triple.Entry.{on_entry}
+use denote.Triple.Spec.{Meets, triple_of}
+use denote.Triple.Table.{entered, run_framed}
+use denote.Triple.Walked.{says, needs, Stays, stay_ref, walk_of, ends_at, Goes-ref, walk_Meets}
+use Rattle.std.proofs.VecSteps.Shapes.{after}
+use Rattle.std.proofs.RcSteps.{Good as Typed, Ptr-Good, word}
+use Rattle.paged_stack.proofs.Memory.El.{El, args, X, τ, R}
+use Rattle.paged_stack.proofs.Memory.Room as Opened
+use Rattle.paged_stack.proofs.Memory.Room.{Room-had, Room-made}
+use Rattle.paged_stack.specs.Links.{places_of}
+use Rattle.paged_stack.proofs.Memory.Pairs.{pair_val, pair_Typed, pair_of}
+use denote.Struct.Tuple.{Tuple}
+use Rattle.paged_stack.specs.contracts.nodes.Node as Block
+use Rattle.paged_stack.specs.Links.{Link, IsChained}
+use Rattle.paged_stack.proofs.Memory.Chained.{IsChained-had, IsChained-init}
+use Rattle.paged_stack.proofs.Memory.Steps.{unsnoc, D, Nr, Held, One, snoc_out, nodes_opens, nodes_closes, one_opens, node_unmade, room_back}
+use Rattle.paged_stack.specs.contracts.nodes.Nodes.unlink_back.Key.{name as #self}
+use Rattle.paged_stack.proofs.nodes.Nodes.unlink_back.Statement as stated
+use Rattle.paged_stack.proofs.nodes.Nodes.unlink_back.Code as code
+
+-- the type of a `Room`
+abbrev word_ty : Ty
+word_ty = ty_struct [] (tcons ty_ptr tnil)
+
+module _ (E : El) where
+  abbrev function : Fn
+  function = inst_fn (args E) code.function
+
+  abbrev Node : RattleType
+  Node = Block.the_row (R E)
+
+  abbrev Room : RattleType
+  Room = Opened.Room Node
+
+  abbrev Out : RattleType
+  Out = Tuple (R E ∷ Room ∷ [])
+
+  abbrev ended : Ended
+  ended = record { signature = record { lifetimes = 1; outlives = []; params = RefMutOf (0 ∷ []) tt (plain (λ _. Nr E)) (λ _. tt) ∷ []; result = plain (λ _. Out) }; kept = (yes, tt) }
+
+  abbrev stayed : Stays ended.signature.params ended.kept
+  stayed = (stay_ref (0 ∷ []) tt (plain (λ _. Nr E)), tt)
+
+  abbrev Gives : D E → X E → Ptr → D E → Type 0
+  Gives d x p e = (d.items ≡ e.items ++ x ∷ []) × (places_of d.links ≡ places_of e.links ++ p ∷ [])
+
+  abbrev spec : {M : Type 1} {𝓤 : Ura M} (𝓛 : Logic 𝓤) → Clauses 𝓤 ended
+  spec {𝓤 = 𝓤} 𝓛 κs a = record { ghost = Unit {0}; requires = λ _. fact 𝓤 (0 < a.0.now.len); ensures = λ _ r w. fact 𝓤 (Gives a.0.now r.0 r.1.ptr w.0.now) }
+
+module _ (E : El) {M : Type 1} {𝓤 : Ura M} (𝓛 : Logic 𝓤) (C : Calls 𝓤 𝓛.H) (Λ : Loops 𝓤 𝓛.H) (κ : Lft) (q : Share) (rb ro : ℕ) (γ : GName) (d : D E) (ps : List Val) where
+  open 𝓛 use {H, A}
+
+  abbrev self : MutBor (D E)
+  self = record { ref_ptr = (rb, ro); ghost_name = γ; now = d }
+
+  abbrev bound : (walk_of 𝓛 (ended E) (stayed E) (spec E 𝓛)).Ghost
+  bound = (((κ, tt), (q, tt), tt, (self, tt), (ps, tt)), tt)
+
+  abbrev Post : Val → SProp 𝓤
+  Post = (walk_of 𝓛 (ended E) (stayed E) (spec E 𝓛)).post bound
+
+  exits : ps ≡ vptr rb ro ∷ [] → (r : (Out E).Denot) (v : Val) (new : D E) → Gives E d r.0 r.1.ptr new
+      → ent 𝓤 (sep 𝓤 (A.obs γ ((Nr E).coded.code new)) (sep 𝓤 (A.bor κ (Borrowed (mem (Nr E)) rb ro γ)) (sep 𝓤 (A.lft κ q) (sem 𝓛 ((Out E).own_val r (v ∷ [])))))) (Post v)
+  exits passed r v new e =
+      qed 𝓛 (‵ (fobs γ ((Nr E).coded.code new)) ∷ ‵ (fbor κ (Borrowed (mem (Nr E)) rb ro γ)) ∷ ‵ (flft κ q) ∷ ‵ ((Out E).own_val r (v ∷ [])) ∷ []) ∵
+      suffices ! _ (ends_at 𝓛 (ended E) (stayed E) (spec E 𝓛) bound v r (new, tt) (tt, tt)) $ says ! e $
+      nothing ! $ move ! (3 ∷ 0 ∷ []) $ join ! $ frame ! $ feq_i ! (List Val) ps (vptr rb ro ∷ []) passed $ fjoin3 ! $ nothing ! $ move ! (1 ∷ 0 ∷ []) $ fjoin ! $ done !
+
+  abbrev Had : List (Item 𝓤)
+  Had = ‵ (fobs γ ((Nr E).coded.code d)) ∷ ‵ (fbor κ (Borrowed (mem (Nr E)) rb ro γ)) ∷ ‵ (flft κ q) ∷ []
+
+  walk : ps ≡ vptr rb ro ∷ [] → 0 < d.len → ent 𝓤 (⋆ 𝓛 Had) (WpFn 𝓤 H C Λ (function E) (vptr rb ro ∷ []) Post)
+  walk passed asked =
+      let ok = d.ok in
+      let small = d.small in
+      let fits : d.len < 2 ^ 64 = omega arith in
+      let less : d.len - 1 < 2 ^ 64 = omega arith in
+      let least : 1 ≤ d.len = omega arith in
+      let ns = unsnoc d.links (omega arith) in
+      let xs = unsnoc d.items (omega arith) in
+      let m = ns.1 in
+      let x = xs.1 in
+      let long = ap length ns.2 ∙ length-append ns.0 (m ∷ []) in
+      let many = ap length xs.2 ∙ length-append xs.0 (x ∷ []) in
+      let alike : length ns.0 ≡ length xs.0 = omega arith in
+      let linked = IsChained-init d.head d.tail ns.0 m (subst (IsChained d.head d.tail) ns.2 (IsChained-had _ _ _ d.chained)) in
+      let new : D E = record { head = d.head; tail = m.2; len = d.len - 1; items = xs.0; links = ns.0; ok = (omega arith, omega arith); small = omega arith; chained = ∣ linked.0 ∣₁ } in
+      qed 𝓛 Had ∵ enter ! C Λ (function E) (vptr rb ro ∷ []) _ $ alloc_all ! (λ l. pass_all ! refl ((tt, tt), tt) $
+      let En : Env 𝓤 H = env (function E).locals l in
+      nodes_opens E ! tt d rb ro $
+      rewrite ! 0 (λ (ks : List Link). ‵ (Held E ks d.items)) ns.2 refl $ rewrite ! 0 (λ (ys : List (X E)). ‵ (Held E (ns.0 ++ m ∷ []) ys)) xs.2 refl $
+      use1 𝓛 (‵ (One E m x) ⊛ ‵ (Held E ns.0 xs.0)) (snoc_out E 𝓛 ns.0 m xs.0 x alike) $ split ! $
+      one_opens E ! m x (λ b o e. node_unmade E ! b o m.1 m.2 x (λ v good.
+      let room : Typed word_ty (word (block_ptr b o)) = (tt, (tt, tt)) in
+      let both = pair_Typed (τ E) word_ty v (word (block_ptr b o)) good room in
+      let made : (Room E).Denot = record { ptr = block_ptr b o } in
+      -- [the node, in five; the others; the words; the open borrow; obs; auth]
+      sets ! (is ! (of_opd ! (load ! (through ! refl (fld ! refl (stop !))) (look_in ! 6 (sub ! 1 refl (whole !))))) (ap ptr_val (linked.1 ∙ e))) refl (tt, tt) $ sets ! (of_opd ! (get ! refl)) refl (tt, tt) $
+      sets ! (of_opd ! (load ! (through ! refl (fld ! refl (stop !))) (look_in ! 6 (sub ! 2 refl (whole !))))) refl (tt, record { fits = fits }) $ sets ! (bin ! (get ! refl) (lit ! tt) least) refl (tt, record { fits = less }) $
+      assigns ! (of_opd ! (get ! refl)) (through ! refl (fld ! refl (stop !))) (store_in ! 6 (sub ! 2 refl (whole !)) (tt, record { fits = less })) $ first ! $ blocks ! $
+      sets ! (of_opd ! (load ! (through ! refl (fld ! refl (stop !))) (look ! 1 refl))) refl (Ptr-Good m.2) $
+      assigns ! (of_opd ! (get ! refl)) (through ! refl (fld ! refl (stop !))) (store_in ! 6 (sub ! 1 refl (whole !)) (Ptr-Good m.2)) $
+      sets ! (addr ! (through ! refl (fld ! refl (stop !)))) refl (tt, tt) $ sets ! (of_opd ! (load ! (through ! refl (stop !)) (look ! 2 refl))) refl good $
+      sets ! (of_opd ! (get ! refl)) refl good $ sets ! (agg ! (and_then ! (get ! refl) (no_more !))) refl room $
+      sets_last ! (agg ! (and_then ! (get ! refl) (and_then ! (get ! refl) (no_more !)))) refl both $ exec ! C Λ En (after 6 (function E).body) (at_ret En Post) $ sets ! (of_opd ! (get ! refl)) refl both $
+      room_back E ! b o m.1 m.2 v $ Room-made (Node E) ! b o $ move ! (1 ∷ 0 ∷ []) $
+      use2 𝓛 (‵ ((Out E).own_val (x, made) (pair_val v (word (block_ptr b o)) ∷ []))) (pair_of 𝓛 (R E) (Room E) x made v (word (block_ptr b o))) $
+      move ! (1 ∷ 2 ∷ 3 ∷ 4 ∷ 5 ∷ []) $ nodes_closes E ! tt new rb ro $
+      returns ! (look_at ! 0 refl) $ free_all ! refl $ keep ! (0 ∷ 1 ∷ 2 ∷ 3 ∷ []) $ by ! (exits passed (x, made) (pair_val v (word (block_ptr b o))) new (xs.2, ap places_of ns.2 ∙ map-append (λ n. n.0) ns.0 (m ∷ []) ∙ (λ i. places_of ns.0 ++ e i ∷ []))))))
+
+  entry : 0 < d.len → ent 𝓤 (on_entry 𝓛 (ended E).signature (κ, tt) (q, tt) (self, tt) (ps, tt)) (WpFn 𝓤 H C Λ (function E) (ps ++ []) Post)
+  entry asked =
+      qed 𝓛 ((‵ (flft κ q) ⊛ ‵ ftrue) ∷ ‵ (owns (MutRef (named 0) κ (Nr E) ∷ []) (self, tt) (ps, tt)) ∷ []) ∵ split ! $ move ! (2 ∷ []) $ fsplit ! $ fsplit3 ! $ feq_l ! (λ e. keep ! (0 ∷ 1 ∷ 3 ∷ []) $
+      by ! (subst (λ (ws : List Val). ent 𝓤 (⋆ 𝓛 Had) (WpFn 𝓤 H C Λ (function E) (ws ++ []) Post)) (sym e) (walk e asked)))
+
+meets : (E : El) {M : Type 1} {𝓤 : Ura M} (𝓛 : Logic 𝓤) (𝓣 : Tables 𝓤 𝓛.H)
+    → Meets 𝓛 (ended E).signature (WpFn 𝓤 𝓛.H 𝓣.C 𝓣.Λ (function E)) (closing 𝓛 (ended E) (spec E 𝓛))
+meets E {𝓤 = 𝓤} 𝓛 𝓣 =
+    walk_Meets 𝓛 (ended E) (stayed E) (Goes-ref 𝓛 1 0 tt (plain (λ _. Nr E)), tt) (spec E 𝓛) (WpFn 𝓤 𝓛.H 𝓣.C 𝓣.Λ (function E)) (WpFn-mono 𝓤 𝓛.H 𝓛.laws 𝓣 (function E))
+    (λ z. let a = z.0.3.0 in needs 𝓤 (0 < a.now.len) _ (entry E 𝓛 𝓣.C 𝓣.Λ z.0.0.0 z.0.1.0 a.ref_ptr.0 a.ref_ptr.1 a.ghost_name a.now z.0.4.0))
+
+pub unlink_back_spec : {M : Type 1} → stated.statement M
+unfolding tables_of
+unlink_back_spec 𝓤 𝓛 𝓜 𝓡 wired Y L y =
+    let E : El = record { row = Y; laws = L } in
+    let A = 𝓛.A in
+    let 𝓣 : Tables 𝓤 𝓛.H = tables_of 𝓤 𝓛.H 𝓜 (tables 𝓤 𝓛.H 𝓜 𝓡 𝓡.env) in
+    spared 𝓛 (ended E).signature (𝓡.run (𝓡.env (#self (args E)))) (run_framed 𝓤 𝓛.H 𝓜 𝓡 (𝓡.env (#self (args E)))) 1 (Y.lives, tt) (closing 𝓛 (ended E) (spec E 𝓛))
+    (entered 𝓤 𝓛.H (triple_of 𝓛 (ended E).signature (closing 𝓛 (ended E) (spec E 𝓛))) 𝓣.C 𝓣.Λ (#self (args E)) (function E) (code.unfolded 𝓤 𝓛.H 𝓜 𝓡 wired (Y, tt)) (meets E 𝓛 𝓣))
+    ((y.0.0, y.0.1, tt, y.0.3, y.0.4), y.1)

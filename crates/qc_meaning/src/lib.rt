@@ -1,0 +1,8 @@
+// What a certificate that proves its outcome says of the game, whatever the game demands: conditions,
+// aggregates, bounds, horizons and cases left out. Each law is the contract of a function without
+// parameters.
+#![tactic(auto)]
+
+mod laws;
+
+pub use laws::{outcomes_are_true, root_means_its_verdict};

@@ -1,0 +1,19 @@
+use Rattle.std.proofs.Common.{◌≡◌, ◌+◌, ◌∙◌, sym, ap, subst, arith, true, w64, length, ℤ, ◌-ℤ◌, to_z, of_z}
+use Rattle.std.specs.Prelude.{nat_abs}
+use Rattle.std.proofs.lemmas.Int.{ints}
+use Rattle.qc_model.specs.declared.problem.Domain.TheVariants.{Range}
+use Rattle.qc_model.specs.Valid.{is_domain}
+use Rattle.qc_model.specs.Domains.{domain_values}
+use Rattle.qc_model.proofs.DomainValues.{Ends, range_size, ends_of}
+use Rattle.qc_model.proofs.problem.Domain.size.Goals as goal
+
+width : (low high : ℤ) → Ends low high → to_z w64 (of_z w64 (to_z w64 (of_z w64 high) -ℤ to_z w64 (of_z w64 low))) ≡ high -ℤ low
+width low high r = omega (arith, ints, r.low_fits, r.high_fits)
+
+pub returns-in-Range : goal.returns-in-Range
+returns-in-Range c =
+    let low = c.in-Range.low in
+    let high = c.in-Range.high in
+    let valid : is_domain (Range low high) ≡ true = subst (λ d. is_domain d ≡ true) c.in-Range.is c.requires in
+    ap (λ z. nat_abs z + 1) (width low high (ends_of low high valid))
+    ∙ (range_size low high valid ∙ ap (λ d. length (domain_values d)) (sym c.in-Range.is))

@@ -1,0 +1,4 @@
+pub mod Writing
+mod Spellable
+mod FirstForms
+mod Parts

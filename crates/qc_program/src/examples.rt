@@ -1,0 +1,147 @@
+//! The texts of the project's examples, answered as their guide says. They are kept equal to the files
+//! of `examples/` by `examples/check`.
+use crate::run::run;
+use crate::status::Status;
+use qc_io::{MemoryShelf, MemorySink};
+use std::test::Fail;
+
+const DEFENCE: &[u8] = b"exists;
+var 0..1: guard1;
+var 0..1: guard2;
+var 0..1: guard3;
+constraint int_lin_le([1,1,1],[guard1,guard2,guard3],2);
+forall;
+var 0..1: attack1;
+var 0..1: attack2;
+var 0..1: attack3;
+constraint int_lin_le([1,1,1],[attack1,attack2,attack3],2);
+exists;
+var 0..1: reserve1;
+var 0..1: reserve2;
+var 0..1: reserve3;
+constraint int_lin_le([1,1,1],[reserve1,reserve2,reserve3],1);
+goal;
+constraint int_lin_le([1,-1,-1],[attack1,guard1,reserve1],0);
+constraint int_lin_le([1,-1,-1],[attack2,guard2,reserve2],0);
+constraint int_lin_le([1,-1,-1],[attack3,guard3,reserve3],0);
+solve;
+";
+
+const THIN_DEFENCE: &[u8] = b"exists;
+var 0..1: guard1;
+var 0..1: guard2;
+var 0..1: guard3;
+constraint int_lin_le([1,1,1],[guard1,guard2,guard3],1);
+forall;
+var 0..1: attack1;
+var 0..1: attack2;
+var 0..1: attack3;
+constraint int_lin_le([1,1,1],[attack1,attack2,attack3],2);
+exists;
+var 0..1: reserve1;
+var 0..1: reserve2;
+var 0..1: reserve3;
+constraint int_lin_le([1,1,1],[reserve1,reserve2,reserve3],1);
+goal;
+constraint int_lin_le([1,-1,-1],[attack1,guard1,reserve1],0);
+constraint int_lin_le([1,-1,-1],[attack2,guard2,reserve2],0);
+constraint int_lin_le([1,-1,-1],[attack3,guard3,reserve3],0);
+solve;
+";
+
+const SCHEDULE: &[u8] = b"exists;
+var 0..3: start1;
+forall;
+var 0..2: delay1;
+exists;
+var 0..8: start2;
+constraint int_lin_le([1,1,-1],[start1,delay1,start2],-2);
+forall;
+var 0..2: delay2;
+constraint int_lin_le([1,1],[delay1,delay2],2);
+goal;
+constraint int_lin_le([1,1],[start2,delay2],5);
+solve;
+";
+
+const COUNTERS: &[u8] = b"exists;
+var 1..2: take1;
+forall;
+var 1..2: reply1;
+exists;
+var 1..2: take2;
+forall;
+var 1..2: reply2;
+exists;
+var 1..2: take3;
+goal;
+constraint int_lin_le([1,1,1,1,1],[take1,reply1,take2,reply2,take3],7);
+constraint int_lin_le([-1,-1,-1,-1,-1],[take1,reply1,take2,reply2,take3],-7);
+solve;
+";
+
+const PRICE: &[u8] = b"exists;
+var 0..10: price;
+forall;
+var 0..1: buys1;
+var 0..1: buys2;
+constraint int_lin_le([1,10],[price,buys1],16);
+constraint int_lin_le([-1,-10],[price,buys1],-6);
+constraint int_lin_le([1,10],[price,buys2],14);
+constraint int_lin_le([-1,-10],[price,buys2],-4);
+exists;
+var 0..10: pays1;
+var 0..10: pays2;
+constraint int_le(pays1,price);
+constraint int_lin_le([1,-10],[pays1,buys1],0);
+constraint int_le(pays2,price);
+constraint int_lin_le([1,-10],[pays2,buys2],0);
+goal;
+constraint int_lin_le([-1,-1],[pays1,pays2],-6);
+solve;
+";
+
+const DEAR_PRICE: &[u8] = b"exists;
+var 0..10: price;
+forall;
+var 0..1: buys1;
+var 0..1: buys2;
+constraint int_lin_le([1,10],[price,buys1],16);
+constraint int_lin_le([-1,-10],[price,buys1],-6);
+constraint int_lin_le([1,10],[price,buys2],14);
+constraint int_lin_le([-1,-10],[price,buys2],-4);
+exists;
+var 0..10: pays1;
+var 0..10: pays2;
+constraint int_le(pays1,price);
+constraint int_lin_le([1,-10],[pays1,buys1],0);
+constraint int_le(pays2,price);
+constraint int_lin_le([1,-10],[pays2,buys2],0);
+goal;
+constraint int_lin_le([-1,-1],[pays1,pays2],-7);
+solve;
+";
+
+#[test]
+fn examples_are_answered(rt: HostRuntime) -> Result<(), Fail> {
+    let alloc = rt.alloc();
+    let won: &[u8] = b"qcert 1\ntrue\n";
+    let lost: &[u8] = b"qcert 1\nfalse\n";
+    let rows: [(&[u8], &[u8]); 6] = [
+        (DEFENCE, won),
+        (THIN_DEFENCE, lost),
+        (SCHEDULE, won),
+        (COUNTERS, won),
+        (PRICE, won),
+        (DEAR_PRICE, lost),
+    ];
+    for (text, front) in rows {
+        let mut shelf = MemoryShelf::new(alloc);
+        shelf.add("p", text)?;
+        let mut sink = MemorySink::new(alloc, 65_536, 65_536)?;
+        let status = run(alloc, &["solve", "p"], &mut shelf, &mut sink);
+        assert_eq!(rt; status, Status::Done);
+        assert!(rt; sink.bytes().starts_with(front));
+    }
+    Ok(())
+}

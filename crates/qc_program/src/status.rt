@@ -1,0 +1,26 @@
+//! How a run ends.
+
+/// How the program ends; the number of each is the program's exit status.
+#[derive(Clone, Copy, Debug, PartialEq, Eq)]
+pub enum Status {
+    /// The answer was written.
+    Done,
+    /// The certificate doesn't prove what it states.
+    NotProved,
+    /// The budget of turns was used up.
+    Open,
+    /// The words match no command.
+    Usage,
+    /// The text isn't a problem.
+    BadProblem,
+    /// The bytes aren't a certificate.
+    BadCertificate,
+    /// A file is longer than its limit.
+    TooLong,
+    /// A file can't be read.
+    ReadFault,
+    /// The output can't be written; a prefix of it was.
+    WriteFault,
+    /// There was too little memory; nothing was written.
+    Memory,
+}
