@@ -14,3 +14,4 @@ pub mod PlacesFound
 pub mod Prefixes
 pub mod Unique
 pub mod UniqueTrees
+pub mod Ends

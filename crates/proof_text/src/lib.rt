@@ -13,6 +13,9 @@ mod read;
 mod scan;
 mod write;
 
+#[cfg(test)]
+mod tests;
+
 pub use fault::CertFault;
 pub use laws::{each_text_is_of_one_certificate, no_text_begins_another};
 pub use read::read_cert;

@@ -41,6 +41,7 @@ pub fn read_cert(alloc: Global, text: &[u8]) -> Result<Certificate, CertFault>
 }
 
 fn whole(alloc: Global, text: &[u8]) -> Result<Certificate, Flaw>
+    requires { length text.now ≤ 1073741824 }
     ensures ok { IfOk result (λ cert. (text.now ≡ certificate_text cert.outcome cert.optimum (tree_of cert.root)) × IsTrue (has_text cert.outcome cert.optimum (tree_of cert.root)) × (depth_of (tree_of cert.root) ≤ 1000)) }
     ensures err { IfErr result (λ flaw. Stops start text.now flaw) }
 {

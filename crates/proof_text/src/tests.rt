@@ -1,0 +1,80 @@
+//! Which bytes are read, and where others stop.
+use crate::{CertFault, read_cert, write_cert};
+use std::alloc::{AllocError, Global};
+use std::test::Fail;
+
+// A certificate with a line of each kind.
+const EACH: &[u8] = b"qcert 1\ntrue -4\nh 2\np 1 -5 7 3\np 500 0 1000000000 20000\n.\np 2 10 -10 1\nb 1 0 3\nv 1\ns\no\nb 3 1 1\nn\nt\ne\nx\n.\n";
+
+fn fault(alloc: Global, text: &[u8]) -> Option<CertFault> {
+    match read_cert(alloc, text) {
+        Ok(_) => None,
+        Err(fault) => Some(fault),
+    }
+}
+
+fn stops(at: u64) -> Option<CertFault> {
+    Some(CertFault::NotACertificate { at })
+}
+
+// A head, and so many lines of the letter.
+fn lines(alloc: Global, letter: u8, count: usize) -> Result<Vec<u8>, AllocError> {
+    let mut text = Vec::from_slice(alloc, b"qcert 1\ntrue\n")?;
+    for _ in 0..count {
+        text.push(letter)?;
+        text.push(b'\n')?;
+    }
+    Ok(text)
+}
+
+#[test]
+fn reads_what_is_written(rt: HostRuntime) -> Result<(), Fail> {
+    let alloc = rt.alloc();
+    let cert = read_cert(alloc, EACH)?;
+    let text = write_cert(alloc, &cert)?;
+    assert!(rt; text.as_slice() == EACH);
+    assert_eq!(rt; fault(alloc, b"qcert 1\nopen 10000000\ng\n"), None);
+    assert_eq!(rt; fault(alloc, b"qcert 1\ntrue 4611686018427387904\nx\n"), None);
+    Ok(())
+}
+
+#[test]
+fn tells_places(rt: HostRuntime) {
+    let alloc = rt.alloc();
+    assert_eq!(rt; fault(alloc, b""), stops(0));
+    assert_eq!(rt; fault(alloc, b"qcert 1\r\n"), stops(7));
+    assert_eq!(rt; fault(alloc, b"qcert 1\nfalse\nv 01\n"), stops(16));
+    assert_eq!(rt; fault(alloc, b"qcert 1\nfalse\nv 501\n"), stops(18));
+    assert_eq!(rt; fault(alloc, b"qcert 1\nfalse\nb 1 -0 0\n"), stops(19));
+    assert_eq!(rt; fault(alloc, b"qcert 1\nopen 10000001\n"), stops(20));
+    assert_eq!(rt; fault(alloc, b"qcert 1\ntrue 4611686018427387905\n"), stops(31));
+    assert_eq!(rt; fault(alloc, b"qcert 1\nfalse\nh 1\nb"), stops(18));
+    assert_eq!(rt; fault(alloc, b"qcert 1\nfalse\n\0"), stops(14));
+    assert_eq!(rt; fault(alloc, b"qcert 1\nfalse\nt\ng\n"), stops(16));
+}
+
+// A front of a text isn't ended, and no text goes on with another byte here.
+#[test]
+fn tells_places_of_fronts(rt: HostRuntime) -> Result<(), Fail> {
+    let alloc = rt.alloc();
+    for at in 0..EACH.len() {
+        assert_eq!(rt; fault(alloc, &EACH[..at]), stops(at as u64));
+        let mut text = Vec::from_slice(alloc, EACH)?;
+        text[at] = b'z';
+        assert_eq!(rt; fault(alloc, &text), stops(at as u64));
+    }
+    Ok(())
+}
+
+#[test]
+fn tells_what_nests_too_deep(rt: HostRuntime) -> Result<(), Fail> {
+    let alloc = rt.alloc();
+    let too_deep = Some(CertFault::TooDeep { at: 2013 });
+    assert_eq!(rt; fault(alloc, &lines(alloc, b'n', 1000)?), stops(2013));
+    assert_eq!(rt; fault(alloc, &lines(alloc, b'n', 1001)?), too_deep);
+    assert_eq!(rt; fault(alloc, &lines(alloc, b'n', 1_000_000)?), too_deep);
+    let mut deepest = lines(alloc, b'n', 1000)?;
+    deepest.extend_from_slice(b"t\n")?;
+    assert_eq!(rt; fault(alloc, &deepest), None);
+    Ok(())
+}
