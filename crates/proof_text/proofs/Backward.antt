@@ -79,24 +79,38 @@ pub outcome_back : (m : ℕ) (u b : List ℕ) → Choice m outcome_choices u b �
 outcome_back m u b (inl h) =
     let r = bytes_then m (codes "rue") (optimum ∷ []) h.0 b h.2 in
     let o = r.2.1 in
-    record { o = True; v = o.v; fits = o.fits; told =
-      h.1 ∙ ap (λ (l : List ℕ). 116 ∷ l) (r.1 ∙ ap (λ (l : List ℕ). 114 ∷ 117 ∷ 101 ∷ l) (o.told ∙ ap (λ (l : List ℕ). optimum_text o.v ++ l) r.2.2)) ∙ optimum_told o.v b }
+    record {
+      o = True;
+      v = o.v;
+      fits = o.fits;
+      told =
+          h.1 ∙ ap (λ (l : List ℕ). 116 ∷ l) (r.1 ∙ ap (λ (l : List ℕ). 114 ∷ 117 ∷ 101 ∷ l) (o.told ∙ ap (λ (l : List ℕ). optimum_text o.v ++ l) r.2.2)) ∙ optimum_told o.v b;
+    }
 outcome_back m u b (inr (inl h)) =
     let r = bytes_then m (codes "alse\n") [] h.0 b h.2 in
     record { o = False; v = None; fits = refl; told = h.1 ∙ ap (λ (l : List ℕ). 102 ∷ l) (r.1 ∙ ap (λ (l : List ℕ). codes "alse\n" ++ l) r.2) }
 outcome_back m u b (inr (inr (inl h))) =
     let r = bytes_then m (codes "pen ") (number 10000000 10 ∷ []) h.0 b h.2 in
     let o = r.2.1 in
-    record { o = Open o.n; v = None; fits = and_from (nat_le 1 o.n) (nat_le o.n 10000000) (le-leb 1 o.n o.low) (le-leb o.n 10000000 o.high); told =
-      h.1 ∙ ap (λ (l : List ℕ). 111 ∷ l) (r.1 ∙ ap (λ (l : List ℕ). codes "pen " ++ l) (o.told ∙ ap (λ (l : List ℕ). decimal o.n ++ 10 ∷ l) r.2.2 ∙ sym (append_assoc (decimal o.n) (10 ∷ []) b))) }
+    record {
+      o = Open o.n;
+      v = None;
+      fits = and_from (nat_le 1 o.n) (nat_le o.n 10000000) (le-leb 1 o.n o.low) (le-leb o.n 10000000 o.high);
+      told =
+          h.1 ∙ ap (λ (l : List ℕ). 111 ∷ l) (r.1 ∙ ap (λ (l : List ℕ). codes "pen " ++ l) (o.told ∙ ap (λ (l : List ℕ). decimal o.n ++ 10 ∷ l) r.2.2 ∙ sym (append_assoc (decimal o.n) (10 ∷ []) b)));
+    }
 outcome_back m u b (inr (inr (inr h))) = absurd h
 
 pub optimum_back : (m : ℕ) (u b : List ℕ) → Choice m optimum_choices u b → IsOptimum u b
 optimum_back m u b (inl h) = record { v = None; fits = refl; told = h.1 ∙ ap (λ (l : List ℕ). 10 ∷ l) h.2 }
 optimum_back m u b (inr (inl h)) =
     let o = h.2.1 in
-    record { v = Some o.z; fits = o.fits; told =
-      h.1 ∙ ap (λ (l : List ℕ). 32 ∷ l) (o.told ∙ ap (λ (l : List ℕ). signed_decimal o.z ++ 10 ∷ l) h.2.2 ∙ sym (append_assoc (signed_decimal o.z) (10 ∷ []) b)) }
+    record {
+      v = Some o.z;
+      fits = o.fits;
+      told =
+          h.1 ∙ ap (λ (l : List ℕ). 32 ∷ l) (o.told ∙ ap (λ (l : List ℕ). signed_decimal o.z ++ 10 ∷ l) h.2.2 ∙ sym (append_assoc (signed_decimal o.z) (10 ∷ []) b));
+    }
 optimum_back m u b (inr (inr h)) = absurd h
 
 pub prune_back : (m : ℕ) (u b : List ℕ) → Choice m prune_choices u b → ArePrunes u b
@@ -104,8 +118,13 @@ prune_back m u b (inl h) =
     let r = runs_split m prune_line (prunes ∷ []) h.0 b h.2 in
     let s = prune_of m h.0 r.0 r.1 in
     let p = r.2.1 in
-    record { steps = s.step ∷ p.steps; fit = and_from _ _ s.fits p.fit; are = and_from _ _ s.is p.are; told =
-      h.1 ∙ more_steps 112 true h.0 r.0 (46 ∷ 10 ∷ b) p.steps s (p.told ∙ ap (λ (l : List ℕ). steps_text p.steps ++ 46 ∷ 10 ∷ l) r.2.2) }
+    record {
+      steps = s.step ∷ p.steps;
+      fit = and_from _ _ s.fits p.fit;
+      are = and_from _ _ s.is p.are;
+      told =
+          h.1 ∙ more_steps 112 true h.0 r.0 (46 ∷ 10 ∷ b) p.steps s (p.told ∙ ap (λ (l : List ℕ). steps_text p.steps ++ 46 ∷ 10 ∷ l) r.2.2);
+    }
 prune_back m u b (inr (inl h)) = record { steps = []; fit = refl; are = refl; told = h.1 ∙ ap (λ (l : List ℕ). 46 ∷ l) (h.2.1 ∙ ap (λ (l : List ℕ). 10 ∷ l) h.2.2) }
 prune_back m u b (inr (inr h)) = absurd h
 
@@ -119,15 +138,25 @@ ending_back m n u b d (inr (inl h)) = record { end = barred; fits = refl; shallo
 ending_back m n u b d (inr (inr (inl h))) =
     let t = h.2.2.1 in
     let s = t.shallow in
-    record { end = next t.t; fits = t.fits; shallow = omega arith; told =
-      letter_line u h.0 h.2.0 _ 110 h.1 h.2.1 (t.told ∙ ap (λ (l : List ℕ). tree_text t.t ++ l) h.2.2.2) }
+    record {
+      end = next t.t;
+      fits = t.fits;
+      shallow = omega arith;
+      told =
+          letter_line u h.0 h.2.0 _ 110 h.1 h.2.1 (t.told ∙ ap (λ (l : List ℕ). tree_text t.t ++ l) h.2.2.2);
+    }
 ending_back m n u b d (inr (inr (inr (inl h)))) =
     let x = place_of 500 10 h.2.0 h.2.2.0 h.2.2.1 in
     let bs = h.2.2.2.1 in
     let s = bs.shallow in
-    record { end = branch (record { 0 = h.2.2.1.n - 1 }) bs.bs; fits = and_from _ _ x.0 bs.fit; shallow = omega arith; told =
-      h.1 ∙ ap (λ (l : List ℕ). 118 ∷ l) (h.2.1 ∙ ap (λ (l : List ℕ). 32 ∷ l) (x.1 ∙ ap (λ (l : List ℕ). decimal (h.2.2.1.n - 1 + 1) ++ 10 ∷ l) (bs.told ∙ ap (λ (l : List ℕ). branches_text bs.bs ++ 46 ∷ 10 ∷ l) h.2.2.2.2)))
-      ∙ sym (branch_pieces (codes "v ") (decimal (h.2.2.1.n - 1 + 1)) (codes "\n") (branches_text bs.bs) (codes ".\n") b) }
+    record {
+      end = branch (record { 0 = h.2.2.1.n - 1 }) bs.bs;
+      fits = and_from _ _ x.0 bs.fit;
+      shallow = omega arith;
+      told =
+          h.1 ∙ ap (λ (l : List ℕ). 118 ∷ l) (h.2.1 ∙ ap (λ (l : List ℕ). 32 ∷ l) (x.1 ∙ ap (λ (l : List ℕ). decimal (h.2.2.1.n - 1 + 1) ++ 10 ∷ l) (bs.told ∙ ap (λ (l : List ℕ). branches_text bs.bs ++ 46 ∷ 10 ∷ l) h.2.2.2.2)))
+          ∙ sym (branch_pieces (codes "v ") (decimal (h.2.2.1.n - 1 + 1)) (codes "\n") (branches_text bs.bs) (codes ".\n") b);
+    }
 ending_back m n u b d (inr (inr (inr (inr h)))) = absurd h
 
 pub case_back : (m n : ℕ) (u b : List ℕ) → n ≤ m → Choice m (case_choices n) u b → AreCases m n u b
@@ -135,14 +164,26 @@ case_back m n u b d (inl h) =
     let r = runs_split m prune_line (cases n ∷ []) h.0 b h.2 in
     let s = prune_of m h.0 r.0 r.1 in
     let p = r.2.1 in
-    record { steps = s.step ∷ p.steps; fit = and_from _ _ s.fits p.fit; rest = p.rest; end = subst (λ (l : List ℕ). IsEnding m n p.rest l) r.2.2 p.end; told =
-      h.1 ∙ more_steps 112 true h.0 r.0 p.rest p.steps s p.told }
+    record {
+      steps = s.step ∷ p.steps;
+      fit = and_from _ _ s.fits p.fit;
+      rest = p.rest;
+      end = subst (λ (l : List ℕ). IsEnding m n p.rest l) r.2.2 p.end;
+      told =
+          h.1 ∙ more_steps 112 true h.0 r.0 p.rest p.steps s p.told;
+    }
 case_back m n u b d (inr (inl h)) =
     let r = runs_split m bound_line (cases n ∷ []) h.0 b h.2 in
     let s = bound_of m h.0 r.0 r.1 in
     let p = r.2.1 in
-    record { steps = s.step ∷ p.steps; fit = and_from _ _ s.fits p.fit; rest = p.rest; end = subst (λ (l : List ℕ). IsEnding m n p.rest l) r.2.2 p.end; told =
-      h.1 ∙ more_steps 98 false h.0 r.0 p.rest p.steps s p.told }
+    record {
+      steps = s.step ∷ p.steps;
+      fit = and_from _ _ s.fits p.fit;
+      rest = p.rest;
+      end = subst (λ (l : List ℕ). IsEnding m n p.rest l) r.2.2 p.end;
+      told =
+          h.1 ∙ more_steps 98 false h.0 r.0 p.rest p.steps s p.told;
+    }
 case_back m n u b d (inr (inr h)) = record { steps = []; fit = refl; rest = u; end = ending_back m n u b d h; told = refl }
 
 -- cases, with their end
@@ -162,10 +203,15 @@ node_back m n u b d (inl h) =
     let p = h.2.2.2.1 in
     let t = h.2.2.2.2.1 in
     let z : Horizon = record { scope = record { 0 = h.2.2.1.n - 1 }; steps = p.steps } in
-    record { t = tree (Some z) t.t; fits = and_from _ _ (and_from _ _ (and_from _ _ x.0 p.fit) p.are) t.fits; shallow = t.shallow; told =
-      h.1 ∙ ap (λ (l : List ℕ). 104 ∷ l) (h.2.1 ∙ ap (λ (l : List ℕ). 32 ∷ l) (x.1 ∙ ap (λ (l : List ℕ). decimal (h.2.2.1.n - 1 + 1) ++ 10 ∷ l)
-        (p.told ∙ ap (λ (l : List ℕ). steps_text p.steps ++ 46 ∷ 10 ∷ l) (t.told ∙ ap (λ (l : List ℕ). body_text t.t ++ l) h.2.2.2.2.2))))
-      ∙ sym (node_pieces (codes "h ") (decimal (h.2.2.1.n - 1 + 1)) (codes "\n") (steps_text p.steps) (codes ".\n") (body_text t.t) b) }
+    record {
+      t = tree (Some z) t.t;
+      fits = and_from _ _ (and_from _ _ (and_from _ _ x.0 p.fit) p.are) t.fits;
+      shallow = t.shallow;
+      told =
+          h.1 ∙ ap (λ (l : List ℕ). 104 ∷ l) (h.2.1 ∙ ap (λ (l : List ℕ). 32 ∷ l) (x.1 ∙ ap (λ (l : List ℕ). decimal (h.2.2.1.n - 1 + 1) ++ 10 ∷ l)
+          (p.told ∙ ap (λ (l : List ℕ). steps_text p.steps ++ 46 ∷ 10 ∷ l) (t.told ∙ ap (λ (l : List ℕ). body_text t.t ++ l) h.2.2.2.2.2))))
+          ∙ sym (node_pieces (codes "h ") (decimal (h.2.2.1.n - 1 + 1)) (codes "\n") (steps_text p.steps) (codes ".\n") (body_text t.t) b);
+    }
 node_back m n u b d (inr h) =
     let t = body_back m n u b d h in
     record { t = tree None t.t; fits = t.fits; shallow = t.shallow; told = t.told }
@@ -180,18 +226,31 @@ max_within m n a b h g = grind (arith)
 pub branch_back : (m n : ℕ) (u b : List ℕ) → n ≤ m → Choice m (branch_choices n) u b → AreBranches m n u b
 branch_back m n u b d (inl h) =
     let r = h.2.2.1 in
-    record { bs = skip r.bs; fit = r.fit; shallow = r.shallow; told =
-      letter_line u h.0 h.2.0 _ 115 h.1 h.2.1 (r.told ∙ ap (λ (l : List ℕ). branches_text r.bs ++ 46 ∷ 10 ∷ l) h.2.2.2) }
+    record {
+      bs = skip r.bs;
+      fit = r.fit;
+      shallow = r.shallow;
+      told =
+          letter_line u h.0 h.2.0 _ 115 h.1 h.2.1 (r.told ∙ ap (λ (l : List ℕ). branches_text r.bs ++ 46 ∷ 10 ∷ l) h.2.2.2);
+    }
 branch_back m n u b d (inr (inl h)) =
     let r = h.2.2.1 in
-    record { bs = left_open r.bs; fit = r.fit; shallow = r.shallow; told =
-      letter_line u h.0 h.2.0 _ 111 h.1 h.2.1 (r.told ∙ ap (λ (l : List ℕ). branches_text r.bs ++ 46 ∷ 10 ∷ l) h.2.2.2) }
+    record {
+      bs = left_open r.bs;
+      fit = r.fit;
+      shallow = r.shallow;
+      told =
+          letter_line u h.0 h.2.0 _ 111 h.1 h.2.1 (r.told ∙ ap (λ (l : List ℕ). branches_text r.bs ++ 46 ∷ 10 ∷ l) h.2.2.2);
+    }
 branch_back m n u b d (inr (inr (inl h))) = record { bs = no_more; fit = refl; shallow = omega arith; told = letter_line u h.0 h.2.0 b 46 h.1 h.2.1 h.2.2 }
 branch_back m n u b d (inr (inr (inr h))) =
     let r = choice_followed m (case_choices n) (branches n) u b h in
     let c = case_back m n u r.0 d r.1 in
     let bs = r.2 in
-    record { bs = go c.steps c.end.end bs.bs; fit = and_from _ _ (and_from _ _ c.fit c.end.fits) bs.fit;
+    record {
+      bs = go c.steps c.end.end bs.bs;
+      fit = and_from _ _ (and_from _ _ c.fit c.end.fits) bs.fit;
       shallow = max_within m n (ending_depth c.end.end) (branch_depth bs.bs) c.end.shallow bs.shallow;
       told = cases_told m n u r.0 c ∙ ap (λ (l : List ℕ). (steps_text c.steps ++ ending_text c.end.end) ++ l) bs.told
-        ∙ go_pieces_back (steps_text c.steps) (ending_text c.end.end) (branches_text bs.bs) (46 ∷ 10 ∷ b) }
+          ∙ go_pieces_back (steps_text c.steps) (ending_text c.end.end) (branches_text bs.bs) (46 ∷ 10 ∷ b);
+    }

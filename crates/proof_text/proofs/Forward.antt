@@ -70,7 +70,7 @@ outcome_choices_of m True (Some v) b f = inl (_, refl, (_, refl, (_, refl, (_, r
 outcome_choices_of m False v b f = inr (inl (_, refl, (_, refl, (_, refl, (_, refl, (_, refl, (_, refl, refl)))))))
 outcome_choices_of m (Open n) None b f =
     let p = and_parts (nat_le 1 n) (nat_le n 10000000) f in
-    inr (inr (inl (_, refl, (_, refl, (_, refl, (_, refl, (_, refl, (b, record { n = n; low = leb-true 1 n p.0; high = leb-true n 10000000 p.1; told = append_assoc (decimal n) (10 ∷ []) b }, refl)))))))) 
+    inr (inr (inl (_, refl, (_, refl, (_, refl, (_, refl, (_, refl, (b, record { n = n; low = leb-true 1 n p.0; high = leb-true n 10000000 p.1; told = append_assoc (decimal n) (10 ∷ []) b }, refl))))))))
 outcome_choices_of m (Open n) (Some v) b f = absurd (cc)
 
 -- a choice of bytes is one of equal bytes
@@ -92,8 +92,11 @@ prune_choices_of m [] b f p = inr (inl (_, refl, (b, refl, refl)))
 prune_choices_of m (Prune x low high c ∷ steps) b f p =
     let g = and_parts (step_fits (Prune x low high c)) (list_all step_fits steps) f in
     let v : List ℕ = steps_text steps ++ 46 ∷ 10 ∷ b in
-    inl (rest_of_step (Prune x low high c) v, steps_are (Prune x low high c) steps (46 ∷ 10 ∷ b),
-      runs_append m prune_line (prunes ∷ []) _ v b (step_runs m (Prune x low high c) v g.0) (b, record { steps = steps; fit = g.1; are = p; told = refl }, refl))
+    inl (
+      rest_of_step (Prune x low high c) v,
+      steps_are (Prune x low high c) steps (46 ∷ 10 ∷ b),
+      runs_append m prune_line (prunes ∷ []) _ v b (step_runs m (Prune x low high c) v g.0) (b, record { steps = steps; fit = g.1; are = p; told = refl }, refl),
+    )
 prune_choices_of m (Bound x low high ∷ steps) b f p = absurd (cc)
 
 pub prune_choice : (m : ℕ) (u b : List ℕ) → ArePrunes u b → Choice m prune_choices u b
@@ -108,8 +111,11 @@ ending_choices_of m n barred b f d = inr (inl (_, refl, (b, refl, refl)))
 ending_choices_of m n (next t) b f d = inr (inr (inl (_, refl, (_, refl, (b, record { t = t; fits = f; shallow = omega arith; told = refl }, refl)))))
 ending_choices_of m n (branch x bs) b f d =
     let p = and_parts (is_place 500 x.0) (branches_fit bs) f in
-    inr (inr (inr (inl (_, branch_pieces (codes "v ") (decimal (x.0 + 1)) (codes "\n") (branches_text bs) (codes ".\n") b,
-      (_, refl, (_, place_is 500 x.0 10 (branches_text bs ++ 46 ∷ 10 ∷ b) p.0, (b, record { bs = bs; fit = p.1; shallow = omega arith; told = refl }, refl)))))))
+    inr (inr (inr (inl (
+      _,
+      branch_pieces (codes "v ") (decimal (x.0 + 1)) (codes "\n") (branches_text bs) (codes ".\n") b,
+      (_, refl, (_, place_is 500 x.0 10 (branches_text bs ++ 46 ∷ 10 ∷ b) p.0, (b, record { bs = bs; fit = p.1; shallow = omega arith; told = refl }, refl))),
+    ))))
 
 pub ending_choice : (m n : ℕ) (u b : List ℕ) → IsEnding m n u b → Choice m (ending_choices n) u b
 ending_choice m n u b h = at_bytes m (ending_choices n) u _ b h.told (ending_choices_of m n h.end b h.fits h.shallow)
@@ -119,13 +125,19 @@ case_choices_of m n [] rest b f e = inr (inr (ending_choice m n rest b e))
 case_choices_of m n (Prune x low high c ∷ steps) rest b f e =
     let g = and_parts (step_fits (Prune x low high c)) (list_all step_fits steps) f in
     let v : List ℕ = steps_text steps ++ rest in
-    inl (rest_of_step (Prune x low high c) v, steps_are (Prune x low high c) steps rest,
-      runs_append m prune_line (cases n ∷ []) _ v b (step_runs m (Prune x low high c) v g.0) (b, record { steps = steps; fit = g.1; rest = rest; end = e; told = refl }, refl))
+    inl (
+      rest_of_step (Prune x low high c) v,
+      steps_are (Prune x low high c) steps rest,
+      runs_append m prune_line (cases n ∷ []) _ v b (step_runs m (Prune x low high c) v g.0) (b, record { steps = steps; fit = g.1; rest = rest; end = e; told = refl }, refl),
+    )
 case_choices_of m n (Bound x low high ∷ steps) rest b f e =
     let g = and_parts (step_fits (Bound x low high)) (list_all step_fits steps) f in
     let v : List ℕ = steps_text steps ++ rest in
-    inr (inl (rest_of_step (Bound x low high) v, steps_are (Bound x low high) steps rest,
-      runs_append m bound_line (cases n ∷ []) _ v b (step_runs m (Bound x low high) v g.0) (b, record { steps = steps; fit = g.1; rest = rest; end = e; told = refl }, refl)))
+    inr (inl (
+      rest_of_step (Bound x low high) v,
+      steps_are (Bound x low high) steps rest,
+      runs_append m bound_line (cases n ∷ []) _ v b (step_runs m (Bound x low high) v g.0) (b, record { steps = steps; fit = g.1; rest = rest; end = e; told = refl }, refl),
+    ))
 
 pub case_choice : (m n : ℕ) (u b : List ℕ) → AreCases m n u b → Choice m (case_choices n) u b
 case_choice m n u b h = at_bytes m (case_choices n) u _ b h.told (case_choices_of m n h.steps h.rest b h.fit h.end)
@@ -152,8 +164,11 @@ node_choices_of m n None t b f g d = inr (body_choices_of m n t b g d)
 node_choices_of m n (Some z) t b f g d =
     let p = and_parts (is_place 65 z.scope.0 && list_all step_fits z.steps) (list_all is_prune z.steps) f in
     let q = and_parts (is_place 65 z.scope.0) (list_all step_fits z.steps) p.0 in
-    inl (_, node_pieces (codes "h ") (decimal (z.scope.0 + 1)) (codes "\n") (steps_text z.steps) (codes ".\n") (body_text t) b,
-      (_, refl, (_, place_is 65 z.scope.0 10 _ q.0, (_, record { steps = z.steps; fit = q.1; are = p.1; told = refl }, (b, record { t = t; fits = g; shallow = d; told = refl }, refl)))))
+    inl (
+      _,
+      node_pieces (codes "h ") (decimal (z.scope.0 + 1)) (codes "\n") (steps_text z.steps) (codes ".\n") (body_text t) b,
+      (_, refl, (_, place_is 65 z.scope.0 10 _ q.0, (_, record { steps = z.steps; fit = q.1; are = p.1; told = refl }, (b, record { t = t; fits = g; shallow = d; told = refl }, refl)))),
+    )
 
 node_parts : (m n : ℕ) (t : Tree) (b : List ℕ) → IsTrue (tree_fits t) → n + depth_of t ≤ m → Choice m (node_choices n) (tree_text t ++ b) b
 node_parts m n (tree z t) b f d = let p = and_parts (horizon_fits z) (body_fits t) f in node_choices_of m n z t b p.0 p.1 d
@@ -175,9 +190,9 @@ branch_choices_of m n (go steps end bs) b f d =
     let right = le-max_right (ending_depth end) (branch_depth bs) in
     let v : List ℕ = branches_text bs ++ 46 ∷ 10 ∷ b in
     at_bytes m (branch_choices n) _ _ b (go_pieces (steps_text steps) (ending_text end) (branches_text bs) (46 ∷ 10 ∷ b))
-      (inr (inr (inr (followed_choice m (case_choices n) (branches n) _ v b
-        (case_choice m n _ v (cases_are m n steps end v q.0 q.1 (omega arith)))
-        (record { bs = bs; fit = p.1; shallow = omega arith; told = refl })))))
+    (inr (inr (inr (followed_choice m (case_choices n) (branches n) _ v b
+    (case_choice m n _ v (cases_are m n steps end v q.0 q.1 (omega arith)))
+    (record { bs = bs; fit = p.1; shallow = omega arith; told = refl })))))
 
 pub branch_choice : (m n : ℕ) (u b : List ℕ) → AreBranches m n u b → Choice m (branch_choices n) u b
 branch_choice m n u b h = at_bytes m (branch_choices n) u _ b h.told (branch_choices_of m n h.bs b h.fit h.shallow)

@@ -128,7 +128,7 @@ number_leaves m most end c owed w b g h r =
     let grows = value_grows (c - 48) d.ds in
     let back : 48 + (c - 48) ≡ c = omega arith in
     let text : decimal (value (c - 48) d.ds) ≡ c ∷ d.ds =
-      decimal_value (c - 48) d.ds (omega arith) d.are (omega arith) ∙ ap (λ (l : List ℕ). l ++ d.ds) (decimal_digit (c - 48) (omega arith) ∙ ap (λ (x : ℕ). x ∷ []) back) in
+    decimal_value (c - 48) d.ds (omega arith) d.are (omega arith) ∙ ap (λ (l : List ℕ). l ++ d.ds) (decimal_digit (c - 48) (omega arith) ∙ ap (λ (x : ℕ). x ∷ []) back) in
     record {
       n = value (c - 48) d.ds;
       low = omega arith;
@@ -155,7 +155,7 @@ signed_by false true m most end c owed w b e f g h r =
     let same : byte end ∷ [] ≡ owed = cc in
     let s = subst (λ (k : List Symbol). Runs m k w b) (sym same) r in
     subst (λ (x : ℕ). IsSigned most end (x ∷ w) b) (sym (eqb-true c 48 f))
-      (record { z = pos 0; fits = le-leb 0 most (omega arith); told = ap (λ (l : List ℕ). 48 ∷ l) (s.1 ∙ ap (λ (l : List ℕ). end ∷ l) s.2) ∙ ap (λ (l : List ℕ). l ++ end ∷ b) (sym (decimal_digit 0 (omega arith))) })
+    (record { z = pos 0; fits = le-leb 0 most (omega arith); told = ap (λ (l : List ℕ). 48 ∷ l) (s.1 ∙ ap (λ (l : List ℕ). end ∷ l) s.2) ∙ ap (λ (l : List ℕ). l ++ end ∷ b) (sym (decimal_digit 0 (omega arith))) })
 signed_by false false m most end c owed w b e f g h r = positive most end (c ∷ w) b (number_leaves m most end c owed w b g h r)
 
 pub signed_leaves : (m most end c : ℕ) (owed : List Symbol) (w b : List ℕ) → most ≤ 2 ^ 62 → after (signed most end) c ≡ Some owed → Runs m owed w b → IsSigned most end (c ∷ w) b

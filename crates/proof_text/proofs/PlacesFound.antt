@@ -24,17 +24,22 @@ text_runs m u h =
     let p = and_parts (outcome_fits h.0 h.1) (tree_fits h.2) h.3 in
     let depth = h.4 in
     subst (λ (l : List ℕ). Runs m start l []) (sym h.5)
-      (then_bytes m (codes "qcert 1\n") (outcome ∷ node 0 ∷ []) (outcome_text h.0 h.1 ++ tree_text h.2) []
-        (tree_text h.2, record { o = h.0; v = h.1; fits = p.0; told = refl }, ([], record { t = h.2; fits = p.1; shallow = omega arith; told = sym (append-nil (tree_text h.2)) }, refl)))
+    (then_bytes m (codes "qcert 1\n") (outcome ∷ node 0 ∷ []) (outcome_text h.0 h.1 ++ tree_text h.2) []
+    (tree_text h.2, record { o = h.0; v = h.1; fits = p.0; told = refl }, ([], record { t = h.2; fits = p.1; shallow = omega arith; told = sym (append-nil (tree_text h.2)) }, refl)))
 
 pub runs_text : (m : ℕ) (u : List ℕ) → Runs m start u [] → IsText m u
 runs_text m u h =
     let r = bytes_then m (codes "qcert 1\n") (outcome ∷ node 0 ∷ []) u [] h in
     let o = r.2.1 in
     let n = r.2.2.1 in
-    let depth = n.shallow in
-    (o.o, o.v, n.t, and_from (outcome_fits o.o o.v) (tree_fits n.t) o.fits n.fits, omega arith,
-     r.1 ∙ ap (λ (l : List ℕ). codes "qcert 1\n" ++ l) (o.told ∙ ap (λ (l : List ℕ). outcome_text o.o o.v ++ l) (n.told ∙ ap (λ (l : List ℕ). tree_text n.t ++ l) r.2.2.2 ∙ append-nil (tree_text n.t))))
+    let depth = n.shallow in (
+      o.o,
+      o.v,
+      n.t,
+      and_from (outcome_fits o.o o.v) (tree_fits n.t) o.fits n.fits,
+      omega arith,
+      r.1 ∙ ap (λ (l : List ℕ). codes "qcert 1\n" ++ l) (o.told ∙ ap (λ (l : List ℕ). outcome_text o.o o.v ++ l) (n.told ∙ ap (λ (l : List ℕ). tree_text n.t ++ l) r.2.2.2 ∙ append-nil (tree_text n.t))),
+    )
 
 goes_text : (m : ℕ) (u : List ℕ) → CanGo m start u → BeginsText m u
 goes_text m u h = (h.0, runs_text m (u ++ h.0) h.1)
@@ -141,8 +146,8 @@ pub no_wrong_text : (w : List ℕ) (at : ℕ) → IsNotACertificate at w → IsT
 no_wrong_text w at h t =
     let within = h.within in
     elim (cases_lt at (length w)) [
-      inl lt ↦ h.here lt 1000 (whole_begins w 1000 (at + 1) t)
-    | inr ge ↦ h.unfinished (omega arith) 1000 t
+      | inl lt ↦ h.here lt 1000 (whole_begins w 1000 (at + 1) t)
+      | inr ge ↦ h.unfinished (omega arith) 1000 t
     ]
 
 pub no_deep_text : (w : List ℕ) (at : ℕ) → IsTooDeep at w → IsText 1000 w → ⊥

@@ -27,7 +27,7 @@ alone (c ∷ cs) rest (s ∷ k) m n f h g =
     let head : e.first ≡ c = cc in
     let goes : after s c ≡ Some e.owed = ap (after s) (sym head) ∙ e.goes_on in
     alone cs rest (e.owed ++ k) m n (list_all-append is_sound e.owed k ∙ and_from _ _ (sound_after s c e.owed p.0 goes) p.1)
-      (go_in m s k e.owed c cs [] p.0 goes h) (go_in n s k e.owed c (cs ++ rest) [] p.0 goes g)
+    (go_in m s k e.owed c cs [] p.0 goes h) (go_in n s k e.owed c (cs ++ rest) [] p.0 goes g)
 
 pub text_alone : (u rest : List ℕ) (m n : ℕ) → IsText m u → IsText n (u ++ rest) → rest ≡ []
 text_alone u rest m n h g = alone u rest start m n refl (text_runs m u h) (text_runs n (u ++ rest) g)

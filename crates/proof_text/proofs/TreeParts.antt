@@ -65,8 +65,8 @@ pub no_case : (n : ℕ) (text : List ℕ) (k : List Symbol) → n ≤ 1000 → B
 no_case n [] k le p q r = refl
 no_case n (c ∷ cs) k le p q r =
     rw (ne_eqb c 115 (other c 115 cs p), ne_eqb c 111 (other c 111 cs q), ne_eqb c 46 (other c 46 cs r))
-      (ap (λ (o : Option (List Symbol)). onward o (λ more. run (more ++ k) cs) (suc (length cs))) (chosen_followed c (case_choices n) (branches n))
-       ∙ onward_followed (chosen c (case_choices n)) (branches n) k cs (suc (length cs)) (le-leb n 1000 le))
+    (ap (λ (o : Option (List Symbol)). onward o (λ more. run (more ++ k) cs) (suc (length cs))) (chosen_followed c (case_choices n) (branches n))
+    ∙ onward_followed (chosen c (case_choices n)) (branches n) k cs (suc (length cs)) (le-leb n 1000 le))
 
 pub case_fails : (n : ℕ) (text : List ℕ) (flaw : Flaw) → n ≤ 1000 → BeginsNot 115 text → BeginsNot 111 text → BeginsNot 46 text → Fails (cases n ∷ []) text flaw → Fails (branches n ∷ []) text flaw
 case_fails n text flaw le p q r h = fails_by (branches n ∷ []) (cases n ∷ []) text text flaw (λ k. (branches n ∷ k, no_case n text k le p q r)) h
@@ -96,9 +96,12 @@ pub branch_spells : (n : ℕ) (x : VarId) (list : CaseList) (line a b rest : Lis
     → Spells (ending_text (ending_of (Branch x list))) (ending_fits (ending_of (Branch x list))) (n + ending_depth (ending_of (Branch x list))) (118 ∷ line) rest
 branch_spells n x list line a b rest e f p g fit shallow le =
     let bs : Branches = branches_of list.items.items in
-    subst (λ (end : Ending). Spells (ending_text end) (ending_fits end) (n + ending_depth end) (118 ∷ line) rest) (sym (ending_branch x list))
-      (rw (e, f, g) (sym (branch_pieces (codes "v ") (decimal (x.0 + 1)) (codes "\n") (branches_text (branches_of list.items.items)) (codes ".\n") rest)), and_from _ _ p fit, omega arith,
-       (let l = ap length f ∙ length-append (decimal (x.0 + 1)) (10 ∷ b) in let m = ap length e in omega arith))
+    subst (λ (end : Ending). Spells (ending_text end) (ending_fits end) (n + ending_depth end) (118 ∷ line) rest) (sym (ending_branch x list)) (
+      rw (e, f, g) (sym (branch_pieces (codes "v ") (decimal (x.0 + 1)) (codes "\n") (branches_text (branches_of list.items.items)) (codes ".\n") rest)),
+      and_from _ _ p fit,
+      omega arith,
+      (let l = ap length f ∙ length-append (decimal (x.0 + 1)) (10 ∷ b) in let m = ap length e in omega arith),
+    )
 
 go_nil : (s e b : List ℕ) → s ++ e ++ b ≡ (s ++ e ++ []) ++ b
 go_nil s e b = simp append_assoc

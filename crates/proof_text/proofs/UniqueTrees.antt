@@ -51,11 +51,13 @@ horizon_one z y a b f g e =
     let k = place_one 65 z.scope.0 y.scope.0 10 _ _ (omega arith) q.0 s.0 (omega arith) tail in
     let m = steps_one z.steps y.steps _ _ q.1 s.1 (record { first = 46; w = _; is = refl; passes = refl }) (record { first = 46; w = _; is = refl; passes = refl }) k.1 in
     (horizon_is z y (ap (λ (i : ℕ). let v : ScopeId = record { 0 = i } in v) k.0) m.0, after_two 46 10 a b m.1)
-    where
+  where
     horizon_pieces : (k : ℕ) (s a : List ℕ) → 104 ∷ 32 ∷ (decimal (k + 1) ++ 10 ∷ (s ++ 46 ∷ 10 ∷ a)) ≡ (codes "h " ++ decimal (k + 1) ++ codes "\n" ++ s ++ codes ".\n") ++ a
     horizon_pieces k s a = sym (branch_pieces (codes "h ") (decimal (k + 1)) (codes "\n") s (codes ".\n") a)
+
     after_two : (c d : ℕ) (u v : List ℕ) → c ∷ d ∷ u ≡ c ∷ d ∷ v → u ≡ v
     after_two c d u v h = cc
+
     horizon_is : (z y : Horizon) → z.scope ≡ y.scope → z.steps ≡ y.steps → z ≡ y
     horizon_is z y f g = ap (λ (k : ScopeId). let h : Horizon = record { scope = k; steps = z.steps } in h) f ∙ ap (λ (l : List Step). let h : Horizon = record { scope = y.scope; steps = l } in h) g
 
@@ -91,7 +93,7 @@ mutual
       let p = and_parts (list_all step_fits ss) (ending_fits x) f in
       let q = and_parts (list_all step_fits ts) (ending_fits y) g in
       let s = steps_one ss ts (ending_text x ++ a) (ending_text y ++ b) p.0 q.0 (ending_first no_step x a refl refl refl refl) (ending_first no_step y b refl refl refl refl)
-        (sym (append_assoc (steps_text ss) (ending_text x) a) ∙ e ∙ append_assoc (steps_text ts) (ending_text y) b) in
+      (sym (append_assoc (steps_text ss) (ending_text x) a) ∙ e ∙ append_assoc (steps_text ts) (ending_text y) b) in
       let r = ending_one x y a b p.1 q.1 s.1 in
       (ap (λ (l : List Step). cases l x) s.0 ∙ ap (cases ts) r.0, r.1)
 
@@ -143,8 +145,8 @@ mutual
       let u : List ℕ = branches_text bs ++ 46 ∷ 10 ∷ a in
       let v : List ℕ = branches_text cs ++ 46 ∷ 10 ∷ b in
       let s = steps_one ss ts (ending_text x ++ (branches_text bs ++ 46 ∷ 10 ∷ a)) (ending_text y ++ (branches_text cs ++ 46 ∷ 10 ∷ b)) p1.0 q1.0
-        (ending_first no_step x _ refl refl refl refl) (ending_first no_step y _ refl refl refl refl)
-        (sym (go_pieces (steps_text ss) (ending_text x) (branches_text bs) (46 ∷ 10 ∷ a)) ∙ e ∙ go_pieces (steps_text ts) (ending_text y) (branches_text cs) (46 ∷ 10 ∷ b)) in
+      (ending_first no_step x _ refl refl refl refl) (ending_first no_step y _ refl refl refl refl)
+      (sym (go_pieces (steps_text ss) (ending_text x) (branches_text bs) (46 ∷ 10 ∷ a)) ∙ e ∙ go_pieces (steps_text ts) (ending_text y) (branches_text cs) (46 ∷ 10 ∷ b)) in
       let r = ending_one x y (branches_text bs ++ 46 ∷ 10 ∷ a) (branches_text cs ++ 46 ∷ 10 ∷ b) p1.1 q1.1 s.1 in
       let m = branches_one bs cs a b p.1 q.1 r.1 in
       (ap (λ (l : List Step). go l x bs) s.0 ∙ ap (λ (z : Ending). go ts z bs) r.0 ∙ ap (go ts y) m.0, m.1)
@@ -172,7 +174,7 @@ optimum_one None (Some w) a b f g e = apart 10 32 _ _ refl (after_four 116 114 1
 optimum_one (Some v) None a b f g e = apart 32 10 _ _ refl (after_four 116 114 117 101 _ _ e)
 optimum_one (Some v) (Some w) a b f g e =
     let r = signed_one v w 10 a b (leb-true _ _ f) (leb-true _ _ g) (omega arith)
-      (sym (append_assoc (signed_decimal v) (10 ∷ []) a) ∙ after_five 116 114 117 101 32 _ _ e ∙ append_assoc (signed_decimal w) (10 ∷ []) b) in
+    (sym (append_assoc (signed_decimal v) (10 ∷ []) a) ∙ after_five 116 114 117 101 32 _ _ e ∙ append_assoc (signed_decimal w) (10 ∷ []) b) in
     (ap Some r.0, r.1)
 
 pub record SameOutcome (o p : Outcome) (v w : Option ℤ) (a b : List ℕ) : Type 0 where
@@ -192,7 +194,7 @@ open_one m n None None a b f g e =
     let low = leb-true _ _ p.1 in
     let high = leb-true _ _ q.1 in
     let r = number_one m n 10 a b (omega arith) (omega arith) (omega arith)
-      (sym (append_assoc (decimal m) (10 ∷ []) a) ∙ after_five 111 112 101 110 32 _ _ e ∙ append_assoc (decimal n) (10 ∷ []) b) in
+    (sym (append_assoc (decimal m) (10 ∷ []) a) ∙ after_five 111 112 101 110 32 _ _ e ∙ append_assoc (decimal n) (10 ∷ []) b) in
     record { outcome = ap Open r.0; optimum = refl; rest = r.1 }
 open_one m n None (Some w) a b f g e = absurd (cc)
 open_one m n (Some v) w a b f g e = absurd (cc)

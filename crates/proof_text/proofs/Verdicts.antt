@@ -186,8 +186,8 @@ no_such s k c cs h e = record {
   many = refl;
   front = can_end 1000 (s ∷ k) h;
   here = λ d r f m g.
-    let same : c ≡ d = cc in
-    no_way m s k d g.0 [] (ready_parts 1000 s k h).0 (ap (after s) (sym same) ∙ e) g.1;
+      let same : c ≡ d = cc in
+      no_way m s k d g.0 [] (ready_parts 1000 s k h).0 (ap (after s) (sym same) ∙ e) g.1;
   unfinished = λ f m g. cc;
 }
 
@@ -228,8 +228,8 @@ deep_more s k owed c cs left h e g =
 letter_of : (a : Bool) (c : ℕ) → a ≡ false → (a || (nat_eq c 118 || nat_eq c 110)) ≡ true → (c ≡ 118) ⊎ (c ≡ 110)
 letter_of a c f h =
     elim (or_cases a (nat_eq c 118 || nat_eq c 110) h) [
-      inl x ↦ absurd (cc)
-    | inr x ↦ elim (or_cases (nat_eq c 118) (nat_eq c 110) x) [ inl y ↦ inl (eqb-true c 118 y) | inr y ↦ inr (eqb-true c 110 y) ]
+      | inl x ↦ absurd (cc)
+      | inr x ↦ elim (or_cases (nat_eq c 118) (nat_eq c 110) x) [ inl y ↦ inl (eqb-true c 118 y) | inr y ↦ inr (eqb-true c 110 y) ]
     ]
 
 deep_here : (s : Symbol) (k owed : List Symbol) (c : ℕ) (cs : List ℕ) → AreReady 1000 (s ∷ k) → after s c ≡ Some owed → list_all (nests_within 1000) owed ≡ false → DeepAt (s ∷ k) (c ∷ cs) (suc (length cs))
@@ -246,9 +246,9 @@ deep_here s k owed c cs h e f =
       front = can_end 1000 (s ∷ k) h;
       opens = front_more s k owed c 1001 [] p.0 (deeper_one 1000 s p.1) e (can_end 1001 (owed ++ k) (append_ready 1001 owed k (sound_after s c owed p.0 e) t.0 ready));
       deeper = λ x.
-        let y = runs_split 1000 owed k _ [] (go_in 1000 s k owed c x.0 [] p.0 e x.1) in
-        let n = all_nest 1000 owed x.0 y.0 y.1 in
-        cc;
+          let y = runs_split 1000 owed k _ [] (go_in 1000 s k owed c x.0 [] p.0 e x.1) in
+          let n = all_nest 1000 owed x.0 y.0 y.1 in
+          cc;
       letter = letter_of _ c f t.1;
     }
 
@@ -258,7 +258,7 @@ says_onward false s k owed c cs h e f more = deep_here s k owed c cs h e f
 says_onward true s k owed c cs h e f more =
     let p = ready_parts 1000 s k h in
     carry (run (owed ++ k) cs) (more (append_ready 1000 owed k (sound_after s c owed p.0 e) f p.2))
-    where
+  where
     carry : (v : Verdict) → Says v (owed ++ k) cs → Says v (s ∷ k) (c ∷ cs)
     carry whole g = come_out 1000 s k owed c cs [] (ready_parts 1000 s k h).0 (ready_parts 1000 s k h).1 e g
     carry (wrong left) g = stops_more s k owed c cs left h e g

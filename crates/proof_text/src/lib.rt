@@ -11,10 +11,9 @@ mod lines;
 mod parts;
 mod read;
 mod scan;
-mod write;
-
 #[cfg(test)]
 mod tests;
+mod write;
 
 pub use fault::CertFault;
 pub use laws::{each_text_is_of_one_certificate, no_text_begins_another};

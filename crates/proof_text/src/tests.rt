@@ -4,7 +4,8 @@ use std::alloc::{AllocError, Global};
 use std::test::Fail;
 
 // A certificate with a line of each kind.
-const EACH: &[u8] = b"qcert 1\ntrue -4\nh 2\np 1 -5 7 3\np 500 0 1000000000 20000\n.\np 2 10 -10 1\nb 1 0 3\nv 1\ns\no\nb 3 1 1\nn\nt\ne\nx\n.\n";
+const EACH: &[u8] =
+    b"qcert 1\ntrue -4\nh 2\np 1 -5 7 3\np 500 0 1000000000 20000\n.\np 2 10 -10 1\nb 1 0 3\nv 1\ns\no\nb 3 1 1\nn\nt\ne\nx\n.\n";
 
 fn fault(alloc: Global, text: &[u8]) -> Option<CertFault> {
     match read_cert(alloc, text) {
@@ -34,7 +35,10 @@ fn reads_what_is_written(rt: HostRuntime) -> Result<(), Fail> {
     let text = write_cert(alloc, &cert)?;
     assert!(rt; text.as_slice() == EACH);
     assert_eq!(rt; fault(alloc, b"qcert 1\nopen 10000000\ng\n"), None);
-    assert_eq!(rt; fault(alloc, b"qcert 1\ntrue 4611686018427387904\nx\n"), None);
+    assert_eq!(rt;
+        fault(alloc, b"qcert 1\ntrue 4611686018427387904\nx\n"),
+        None
+    );
     Ok(())
 }
 
@@ -47,7 +51,10 @@ fn tells_places(rt: HostRuntime) {
     assert_eq!(rt; fault(alloc, b"qcert 1\nfalse\nv 501\n"), stops(18));
     assert_eq!(rt; fault(alloc, b"qcert 1\nfalse\nb 1 -0 0\n"), stops(19));
     assert_eq!(rt; fault(alloc, b"qcert 1\nopen 10000001\n"), stops(20));
-    assert_eq!(rt; fault(alloc, b"qcert 1\ntrue 4611686018427387905\n"), stops(31));
+    assert_eq!(rt;
+        fault(alloc, b"qcert 1\ntrue 4611686018427387905\n"),
+        stops(31)
+    );
     assert_eq!(rt; fault(alloc, b"qcert 1\nfalse\nh 1\nb"), stops(18));
     assert_eq!(rt; fault(alloc, b"qcert 1\nfalse\n\0"), stops(14));
     assert_eq!(rt; fault(alloc, b"qcert 1\nfalse\nt\ng\n"), stops(16));

@@ -15,17 +15,19 @@ body-returns-in_err-cases-clause-err t c =
 pub body-returns-clause-ok : goal.body-returns-clause-ok
 body-returns-clause-ok t c =
     let i = c.in_ok-cases in
-    let o = i.ensures.ok in
-    ((o.0 ∙ sym (append_assoc (steps_text i.cases.steps) (ending_text (ending_of i.cases.end)) i.rest.now), and_from _ _ o.1 o.2, o.3, o.4),
-     λ k. no_leaf c.args.nesting c.args.text.now k c.in_default.ensures c.in_default-after.ensures ∙ o.5 k)
+    let o = i.ensures.ok in (
+      (o.0 ∙ sym (append_assoc (steps_text i.cases.steps) (ending_text (ending_of i.cases.end)) i.rest.now), and_from _ _ o.1 o.2, o.3, o.4),
+      λ k. no_leaf c.args.nesting c.args.text.now k c.in_default.ensures c.in_default-after.ensures ∙ o.5 k,
+    )
 
 pub branch-returns-clause-ok : goal.branch-returns-clause-ok
 branch-returns-clause-ok t c =
     let r = c.in_ok-rest.ensures.ok in
     let x = c.in_ok-x.ensures.ok in
-    let o = c.in_ok-cases.ensures.ok in
-    (branch_spells c.args.nesting (record { 0 = c.in_ok-x.x }) c.in_ok-cases.cases c.args.line.now c.in_ok-rest.rest.now c.in_ok-x.rest.now c.in_ok-cases.rest.now r.0 x.0 x.1 o.0 o.1 o.2 o.3,
-     λ k. to_branch c.args.nesting k c.args.line.now (omega arith) ∙ r.1 _ ∙ x.2 _ ∙ o.4 k)
+    let o = c.in_ok-cases.ensures.ok in (
+      branch_spells c.args.nesting (record { 0 = c.in_ok-x.x }) c.in_ok-cases.cases c.args.line.now c.in_ok-rest.rest.now c.in_ok-x.rest.now c.in_ok-cases.rest.now r.0 x.0 x.1 o.0 o.1 o.2 o.3,
+      λ k. to_branch c.args.nesting k c.args.line.now (omega arith) ∙ r.1 _ ∙ x.2 _ ∙ o.4 k,
+    )
 
 pub branches-loop-list-preserved : goal.branches-loop-list-preserved
 branches-loop-list-preserved t c =
@@ -46,9 +48,11 @@ pub case-returns-clause-ok : goal.case-returns-clause-ok
 case-returns-clause-ok t c =
     let i = c.in_ok-inner in
     let o = i.ensures.ok in
-    let goes_on = not_some c.after-3.result _ _ (sym c.if-is_some.ensures) c.after-3.ensures in
-    ((go_told (steps_text i.inner.steps) (ending_text (ending_of i.inner.end)) i.rest.now c.args.text.now o.0, and_from _ _ (and_from _ _ o.1 o.2) refl, (let d = o.3 in rw max-zero d), o.4), cases_shorter (steps_text i.inner.steps) (ending_of i.inner.end) c.args.text.now i.rest.now o.0,
-     λ k. no_case c.args.nesting c.args.text.now k c.requires c.in_default.ensures c.in_default-after.ensures goes_on ∙ o.5 _)
+    let goes_on = not_some c.after-3.result _ _ (sym c.if-is_some.ensures) c.after-3.ensures in (
+      (go_told (steps_text i.inner.steps) (ending_text (ending_of i.inner.end)) i.rest.now c.args.text.now o.0, and_from _ _ (and_from _ _ o.1 o.2) refl, (let d = o.3 in rw max-zero d), o.4),
+      cases_shorter (steps_text i.inner.steps) (ending_of i.inner.end) c.args.text.now i.rest.now o.0,
+      λ k. no_case c.args.nesting c.args.text.now k c.requires c.in_default.ensures c.in_default-after.ensures goes_on ∙ o.5 _,
+    )
 
 pub cases-returns-in_err-steps-clause-err : goal.cases-returns-in_err-steps-clause-err
 cases-returns-in_err-steps-clause-err t c =
