@@ -1,0 +1,6 @@
+pub mod Standings
+pub mod Boards
+pub mod Places
+pub mod Parts
+pub mod Roots
+mod Worked

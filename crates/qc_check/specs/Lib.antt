@@ -1,0 +1,5 @@
+pub mod Plain
+pub mod Standing
+pub mod Board
+pub mod Judged
+pub mod Shown
