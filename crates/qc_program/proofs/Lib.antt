@@ -1,4 +1,5 @@
-pub mod Writing
+pub mod Written
 mod Spellable
 mod FirstForms
 mod Parts
+mod Rose

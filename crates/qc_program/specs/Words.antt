@@ -3,8 +3,9 @@ use Rattle.std.specs.Prelude.{◌==◌, ℕ, Bool, false, not, ◌&&◌, List, [
 use Rattle.std.specs.Str.{bytes_eq}
 
 -- what the words ask for
-pub data Command : Type 0 where
-  solves : List ℕ → Command
+pub data Asked : Type 0 where
+  solves : List ℕ → Asked
+  checks : List ℕ → List ℕ → Asked
 
 -- a word that names a file: it isn't empty and doesn't begin with a dash
 abbrev pub is_name : List ℕ → Bool
@@ -12,6 +13,8 @@ is_name [] = false
 is_name (b ∷ bs) = not (b == 45)
 
 -- the table of words
-abbrev pub command_of : List (List ℕ) → Option Command
-command_of (word ∷ name ∷ []) = if bytes_eq word (codes "solve") && is_name name then Some (solves name) else None
-command_of words = None
+abbrev pub asked_of : List (List ℕ) → Option Asked
+asked_of (word ∷ name ∷ []) = if bytes_eq word (codes "solve") && is_name name then Some (solves name) else None
+asked_of (word ∷ problem ∷ certificate ∷ []) =
+    if bytes_eq word (codes "check") && is_name problem && is_name certificate then Some (checks problem certificate) else None
+asked_of words = None

@@ -127,21 +127,28 @@ fn examples_are_answered(rt: HostRuntime) -> Result<(), Fail> {
     let alloc = rt.alloc();
     let won: &[u8] = b"qcert 1\ntrue\n";
     let lost: &[u8] = b"qcert 1\nfalse\n";
-    let rows: [(&[u8], &[u8]); 6] = [
-        (DEFENCE, won),
-        (THIN_DEFENCE, lost),
-        (SCHEDULE, won),
-        (COUNTERS, won),
-        (PRICE, won),
-        (DEAR_PRICE, lost),
+    let yes_won: &[u8] = b"yes true\n";
+    let yes_lost: &[u8] = b"yes false\n";
+    let rows: [(&[u8], &[u8], &[u8]); 6] = [
+        (DEFENCE, won, yes_won),
+        (THIN_DEFENCE, lost, yes_lost),
+        (SCHEDULE, won, yes_won),
+        (COUNTERS, won, yes_won),
+        (PRICE, won, yes_won),
+        (DEAR_PRICE, lost, yes_lost),
     ];
-    for (text, front) in rows {
+    for (text, front, yes) in rows {
         let mut shelf = MemoryShelf::new(alloc);
         shelf.add("p", text)?;
         let mut sink = MemorySink::new(alloc, 65_536, 65_536)?;
         let status = run(alloc, &["solve", "p"], &mut shelf, &mut sink);
         assert_eq!(rt; status, Status::Done);
         assert!(rt; sink.bytes().starts_with(front));
+        shelf.add("c", sink.bytes())?;
+        let mut answer = MemorySink::new(alloc, 65_536, 65_536)?;
+        let status = run(alloc, &["check", "p", "c"], &mut shelf, &mut answer);
+        assert_eq!(rt; status, Status::Done);
+        assert!(rt; answer.bytes() == yes);
     }
     Ok(())
 }

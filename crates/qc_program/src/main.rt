@@ -1,9 +1,12 @@
 //! The program `qecode`: solves games of quantified constraints, with a certificate of each answer.
 #![tactic(auto)]
 
+mod check;
 mod run;
+mod solve;
 mod status;
 mod words;
+mod writing;
 
 use qc_io::{FolderShelf, OutSink};
 use run::run;

@@ -140,3 +140,60 @@ fn a_long_file_is_refused(rt: HostRuntime) -> Result<(), Fail> {
     assert!(rt; sink.bytes() == b"too long: big\n".as_slice());
     Ok(())
 }
+
+// The player takes x = 1, or either: each y is at most it where x is 1.
+const GAME: &[u8] =
+    b"exists;\nvar 0..1: x;\nforall;\nvar 0..1: y;\ngoal;\nconstraint int_le(y,x);\nsolve;\n";
+
+// What a check of these bytes against the game answers and writes.
+fn checked(alloc: Global, certificate: &[u8]) -> Result<(Status, MemorySink), AllocError> {
+    let mut shelf = MemoryShelf::new(alloc);
+    shelf.add("p", GAME)?;
+    shelf.add("c", certificate)?;
+    let mut sink = MemorySink::new(alloc, 65_536, 65_536)?;
+    let status = run(alloc, &["check", "p", "c"], &mut shelf, &mut sink);
+    Ok((status, sink))
+}
+
+#[test]
+fn certificates_are_answered(rt: HostRuntime) -> Result<(), Fail> {
+    let rows: [(&[u8], Status, &[u8]); 7] = [
+        (
+            b"qcert 1\ntrue\nv 1\nn\nv 2\nn\ng\nn\ng\n.\nn\nv 2\nn\ng\nn\ng\n.\n.\n",
+            Status::Done,
+            b"yes true\n",
+        ),
+        (
+            b"qcert 1\nfalse\nv 1\nn\nv 2\nn\ng\nn\ng\n.\nn\nv 2\nn\ng\nn\ng\n.\n.\n",
+            Status::NotProved,
+            b"no\n",
+        ),
+        (
+            b"qcert 1\nopen 1\nv 1\nn\nv 2\no\no\n.\no\n.\n",
+            Status::Done,
+            b"yes open 1\n",
+        ),
+        (
+            b"qcert 1\nopen 2\nv 1\nn\nv 2\no\no\n.\no\n.\n",
+            Status::NotProved,
+            b"no\n",
+        ),
+        (
+            b"qcert 1\nfalse\nv 01\n",
+            Status::BadCertificate,
+            b"bad certificate at 16\n",
+        ),
+        (b"", Status::BadCertificate, b"bad certificate at 0\n"),
+        (
+            b"qcert 1\nfalse\nv 1\nn\nv 2\ns\nn\ng\n.\nn\nv 2\nn\ng\ns\n.\n.\ng\n",
+            Status::BadCertificate,
+            b"bad certificate at 48\n",
+        ),
+    ];
+    for (certificate, status, written) in rows {
+        let (answer, sink) = checked(rt.alloc(), certificate)?;
+        assert_eq!(rt; answer, status, "at {certificate:?}");
+        assert!(rt; sink.bytes() == written);
+    }
+    Ok(())
+}

@@ -1,14 +1,34 @@
 //! The words of a command.
 ghost use Rattle.std.specs.Prelude.{◌≡◌, map};
 ghost use Rattle.std.specs.Option.{option_map};
-ghost use Rattle.qc_program.specs.Words.{is_name as is_name_of, command_of, solves};
+ghost use Rattle.qc_program.specs.Words.{is_name as is_name_of, asked_of};
+ghost use Rattle.qc_program.specs.View.{asked};
 
-/// The file to solve, where the words are `solve` and a file's name.
-pub fn file_to_solve<'a>(words: &[&'a str]) -> Option<&'a str>
-    ensures { option_map (λ name. solves name.now) result ≡ command_of (map (λ w. w.now) words.now) }
+/// What the words ask for; each field is a file's name.
+#[derive(Clone, Copy)]
+pub enum Command<'a> {
+    Solve {
+        problem: &'a str,
+    },
+    Check {
+        problem: &'a str,
+        certificate: &'a str,
+    },
+}
+
+/// What the words ask for, where they match the table.
+pub fn command_of<'a>(words: &[&'a str]) -> Option<Command<'a>>
+    ensures { option_map asked result ≡ asked_of (map (λ w. w.now) words.now) }
 {
     match words {
-        [word, name] if *word == "solve" && is_name(name) => Some(*name),
+        [word, problem] if *word == "solve" && is_name(problem) => Some(Command::Solve { problem }),
+        [word, problem, certificate]
+            if *word == "check" && is_name(problem) && is_name(certificate) => {
+            Some(Command::Check {
+                problem,
+                certificate,
+            })
+        }
         _ => None,
     }
 }

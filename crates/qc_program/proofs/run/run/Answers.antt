@@ -1,4 +1,7 @@
 use Rattle.qc_program.proofs.run.run.Goals as goal
 
-pub returns-in-Some-clause-wrote : goal.returns-in-Some-clause-wrote
-returns-in-Some-clause-wrote g c = rw (← c.in-Some.ensures) c.solve_file.ensures.wrote
+pub returns-in-Some-Solve-clause-wrote : goal.returns-in-Some-Solve-clause-wrote
+returns-in-Some-Solve-clause-wrote g c = rw (← c.in-Some-Solve.ensures, c.in-Some-Solve.field-0-is) c.solve_file.ensures.wrote
+
+pub returns-in-Some-Check-clause-wrote : goal.returns-in-Some-Check-clause-wrote
+returns-in-Some-Check-clause-wrote g c = rw (← c.in-Some-Check.ensures, c.in-Some-Check.field-0-is) c.check_files.ensures.wrote

@@ -1,8 +1,8 @@
 use Rattle.std.proofs.Common.{rules, refl}
 use Rattle.qc_model.specs.Content.{Game}
 use Rattle.qc_program.specs.Answers.{SolvesText, Certifies}
-use Rattle.qc_program.proofs.Writing.{Wrote-weaker}
-use Rattle.qc_program.proofs.run.solve_text.Goals as goal
+use Rattle.qc_program.proofs.Written.{Wrote-weaker}
+use Rattle.qc_program.proofs.solve.solve_text.Goals as goal
 
 pub returns-in-Ok-certificate-clause-wrote : goal.returns-in-Ok-certificate-clause-wrote
 returns-in-Ok-certificate-clause-wrote g c =

@@ -1,6 +1,6 @@
 use Rattle.qc_io.proofs.Known.{moves_then, prefix_then, prefix_of, on_err}
 use Rattle.qc_program.proofs.Parts.{first_part, prefix_rest, err_weaker}
-use Rattle.qc_program.proofs.run.write_parts.Goals as goal
+use Rattle.qc_program.proofs.writing.write_parts.Goals as goal
 
 pub returns-in_err-put_all-2-clause-err : goal.returns-in_err-put_all-2-clause-err
 returns-in_err-put_all-2-clause-err g c =

@@ -2,7 +2,7 @@ use Rattle.std.proofs.Common.{length, arith}
 use Rattle.proof_tree.specs.Shape.{tree_of}
 use Rattle.qc_program.proofs.Spellable.{settled_has_text}
 use Rattle.qc_program.proofs.FirstForms.{no_conditions}
-use Rattle.qc_program.proofs.run.certificate.Goals as goal
+use Rattle.qc_program.proofs.solve.certificate.Goals as goal
 
 pub solve-requires-clause-plain : goal.solve-requires-clause-plain
 solve-requires-clause-plain c = no_conditions c.args.problem.now c.requires.form

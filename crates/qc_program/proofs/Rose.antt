@@ -1,0 +1,57 @@
+-- A count that rose in two calls.
+use Rattle.std.proofs.Common.{◌≡◌, ◌≤◌, ◌+◌, ℕ, List, Option, inl, inr, refl, arith}
+use Rattle.qc_io.specs.Counts.{RoseBy}
+use Rattle.qc_program.specs.declared.status.Status.{Status}
+use Rattle.qc_program.specs.declared.status.Status.TheVariants.{Done, NotProved, Open, Usage, BadProblem, BadCertificate, TooLong, ReadFault, WriteFault, Memory}
+use Rattle.qc_syntax.specs.FirstForm.{HasFirstForm}
+use Rattle.qc_program.specs.Answers.{IsLong, AnswersFile, ChecksText, ChecksBytes}
+use Rattle.qc_model.specs.Content.{Game}
+
+pub rose_after : (m n a b c : ℕ) → RoseBy m a b → RoseBy n b c → RoseBy n a c
+rose_after m n a b c h k = omega arith
+
+long_before : (limit : ℕ) (name : List ℕ) (told : Option (List ℕ)) (gave gave' : ℕ → Type 0) (t : List ℕ) → ((n : ℕ) → gave n → gave' n) →
+    IsLong limit name told gave t → IsLong limit name told gave' t
+long_before limit name told gave gave' t f h = record { given = f (limit + 1) h.given; longer = h.longer; line = h.line }
+
+pub file_before : (limit : ℕ) (P : List ℕ → Status → List ℕ → Type 0) (name : List ℕ) (told : Option (List ℕ)) (gave gave' : ℕ → Type 0) → ((n : ℕ) → gave n → gave' n) →
+    (s : Status) (t : List ℕ) → AnswersFile limit P name told gave s t → AnswersFile limit P name told gave' s t
+file_before limit P name told gave gave' f ReadFault t h = h
+file_before limit P name told gave gave' f Memory t h = h
+file_before limit P name told gave gave' f TooLong t h = elim h [ inl l ↦ inl (long_before limit name told gave gave' t f l) | inr p ↦ inr p ]
+file_before limit P name told gave gave' f Done t h = h
+file_before limit P name told gave gave' f NotProved t h = h
+file_before limit P name told gave gave' f Open t h = h
+file_before limit P name told gave gave' f Usage t h = h
+file_before limit P name told gave gave' f BadProblem t h = h
+file_before limit P name told gave gave' f BadCertificate t h = h
+file_before limit P name told gave gave' f WriteFault t h = h
+
+-- the same of what `check` answers, whose certificate is read after the problem
+pub checks_before : (name : List ℕ) (told : Option (List ℕ)) (gave gave' : ℕ → Type 0) (bytes : List ℕ) → ((n : ℕ) → gave n → gave' n) →
+    (s : Status) (t : List ℕ) → ChecksText name told gave bytes s t → ChecksText name told gave' bytes s t
+checks_before name told gave gave' bytes f Memory t h = h
+checks_before name told gave gave' bytes f BadProblem t h = h
+checks_before name told gave gave' bytes f ReadFault t h = (h.0, h.1, file_before 1073741824 (ChecksBytes h.0) name told gave gave' f ReadFault t h.2)
+checks_before name told gave gave' bytes f TooLong t h = (h.0, h.1, file_before 1073741824 (ChecksBytes h.0) name told gave gave' f TooLong t h.2)
+checks_before name told gave gave' bytes f Done t h = (h.0, h.1, file_before 1073741824 (ChecksBytes h.0) name told gave gave' f Done t h.2)
+checks_before name told gave gave' bytes f NotProved t h = (h.0, h.1, file_before 1073741824 (ChecksBytes h.0) name told gave gave' f NotProved t h.2)
+checks_before name told gave gave' bytes f Open t h = (h.0, h.1, file_before 1073741824 (ChecksBytes h.0) name told gave gave' f Open t h.2)
+checks_before name told gave gave' bytes f Usage t h = (h.0, h.1, file_before 1073741824 (ChecksBytes h.0) name told gave gave' f Usage t h.2)
+checks_before name told gave gave' bytes f BadCertificate t h = (h.0, h.1, file_before 1073741824 (ChecksBytes h.0) name told gave gave' f BadCertificate t h.2)
+checks_before name told gave gave' bytes f WriteFault t h = (h.0, h.1, file_before 1073741824 (ChecksBytes h.0) name told gave gave' f WriteFault t h.2)
+
+-- what is answered for the certificate's file is what is answered for the problem's text
+pub text_from_file : (g : Game) (name : List ℕ) (told : Option (List ℕ)) (gave : ℕ → Type 0) (bytes : List ℕ) (s : Status) (t : List ℕ) →
+    HasFirstForm bytes g →
+    AnswersFile 1073741824 (ChecksBytes g) name told gave s t → ChecksText name told gave bytes s t
+text_from_file g name told gave bytes Memory t form h = h
+text_from_file g name told gave bytes BadProblem t form h = absurd h.2
+text_from_file g name told gave bytes ReadFault t form h = (g, form, h)
+text_from_file g name told gave bytes TooLong t form h = (g, form, h)
+text_from_file g name told gave bytes Done t form h = (g, form, h)
+text_from_file g name told gave bytes NotProved t form h = (g, form, h)
+text_from_file g name told gave bytes Open t form h = (g, form, h)
+text_from_file g name told gave bytes Usage t form h = (g, form, h)
+text_from_file g name told gave bytes BadCertificate t form h = (g, form, h)
+text_from_file g name told gave bytes WriteFault t form h = (g, form, h)
