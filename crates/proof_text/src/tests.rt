@@ -8,7 +8,7 @@ const EACH: &[u8] =
     b"qcert 1\ntrue -4\nh 2\np 1 -5 7 3\np 500 0 1000000000 20000\n.\np 2 10 -10 1\nb 1 0 3\nv 1\ns\no\nb 3 1 1\nn\nt\ne\nx\n.\n";
 
 fn fault(alloc: Global, text: &[u8]) -> Option<CertFault> {
-    match read_cert(alloc, text) {
+    match read_cert(alloc, &text[..text.len().min(1 << 30)]) {
         Ok(_) => None,
         Err(fault) => Some(fault),
     }
