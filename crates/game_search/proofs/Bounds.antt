@@ -11,7 +11,7 @@ use Rattle.qc_model.specs.Valid.{IsValid, is_domain}
 use Rattle.qc_model.proofs.Before.{before-zero}
 use Rattle.qc_model.proofs.DomainValues.{domain_full}
 use Rattle.proof_tree.specs.Counts.{turns_of, depth_of, ends_of}
-use Rattle.proof_tree.proofs.Ends.{tree_ends}
+use Rattle.proof_tree.proofs.EndsByTurns.{tree_ends}
 use Rattle.game_search.specs.Enumeration.{plain_tree}
 use Rattle.game_search.proofs.Sizes.{turns_left, SmallNode, node_small}
 
