@@ -16,6 +16,6 @@ pub enum Sort {
     Word,
     /// A number, by its value.
     Number(i64),
-    /// A sign, by its byte; `..` is the sign of `.`.
+    /// A sign, by its byte. That of `..` is the byte of one dot.
     Sign(u8),
 }
