@@ -85,3 +85,22 @@ fn tells_what_nests_too_deep(rt: HostRuntime) -> Result<(), Fail> {
     assert_eq!(rt; fault(alloc, &deepest), None);
     Ok(())
 }
+
+// A variable's number goes on to three digits, and a scope's and a constraint's to what their ranges allow.
+#[test]
+fn tells_places_in_long_numbers(rt: HostRuntime) -> Result<(), Fail> {
+    let alloc = rt.alloc();
+    let rows: [(&[u8], u64); 3] = [
+        (b"qcert 1\nfalse\nv 1", 19),
+        (b"qcert 1\nfalse\nh 6", 18),
+        (b"qcert 1\nopen 1", 21),
+    ];
+    for (front, at) in rows {
+        let mut text = Vec::from_slice(alloc, front)?;
+        for _ in 0..1000 {
+            text.push(b'0')?;
+        }
+        assert_eq!(rt; fault(alloc, &text), stops(at));
+    }
+    Ok(())
+}

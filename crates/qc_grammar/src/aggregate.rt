@@ -61,6 +61,26 @@ fn fold_with(fold: FoldWord, number: Number) -> FoldText
     }
 }
 
+// What the lexeme makes after `aggregate`.
+fn start_move(at: u32, lexeme: Lexeme) -> Move
+    ensures { result ≡ aggregate_move_of (AggregatePart.Start at) lexeme }
+{
+    match lexeme {
+        Lexeme::Name(name) => goes(AggregatePart::Name(Title { at, name })),
+        _ => Move::Stuck,
+    }
+}
+
+// What the lexeme makes after the name.
+fn title_move(title: Title, lexeme: Lexeme) -> Move
+    ensures { result ≡ aggregate_move_of (AggregatePart.Name title) lexeme }
+{
+    match lexeme {
+        Lexeme::Equals => goes(AggregatePart::Equals(title)),
+        _ => Move::Stuck,
+    }
+}
+
 // What the lexeme makes after `=`.
 fn fold_move(title: Title, lexeme: Lexeme) -> Move
     ensures { result ≡ aggregate_move_of (AggregatePart.Equals title) lexeme }
@@ -82,44 +102,83 @@ fn fold_move(title: Title, lexeme: Lexeme) -> Move
     }
 }
 
+// What the lexeme makes after the name of the fold.
+fn open_move(title: Title, fold: FoldWord, lexeme: Lexeme) -> Move
+    ensures { result ≡ aggregate_move_of (AggregatePart.Fold title fold) lexeme }
+{
+    match lexeme {
+        Lexeme::ParenOpen => goes(AggregatePart::Open { title, fold }),
+        _ => Move::Stuck,
+    }
+}
+
+// What the lexeme makes after the opening parenthesis.
+fn target_move(title: Title, fold: FoldWord, lexeme: Lexeme) -> Move
+    ensures { result ≡ aggregate_move_of (AggregatePart.Open title fold) lexeme }
+{
+    match lexeme {
+        Lexeme::Name(target) => goes(AggregatePart::Target {
+            title,
+            fold,
+            target,
+        }),
+        _ => Move::Stuck,
+    }
+}
+
+// What the lexeme makes after what is folded.
+fn close_move(title: Title, fold: FoldWord, target: Word, lexeme: Lexeme) -> Move
+    ensures { result ≡ aggregate_move_of (AggregatePart.Target title fold target) lexeme }
+{
+    match lexeme {
+        Lexeme::ParenClose => goes(AggregatePart::Closed {
+            title,
+            fold,
+            target,
+        }),
+        _ => Move::Stuck,
+    }
+}
+
+// What the lexeme makes after `else`.
+fn number_move(title: Title, fold: FoldWord, target: Word, lexeme: Lexeme) -> Move
+    ensures { result ≡ aggregate_move_of (AggregatePart.Else title fold target) lexeme }
+{
+    match lexeme {
+        Lexeme::Number(number) => goes(AggregatePart::Last {
+            title,
+            fold: fold_with(fold, number),
+            target,
+        }),
+        _ => Move::Stuck,
+    }
+}
+
+// What the lexeme makes after the number of `else`.
+fn last_move(title: Title, fold: FoldText, target: Word, lexeme: Lexeme) -> Move
+    ensures { result ≡ aggregate_move_of (AggregatePart.Last title fold target) lexeme }
+{
+    match lexeme {
+        Lexeme::Semicolon => makes(title, fold, target),
+        _ => Move::Stuck,
+    }
+}
+
 /// What the lexeme makes of the part.
 pub(crate) fn aggregate_move(part: AggregatePart, lexeme: Lexeme) -> Move
     ensures { result ≡ aggregate_move_of part lexeme }
 {
     match part {
-        AggregatePart::Start { at } => match lexeme {
-            Lexeme::Name(name) => goes(AggregatePart::Name(Title { at, name })),
-            _ => Move::Stuck,
-        },
-        AggregatePart::Name(title) => match lexeme {
-            Lexeme::Equals => goes(AggregatePart::Equals(title)),
-            _ => Move::Stuck,
-        },
+        AggregatePart::Start { at } => start_move(at, lexeme),
+        AggregatePart::Name(title) => title_move(title, lexeme),
         AggregatePart::Equals(title) => fold_move(title, lexeme),
-        AggregatePart::Fold { title, fold } => match lexeme {
-            Lexeme::ParenOpen => goes(AggregatePart::Open { title, fold }),
-            _ => Move::Stuck,
-        },
-        AggregatePart::Open { title, fold } => match lexeme {
-            Lexeme::Name(target) => goes(AggregatePart::Target {
-                title,
-                fold,
-                target,
-            }),
-            _ => Move::Stuck,
-        },
+        AggregatePart::Fold { title, fold } => open_move(title, fold, lexeme),
+        AggregatePart::Open { title, fold } => target_move(title, fold, lexeme),
         AggregatePart::Target {
             title,
             fold,
             target,
-        } => match lexeme {
-            Lexeme::ParenClose => goes(AggregatePart::Closed {
-                title,
-                fold,
-                target,
-            }),
-            _ => Move::Stuck,
-        },
+        } => close_move(title, fold, target, lexeme),
         AggregatePart::Closed {
             title,
             fold,
@@ -129,24 +188,11 @@ pub(crate) fn aggregate_move(part: AggregatePart, lexeme: Lexeme) -> Move
             title,
             fold,
             target,
-        } => match lexeme {
-            Lexeme::Number(number) => {
-                let fold = fold_with(fold, number);
-                goes(AggregatePart::Last {
-                    title,
-                    fold,
-                    target,
-                })
-            }
-            _ => Move::Stuck,
-        },
+        } => number_move(title, fold, target, lexeme),
         AggregatePart::Last {
             title,
             fold,
             target,
-        } => match lexeme {
-            Lexeme::Semicolon => makes(title, fold, target),
-            _ => Move::Stuck,
-        },
+        } => last_move(title, fold, target, lexeme),
     }
 }

@@ -1,0 +1,6 @@
+pub mod Ascending
+pub mod Counted
+pub mod Table
+pub mod Uses
+pub mod Walked
+pub mod WordText

@@ -1,0 +1,11 @@
+use Rattle.std.proofs.Common.{◌≡◌, ◌≤◌, drop}
+use Rattle.qc_resolve.specs.Excess.{first_excess}
+use Rattle.qc_resolve.proofs.excess.first_excess.Given as goal
+
+abbrev pub invariant-loop-item : goal.invariant-loop-item
+invariant-loop-item l = record {
+  few_scopes : l.scopes ≤ 64;
+  few_variables : l.variables ≤ 500;
+  few_constraints : l.constraints ≤ 20000;
+  same : first_excess l.text l.scopes l.variables l.constraints (drop l.item-index l.items) ≡ first_excess l.text 0 0 0 l.items
+}

@@ -1,0 +1,12 @@
+pub mod Owned
+pub mod Names
+pub mod Counts
+pub mod NamesFaults
+pub mod Fits
+pub mod Numbers
+pub mod Excess
+pub mod Hidden
+pub mod Draft
+pub mod Faults
+pub mod Makeable
+pub mod Refusals
