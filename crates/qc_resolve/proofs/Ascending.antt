@@ -1,7 +1,7 @@
 -- Lists of numbers that ascend: each is known by its members.
-use Rattle.std.proofs.Common.{◌≡◌, ◌∙◌, sym, ap, refl, subst, Bool, true, false, ◌&&◌, ◌||◌, cond, ◌<◌, ◌≤◌, ◌+◌, ◌-◌, ℕ, List, [], ◌∷◌, length, get_or, arith, ℤ, Less, Some, None}
-use Rattle.std.specs.Prelude.{int_lt, ◌-ℤ◌, nat_abs, nat_lt, Option}
-use Rattle.std.specs.List.{list_any, dedup, AllByRecursion}
+use Rattle.std.proofs.Common.{◌≡◌, ◌∙◌, sym, ap, refl, Bool, true, false, ◌&&◌, ◌||◌, cond, ◌<◌, ◌≤◌, ◌+◌, ◌-◌, ℕ, List, [], ◌∷◌, length, get_or, arith, ℤ, Less, Some, None}
+use Rattle.std.specs.Prelude.{int_lt, ◌-ℤ◌, nat_abs, Option}
+use Rattle.std.specs.List.{dedup}
 use Rattle.std.specs.Ordering.{int_eq, int_cmp}
 use Rattle.std.specs.List.Sorted.{IsStrictlySortedBy, IsSorted, IsPermutation}
 use Rattle.std.proofs.lemmas.Int.{ints}

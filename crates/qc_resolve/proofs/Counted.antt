@@ -1,10 +1,9 @@
 -- How much the items of a text have, where nothing is in excess.
-use Rattle.std.proofs.Common.{◌≡◌, ◌∙◌, refl, sym, ap, subst, ◌<◌, ◌≤◌, ◌+◌, ℕ, suc, Bool, true, false, cond, ◌&&◌, List, [], ◌∷◌, length, get_or, drop, find, Option, None, Some, arith}
+use Rattle.std.proofs.Common.{◌≡◌, refl, sym, subst, ◌<◌, ◌≤◌, ◌+◌, ℕ, suc, Bool, true, false, cond, List, [], ◌∷◌, find, Option, None, Some, arith}
 use Rattle.std.specs.Prelude.{nat_lt, ◌==◌}
 use Rattle.std.specs.Option.{option_map}
 use Rattle.std.specs.Str.{bytes_eq}
 use Rattle.std.proofs.lemmas.Bool.Decides.{nat_tests}
-use Rattle.std.proofs.lemmas.List.{drop_more}
 use Rattle.qc_grammar.specs.declared.tree.DomainText.{DomainText}
 use Rattle.qc_grammar.specs.declared.tree.DomainText.TheVariants.{Bits as BitsDomain, Members as MembersDomain}
 use Rattle.qc_grammar.specs.declared.tree.Item.{Item}
@@ -12,12 +11,10 @@ use Rattle.qc_grammar.specs.declared.tree.Item.TheVariants.{Exists as ExistsItem
 use Rattle.qc_resolve.specs.declared.names.Named.{Named}
 use Rattle.qc_resolve.specs.declared.names.Named.TheVariants.{Integer, Boolean, Aggregate}
 use Rattle.qc_resolve.specs.declared.names.Meant.{Meant}
-use Rattle.qc_resolve.specs.declared.counts.Counts.{Counts}
-use Rattle.qc_resolve.specs.Owned.{owned, owned_from}
+use Rattle.qc_resolve.specs.Owned.{owned_from}
 use Rattle.qc_resolve.specs.Names.{Declared, declared, declared_from, declared_as, variable_named, look_up}
-use Rattle.qc_resolve.specs.Counts.{counts_after}
 use Rattle.qc_resolve.specs.Excess.{first_excess, or_else, past}
-use Rattle.qc_resolve.specs.Hidden.{first_second, is_scope_of}
+use Rattle.qc_resolve.specs.Hidden.{first_second}
 use Rattle.qc_resolve.specs.Makeable.{IsMakeable}
 
 -- how many scopes, variables and aggregates there are

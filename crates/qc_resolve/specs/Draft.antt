@@ -1,5 +1,5 @@
 -- The problem that the items of a text make.
-use Rattle.std.specs.Prelude.{◌==◌, ℕ, Bool, true, false, cond, List, [], ◌∷◌, map, filter_map, fold, Option, None, Some, ℤ, pos, int_lt, int_le}
+use Rattle.std.specs.Prelude.{ℕ, Bool, true, false, cond, List, [], ◌∷◌, map, filter_map, fold, Option, None, Some, ℤ, pos, int_lt, int_le}
 use Rattle.std.specs.Ordering.{int_eq}
 use Rattle.qc_model.specs.declared.problem.Kind.TheVariants.{Exists, Forall}
 use Rattle.qc_model.specs.declared.problem.Fold.{Fold}
@@ -23,7 +23,7 @@ use Rattle.qc_model.specs.Content.{Game, Rule}
 use Rattle.qc_model.specs.Domains.{least_value, greatest_value}
 use Rattle.qc_model.specs.Valid.{has_gap}
 use Rattle.qc_model.specs.declared.signature.Sort.{Sort}
-use Rattle.qc_model.specs.declared.signature.Sort.TheVariants.{Integer as integer, Boolean as boolean, Integers as integers, Booleans as booleans, Numbers as numbers, Truths as truths, Members as members}
+use Rattle.qc_model.specs.declared.signature.Sort.TheVariants.{Numbers as numbers, Truths as truths}
 use Rattle.qc_model.specs.Signature.{sorts_of}
 use Rattle.qc_grammar.specs.declared.tree.Word.{Word}
 use Rattle.qc_grammar.specs.declared.tree.One.{One}
@@ -39,7 +39,6 @@ use Rattle.qc_grammar.specs.declared.tree.FoldText.{FoldText}
 use Rattle.qc_grammar.specs.declared.tree.FoldText.TheVariants.{Sum as SumFold, Least as LeastFold, Greatest as GreatestFold}
 use Rattle.qc_grammar.specs.declared.tree.Item.{Item}
 use Rattle.qc_grammar.specs.declared.tree.Item.TheVariants.{Exists as ExistsItem, Forall as ForallItem, Goal as GoalItem, Variable, Aggregate as AggregateItem, Constraint}
-use Rattle.qc_resolve.specs.declared.names.Named.{Named}
 use Rattle.qc_resolve.specs.declared.names.Named.TheVariants.{Integer, Boolean, Aggregate}
 use Rattle.qc_resolve.specs.declared.names.Meant.{Meant}
 use Rattle.qc_resolve.specs.Owned.{Owned, owned, word_bytes}

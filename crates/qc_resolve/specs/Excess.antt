@@ -1,7 +1,7 @@
 -- Where a text has more of something than a problem may have.
 use Rattle.std.specs.Prelude.{ℕ, suc, nat_le, nat_lt, cond, List, [], ◌∷◌, length, Option, None, Some}
 use Rattle.qc_model.specs.declared.signature.Sort.{Sort}
-use Rattle.qc_model.specs.declared.signature.Sort.TheVariants.{Integer as integer, Boolean as boolean, Integers as integers, Booleans as booleans, Numbers as numbers, Truths as truths, Members as members}
+use Rattle.qc_model.specs.declared.signature.Sort.TheVariants.{Integers as integers, Booleans as booleans}
 use Rattle.qc_model.specs.Signature.{sorts_of}
 use Rattle.qc_model.specs.declared.problem.Pred.{Pred}
 use Rattle.qc_grammar.specs.declared.tree.Members.{Members}

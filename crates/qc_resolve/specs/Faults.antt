@@ -31,7 +31,7 @@ pub record Fault : Type 0 where
 abbrev pub first_fault_of : List ItemFault → List ℕ → List Token → List Item → Option Fault
 first_fault_of [] text ts items = None
 first_fault_of (k ∷ ks) text ts items =
-    elim (fault_at k text ts items) [ | None ↦ first_fault_of ks text ts items | Some at ↦ Some (record { kind = k; at = at }) ]
+    elim (fault_at k text ts items) [ None ↦ first_fault_of ks text ts items | Some at ↦ Some (record { kind = k; at = at }) ]
 
 -- the order in which faults are looked for
 abbrev pub fault_order : List ItemFault

@@ -1,12 +1,10 @@
 -- What each scope sees, as the text writes it.
-use Rattle.std.specs.Prelude.{◌==◌, ℕ, suc, nat_lt, nat_le, Bool, true, false, not, cond, List, [], ◌∷◌, drop, flat_map, Option, None, Some}
+use Rattle.std.specs.Prelude.{◌==◌, ℕ, suc, nat_lt, Bool, true, false, cond, List, [], ◌∷◌, drop, flat_map, Option, None, Some}
 use Rattle.qc_model.specs.declared.problem.Kind.{Kind}
 use Rattle.qc_model.specs.declared.problem.Kind.TheVariants.{Exists, Forall}
 use Rattle.qc_grammar.specs.declared.tree.Word.{Word}
 use Rattle.qc_grammar.specs.declared.tree.ConditionText.{ConditionText}
-use Rattle.qc_grammar.specs.declared.tree.Item.{Item}
 use Rattle.qc_grammar.specs.declared.tree.Item.TheVariants.{Exists as ExistsItem, Forall as ForallItem, Goal as GoalItem, Variable, Aggregate as AggregateItem, Constraint}
-use Rattle.qc_resolve.specs.declared.names.Named.{Named}
 use Rattle.qc_resolve.specs.declared.names.Named.TheVariants.{Integer, Boolean, Aggregate}
 use Rattle.qc_resolve.specs.declared.names.Meant.{Meant}
 use Rattle.qc_resolve.specs.Owned.{Owned, word_bytes}
@@ -25,11 +23,11 @@ next_universal kinds i = universal_from (suc i) (drop (suc i) kinds)
 
 -- a variable of a scope before the universal scope, or an aggregate of that scope
 abbrev pub is_seen_before : ℕ → Meant → Bool
-is_seen_before u m = elim m.named [ | Integer k ↦ nat_lt m.scope u | Boolean k ↦ nat_lt m.scope u | Aggregate k ↦ m.scope == u ]
+is_seen_before u m = elim m.named [ Integer k ↦ nat_lt m.scope u | Boolean k ↦ nat_lt m.scope u | Aggregate k ↦ m.scope == u ]
 
 -- any variable, where no universal scope follows
 abbrev pub is_variable_meant : Meant → Bool
-is_variable_meant m = elim m.named [ | Integer k ↦ true | Boolean k ↦ true | Aggregate k ↦ false ]
+is_variable_meant m = elim m.named [ Integer k ↦ true | Boolean k ↦ true | Aggregate k ↦ false ]
 
 abbrev pub is_seen : Option ℕ → Meant → Bool
 is_seen None m = is_variable_meant m

@@ -1,5 +1,5 @@
 -- Of which texts a draft can be made.
-use Rattle.std.specs.Prelude.{◌≡◌, ℕ, Bool, true, List, [], None, IsTrue}
+use Rattle.std.specs.Prelude.{◌≡◌, ℕ, Bool, true, List, None, IsTrue}
 use Rattle.std.specs.List.{list_all}
 use Rattle.qc_model.specs.Names.{is_word}
 use Rattle.qc_grammar.specs.declared.tree.Item.{Item}

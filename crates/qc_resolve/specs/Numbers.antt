@@ -1,9 +1,8 @@
 -- Numbers, and the values and widths of domains, as the text writes them.
-use Rattle.std.specs.Prelude.{◌+◌, ℕ, nat_lt, nat_le, Bool, true, false, not, ◌&&◌, cond, List, [], ◌∷◌, map, find, Option, None, Some, ℤ, ◌-ℤ◌, nat_abs, int_le, unsigned_abs}
+use Rattle.std.specs.Prelude.{◌+◌, ℕ, nat_le, Bool, true, not, ◌&&◌, cond, List, [], ◌∷◌, map, Option, None, Some, ℤ, ◌-ℤ◌, nat_abs, int_le}
 use Rattle.qc_model.specs.Domains.{is_none_left}
 use Rattle.qc_model.specs.Valid.{is_number, width_of}
 use Rattle.qc_tokens.specs.declared.token.Token.{Token}
-use Rattle.qc_tokens.specs.declared.token.Sort.{Sort}
 use Rattle.qc_tokens.specs.declared.token.Sort.TheVariants.{Word as WordSort, Number as NumberSort, Sign as SignSort}
 use Rattle.qc_grammar.specs.declared.tree.Number.{Number as Figure}
 use Rattle.qc_grammar.specs.declared.tree.Members.{Members}
@@ -16,7 +15,7 @@ use Rattle.qc_resolve.specs.Fits.{first_place}
 
 -- the place of a number outside -1,000,000,000 to 1,000,000,000
 abbrev pub far_number : Token → Option ℕ
-far_number t = elim t.sort [ | WordSort ↦ None | NumberSort z ↦ cond (is_number z) None (Some t.start) | SignSort b ↦ None ]
+far_number t = elim t.sort [ WordSort ↦ None | NumberSort z ↦ cond (is_number z) None (Some t.start) | SignSort b ↦ None ]
 
 abbrev pub first_far : List Token → Option ℕ
 first_far ts = first_place far_number ts

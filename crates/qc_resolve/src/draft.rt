@@ -14,8 +14,8 @@ use crate::names::{Named, Names};
 use crate::predicates::predicate_of;
 use qc_grammar::{ConditionText, FoldText, Item, Word};
 use qc_model::{
-    AggId, Aggregate, Condition, Constraint, Draft, Fold, Kind, Name, Scope, ScopeId, Target, VarId,
-    Variable, sorts_of,
+    AggId, Aggregate, Condition, Constraint, Draft, Fold, Kind, Name, Scope, ScopeId, Target,
+    VarId, Variable, sorts_of,
 };
 use std::alloc::{AllocError, Global};
 use std::str;
@@ -125,7 +125,10 @@ fn aggregate_of(
 {
     match item {
         Item::Aggregate {
-            name, fold, target, ..
+            name,
+            fold,
+            target,
+            ..
         } => Ok(Some(Aggregate {
             name: name_of(alloc, names.text, *name)?,
             scope: ScopeId(owner as u8),

@@ -13,13 +13,13 @@ mod hidden;
 mod lengths;
 mod names;
 mod numbers;
+mod passes;
 mod predicates;
 mod refusal;
-mod resolve;
 mod seconds;
 mod unknown;
 
 pub use fault::NamesFault;
 pub use names::{Meant, Named, Names};
+pub use passes::resolve;
 pub use refusal::{ItemFault, ItemRefusal};
-pub use resolve::resolve_items;

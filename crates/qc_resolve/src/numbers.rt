@@ -22,13 +22,7 @@ fn far_number(token: &Token) -> Option<u32>
 {
     match token.sort {
         Sort::Word => None,
-        Sort::Number(n) => {
-            if is_near(n) {
-                None
-            } else {
-                Some(token.start)
-            }
-        }
+        Sort::Number(n) => { if is_near(n) { None } else { Some(token.start) } }
         Sort::Sign(_) => None,
     }
 }

@@ -1,14 +1,2 @@
-pub mod Scan
-pub mod LineTexts
-pub mod Numbers
-pub mod Names
-pub mod Each
-pub mod ReadArguments
-pub mod ReadLines
-pub mod Order
-pub mod Readable
-pub mod Again
-pub mod Steps
-pub mod Found
-pub mod SumArguments
-pub mod Passed
+pub mod OneThing
+pub mod Words

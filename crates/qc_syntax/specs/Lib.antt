@@ -1,6 +1,3 @@
-pub mod FirstForm
-pub mod Words
-pub mod Numbers
-pub mod Arguments
-pub mod Lines
-pub mod Text
+pub mod Reads
+pub mod Faults
+pub mod Laws

@@ -1,41 +1,47 @@
 //! The problem of a text.
-ghost use Rattle.std.specs.Prelude.{◌≡◌, IfOk, IsErrOf};
-ghost use Rattle.qc_model.specs.Content.{Game};
-ghost use Rattle.qc_syntax.specs.FirstForm.{HasFirstForm};
+ghost use Rattle.std.specs.Prelude.{◌≡◌, ◌<◌, ◌^◌, length, IfOk, IfErr, Some, None};
+ghost use Rattle.qc_tokens.specs.Tokens.{tokens_of, IsTokenOf};
+ghost use Rattle.std.specs.List.{All};
+ghost use Rattle.qc_syntax.specs.Reads.{IsClean, HasItems, Reads, Explains};
 
-use crate::fault::TextFault;
-use crate::form::has_plain_items;
-use crate::text::read_text;
-use qc_model::{Problem, build, full_turns};
-use qc_print::print_problem;
+use crate::fault::ReadFault;
+use qc_grammar::{Item, read_items};
+use qc_model::{Problem, build};
+use qc_resolve::resolve;
+use qc_tokens::{Token, tokens};
+use qc_valid::{names_are_names, no_fault_is_valid};
 use std::alloc::Global;
 
-const MOST_TURNS: u64 = 10_000_000;
-
-/// The problem whose one text this is, where the text has the first form: no condition and no
-/// aggregate, domains that are ranges, `int_le` and `int_lin_le` alone, and at most 10,000,000
-/// turns. `Refused` says that no problem of this form has this text.
+/// The problem that a text says, or the first kind of refusal that it meets, with its place.
 ///
-/// It takes memory for the problem, for the words of a line and once more for the text.
-pub fn read_problem(alloc: Global, text: &[u8]) -> Result<Problem, TextFault>
-    ensures found { IfOk result (λ p. HasFirstForm text.now p) }
-    ensures refused { IsErrOf result TextFault.Refused → (g : Game) → HasFirstForm text.now g → ⊥ }
+/// It takes time linear in the text, but for sorting and looking up names, and memory for the tokens,
+/// the items and the problem.
+pub fn read_problem(alloc: Global, text: &[u8]) -> Result<Problem, ReadFault>
+    requires { length text.now < 2 ^ 32 }
+    ensures reads { IfOk result (λ p. Reads text.now p) }
+    ensures refuses { IfErr result (λ e. Explains text.now e) }
 {
-    let draft = read_text(alloc, text)?.into_content();
-    if !has_plain_items(&draft) {
-        return Err(TextFault::Refused);
-    }
-    let Some(problem) = build(draft) else {
-        return Err(TextFault::Refused);
-    };
-    problem.known();
-    if full_turns(&problem) > MOST_TURNS {
-        return Err(TextFault::Refused);
-    }
-    let printed = print_problem(alloc, &problem)?;
-    if printed.as_slice() == text {
-        Ok(problem)
-    } else {
-        Err(TextFault::Refused)
-    }
+    let tokens = tokens(alloc, text)?;
+    let items = read_items(alloc, text, &tokens)?;
+    make(alloc, text, &tokens, &items)
+}
+
+// The problem that the items make.
+fn make(
+    alloc: Global,
+    text: &[u8],
+    tokens: &[Token],
+    items: &[Item],
+) -> Result<Problem, ReadFault>
+    requires length { length text.now < 2 ^ 32 }
+    requires tokens { tokens.now ≡ tokens_of text.now }
+    requires places { All (IsTokenOf text.now) tokens.now }
+    requires written { HasItems text.now items.now }
+    ensures reads { IfOk result (λ p. Reads text.now p) }
+    ensures refuses { IfErr result (λ e. Explains text.now e) }
+{
+    names_are_names();
+    no_fault_is_valid();
+    let draft = resolve(alloc, text, tokens, items)?;
+    Ok(build(draft).unwrap())
 }

@@ -21,5 +21,5 @@ returns c =
     let ds = declared text c.args.names.now.items.now in
     let sorts = c.loop-sort.sort-iterator.a.rest.now in
     let args = c.loop-sort.sort-iterator.b.rest.now in
-    let ended : arguments_of text ds sorts args ≡ [] = elim c.in-None.ensures.steps [ | inl t ↦ no_sorts text ds sorts args t.1.0 | inr t ↦ no_args text ds sorts args t.1.0 ] in
+    let ended : arguments_of text ds sorts args ≡ [] = elim c.in-None.ensures.steps [ inl t ↦ no_sorts text ds sorts args t.1.0 | inr t ↦ no_args text ds sorts args t.1.0 ] in
     sym (append-nil c.loop-sort.made.items) ∙ ap (λ more. c.loop-sort.made.items ++ more) (sym ended) ∙ c.loop-sort.invariant

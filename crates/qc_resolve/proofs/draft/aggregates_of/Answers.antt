@@ -1,4 +1,4 @@
-use Rattle.std.proofs.Common.{◌≡◌, ◌∙◌, sym, arith, ap}
+use Rattle.std.proofs.Common.{◌∙◌, sym, arith, ap}
 use Rattle.qc_resolve.specs.Names.{declared}
 use Rattle.qc_resolve.specs.Draft.{aggregate_of}
 use Rattle.qc_resolve.proofs.Table.{counts_rise}

@@ -1,8 +1,7 @@
-use Rattle.std.proofs.Common.{◌≡◌, ◌∙◌, sym, arith, ap}
+use Rattle.std.proofs.Common.{◌∙◌, arith, ap}
 use Rattle.qc_resolve.specs.Names.{declared}
 use Rattle.qc_resolve.specs.Draft.{scope_of}
 use Rattle.qc_resolve.proofs.Table.{counts_rise}
-use Rattle.qc_resolve.proofs.WordText.{word_at}
 use Rattle.qc_resolve.proofs.Walked.{walk_start, walk_more, walk_past}
 use Rattle.qc_resolve.proofs.draft.scopes_of.Goals as goal
 use Rattle.qc_resolve.proofs.draft.scopes_of.Goals.{in-Some+in_ok-push, in_default}

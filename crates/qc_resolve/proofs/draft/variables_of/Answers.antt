@@ -1,4 +1,4 @@
-use Rattle.std.proofs.Common.{◌≡◌, ◌∙◌, sym, arith, ap}
+use Rattle.std.proofs.Common.{◌∙◌, sym, arith, ap}
 use Rattle.qc_resolve.specs.Draft.{variable_of}
 use Rattle.qc_resolve.proofs.Table.{counts_rise}
 use Rattle.qc_resolve.proofs.WordText.{word_at}

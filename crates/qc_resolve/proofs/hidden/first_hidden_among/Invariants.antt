@@ -9,5 +9,5 @@ invariant-loop-item l = record {
   room : l.counts.scopes + l.counts.variables + l.counts.aggregates ≤ l.item-index;
   within : l.counts.owner ≤ l.counts.scopes;
   same : first_hidden l.names.text.now (declared l.names.text.now l.names.items.now) l.kinds (owned_from l.counts.scopes l.counts.owner (drop l.item-index l.names.items.now))
-      ≡ first_hidden l.names.text.now (declared l.names.text.now l.names.items.now) l.kinds (owned l.names.items.now)
+      ≡ first_hidden l.names.text.now (declared l.names.text.now l.names.items.now) l.kinds (owned l.names.items.now);
 }
