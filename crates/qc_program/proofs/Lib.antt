@@ -1,5 +1,5 @@
 pub mod Written
 mod Spellable
-mod FirstForms
+mod Solved
 mod Parts
 mod Rose

@@ -17,10 +17,12 @@ use Rattle.proof_tree.specs.Stepless.{is_stepless}
 use Rattle.proof_text.specs.declared.fault.CertFault.{CertFault}
 use Rattle.proof_text.specs.declared.fault.CertFault.TheVariants.{NotACertificate, TooDeep, Memory as Want}
 use Rattle.proof_text.specs.Places.{IsFault}
-use Rattle.qc_syntax.specs.FirstForm.{HasFirstForm}
+use Rattle.qc_model.specs.Canonical.{canonical_text}
+use Rattle.qc_syntax.specs.Reads.{Reads}
 use Rattle.qc_program.specs.declared.status.Status.{Status}
 use Rattle.qc_program.specs.declared.status.Status.TheVariants.{Done, NotProved, Usage, BadProblem, BadCertificate, TooLong, ReadFault, WriteFault, Memory}
-use Rattle.qc_program.specs.Words.{Asked, solves, checks}
+use Rattle.qc_program.specs.Words.{Asked, solves, checks, prints}
+use Rattle.qc_program.specs.Refusals.{IsRefused, IsPlain, IsSolved}
 
 -- The text is that of a certificate that proves and is in order. Its outcome is true exactly where the game is won, and
 -- else false; the strategy read from its tree is optimal then, and else the counterstrategy read from it wins.
@@ -36,12 +38,29 @@ pub record Certifies (g : Game) (text : List ℕ) : Type 0 where
   pub won : (outcome ≡ True) ↔ IsWon g
   pub means : OutcomeMeans outcome optimum g root
 
--- what `solve` answers for the bytes of a problem's text
+-- a problem that isn't taken by now: one that isn't in P
+abbrev pub IsNotBuilt : (Game → Type 0) → Game → List ℕ → Type 0
+IsNotBuilt P g text = (P g → ⊥) × (text ≡ codes "bad problem: not built\n")
+
+-- what `solve` answers for a problem
+abbrev pub SolvesProblem : Game → Status → List ℕ → Type 0
+SolvesProblem g Done text = IsSolved g × Certifies g text
+SolvesProblem g BadProblem text = IsNotBuilt IsSolved g text
+SolvesProblem g Memory text = text ≡ []
+SolvesProblem g status text = ⊥
+
+-- and for the bytes of a problem's text
 abbrev pub SolvesText : List ℕ → Status → List ℕ → Type 0
-SolvesText bytes Done text = (g : Game) × HasFirstForm bytes g × Certifies g text
-SolvesText bytes BadProblem text = ((g : Game) → HasFirstForm bytes g → ⊥) × (text ≡ codes "bad problem\n")
 SolvesText bytes Memory text = text ≡ []
-SolvesText bytes status text = ⊥
+SolvesText bytes BadProblem text = IsRefused bytes text ⊎ ((g : Game) × Reads bytes g × SolvesProblem g BadProblem text)
+SolvesText bytes status text = (g : Game) × Reads bytes g × SolvesProblem g status text
+
+-- what `print` answers for them
+abbrev pub PrintsText : List ℕ → Status → List ℕ → Type 0
+PrintsText bytes Done text = (g : Game) × Reads bytes g × (text ≡ canonical_text g)
+PrintsText bytes BadProblem text = IsRefused bytes text
+PrintsText bytes Memory text = text ≡ []
+PrintsText bytes status text = ⊥
 
 -- the bytes are the text of this certificate, and nest at most 1,000 deep
 pub record IsRead (bytes : List ℕ) (outcome : Outcome) (optimum : Option ℤ) (root : Tree) : Type 0 where
@@ -104,15 +123,23 @@ AnswersFile limit P name told gave Memory text = text ≡ []
 AnswersFile limit P name told gave TooLong text = IsLong limit name told gave text ⊎ ((bytes : List ℕ) × IsFile limit told bytes × P bytes TooLong text)
 AnswersFile limit P name told gave status text = (bytes : List ℕ) × IsFile limit told bytes × P bytes status text
 
--- what `check` answers for the bytes of a problem's text; the certificate's file is read then
+-- what `check` answers for a problem; the certificate's file is read then
+abbrev pub ChecksProblem : List ℕ → Option (List ℕ) → (ℕ → Type 0) → Game → Status → List ℕ → Type 0
+ChecksProblem name told gave g Memory text = text ≡ []
+ChecksProblem name told gave g BadProblem text = IsNotBuilt IsPlain g text
+ChecksProblem name told gave g status text = IsPlain g × AnswersFile 1073741824 (ChecksBytes g) name told gave status text
+
+-- and for the bytes of a problem's text
 abbrev pub ChecksText : List ℕ → Option (List ℕ) → (ℕ → Type 0) → List ℕ → Status → List ℕ → Type 0
 ChecksText name told gave bytes Memory text = text ≡ []
-ChecksText name told gave bytes BadProblem text = ((g : Game) → HasFirstForm bytes g → ⊥) × (text ≡ codes "bad problem\n")
-ChecksText name told gave bytes status text = (g : Game) × HasFirstForm bytes g × AnswersFile 1073741824 (ChecksBytes g) name told gave status text
+ChecksText name told gave bytes BadProblem text =
+    IsRefused bytes text ⊎ ((g : Game) × Reads bytes g × ChecksProblem name told gave g BadProblem text)
+ChecksText name told gave bytes status text = (g : Game) × Reads bytes g × ChecksProblem name told gave g status text
 
 -- what is answered for what is asked
 abbrev pub AnswersAsked : Asked → (List ℕ → Option (List ℕ)) → (ℕ → Type 0) → Status → List ℕ → Type 0
 AnswersAsked (solves name) told gave status text = AnswersFile 4194304 SolvesText name (told name) gave status text
+AnswersAsked (prints name) told gave status text = AnswersFile 4194304 PrintsText name (told name) gave status text
 AnswersAsked (checks problem certificate) told gave status text =
     AnswersFile 4194304 (ChecksText certificate (told certificate) gave) problem (told problem) gave status text
 

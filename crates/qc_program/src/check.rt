@@ -1,11 +1,11 @@
 //! `check`: whether a certificate proves what it states of a problem.
 ghost use Rattle.std.specs.Prelude.{◌≡◌, ◌≢◌, ◌≤◌, ◌++◌, ◌⊎◌, codes, decimal, length};
 ghost use Rattle.qc_io.specs.Counts.{Rose, RoseBy};
-ghost use Rattle.qc_model.specs.Valid.{IsValid};
-ghost use Rattle.qc_syntax.specs.FirstForm.{IsFirstForm};
 ghost use Rattle.proof_tree.specs.Text.{outcome_text};
-ghost use Rattle.qc_program.specs.Answers.{ChecksBytes, ChecksText, AnswersFile, Wrote};
+ghost use Rattle.qc_program.specs.Refusals.{IsPlain};
+ghost use Rattle.qc_program.specs.Answers.{ChecksBytes, ChecksProblem, ChecksText, AnswersFile, Wrote};
 
+use crate::refuse::{is_plain, not_built, turn_down};
 use crate::solve::LIMIT;
 use crate::status::Status;
 use crate::writing::{finish, finish_parts, too_long};
@@ -15,7 +15,7 @@ use proof_tree::Outcome;
 use qc_check::{Answer, Space};
 use qc_io::{ReadError, Shelf, Sink, read_all};
 use qc_model::Problem;
-use qc_syntax::{TextFault, read_problem};
+use qc_syntax::read_problem;
 use std::alloc::{AllocError, Global};
 
 /// The most bytes of a certificate's text.
@@ -51,6 +51,7 @@ fn check_text<S: Shelf, K: Sink>(
     shelf: &mut S,
     out: &mut K,
 ) -> Status
+    requires { length text.now ≤ 4194304 }
     ensures wrote { Wrote (K.written out.old) (K.written out.new) (K.faults out.old) (K.faults out.new) result
         (ChecksText certificate.now (S.told shelf.old certificate.now) (λ n. RoseBy n (S.given shelf.old) (S.given shelf.new)) text.now) }
     ensures usage { result ≢ Status.Usage }
@@ -59,8 +60,7 @@ fn check_text<S: Shelf, K: Sink>(
 {
     match read_problem(alloc, text) {
         Ok(problem) => check_problem(alloc, &problem, certificate, shelf, out),
-        Err(TextFault::Refused) => finish(out, b"bad problem\n", Status::BadProblem),
-        Err(TextFault::Memory(_)) => Status::Memory,
+        Err(fault) => turn_down(out, fault),
     }
 }
 
@@ -71,14 +71,34 @@ fn check_problem<S: Shelf, K: Sink>(
     shelf: &mut S,
     out: &mut K,
 ) -> Status
-    requires valid { IsValid problem.now }
-    requires form { IsFirstForm problem.now }
+    ensures wrote { Wrote (K.written out.old) (K.written out.new) (K.faults out.old) (K.faults out.new) result
+        (ChecksProblem certificate.now (S.told shelf.old certificate.now) (λ n. RoseBy n (S.given shelf.old) (S.given shelf.new)) problem.now) }
+    ensures usage { result ≢ Status.Usage }
+    ensures read_fault { result ≡ Status.ReadFault → Rose (S.faults shelf.old) (S.faults shelf.new) }
+    ensures no_read_fault { result ≢ Status.ReadFault → S.faults shelf.new ≡ S.faults shelf.old }
+{
+    if is_plain(problem) {
+        check_plain(alloc, problem, certificate, shelf, out)
+    } else {
+        not_built(out)
+    }
+}
+
+fn check_plain<S: Shelf, K: Sink>(
+    alloc: Global,
+    problem: &Problem,
+    certificate: &str,
+    shelf: &mut S,
+    out: &mut K,
+) -> Status
+    requires { IsPlain problem.now }
     ensures wrote { Wrote (K.written out.old) (K.written out.new) (K.faults out.old) (K.faults out.new) result
         (AnswersFile 1073741824 (ChecksBytes problem.now) certificate.now (S.told shelf.old certificate.now) (λ n. RoseBy n (S.given shelf.old) (S.given shelf.new))) }
     ensures rows { (result ≢ Status.Usage) × (result ≢ Status.BadProblem) }
     ensures read_fault { result ≡ Status.ReadFault → Rose (S.faults shelf.old) (S.faults shelf.new) }
     ensures no_read_fault { result ≢ Status.ReadFault → S.faults shelf.new ≡ S.faults shelf.old }
 {
+    problem.known();
     let mut space = match Space::new(alloc, problem) {
         Ok(space) => space,
         Err(AllocError) => return Status::Memory,

@@ -5,120 +5,111 @@ use crate::status::Status;
 use qc_io::{MemoryShelf, MemorySink};
 use std::test::Fail;
 
-const DEFENCE: &[u8] = b"exists;
-var 0..1: guard1;
-var 0..1: guard2;
-var 0..1: guard3;
-constraint int_lin_le([1,1,1],[guard1,guard2,guard3],2);
-forall;
-var 0..1: attack1;
-var 0..1: attack2;
-var 0..1: attack3;
-constraint int_lin_le([1,1,1],[attack1,attack2,attack3],2);
+const DEFENCE: &[u8] = b"% Three gates. I post at most two guards. An attacker who sees them then attacks at most two gates.
+% Then I move a reserve of one. Can I post the guards so that every attacked gate is held?
 exists;
-var 0..1: reserve1;
-var 0..1: reserve2;
-var 0..1: reserve3;
-constraint int_lin_le([1,1,1],[reserve1,reserve2,reserve3],1);
+  var 0..1: guard1; var 0..1: guard2; var 0..1: guard3;
+  constraint int_lin_le([1,1,1],[guard1,guard2,guard3],2);
+forall;
+  var 0..1: attack1; var 0..1: attack2; var 0..1: attack3;
+  constraint int_lin_le([1,1,1],[attack1,attack2,attack3],2);
+exists;
+  var 0..1: reserve1; var 0..1: reserve2; var 0..1: reserve3;
+  constraint int_lin_le([1,1,1],[reserve1,reserve2,reserve3],1);
 goal;
-constraint int_lin_le([1,-1,-1],[attack1,guard1,reserve1],0);
-constraint int_lin_le([1,-1,-1],[attack2,guard2,reserve2],0);
-constraint int_lin_le([1,-1,-1],[attack3,guard3,reserve3],0);
+  % an attack is at most a guard plus the reserve
+  constraint int_lin_le([1,-1,-1],[attack1,guard1,reserve1],0);
+  constraint int_lin_le([1,-1,-1],[attack2,guard2,reserve2],0);
+  constraint int_lin_le([1,-1,-1],[attack3,guard3,reserve3],0);
 solve;
 ";
 
-const THIN_DEFENCE: &[u8] = b"exists;
-var 0..1: guard1;
-var 0..1: guard2;
-var 0..1: guard3;
-constraint int_lin_le([1,1,1],[guard1,guard2,guard3],1);
-forall;
-var 0..1: attack1;
-var 0..1: attack2;
-var 0..1: attack3;
-constraint int_lin_le([1,1,1],[attack1,attack2,attack3],2);
+const THIN_DEFENCE: &[u8] = b"% The same three gates and the same attacker, but one guard. Is every attacked gate held?
 exists;
-var 0..1: reserve1;
-var 0..1: reserve2;
-var 0..1: reserve3;
-constraint int_lin_le([1,1,1],[reserve1,reserve2,reserve3],1);
+  var 0..1: guard1; var 0..1: guard2; var 0..1: guard3;
+  constraint int_lin_le([1,1,1],[guard1,guard2,guard3],1);
+forall;
+  var 0..1: attack1; var 0..1: attack2; var 0..1: attack3;
+  constraint int_lin_le([1,1,1],[attack1,attack2,attack3],2);
+exists;
+  var 0..1: reserve1; var 0..1: reserve2; var 0..1: reserve3;
+  constraint int_lin_le([1,1,1],[reserve1,reserve2,reserve3],1);
 goal;
-constraint int_lin_le([1,-1,-1],[attack1,guard1,reserve1],0);
-constraint int_lin_le([1,-1,-1],[attack2,guard2,reserve2],0);
-constraint int_lin_le([1,-1,-1],[attack3,guard3,reserve3],0);
+  % an attack is at most a guard plus the reserve
+  constraint int_lin_le([1,-1,-1],[attack1,guard1,reserve1],0);
+  constraint int_lin_le([1,-1,-1],[attack2,guard2,reserve2],0);
+  constraint int_lin_le([1,-1,-1],[attack3,guard3,reserve3],0);
 solve;
 ";
 
-const SCHEDULE: &[u8] = b"exists;
-var 0..3: start1;
-forall;
-var 0..2: delay1;
+const SCHEDULE: &[u8] = b"% A first job takes 2 hours and starts by hour 3. It may be delayed by up to 2 hours. I place the second
+% job, of 3 hours, when I know that delay. It may be delayed too, but both delays together are at most 2 hours.
+% Can I be done by hour 8, whatever is delayed?
 exists;
-var 0..8: start2;
-constraint int_lin_le([1,1,-1],[start1,delay1,start2],-2);
+  var 0..3: start1;
 forall;
-var 0..2: delay2;
-constraint int_lin_le([1,1],[delay1,delay2],2);
+  var 0..2: delay1;
+exists;
+  var 0..8: start2;
+  % not before the first job is done: start1 + 2 + delay1 <= start2
+  constraint int_lin_le([1,1,-1],[start1,delay1,start2],-2);
+forall;
+  var 0..2: delay2;
+  constraint int_lin_le([1,1],[delay1,delay2],2);
 goal;
-constraint int_lin_le([1,1],[start2,delay2],5);
+  % start2 + 3 + delay2 <= 8
+  constraint int_lin_le([1,1],[start2,delay2],5);
 solve;
 ";
 
-const COUNTERS: &[u8] = b"exists;
-var 1..2: take1;
-forall;
-var 1..2: reply1;
-exists;
-var 1..2: take2;
-forall;
-var 1..2: reply2;
-exists;
-var 1..2: take3;
+const COUNTERS: &[u8] = b"% Seven counters. Two players take one or two in turn, and I begin. Can I take the last one?
+exists; var 1..2: take1;
+forall; var 1..2: reply1;
+exists; var 1..2: take2;
+forall; var 1..2: reply2;
+exists; var 1..2: take3;
 goal;
-constraint int_lin_le([1,1,1,1,1],[take1,reply1,take2,reply2,take3],7);
-constraint int_lin_le([-1,-1,-1,-1,-1],[take1,reply1,take2,reply2,take3],-7);
+  constraint int_lin_eq([1,1,1,1,1],[take1,reply1,take2,reply2,take3],7);
 solve;
 ";
 
-const PRICE: &[u8] = b"exists;
-var 0..10: price;
-forall;
-var 0..1: buys1;
-var 0..1: buys2;
-constraint int_lin_le([1,10],[price,buys1],16);
-constraint int_lin_le([-1,-10],[price,buys1],-6);
-constraint int_lin_le([1,10],[price,buys2],14);
-constraint int_lin_le([-1,-10],[price,buys2],-4);
+const PRICE: &[u8] = b"% One price for two customers. The first stays away where it is above 6, the second where it is above 4;
+% where it is equal, either may happen. Is an income of 6 sure?
 exists;
-var 0..10: pays1;
-var 0..10: pays2;
-constraint int_le(pays1,price);
-constraint int_lin_le([1,-10],[pays1,buys1],0);
-constraint int_le(pays2,price);
-constraint int_lin_le([1,-10],[pays2,buys2],0);
+  var 0..10: price;
+forall;
+  var 0..1: buys1; var 0..1: buys2;
+  % who buys pays at most 6, or 4; who stays away would pay at least as much
+  constraint int_lin_le([1,10],[price,buys1],16);
+  constraint int_lin_le([-1,-10],[price,buys1],-6);
+  constraint int_lin_le([1,10],[price,buys2],14);
+  constraint int_lin_le([-1,-10],[price,buys2],-4);
+exists;
+  var 0..10: pays1; var 0..10: pays2;
+  constraint int_times(price,buys1,pays1);
+  constraint int_times(price,buys2,pays2);
 goal;
-constraint int_lin_le([-1,-1],[pays1,pays2],-6);
+  constraint int_lin_le([-1,-1],[pays1,pays2],-6);
 solve;
 ";
 
-const DEAR_PRICE: &[u8] = b"exists;
-var 0..10: price;
-forall;
-var 0..1: buys1;
-var 0..1: buys2;
-constraint int_lin_le([1,10],[price,buys1],16);
-constraint int_lin_le([-1,-10],[price,buys1],-6);
-constraint int_lin_le([1,10],[price,buys2],14);
-constraint int_lin_le([-1,-10],[price,buys2],-4);
+const DEAR_PRICE: &[u8] = b"% One price for two customers. The first stays away where it is above 6, the second where it is above 4;
+% where it is equal, either may happen. Is an income of 7 sure?
 exists;
-var 0..10: pays1;
-var 0..10: pays2;
-constraint int_le(pays1,price);
-constraint int_lin_le([1,-10],[pays1,buys1],0);
-constraint int_le(pays2,price);
-constraint int_lin_le([1,-10],[pays2,buys2],0);
+  var 0..10: price;
+forall;
+  var 0..1: buys1; var 0..1: buys2;
+  % who buys pays at most 6, or 4; who stays away would pay at least as much
+  constraint int_lin_le([1,10],[price,buys1],16);
+  constraint int_lin_le([-1,-10],[price,buys1],-6);
+  constraint int_lin_le([1,10],[price,buys2],14);
+  constraint int_lin_le([-1,-10],[price,buys2],-4);
+exists;
+  var 0..10: pays1; var 0..10: pays2;
+  constraint int_times(price,buys1,pays1);
+  constraint int_times(price,buys2,pays2);
 goal;
-constraint int_lin_le([-1,-1],[pays1,pays2],-7);
+  constraint int_lin_le([-1,-1],[pays1,pays2],-7);
 solve;
 ";
 

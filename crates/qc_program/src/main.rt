@@ -2,6 +2,8 @@
 #![tactic(auto)]
 
 mod check;
+mod print;
+mod refuse;
 mod run;
 mod solve;
 mod status;
@@ -50,5 +52,9 @@ fn answer<R: Files + Print + AllocGlobal>(rt: &R, words: &[String]) -> Result<St
 
 #[cfg(test)]
 mod examples;
+#[cfg(test)]
+mod refusals;
+#[cfg(test)]
+mod table;
 #[cfg(test)]
 mod tests;

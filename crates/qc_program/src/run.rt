@@ -5,6 +5,7 @@ ghost use Rattle.qc_program.specs.Words.{asked_of};
 ghost use Rattle.qc_program.specs.Answers.{Answers, Wrote};
 
 use crate::check::check_files;
+use crate::print::print_file;
 use crate::solve::solve_file;
 use crate::status::Status;
 use crate::words::{Command, command_of};
@@ -33,6 +34,7 @@ pub fn run<S: Shelf, K: Sink>(alloc: Global, words: &[&str], shelf: &mut S, out:
                 certificate,
             },
         ) => check_files(alloc, problem, certificate, shelf, out),
+        Some(Command::Print { problem }) => print_file(alloc, problem, shelf, out),
         None => finish(out, USAGE, Status::Usage),
     }
 }

@@ -14,6 +14,9 @@ pub enum Command<'a> {
         problem: &'a str,
         certificate: &'a str,
     },
+    Print {
+        problem: &'a str,
+    },
 }
 
 /// What the words ask for, where they match the table.
@@ -22,6 +25,7 @@ pub fn command_of<'a>(words: &[&'a str]) -> Option<Command<'a>>
 {
     match words {
         [word, problem] if *word == "solve" && is_name(problem) => Some(Command::Solve { problem }),
+        [word, problem] if *word == "print" && is_name(problem) => Some(Command::Print { problem }),
         [word, problem, certificate]
             if *word == "check" && is_name(problem) && is_name(certificate) => {
             Some(Command::Check {

@@ -62,10 +62,6 @@ module _ {A : Type 0} (f : Owned → Option A) (items : List Item) where
     few_here : (counts_after c i).scopes + scope_count (drop (n + 1) items) ≤ 64
     few_here = few_next c i (drop (n + 1) items) (subst (λ is. c.scopes + scope_count is ≤ 64) next w.few)
 
-    -- the scope of the next item
-    pub owner_few : (counts_after c i).owner ≤ 64
-    owner_few = let a = few_here in let b = within_next c i w.within in omega arith
-
     abbrev later : List A
     later = filter_map f (owned_from (counts_after c i).scopes (counts_after c i).owner (drop (n + 1) items))
 

@@ -1,9 +1,9 @@
 //! The problem that the items of a text make.
-ghost use Rattle.std.specs.Prelude.{◌≡◌, ◌≤◌, None, IfOk, IsTrue, filter_map};
+ghost use Rattle.std.specs.Prelude.{◌≡◌, ◌≤◌, IfOk, IsTrue, filter_map};
 ghost use Rattle.qc_model.specs.Names.{is_word};
 ghost use Rattle.qc_resolve.specs.Owned.{owned, word_bytes};
-ghost use Rattle.qc_resolve.specs.Names.{declared, look_up};
-ghost use Rattle.qc_resolve.specs.Draft.{meant_target, target_of as target_of_word, condition_of as condition_of_text, fold_of as fold_of_text, scope_of as scope_of_item, variable_of as variable_of_item, aggregate_of as aggregate_of_item, constraint_of as constraint_of_item, game_of};
+ghost use Rattle.qc_resolve.specs.Names.{declared};
+ghost use Rattle.qc_resolve.specs.Draft.{target_of as target_of_word, condition_of as condition_of_text, fold_of as fold_of_text, scope_of as scope_of_item, variable_of as variable_of_item, aggregate_of as aggregate_of_item, constraint_of as constraint_of_item, game_of};
 ghost use Rattle.qc_resolve.specs.Makeable.{IsMakeable, declares_word};
 
 use crate::arguments::arguments_of;

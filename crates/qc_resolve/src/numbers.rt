@@ -1,7 +1,6 @@
 //! Numbers, and the values and widths of domains, that are beyond what a problem may have.
 //!
-//! Widths are looked at before numbers are known to be near, so they are compared without an addition
-//! that could overflow.
+//! Widths are compared without an addition that could overflow, so the numbers may be any.
 ghost use Rattle.std.specs.Prelude.{◌≡◌, ◌≤◌, ◌+◌, Some, None, cond, nat_le, ◌&&◌};
 ghost use Rattle.qc_model.specs.Domains.{least_from, greatest_from};
 ghost use Rattle.qc_model.specs.Valid.{is_number as is_number_of, width_of};

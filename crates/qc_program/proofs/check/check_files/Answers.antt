@@ -17,7 +17,7 @@ returns-in-Ok-clause-wrote g c =
     Wrote-weaker _ _ _ _ c.check_text.result _ _
     (λ s t h. file_from_bytes 4194304 (ChecksText name (told name) (λ n. RoseBy n old new)) c.args.problem.now bytes (told c.args.problem.now) (λ n. RoseBy n old new)
     (record { same = rw c.deref.ensures.value c.in-Ok.ensures.bytes.1; within = rw c.deref.ensures.value c.in-Ok.ensures.bytes.0 })
-    (λ u k. k.2) (λ u k. k) s t
+    (λ u k. k.2.1) (λ u k. k) s t
     (checks_before name (told name) (λ n. RoseBy n mid new) (λ n. RoseBy n old new) bytes (λ n k. rose_after _ n old mid new c.in-Ok.ensures.read k) s t
     (subst (λ q. ChecksText name (q name) (λ n. RoseBy n mid new) bytes s t) stays h)))
     c.check_text.ensures.wrote

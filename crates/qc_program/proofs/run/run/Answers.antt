@@ -5,3 +5,6 @@ returns-in-Some-Solve-clause-wrote g c = rw (← c.in-Some-Solve.ensures, c.in-S
 
 pub returns-in-Some-Check-clause-wrote : goal.returns-in-Some-Check-clause-wrote
 returns-in-Some-Check-clause-wrote g c = rw (← c.in-Some-Check.ensures, c.in-Some-Check.field-0-is) c.check_files.ensures.wrote
+
+pub returns-in-Some-Print-clause-wrote : goal.returns-in-Some-Print-clause-wrote
+returns-in-Some-Print-clause-wrote g c = rw (← c.in-Some-Print.ensures, c.in-Some-Print.field-0-is) c.print_file.ensures.wrote

@@ -1,16 +1,12 @@
 use Rattle.std.proofs.Common.{length, arith}
 use Rattle.proof_tree.specs.Shape.{tree_of}
 use Rattle.qc_program.proofs.Spellable.{settled_has_text}
-use Rattle.qc_program.proofs.FirstForms.{no_conditions}
 use Rattle.qc_program.proofs.solve.certificate.Goals as goal
-
-pub solve-requires-clause-plain : goal.solve-requires-clause-plain
-solve-requires-clause-plain c = no_conditions c.args.problem.now c.requires.form
 
 pub write_cert-requires : goal.write_cert-requires
 write_cert-requires c =
     let e = c.in_ok-certificate.ensures in
-    settled_has_text (length c.args.problem.now.variables) _ _ (tree_of c.in_ok-certificate.certificate.root) c.requires.valid.few_variables e.settled e.plain_optimum e.stepless
+    settled_has_text (length c.args.problem.now.variables) _ _ (tree_of c.in_ok-certificate.certificate.root) c.known.ensures.few_variables e.settled e.plain_optimum e.stepless
 
 pub returns : goal.returns
 returns c =
@@ -21,7 +17,7 @@ returns c =
       root = tree_of c.in_ok-certificate.certificate.root;
       proved = e.proves;
       ordered = e.in_order;
-      spellable = settled_has_text (length c.args.problem.now.variables) _ _ (tree_of c.in_ok-certificate.certificate.root) c.requires.valid.few_variables e.settled e.plain_optimum e.stepless;
+      spellable = settled_has_text (length c.args.problem.now.variables) _ _ (tree_of c.in_ok-certificate.certificate.root) c.known.ensures.few_variables e.settled e.plain_optimum e.stepless;
       spelled = c.in_ok-written.ensures;
       settled = e.settled;
       won = e.won;

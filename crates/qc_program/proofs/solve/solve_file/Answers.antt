@@ -10,7 +10,7 @@ returns-in-Ok-clause-wrote g c =
     (file_from_bytes 4194304 SolvesText c.args.name.now c.deref.result.now (g.S.Shelf.told c.args.shelf.now c.args.name.now)
     (λ n. RoseBy n (g.S.Shelf.given c.args.shelf.now) (g.S.Shelf.given c.read_all.new.shelf))
     (record { same = rw c.deref.ensures.value c.in-Ok.ensures.bytes.1; within = rw c.deref.ensures.value c.in-Ok.ensures.bytes.0 })
-    (λ t h. absurd h) (λ t h. h))
+    (λ t h. absurd h.2) (λ t h. h))
     c.solve_text.ensures.wrote
 
 pub returns-in-Err-TooLong-clause-wrote : goal.returns-in-Err-TooLong-clause-wrote

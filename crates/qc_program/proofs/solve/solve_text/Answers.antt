@@ -1,16 +1,12 @@
-use Rattle.std.proofs.Common.{rules, refl}
-use Rattle.qc_model.specs.Content.{Game}
-use Rattle.qc_program.specs.Answers.{SolvesText, Certifies}
+use Rattle.std.proofs.Common.{subst, refl, inl}
 use Rattle.qc_program.proofs.Written.{Wrote-weaker}
+use Rattle.qc_program.proofs.Solved.{solved_text, refused_solves}
 use Rattle.qc_program.proofs.solve.solve_text.Goals as goal
 
-pub returns-in-Ok-certificate-clause-wrote : goal.returns-in-Ok-certificate-clause-wrote
-returns-in-Ok-certificate-clause-wrote g c =
-    let certifies : Certifies c.in-Ok.problem c.deref.result.now = rw c.deref.ensures.value c.in-Ok-certificate.ensures in
-    Wrote-weaker _ _ _ _ c.finish.result _ (SolvesText c.args.text.now)
-    (λ s t is. rw (is.0, is.1) (c.in-Ok.problem, c.in-Ok.ensures.found, certifies)) c.finish.ensures.wrote
+pub returns-in-Ok-clause-wrote : goal.returns-in-Ok-clause-wrote
+returns-in-Ok-clause-wrote g c =
+    Wrote-weaker _ _ _ _ c.solve_problem.result _ _ (λ s t h. solved_text c.in-Ok.problem c.args.text.now s t c.in-Ok.ensures.reads h) c.solve_problem.ensures.wrote
 
-pub returns-in-Err-Refused-clause-wrote : goal.returns-in-Err-Refused-clause-wrote
-returns-in-Err-Refused-clause-wrote g c =
-    Wrote-weaker _ _ _ _ c.finish-in-Err-Refused.result _ (SolvesText c.args.text.now)
-    (λ s t is. rw (is.0, is.1) (search rules, refl)) c.finish-in-Err-Refused.ensures.wrote
+pub returns-in-Err-clause-wrote : goal.returns-in-Err-clause-wrote
+returns-in-Err-clause-wrote g c =
+    Wrote-weaker _ _ _ _ c.turn_down.result _ _ (λ s t is. refused_solves c.args.text.now c.in-Err.fault s t c.in-Err.ensures.refuses is) c.turn_down.ensures.wrote
