@@ -2,16 +2,29 @@
 ghost use Rattle.std.specs.Prelude.{◌≡◌, ◌++◌, ◌<◌, ◌^◌, ◌==◌, OnOk, IfOk, codes, flat_map, filter, length, slice_get, drop};
 ghost use Rattle.std.specs.Option.{option_copied};
 ghost use Rattle.qc_model.specs.Canonical.{constraint_text, variable_text, target_name, fold_text, aggregate_text, condition_text, kind_text, constraints_text, scope_text, text_from, canonical_text};
+ghost use Rattle.qc_syntax.specs.Reads.{Reads};
 
 use crate::arguments::{put_constraint, put_name};
 use crate::parts::{put_domain, put_number};
 use qc_model::{
     Aggregate, Condition, Constraint, Fold, Kind, Problem, Scope, ScopeId, Sense, Target, Variable,
 };
+use qc_reread::printed_text_is_read_again;
 use std::alloc::{AllocError, Global};
 
-/// The canonical text of a problem.
+/// The canonical text of a problem. Read again, it is that problem.
+///
+/// It takes memory for the text, and fails only where memory runs out.
 pub fn print_problem(alloc: Global, problem: &Problem) -> Result<Vec<u8>, AllocError>
+    ensures text { IfOk result (λ v. v.items ≡ canonical_text problem.now) }
+    ensures read_again { IfOk result (λ v. Reads v.items problem.now) }
+{
+    problem.known();
+    printed_text_is_read_again();
+    write_problem(alloc, problem)
+}
+
+fn write_problem(alloc: Global, problem: &Problem) -> Result<Vec<u8>, AllocError>
     ensures { IfOk result (λ v. v.items ≡ canonical_text problem.now) }
 {
     problem.known();

@@ -1,4 +1,5 @@
-pub mod Words
-pub mod View
-pub mod Refusals
 pub mod Answers
+pub mod Edge
+pub mod Refusals
+pub mod View
+pub mod Words

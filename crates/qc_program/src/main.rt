@@ -1,6 +1,11 @@
 //! The program `qecode`: solves games of quantified constraints, with a certificate of each answer.
 #![tactic(auto)]
 
+ghost use Rattle.std.specs.Prelude.{◌≡◌, IfOk, drop, map, string_bytes};
+ghost use Rattle.std.specs.Vec.Iter.{into_iter_items};
+ghost use Rattle.qc_program.specs.Words.{asked_of};
+ghost use Rattle.qc_program.specs.Edge.{EndsRight};
+
 mod check;
 mod print;
 mod refuse;
@@ -38,13 +43,25 @@ fn main(rt: HostRuntime) -> ExitCode {
 }
 
 // The words without the program's name.
-fn words_of(alloc: Global, args: env::Args) -> Result<Vec<String>, AllocError> {
+fn words_of(alloc: Global, args: env::Args) -> Result<Vec<String>, AllocError>
+    ensures { IfOk result (λ words. words.items ≡ drop 1 (into_iter_items args)) }
+{
     args.skip(1).collect(alloc)
 }
 
-fn answer<R: Files + Print + AllocGlobal>(rt: &R, words: &[String]) -> Result<Status, AllocError> {
+// The same words, borrowed as texts.
+fn texts_of(alloc: Global, words: &[String]) -> Result<Vec<&str>, AllocError>
+    ensures { IfOk result (λ texts. map (λ w. w.now) texts.items ≡ map string_bytes words.now) }
+{
+    words.iter().map(|word| word.as_str()).collect(alloc)
+}
+
+// How the program ends for these words. Of the files and the output nothing is told.
+fn answer<R: Files + Print + AllocGlobal>(rt: &R, words: &[String]) -> Result<Status, AllocError>
+    ensures { IfOk result (λ status. EndsRight (asked_of (map string_bytes words.now)) status) }
+{
     let alloc = rt.alloc();
-    let texts: Vec<&str> = words.iter().map(|word| word.as_str()).collect(alloc)?;
+    let texts = texts_of(alloc, words)?;
     let mut shelf = FolderShelf::new(rt);
     let mut out = OutSink::new(rt);
     Ok(run(alloc, texts.as_slice(), &mut shelf, &mut out))

@@ -1,6 +1,7 @@
 //! The top call: reads what the words name, and writes the answer.
 ghost use Rattle.std.specs.Prelude.{◌≡◌, ◌≢◌, map, IsSome, None};
 ghost use Rattle.qc_io.specs.Counts.{Rose, RoseBy};
+ghost use Rattle.qc_io.specs.Memory.{sound_state, sound_told};
 ghost use Rattle.qc_program.specs.Words.{asked_of};
 ghost use Rattle.qc_program.specs.Answers.{Answers, Wrote};
 
@@ -39,14 +40,16 @@ pub fn run<S: Shelf, K: Sink>(alloc: Global, words: &[&str], shelf: &mut S, out:
     }
 }
 
-/// Over a shelf whose calls don't fail no read fault is answered.
+/// The same over a shelf whose calls don't fail: no read fault is answered.
 pub fn run_sound<K: Sink>(
     alloc: Global,
     words: &[&str],
     shelf: &mut SoundShelf,
     out: &mut K,
 ) -> Status
-    ensures { result ≢ Status.ReadFault }
+    ensures wrote { Wrote (K.written out.old) (K.written out.new) (K.faults out.old) (K.faults out.new) result
+        (Answers (asked_of (map (λ w. w.now) words.now)) (sound_told shelf.old) (λ n. RoseBy n (sound_state shelf.old).given (sound_state shelf.new).given)) }
+    ensures no_read_fault { result ≢ Status.ReadFault }
 {
     run(alloc, words, shelf, out)
 }

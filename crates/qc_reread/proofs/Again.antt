@@ -39,8 +39,11 @@ read_again g valid =
       written = record {
         clean = record {
           bytes = subst (λ (t : List ℕ). first_bad_byte t ≡ None) (chunks_spell g) cut.no_bad_byte;
-          numbers = subst (λ (t : List ℕ). first_bad_number t ≡ None) (chunks_spell g) cut.no_bad_number };
-        problem = subst (λ (ts : List Token). IsProblem parts.items (lexemes_of text ts)) same parts.problem };
+          numbers = subst (λ (t : List ℕ). first_bad_number t ≡ None) (chunks_spell g) cut.no_bad_number;
+        };
+        problem = subst (λ (ts : List Token). IsProblem parts.items (lexemes_of text ts)) same parts.problem;
+      };
       faultless = no_fault g valid text parts.items parts.stand (tokens_of text)
-        (subst (λ (ts : List Token). first_far ts ≡ None) same (numbers_are_near g valid));
-      game = sym (same_game g valid text parts.items parts.stand) }
+          (subst (λ (ts : List Token). first_far ts ≡ None) same (numbers_are_near g valid));
+      game = sym (same_game g valid text parts.items parts.stand);
+    }

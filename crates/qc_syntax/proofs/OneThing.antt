@@ -31,7 +31,7 @@ reads_one text g h p q = p.game ∙ ap (game_of text) (items_are_one text p.item
 faultless : (text : List ℕ) (g : Game) (kind : Refused13) (at : ℕ) → Reads text g → HasFault text kind at → ⊥
 faultless text g kind at p q =
     some_is_not_none (first_fault text (tokens_of text) q.items) (record { kind = q.fault; at = at })
-        (subst (λ (is : List Item). first_fault text (tokens_of text) is ≡ None) (items_are_one text p.items q.items p.written q.written) p.faultless) q.first
+    (subst (λ (is : List Item). first_fault text (tokens_of text) is ≡ None) (items_are_one text p.items q.items p.written q.written) p.faultless) q.first
 
 pub reads_or_refuses : (text : List ℕ) (g : Game) (kind : Refused13) (at : ℕ) → Reads text g → Refuses text kind at → ⊥
 reads_or_refuses text g BadByte at p q = some_is_not_none (first_bad_byte text) at p.written.clean.bytes q

@@ -27,12 +27,7 @@ pub fn read_problem(alloc: Global, text: &[u8]) -> Result<Problem, ReadFault>
 }
 
 // The problem that the items make.
-fn make(
-    alloc: Global,
-    text: &[u8],
-    tokens: &[Token],
-    items: &[Item],
-) -> Result<Problem, ReadFault>
+fn make(alloc: Global, text: &[u8], tokens: &[Token], items: &[Item]) -> Result<Problem, ReadFault>
     requires length { length text.now < 2 ^ 32 }
     requires tokens { tokens.now ≡ tokens_of text.now }
     requires places { All (IsTokenOf text.now) tokens.now }

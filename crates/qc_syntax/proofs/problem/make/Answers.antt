@@ -11,7 +11,8 @@ resolve-requires c =
     record {
       words = names_are_words (declared c.args.text.now c.args.items.now)
           (c.names_are_names.ensures c.args.text.now c.args.tokens.now c.args.items.now
-              (record {
-                problem = subst (λ (ts : List Token). IsProblem c.args.items.now (lexemes_of c.args.text.now ts)) (sym c.requires.tokens) c.requires.written.problem;
-                tokens = c.requires.places }));
+          (record {
+            problem = subst (λ (ts : List Token). IsProblem c.args.items.now (lexemes_of c.args.text.now ts)) (sym c.requires.tokens) c.requires.written.problem;
+            tokens = c.requires.places;
+          }));
     }
