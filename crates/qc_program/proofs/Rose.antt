@@ -1,5 +1,5 @@
 -- A count that rose in two calls.
-use Rattle.std.proofs.Common.{◌≡◌, ◌≤◌, ◌+◌, ℕ, List, Option, inl, inr, refl, arith}
+use Rattle.std.proofs.Common.{◌+◌, ℕ, List, Option, inl, inr, arith}
 use Rattle.qc_io.specs.Counts.{RoseBy}
 use Rattle.qc_program.specs.declared.status.Status.{Status}
 use Rattle.qc_program.specs.declared.status.Status.TheVariants.{Done, NotProved, Open, Usage, BadProblem, BadCertificate, TooLong, ReadFault, WriteFault, Memory}

@@ -1,5 +1,5 @@
 -- What was written, part by part and layer by layer.
-use Rattle.std.proofs.Common.{◌≡◌, ◌≤◌, ◌+◌, ℕ, List, ◌++◌, [], inr, Option, Result, Ok, Err, OnErr, arith, take, length, length-append}
+use Rattle.std.proofs.Common.{◌≡◌, ◌+◌, ℕ, List, ◌++◌, [], inr, Option, Result, Ok, Err, OnErr, arith, take, length, length-append}
 use Rattle.std.specs.Io.KnownBytes.{Appends}
 use Rattle.std.proofs.Math.Seq.{take-append-add}
 use Rattle.std.proofs.lemmas.List.{take-append-le}

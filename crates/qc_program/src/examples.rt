@@ -5,7 +5,8 @@ use crate::status::Status;
 use qc_io::{MemoryShelf, MemorySink};
 use std::test::Fail;
 
-const DEFENCE: &[u8] = b"% Three gates. I post at most two guards. An attacker who sees them then attacks at most two gates.
+const DEFENCE: &[u8] =
+    b"% Three gates. I post at most two guards. An attacker who sees them then attacks at most two gates.
 % Then I move a reserve of one. Can I post the guards so that every attacked gate is held?
 exists;
   var 0..1: guard1; var 0..1: guard2; var 0..1: guard3;
@@ -24,7 +25,8 @@ goal;
 solve;
 ";
 
-const THIN_DEFENCE: &[u8] = b"% The same three gates and the same attacker, but one guard. Is every attacked gate held?
+const THIN_DEFENCE: &[u8] =
+    b"% The same three gates and the same attacker, but one guard. Is every attacked gate held?
 exists;
   var 0..1: guard1; var 0..1: guard2; var 0..1: guard3;
   constraint int_lin_le([1,1,1],[guard1,guard2,guard3],1);
@@ -42,7 +44,8 @@ goal;
 solve;
 ";
 
-const SCHEDULE: &[u8] = b"% A first job takes 2 hours and starts by hour 3. It may be delayed by up to 2 hours. I place the second
+const SCHEDULE: &[u8] =
+    b"% A first job takes 2 hours and starts by hour 3. It may be delayed by up to 2 hours. I place the second
 % job, of 3 hours, when I know that delay. It may be delayed too, but both delays together are at most 2 hours.
 % Can I be done by hour 8, whatever is delayed?
 exists;
@@ -62,7 +65,8 @@ goal;
 solve;
 ";
 
-const COUNTERS: &[u8] = b"% Seven counters. Two players take one or two in turn, and I begin. Can I take the last one?
+const COUNTERS: &[u8] =
+    b"% Seven counters. Two players take one or two in turn, and I begin. Can I take the last one?
 exists; var 1..2: take1;
 forall; var 1..2: reply1;
 exists; var 1..2: take2;
@@ -73,7 +77,8 @@ goal;
 solve;
 ";
 
-const PRICE: &[u8] = b"% One price for two customers. The first stays away where it is above 6, the second where it is above 4;
+const PRICE: &[u8] =
+    b"% One price for two customers. The first stays away where it is above 6, the second where it is above 4;
 % where it is equal, either may happen. Is an income of 6 sure?
 exists;
   var 0..10: price;
@@ -93,7 +98,8 @@ goal;
 solve;
 ";
 
-const DEAR_PRICE: &[u8] = b"% One price for two customers. The first stays away where it is above 6, the second where it is above 4;
+const DEAR_PRICE: &[u8] =
+    b"% One price for two customers. The first stays away where it is above 6, the second where it is above 4;
 % where it is equal, either may happen. Is an income of 7 sure?
 exists;
   var 0..10: price;

@@ -114,9 +114,27 @@ fn limits_are_kept(rt: HostRuntime) -> Result<(), Fail> {
     let alloc = rt.alloc();
     let rows: [(&str, &str, usize, &str, usize); 6] = [
         ("", "forall; ", 64, "goal; solve;", 512),
-        ("goal;", "constraint array_bool_xor([]);", 20_000, "solve;", 600_005),
-        ("goal;constraint all_different_int([", "1,", 999, "1]);solve;", 34),
-        ("goal;constraint array_bool_xor([", "true,", 999, "true]);solve;", 31),
+        (
+            "goal;",
+            "constraint array_bool_xor([]);",
+            20_000,
+            "solve;",
+            600_005,
+        ),
+        (
+            "goal;constraint all_different_int([",
+            "1,",
+            999,
+            "1]);solve;",
+            34,
+        ),
+        (
+            "goal;constraint array_bool_xor([",
+            "true,",
+            999,
+            "true]);solve;",
+            31,
+        ),
         ("goal;constraint set_in(1,{", "1,", 99_999, "1});solve;", 25),
         (
             "goal;constraint array_int_element(1,[",
@@ -131,7 +149,10 @@ fn limits_are_kept(rt: HostRuntime) -> Result<(), Fail> {
         assert_eq!(rt; printed(alloc, &most)?.0, Status::Done, "at {front}");
         let more = repeated(alloc, front, piece, count + 1, back)?;
         let wanted = format!(in alloc; "bad problem: 11 TooMany at {at}\n")?;
-        assert!(rt; printed(alloc, &more)?.1.bytes() == wanted.as_bytes(), "at {front}");
+        assert!(rt;
+            printed(alloc, &more)?.1.bytes() == wanted.as_bytes(),
+            "at {front}"
+        );
     }
     Ok(())
 }
@@ -155,6 +176,8 @@ fn variables_have_a_limit(rt: HostRuntime) -> Result<(), Fail> {
     assert_eq!(rt; status, Status::Done);
     assert!(rt; sink.bytes() == most.as_slice());
     let more = variables(alloc, 501)?;
-    assert!(rt; printed(alloc, &more)?.1.bytes() == b"bad problem: 11 TooMany at 7898\n".as_slice());
+    assert!(rt;
+        printed(alloc, &more)?.1.bytes() == b"bad problem: 11 TooMany at 7898\n".as_slice()
+    );
     Ok(())
 }

@@ -11,7 +11,7 @@ use Rattle.qc_grammar.specs.Lexemes.{lexemes_of}
 use Rattle.qc_resolve.specs.Numbers.{first_far}
 use Rattle.qc_syntax.specs.Reads.{Reads}
 use Rattle.qc_reread.specs.Cut.{IsCutAsChunks}
-use Rattle.qc_reread.specs.Items.{ReadsAsParts, IsSpelledRight, spelled_tokens}
+use Rattle.qc_reread.specs.Items.{spelled_tokens}
 use Rattle.qc_reread.specs.Spelled.{problem_chunks}
 use Rattle.qc_reread.proofs.Cutting.{chunks_are_cut}
 use Rattle.qc_reread.proofs.SpelledText.{chunks_spell}

@@ -1,5 +1,5 @@
 -- When an item of a text stands for a part of a problem.
-use Rattle.std.specs.Prelude.{◌≡◌, ℕ, Bool, true, false, List, [], ◌∷◌, Option, None, Some, ⊤, slice_get, ℤ, pos}
+use Rattle.std.specs.Prelude.{◌≡◌, ℕ, List, [], ◌∷◌, Option, None, Some, ⊤, slice_get, ℤ}
 use Rattle.qc_model.specs.declared.problem.Kind.{Kind}
 use Rattle.qc_model.specs.declared.problem.Kind.TheVariants.{Exists, Forall}
 use Rattle.qc_model.specs.declared.problem.Fold.{Fold}
@@ -13,15 +13,12 @@ use Rattle.qc_model.specs.declared.problem.Arg.TheVariants.{Var, Num}
 use Rattle.qc_model.specs.declared.problem.Argument.{Argument as ModelArgument}
 use Rattle.qc_model.specs.declared.problem.Argument.TheVariants.{One as ModelOne, Many, Numbers, Members as ModelMembers}
 use Rattle.qc_model.specs.declared.problem.Condition.{Condition}
-use Rattle.qc_model.specs.declared.problem.Scope.{Scope}
 use Rattle.qc_model.specs.declared.problem.Variable.{Variable as ModelVariable}
-use Rattle.qc_model.specs.Content.{Game, Rule}
+use Rattle.qc_model.specs.Content.{Game}
 use Rattle.qc_model.specs.declared.signature.Sort.{Sort}
-use Rattle.qc_model.specs.declared.signature.Sort.TheVariants.{Integer as integer, Boolean as boolean, Integers as integers, Booleans as booleans, Numbers as numbers, Truths as truths, Members as members}
+use Rattle.qc_model.specs.declared.signature.Sort.TheVariants.{Integer as integer, Boolean as boolean, Integers as integers, Booleans as booleans, Numbers as numbers, Truths as truths}
 use Rattle.qc_model.specs.Signature.{sorts_of, pred_name}
 use Rattle.qc_model.specs.Canonical.{variable_name, target_name}
-use Rattle.qc_grammar.specs.declared.tree.Word.{Word}
-use Rattle.qc_grammar.specs.declared.tree.Number.{Number as Figure}
 use Rattle.qc_grammar.specs.declared.tree.One.{One}
 use Rattle.qc_grammar.specs.declared.tree.One.TheVariants.{Name as OneName, Number as OneNumber, Truth as OneTruth}
 use Rattle.qc_grammar.specs.declared.tree.Members.{Members}

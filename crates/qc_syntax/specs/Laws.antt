@@ -1,5 +1,5 @@
 -- Each text says one thing.
-use Rattle.std.specs.Prelude.{◌≡◌, ◌⊎◌, ℕ, List}
+use Rattle.std.specs.Prelude.{◌≡◌, ℕ, List}
 use Rattle.qc_model.specs.Content.{Game}
 use Rattle.qc_syntax.specs.declared.fault.Refused13.{Refused13}
 use Rattle.qc_syntax.specs.Reads.{Reads, Refuses}

@@ -1,4 +1,3 @@
-use Rattle.std.proofs.Common.{refl, rules}
 use Rattle.proof_tree.specs.Shape.{tree_of}
 use Rattle.qc_program.proofs.Written.{Wrote-weaker}
 use Rattle.qc_program.proofs.check.check_bytes.Goals as goal

@@ -1,4 +1,3 @@
-use Rattle.std.proofs.Common.{subst, refl, inl}
 use Rattle.qc_io.specs.Counts.{RoseBy}
 use Rattle.qc_program.proofs.Written.{Wrote-weaker}
 use Rattle.qc_program.proofs.Rose.{text_from_problem}

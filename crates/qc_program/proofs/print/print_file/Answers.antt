@@ -1,6 +1,6 @@
 use Rattle.std.proofs.Common.{rules, refl, inl}
 use Rattle.qc_io.specs.Counts.{RoseBy}
-use Rattle.qc_program.specs.Answers.{AnswersFile, PrintsText}
+use Rattle.qc_program.specs.Answers.{PrintsText}
 use Rattle.qc_program.proofs.Written.{Wrote-weaker, file_from_bytes}
 use Rattle.qc_program.proofs.print.print_file.Goals as goal
 

@@ -1,4 +1,3 @@
-use Rattle.std.proofs.Common.{subst, refl}
 use Rattle.qc_program.proofs.Written.{Wrote-weaker}
 use Rattle.qc_program.proofs.Solved.{refused_prints}
 use Rattle.qc_program.proofs.print.print_text.Goals as goal

@@ -1,4 +1,4 @@
-use Rattle.std.proofs.Common.{length, arith}
+use Rattle.std.proofs.Common.{length}
 use Rattle.proof_tree.specs.Shape.{tree_of}
 use Rattle.qc_program.proofs.Spellable.{settled_has_text}
 use Rattle.qc_program.proofs.solve.certificate.Goals as goal

@@ -1,4 +1,4 @@
-use Rattle.std.proofs.Common.{refl, rules}
+use Rattle.std.proofs.Common.{rules}
 use Rattle.qc_program.proofs.Written.{Wrote-weaker}
 use Rattle.qc_program.proofs.solve.solve_problem.Goals as goal
 

@@ -1,4 +1,3 @@
-use Rattle.std.proofs.Common.{subst, refl, inl}
 use Rattle.qc_program.proofs.Written.{Wrote-weaker}
 use Rattle.qc_program.proofs.Solved.{solved_text, refused_solves}
 use Rattle.qc_program.proofs.solve.solve_text.Goals as goal
