@@ -165,7 +165,7 @@ fn problems_are_printed(rt: HostRuntime) -> Result<(), Fail> {
 fn faults_are_answered(rt: HostRuntime) -> Result<(), Fail> {
     let alloc = rt.alloc();
     let mut shelf = MemoryShelf::new(alloc);
-    shelf.add("p", b"goal;\nsolve;\n")?;
+    shelf.add("p", b"goal; solve;")?;
     shelf.fail_at(2)?;
     let mut sink = MemorySink::new(alloc, 10, 100)?;
     sink.fail_at(2)?;
@@ -316,5 +316,19 @@ fn certificates_are_judged(rt: HostRuntime) -> Result<(), Fail> {
         let _ = run(alloc, &["check", "p", "c"], &mut shelf, &mut sink);
         assert!(rt; sink.bytes() == written, "at {certificate:?}");
     }
+    Ok(())
+}
+
+// The first line that nests above 1,000 is the 1,001st of these.
+#[test]
+fn a_deep_certificate_is_refused(rt: HostRuntime) -> Result<(), Fail> {
+    let alloc = rt.alloc();
+    let mut deep = Vec::from_slice(alloc, b"qcert 1\ntrue\n")?;
+    for _ in 0..1_001 {
+        deep.extend_from_slice(b"n\n")?;
+    }
+    let (answer, sink) = checked(alloc, &deep)?;
+    assert_eq!(rt; answer, Status::BadCertificate);
+    assert!(rt; sink.bytes() == b"certificate too deep at 2013\n".as_slice());
     Ok(())
 }
