@@ -1,2 +1,5 @@
 pub mod OneThing
 pub mod Words
+pub mod CaseWords
+pub mod Cases
+pub mod CasesOfItems
