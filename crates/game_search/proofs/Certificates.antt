@@ -16,7 +16,7 @@ use Rattle.qc_model.proofs.Before.{before-zero}
 use Rattle.qc_model.proofs.DomainValues.{domain_full}
 use Rattle.proof_tree.specs.Proves.{proves, shows, optimises_first}
 use Rattle.proof_tree.specs.Order.{in_order}
-use Rattle.game_search.specs.Plain.{NoConditions}
+use Rattle.qc_rules.specs.Plain.{NoConditions}
 use Rattle.proof_tree.specs.Read.{root_finding}
 use Rattle.proof_tree.specs.Stepless.{is_stepless}
 use Rattle.game_search.specs.Wins.{wins_test}

@@ -17,7 +17,7 @@ use Rattle.proof_tree.specs.Place.{position, list_after}
 use Rattle.proof_tree.specs.InPlace.{in_place}
 use Rattle.proof_tree.specs.Read.{read}
 use Rattle.proof_tree.specs.Order.{settled_last}
-use Rattle.game_search.specs.Plain.{NoConditions}
+use Rattle.qc_rules.specs.Plain.{NoConditions}
 use Rattle.game_search.specs.Wins.{choice, after_allowed, search_values, wins_test, domains_left, tuple_test}
 use Rattle.game_search.specs.Enumeration.{case_tree, branch_tree, search_tree, plain_tree, tuple_tree}
 use Rattle.game_search.proofs.Positions.{box_of, set_next, left_next, same_next, drop_next, values_filled, fixed_filled, full_filled, past_take, at_end}

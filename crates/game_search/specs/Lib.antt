@@ -2,4 +2,3 @@ pub mod Wins
 pub mod Enumeration
 pub mod Level
 pub mod Outcomes
-pub mod Plain

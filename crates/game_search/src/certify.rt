@@ -4,7 +4,7 @@ ghost use Rattle.qc_model.specs.Game.{IsWon};
 ghost use Rattle.qc_model.specs.Turns.{full_turns_of};
 ghost use Rattle.proof_tree.specs.declared.tree.Outcome.TheVariants.{True, False};
 ghost use Rattle.proof_tree.specs.Counts.{turns_of};
-ghost use Rattle.game_search.specs.Plain.{NoConditions};
+ghost use Rattle.qc_rules.specs.Plain.{NoConditions};
 ghost use Rattle.proof_tree.specs.Shape.{tree_of};
 ghost use Rattle.proof_tree.specs.Proves.{proves};
 ghost use Rattle.proof_tree.specs.Order.{in_order};

@@ -3,10 +3,8 @@
 
 mod certify;
 mod level;
-mod plain;
 mod search;
 #[cfg(test)]
 mod tests;
 
 pub use certify::solve;
-pub use plain::is_plain;

@@ -14,9 +14,10 @@ ghost use Rattle.game_search.specs.Wins.{wins_test, scope_test, tuple_test};
 ghost use Rattle.game_search.specs.Enumeration.{plain_tree, scope_tree, tuple_tree};
 ghost use Rattle.proof_tree.specs.declared.tree.Case.TheVariants.{Skip};
 
-use crate::level::{Level, all_hold, is_existential};
+use crate::level::{Level, is_existential};
 use proof_tree::{Body, Case, CaseList, Cases, End, Node, StepList};
 use qc_model::{Problem, ScopeId, VarId};
+use qc_rules::all_hold;
 use std::alloc::{AllocError, Global};
 
 /// A node, and whether the player wins there.

@@ -1,9 +1,10 @@
-use crate::{is_plain, solve};
+use crate::solve;
 use proof_tree::{Outcome, turns};
 use qc_model::{
     Arg, Argument, Constraint, Domain, Draft, Kind, Name, Pred, Problem, Scope, ScopeId, VarId,
     Variable, build, full_turns,
 };
+use qc_rules::is_plain;
 use std::alloc::{AllocError, Global};
 use std::test::Fail;
 

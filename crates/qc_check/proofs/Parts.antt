@@ -25,7 +25,7 @@ use Rattle.qc_check.specs.declared.standing.Standing.{Standing}
 use Rattle.qc_check.specs.declared.standing.Standing.TheVariants.{Lost, Unknown, Won}
 use Rattle.qc_check.specs.Standing.{preferred, without_tuple, standing_of, standing_among, only_if, both_of}
 use Rattle.qc_check.specs.Judged.{node_standing, ending_standing, cases_standing, case_standing, tuple_allowed}
-use Rattle.qc_check.specs.Plain.{NoConditions}
+use Rattle.qc_rules.specs.Plain.{NoConditions}
 use Rattle.qc_check.proofs.Standings.{preferred-none, among-append, seen-append, kind_standing, join_parts, join_known, both_none, both_last, both_assoc, never}
 use Rattle.qc_check.proofs.Places.{drop_at}
 

@@ -17,7 +17,7 @@ use Rattle.proof_tree.specs.Shape.{put_case, branches_of}
 use Rattle.proof_tree.specs.Place.{is_goal}
 use Rattle.proof_tree.specs.Counts.{branch_weight}
 use Rattle.qc_check.specs.Shown.{case_weight}
-use Rattle.qc_check.specs.Plain.{NoConditions, has_no_condition}
+use Rattle.qc_rules.specs.Plain.{NoConditions, has_no_condition}
 use Rattle.qc_check.proofs.Boards.{both, all_at}
 
 -- what stands at a place is the head of what is dropped up to it
@@ -144,6 +144,3 @@ none_of_them (x ∷ xs) e = absurd (not_none (length xs) e)
   where
     not_none : (n : ℕ) → true ≡ (suc n == 0) → ⊥
     not_none n e = grind (arith, nat_tests)
-
-pub plain_more : (ss : List Scope) (i : ℕ) (s : Scope) → slice_get ss i ≡ Some s → s.condition ≡ None → NoConditions (drop (i + 1) ss) → NoConditions (drop i ss)
-plain_more ss i s e h n = subst NoConditions (sym (drop_at i ss s e)) (h, subst (λ k. NoConditions (drop k ss)) (add-one i) n)

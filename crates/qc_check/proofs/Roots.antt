@@ -22,7 +22,7 @@ use Rattle.proof_tree.specs.Proves.{proves, shows, optimises_first}
 use Rattle.proof_tree.specs.Counts.{turns_of, opens_of}
 use Rattle.proof_tree.specs.Stepless.{is_stepless}
 use Rattle.qc_check.specs.declared.standing.Standing.{Standing}
-use Rattle.qc_check.specs.Plain.{NoConditions}
+use Rattle.qc_rules.specs.Plain.{NoConditions}
 use Rattle.qc_check.specs.Standing.{standing_of, only_if}
 use Rattle.qc_check.specs.Judged.{node_standing}
 use Rattle.qc_check.specs.Shown.{is_won, is_lost_here, is_open, outcome_shown}

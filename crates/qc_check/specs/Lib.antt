@@ -1,4 +1,3 @@
-pub mod Plain
 pub mod Standing
 pub mod Board
 pub mod Judged

@@ -7,15 +7,16 @@ ghost use Rattle.qc_model.specs.Domains.{declared_box, values_left, box_at};
 ghost use Rattle.qc_model.specs.Valid.{is_number};
 ghost use Rattle.proof_tree.specs.Tree.{tree, goal, cases as tree_cases, next, barred, branch};
 ghost use Rattle.proof_tree.specs.Shape.{tree_of, ending_of, branches_of};
-ghost use Rattle.qc_check.specs.Plain.{NoConditions};
+ghost use Rattle.qc_rules.specs.Plain.{NoConditions};
 ghost use Rattle.qc_check.specs.Board.{IsBoard, IsLevel, box_of};
 ghost use Rattle.qc_check.specs.Judged.{node_standing, ending_standing, cases_standing, case_standing};
 
 use crate::board::Board;
-use crate::level::{Level, all_hold, allowed_tuple};
+use crate::level::{Level, allowed_tuple};
 use crate::standing::{Standing, preferred_of, standing_without_tuple};
 use proof_tree::{Body, Case, Cases, End, Node};
 use qc_model::{Problem, ScopeId, VarId};
+use qc_rules::all_hold;
 
 /// A node of a scope, or of the goal.
 #[cycle(judge)]

@@ -1,13 +1,11 @@
 //! What stays the same within one node's own tree, and whether a tuple is allowed there.
-ghost use Rattle.std.specs.Prelude.{◌≡◌, IsTrue};
-ghost use Rattle.std.specs.List.{list_all};
-ghost use Rattle.qc_model.specs.Holds.{holds_on};
-ghost use Rattle.qc_model.specs.Valid.{is_constraint, is_number};
+ghost use Rattle.std.specs.Prelude.{◌≡◌};
 ghost use Rattle.qc_check.specs.Board.{IsLevel, IsBoard, all_set, box_of};
 ghost use Rattle.qc_check.specs.Judged.{tuple_allowed};
 
 use crate::board::Board;
-use qc_model::{Constraint, Kind, Problem, satisfies};
+use qc_model::{Constraint, Kind, Problem};
+use qc_rules::all_hold;
 
 /// One node's scope: its number, its owner, its restriction, and where its variables begin and end.
 #[derive(Clone, Copy)]
@@ -18,20 +16,6 @@ pub(crate) struct Level<'a> {
     pub(crate) kind: Kind,
     pub(crate) from: usize,
     pub(crate) stop: usize,
-}
-
-/// Whether each of the constraints holds on the values.
-pub(crate) fn all_hold(problem: &Problem, rules: &[Constraint], values: &[i64]) -> bool
-    requires rules { IsTrue (list_all (is_constraint problem.now.variables) rules.now) }
-    requires values { IsTrue (list_all is_number values.now) }
-    ensures { result ≡ list_all (λ c. holds_on c values.now) rules.now }
-{
-    for rule in rules {
-        if !satisfies(problem, rule, values) {
-            return false;
-        }
-    }
-    true
 }
 
 /// Whether each mark is set.

@@ -11,12 +11,10 @@ mod check;
 mod count;
 mod judge;
 mod level;
-mod plain;
 mod space;
 mod standing;
 #[cfg(test)]
 mod tests;
 
 pub use check::Answer;
-pub use plain::is_plain;
 pub use space::Space;

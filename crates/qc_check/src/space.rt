@@ -1,6 +1,6 @@
 //! The memory that checks of one problem's certificates take.
 ghost use Rattle.std.specs.Prelude.{◌≡◌, IfOk, IsTrue};
-ghost use Rattle.qc_check.specs.Plain.{NoConditions, has_no_condition};
+ghost use Rattle.qc_rules.specs.Plain.{NoConditions, has_no_condition};
 ghost use Rattle.qc_check.specs.Board.{first_values, first_marks};
 
 use crate::board::Board;

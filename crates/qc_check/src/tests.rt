@@ -1,9 +1,10 @@
-use crate::{Answer, Space, is_plain};
+use crate::{Answer, Space};
 use proof_tree::{Body, Cases, Certificate, End, Node, Outcome, StepList};
 use qc_model::{
     Arg, Argument, Constraint, Domain, Draft, Kind, Name, Pred, Problem, Scope, ScopeId, VarId,
     Variable, build,
 };
+use qc_rules::is_plain;
 use std::alloc::{AllocError, Global};
 use std::test::Fail;
 

@@ -7,7 +7,7 @@ use Rattle.qc_syntax.specs.declared.fault.Refused13.TheVariants.{BadByte, BadNum
 use Rattle.qc_syntax.specs.declared.fault.ReadFault.{ReadFault}
 use Rattle.qc_syntax.specs.declared.fault.ReadFault.TheVariants.{Refused, Memory as Want}
 use Rattle.qc_syntax.specs.Reads.{Refuses}
-use Rattle.game_search.specs.Plain.{NoConditions}
+use Rattle.qc_rules.specs.Plain.{NoConditions}
 use Rattle.qc_program.specs.declared.status.Status.{Status}
 use Rattle.qc_program.specs.declared.status.Status.TheVariants.{BadProblem, Memory}
 

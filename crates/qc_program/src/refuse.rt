@@ -61,7 +61,7 @@ fn front_of(kind: Refused13) -> &'static [u8]
 pub fn is_plain(problem: &Problem) -> bool
     ensures { IsTrue result ↔ IsPlain problem.now }
 {
-    game_search::is_plain(problem) && problem.aggregates() == 0
+    qc_rules::is_plain(problem) && problem.aggregates() == 0
 }
 
 /// Tells that the problem isn't taken by now.

@@ -1,6 +1,6 @@
 use Rattle.qc_model.specs.Valid.{is_constraint}
-use Rattle.game_search.proofs.Numbers.{all_item}
-use Rattle.game_search.proofs.level.all_hold.Goals as goal
+use Rattle.qc_rules.proofs.Items.{all_item}
+use Rattle.qc_rules.proofs.rules.all_hold.Goals as goal
 
 pub satisfies-requires-clause-rule : goal.satisfies-requires-clause-rule
 satisfies-requires-clause-rule c =

@@ -1,7 +1,7 @@
 use Rattle.std.proofs.Common.{◌≡◌, ◌∙◌, sym, false, Option, Some, None, refl}
 use Rattle.std.specs.Prelude.{is_some}
-use Rattle.qc_check.proofs.Places.{plain_more}
-use Rattle.qc_check.proofs.plain.is_plain.Goals as goal
+use Rattle.qc_rules.proofs.Items.{plain_more}
+use Rattle.qc_rules.proofs.plain.is_plain.Goals as goal
 
 none : {X : Type 0} (o : Option X) → is_some o ≡ false → o ≡ None
 none None e = refl

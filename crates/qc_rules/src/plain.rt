@@ -1,6 +1,6 @@
-//! Whether a game is one that a `Space` takes.
+//! Whether nothing is optimised.
 ghost use Rattle.std.specs.Prelude.{◌↔◌, IsTrue};
-ghost use Rattle.qc_check.specs.Plain.{NoConditions};
+ghost use Rattle.qc_rules.specs.Plain.{NoConditions};
 
 use qc_model::{Problem, ScopeId};
 

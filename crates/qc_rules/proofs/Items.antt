@@ -1,0 +1,26 @@
+-- What holds of the items of a list.
+use Rattle.std.proofs.Common.{◌≡◌, ℕ, zero, suc, ◌+◌, ◌<◌, Bool, true, false, ◌&&◌, List, [], ◌∷◌, length, drop, get_or, refl, ap, sym, subst, arith, Some, None, add-one}
+use Rattle.std.specs.Prelude.{slice_get}
+use Rattle.std.specs.List.{list_all}
+use Rattle.qc_model.specs.declared.problem.Scope.{Scope}
+use Rattle.qc_rules.specs.Plain.{NoConditions}
+
+both : (a b : Bool) → (a && b) ≡ true → (a ≡ true) × (b ≡ true)
+both true b e = (refl, e)
+both false b e = cc
+
+-- what passes for all items passes for the one at a place
+pub all_item : {X : Type 0} (p : X → Bool) (xs : List X) (n : ℕ) (x : X) → list_all p xs ≡ true → n < length xs → x ≡ get_or xs n x → p x ≡ true
+all_item p [] n x h l e = absurd (omega arith)
+all_item p (y ∷ xs) zero x h l e = subst (λ z. p z ≡ true) (sym e) (both (p y) (list_all p xs) h).0
+all_item p (y ∷ xs) (suc n) x h l e = all_item p xs n x (both (p y) (list_all p xs) h).1 (omega arith) e
+
+-- what stands at a place is the head of what is dropped up to it
+drop_at : {X : Type 0} (n : ℕ) (xs : List X) (y : X) → slice_get xs n ≡ Some y → drop n xs ≡ y ∷ drop (suc n) xs
+drop_at n [] y e = cc
+drop_at zero (x ∷ xs) y e = let h : x ≡ y = cc in ap (λ z. z ∷ xs) h
+drop_at (suc n) (x ∷ xs) y e = drop_at n xs y e
+
+-- one scope more without a condition
+pub plain_more : (ss : List Scope) (i : ℕ) (s : Scope) → slice_get ss i ≡ Some s → s.condition ≡ None → NoConditions (drop (i + 1) ss) → NoConditions (drop i ss)
+plain_more ss i s e h n = subst NoConditions (sym (drop_at i ss s e)) (h, subst (λ k. NoConditions (drop k ss)) (add-one i) n)
