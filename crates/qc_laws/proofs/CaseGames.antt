@@ -107,3 +107,21 @@ blocked scope = record {
   aggregates = [];
   constraints = rule 0 IntLt (one_var 0 ∷ One (Num (pos 0)) ∷ []) ∷ [];
 }
+
+-- exists minimize CONDITION; exists minimize CONDITION; forall; var 1..2: t; aggregate s = sum(z);
+-- aggregate m = greatest(w) else 0; exists; var 0..3: z; var 0..3: w; constraint int_lin_le([1,-1,-1],[t,z,w],0); goal; solve;
+-- so z and w make up for t together; the conditions are on the aggregates with these numbers
+abbrev pub figures : ℕ → ℕ → Game
+figures first second = record {
+  scopes = exists (Some (minimise (of_aggregate first))) ∷ exists (Some (minimise (of_aggregate second))) ∷ forall_scope ∷ exists None ∷ [];
+  variables = variable 2 (pos 1) (pos 2) ∷ variable 3 (pos 0) (pos 3) ∷ variable 3 (pos 0) (pos 3) ∷ [];
+  aggregates =
+      record { name = []; scope = record { 0 = 2 }; fold = Sum; target = of_variable 1 }
+      ∷ record { name = []; scope = record { 0 = 2 }; fold = Greatest (pos 0); target = of_variable 2 } ∷ [];
+  constraints =
+      rule 3 IntLinLe (Numbers (pos 1 ∷ negsuc 0 ∷ negsuc 0 ∷ []) ∷ Many (var 0 ∷ var 1 ∷ var 2 ∷ []) ∷ One (Num (pos 0)) ∷ []) ∷ [];
+}
+
+-- the sum is asked for before the greatest
+abbrev pub sum_then_greatest : Game
+sum_then_greatest = figures 1 0

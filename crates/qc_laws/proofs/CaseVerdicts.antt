@@ -1,13 +1,14 @@
 -- The worked cases again, as the tables of verdicts see them: leaves, and what they come to.
-use Rattle.std.proofs.Common.{◌≡◌, refl, List, [], ◌∷◌, Some, None}
+use Rattle.std.proofs.Common.{◌≡◌, refl, false, List, [], ◌∷◌, Some, None}
 use Rattle.std.specs.Prelude.{pos, ℤ}
 use Rattle.qc_model.specs.declared.problem.Kind.TheVariants.{Exists, Forall}
 use Rattle.qc_model.specs.declared.problem.Condition.{Condition}
 use Rattle.qc_model.specs.Demands.{demands}
+use Rattle.qc_model.specs.Bottlenecks.{bottleneck_last}
 use Rattle.qc_model.specs.Verdict.{lost, exact, at_most, unknown, Seen, seen_barred, seen_skipped, seen_bound, seen_node}
 use Rattle.qc_model.specs.ExistsVerdict.{exists_verdict, exists_own}
 use Rattle.qc_model.specs.ForallVerdict.{forall_verdict, stuck_verdict}
-use Rattle.qc_laws.proofs.CaseGames.{of_variable, of_aggregate, minimise, maximise, indifferent, summed, greatest_of_none, least_of_none}
+use Rattle.qc_laws.proofs.CaseGames.{of_variable, of_aggregate, minimise, maximise, indifferent, summed, figures, sum_then_greatest, greatest_of_none, least_of_none}
 
 abbrev leaf : List ℤ → Seen
 leaf v = seen_node (exact v)
@@ -62,6 +63,32 @@ sum_of_bounds = refl
 -- a skipped branch may be worth anything
 sum_with_a_gap : forall_verdict summed (minimise (of_aggregate 0) ∷ []) (pos 1 ∷ []) (leaf (pos 0 ∷ []) ∷ seen_skipped ∷ leaf (pos 2 ∷ []) ∷ []) ≡ unknown
 sum_with_a_gap = refl
+
+-- A SUM, AND THE GREATEST AFTER IT. The nearer condition is asked for first; after the universal scope each aggregate's own
+-- target is asked for, in the same order
+sum_first : demands sum_then_greatest 2 ≡ minimise (of_aggregate 0) ∷ minimise (of_aggregate 1) ∷ []
+sum_first = refl
+
+lists_of_the_figures : demands sum_then_greatest 3 ≡ minimise (of_variable 1) ∷ minimise (of_variable 2) ∷ []
+lists_of_the_figures = refl
+
+-- against t = 1 and t = 2 the branches' best are z = 0 with w = 1 and w = 2
+figures_of_leaves : forall_verdict sum_then_greatest (demands sum_then_greatest 2) [] (leaf (pos 0 ∷ pos 1 ∷ []) ∷ leaf (pos 0 ∷ pos 2 ∷ []) ∷ []) ≡ exact (pos 0 ∷ pos 2 ∷ [])
+figures_of_leaves = refl
+
+leader_by_figures : exists_own (Some (minimise (of_aggregate 1))) (minimise (of_aggregate 1) ∷ []) (leaf (pos 2 ∷ []) ∷ []) ≡ Some (pos 2)
+leader_by_figures = refl
+
+-- a bound of the first figure alone
+figures_of_bounds : forall_verdict sum_then_greatest (demands sum_then_greatest 2) [] (leaf (pos 0 ∷ pos 1 ∷ []) ∷ seen_node (at_most (pos 3)) ∷ []) ≡ at_most (pos 3)
+figures_of_bounds = refl
+
+figures_when_stuck : stuck_verdict sum_then_greatest Forall (demands sum_then_greatest 2) [] ≡ exact (pos 0 ∷ pos 0 ∷ [])
+figures_when_stuck = refl
+
+-- the other way round the greatest would come before the sum, which no problem may ask for
+greatest_before_sum : bottleneck_last (figures 0 1) (demands (figures 0 1) 2) ≡ false
+greatest_before_sum = refl
 
 -- THE FOLD OVER NO BRANCH. With x = 0 each leaf is barred, with x = 1 only t = 1 is allowed
 greatest_of_no_leaf : forall_verdict greatest_of_none (maximise (of_aggregate 0) ∷ []) (pos 0 ∷ []) (seen_barred ∷ seen_barred ∷ []) ≡ exact (pos 7 ∷ [])

@@ -12,13 +12,14 @@ use Rattle.qc_model.specs.Game.{allows, moves}
 use Rattle.qc_model.specs.Plan.{Plan, finish, choose, answer, IsFinish}
 use Rattle.qc_model.specs.Value.{value}
 use Rattle.qc_model.specs.Optimal.{Optimal}
-use Rattle.qc_model.specs.Demands.{vector, is_better_vector, demands, demands_after, aggregate_of}
-use Rattle.qc_model.specs.ForallVerdict.{entry_value, entry_values, goal_verdict, stuck_verdict}
+use Rattle.qc_model.specs.Demands.{vector, is_better_vector, demands, demands_through}
+use Rattle.qc_model.specs.Bottlenecks.{bottleneck_last}
+use Rattle.qc_model.specs.ForallVerdict.{entry_value, entry_values, numbers_for, goal_verdict, stuck_verdict}
 use Rattle.qc_model.specs.Sees.{IsVisibleAtEnd, AllVisible}
 use Rattle.qc_model.specs.Valid.{IsValid}
 use Rattle.qc_model.proofs.Moves.{moves_to}
 use Rattle.qc_laws.specs.Positions.{Chosen}
-use Rattle.qc_laws.specs.Branches.{AllOwn, BestAfter}
+use Rattle.qc_laws.specs.Branches.{BestAfter}
 use Rattle.qc_laws.specs.Verdicts.{Means, HasNoMove}
 use Rattle.qc_laws.proofs.Better.{vector_false}
 use Rattle.qc_laws.proofs.Universal.{vector_not_self, optimal_universal}
@@ -26,15 +27,15 @@ use Rattle.qc_laws.proofs.Choices.{to_chosen}
 use Rattle.qc_laws.proofs.Validity.{valid_lists}
 
 -- at the goal each entry names a variable
-end_value : (g : Game) (i : ℕ) (a : List ℤ) (t : Target) → IsVisibleAtEnd g i t → value g finish t a ≡ entry_value g a [] t
-end_value g i a (Var x) h = refl
-end_value g i a (Agg q) h = absurd h
+end_value : (g : Game) (i : ℕ) (a : List ℤ) (ns : ℕ → List ℤ) (t : Target) → IsVisibleAtEnd g i t → value g finish t a ≡ entry_value g a ns t
+end_value g i a ns (Var x) h = refl
+end_value g i a ns (Agg q) h = absurd h
 
-end_values : (g : Game) (i : ℕ) (a : List ℤ) (d : List Condition) → AllVisible g [] i d → vector g d a finish ≡ entry_values g d a []
-end_values g i a [] h = refl
-end_values g i a (c ∷ d) h =
-    ap (λ z. z ∷ vector g d a finish) (end_value g i a c.target h.0)
-    ∙ ap (λ zs. entry_value g a [] c.target ∷ zs) (end_values g i a d h.1)
+end_values : (g : Game) (i : ℕ) (a : List ℤ) (ns : ℕ → List ℤ) (d : List Condition) → AllVisible g [] i d → vector g d a finish ≡ entry_values g d a ns
+end_values g i a ns [] h = refl
+end_values g i a ns (c ∷ d) h =
+    ap (λ z. z ∷ vector g d a finish) (end_value g i a ns c.target h.0)
+    ∙ ap (λ zs. entry_value g a ns c.target ∷ zs) (end_values g i a ns d h.1)
 
 finish_alone : (g : Game) (d : List Condition) (a : List ℤ) (s : Plan) → IsFinish s → is_better_vector d (vector g d a s) (vector g d a finish) ≡ false
 finish_alone g d a finish h = vector_false d (vector g d a finish) (vector g d a finish) (vector_not_self d (vector g d a finish))
@@ -43,8 +44,8 @@ finish_alone g d a (answer l) h = absurd h
 
 goal_by : (g : Game) (i : ℕ) (a : List ℤ) (d : List Condition) (b : Bool) → AllVisible g [] i d → Means g d a (λ s. IsFinish s × IsTrue b) (goal_verdict g b d a)
 goal_by g i a d true h = record {
-  some = (finish, (tt, refl), end_values g i a d h);
-  none_better = λ s o. subst (λ v. is_better_vector d (vector g d a s) v ≡ false) (end_values g i a d h) (finish_alone g d a s o.0);
+  some = (finish, (tt, refl), end_values g i a (numbers_for d []) d h);
+  none_better = λ s o. subst (λ v. is_better_vector d (vector g d a s) v ≡ false) (end_values g i a (numbers_for d []) d h) (finish_alone g d a s o.0);
 }
 goal_by g i a d false h = λ s o. (let e : false ≡ true = o.1 in cc)
 
@@ -75,8 +76,8 @@ none_among [] f = refl
 none_among (x ∷ xs) f = absurd (f x (inl refl))
 
 -- at a universal scope without an allowed tuple the empty answer has the fold over no branch
-pub stuck_forall : (g : Game) (later : List Scope) (x : Option Condition) (i : ℕ) (a : List ℤ) (d : List Condition) → AllOwn (aggregate_of g i) d → HasNoMove g i a →
+pub stuck_forall : (g : Game) (later : List Scope) (x : Option Condition) (i : ℕ) (a : List ℤ) (d : List Condition) → bottleneck_last g d ≡ true → HasNoMove g i a →
     Means g d a (Optimal g (record { kind = Forall; condition = x } ∷ later) i a) (stuck_verdict g Forall d a)
 stuck_forall g later x i a d h n =
     let none : moves g i a ≡ [] = none_among (moves g i a) (λ t m. n t (moves_to g i a t m)) in
-    optimal_universal g later x i a d [] h (subst (λ ts. BestAfter g (demands_after g Forall x i d) a (Optimal g later (suc i)) ts []) (sym none) tt)
+    optimal_universal g later x i a d [] h (subst (λ ts. BestAfter g (demands_through g d) a (Optimal g later (suc i)) ts []) (sym none) tt)

@@ -13,7 +13,8 @@ use Rattle.qc_model.specs.Content.{Game}
 use Rattle.qc_model.specs.Lists.{Among}
 use Rattle.qc_model.specs.Domains.{is_none_left, is_ascending}
 use Rattle.qc_model.specs.Game.{moves}
-use Rattle.qc_model.specs.Demands.{demands, aggregate_of}
+use Rattle.qc_model.specs.Demands.{demands}
+use Rattle.qc_model.specs.Bottlenecks.{bottleneck_last}
 use Rattle.qc_model.specs.Sees.{AllVisible}
 use Rattle.qc_model.specs.Valid.{is_listed, has_gap, width_of, is_number, is_domain, IsValid}
 use Rattle.qc_laws.specs.Branches.{AllOwn}
@@ -21,7 +22,7 @@ use Rattle.qc_laws.specs.Distinct.{Distinct}
 use Rattle.qc_laws.proofs.Better.{and_first, and_second}
 use Rattle.qc_laws.proofs.Domains.{ListedDiffer, EachListedDiffers, domains_differ}
 use Rattle.qc_laws.proofs.Order.{moves_distinct}
-use Rattle.qc_laws.proofs.Seen.{demands_visible, visible_own}
+use Rattle.qc_laws.proofs.Seen.{demands_visible, visible_own, bottlenecks_reached}
 
 below_is : (v w : ℤ) → int_lt v w ≡ true → v <ℤ w
 below_is v w e = grind (arith, ints, e)
@@ -83,8 +84,12 @@ stands_within xs zero s later e = omega arith
 stands_within [] (suc i) s later e = let q : [] ≡ s ∷ later = e in cc
 stands_within (x ∷ xs) (suc i) s later e = let h = stands_within xs i s later e in omega (arith, h)
 
--- and at a universal scope nothing but variables and its own aggregate
-pub valid_own : (g : Game) (i : ℕ) (x : Option Condition) (later : List Scope) → IsValid g → drop i g.scopes ≡ record { kind = Forall; condition = x } ∷ later → AllOwn (aggregate_of g i) (demands g i)
+-- and at a universal scope nothing but variables of earlier scopes and its own aggregates
+pub valid_own : (g : Game) (i : ℕ) (x : Option Condition) (later : List Scope) → IsValid g → drop i g.scopes ≡ record { kind = Forall; condition = x } ∷ later → AllOwn g i (demands g i)
 valid_own g i x later v e =
     let le = stands_within g.scopes i (record { kind = Forall; condition = x }) later e in
     visible_own g later x i (demands g i) (subst (λ scopes. AllVisible g scopes i (demands g i)) e (valid_lists g i v le))
+
+-- and nothing after an aggregate by least or greatest
+pub valid_bottlenecks : (g : Game) (i : ℕ) (x : Option Condition) (later : List Scope) → IsValid g → drop i g.scopes ≡ record { kind = Forall; condition = x } ∷ later → bottleneck_last g (demands g i) ≡ true
+valid_bottlenecks g i x later v e = bottlenecks_reached g g.scopes i [] x later v.bottlenecks e

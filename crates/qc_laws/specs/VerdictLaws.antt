@@ -9,20 +9,20 @@ use Rattle.qc_model.specs.Game.{allows}
 use Rattle.qc_model.specs.Plan.{Plan}
 use Rattle.qc_model.specs.Value.{value}
 use Rattle.qc_model.specs.Optimal.{Optimal}
-use Rattle.qc_model.specs.Demands.{demands_after, demands, with_condition, aggregate_of}
+use Rattle.qc_model.specs.Demands.{demands_through, demands, with_condition}
+use Rattle.qc_model.specs.Bottlenecks.{bottleneck_last}
 use Rattle.qc_model.specs.Verdict.{Verdict}
 use Rattle.qc_model.specs.ExistsVerdict.{exists_verdict, exists_own}
 use Rattle.qc_model.specs.ForallVerdict.{forall_verdict, goal_verdict, stuck_verdict}
 use Rattle.qc_model.specs.Valid.{IsValid}
 use Rattle.qc_laws.specs.Positions.{universal, existential, optimising, OptimalAfter, IsChoice}
-use Rattle.qc_laws.specs.Branches.{AllOwn}
 use Rattle.qc_laws.specs.Verdicts.{HasNoMove, Means, MeansAt, Claim, seen_in, EachClaim, IsComplete, EachChoice, IsCovered, AreRight, MissNothing}
 
 -- at a universal scope, with skipped leaves and without any leaf too
 abbrev pub UniversalMeans : Type 0
 UniversalMeans =
     (g : Game) (later : List Scope) (x : Option Condition) (i : ℕ) (a : List ℤ) (d : List Condition) (ls : List Claim) →
-    AllOwn (aggregate_of g i) d → EachClaim g (demands_after g Forall x i d) i a (Optimal g later (suc i)) ls → IsComplete g i a ls →
+    IsTrue (bottleneck_last g d) → EachClaim g (demands_through g d) i a (Optimal g later (suc i)) ls → IsComplete g i a ls →
     MeansAt g (universal x ∷ later) i a d (forall_verdict g d a (map seen_in ls))
 
 -- at an existential scope, with marks of bounds and skipped leaves too
@@ -70,5 +70,5 @@ StuckPlayer =
 -- against an opponent who is stuck the player has won, with the fold over no branch
 abbrev pub StuckOpponent : Type 0
 StuckOpponent =
-    (g : Game) (later : List Scope) (x : Option Condition) (i : ℕ) (a : List ℤ) (d : List Condition) → AllOwn (aggregate_of g i) d → HasNoMove g i a →
+    (g : Game) (later : List Scope) (x : Option Condition) (i : ℕ) (a : List ℤ) (d : List Condition) → IsTrue (bottleneck_last g d) → HasNoMove g i a →
     MeansAt g (universal x ∷ later) i a d (stuck_verdict g Forall d a)

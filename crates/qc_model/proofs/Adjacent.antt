@@ -3,7 +3,7 @@ use Rattle.std.proofs.Common.{◌≡◌, ◌∙◌, ap, subst, refl, ◌<◌, �
 use Rattle.std.specs.Prelude.{nat_lt, nat_le, int_lt}
 use Rattle.std.specs.List.{IsAllAdjacentAnswer, AllAdjacentBelow}
 use Rattle.qc_model.specs.Domains.{is_ascending}
-use Rattle.qc_model.specs.Valid.{is_in_order, is_rising}
+use Rattle.qc_model.specs.Valid.{is_in_order}
 
 next : (k : ℕ) → suc k + 1 ≡ suc (k + 1)
 next k = omega arith
@@ -54,11 +54,6 @@ adjacent_ascends (v ∷ []) = refl
 adjacent_ascends (v ∷ w ∷ vs) = ap (λ b. int_lt v w && b) (adjacent_ascends (w ∷ vs))
 
 module _ {X : Type 0} (f : X → ℕ) where
-  pub adjacent_rises : (xs : List X) → adjacent (λ x y. nat_lt (f x) (f y)) xs ≡ is_rising (map f xs)
-  adjacent_rises [] = refl
-  adjacent_rises (x ∷ []) = refl
-  adjacent_rises (x ∷ y ∷ xs) = ap (λ b. nat_lt (f x) (f y) && b) (adjacent_rises (y ∷ xs))
-
   -- in order, and the last is below n
   pub in_order-last : (n : ℕ) (xs : List X) (d : X) → 0 < length xs → true ≡ adjacent (λ x y. nat_le (f x) (f y)) xs → nat_lt (f (get_or xs (length xs - 1) d)) n ≡ is_in_order n (map f xs)
   in_order-last n [] d lt h = absurd (omega arith)

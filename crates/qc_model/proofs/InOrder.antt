@@ -1,5 +1,5 @@
 -- Lists in the order of a number: where those of one number begin and end.
-use Rattle.std.proofs.Common.{◌≡◌, ◌∙◌, sym, ap, refl, ◌<◌, ◌≤◌, ◌+◌, ◌-◌, ℕ, zero, suc, Bool, true, false, ◌&&◌, List, [], ◌∷◌, length, map, filter, take, drop, get_or, cond, arith, zero-add, leb-true, inl, inr}
+use Rattle.std.proofs.Common.{◌≡◌, ◌∙◌, sym, ap, refl, ◌<◌, ◌≤◌, ◌+◌, ◌-◌, ℕ, zero, suc, Bool, true, false, ◌&&◌, List, [], ◌∷◌, length, map, filter, take, drop, get_or, cond, arith, zero-add, leb-true, lt-ltb, le-ltb, subst, inl, inr, slice_get, Some}
 use Rattle.std.specs.Prelude.{nat_lt, nat_le, ◌==◌, count_by}
 use Rattle.std.specs.List.Sorted.{IsNonDecreasingBy}
 use Rattle.std.proofs.lemmas.List.Sums.{sum_by-cons, sum_by-le-sum_by}
@@ -143,3 +143,49 @@ module _ {X : Type 0} (f : X → ℕ) where
 
   pub below_up : (i : ℕ) (xs : List X) → below i xs ≤ below (i + 1) xs
   below_up i xs = sum_by-le-sum_by _ _ xs (λ x. step_up i (f x))
+
+  -- an element of a number below i stands before the place where those from i on begin, and another one doesn't
+  pub stands_before : (n i : ℕ) (xs : List X) (k : ℕ) (x : X) → is_in_order n (map f xs) ≡ true → slice_get xs k ≡ Some x → f x < i → k < below i xs
+  stands_before n i [] k x h e l = cc
+  stands_before n i (y ∷ ys) zero x h e l =
+      let c = counted i y ys in
+      let one : cond (nat_lt (f y) i) 1 0 ≡ 1 = ap {B = ℕ} (λ b. cond b 1 0) (let same : y ≡ x = cc in lt-ltb (f y) i (subst (λ z. f z < i) (sym same) l)) in
+      omega (arith, c, one)
+  stands_before n i (y ∷ ys) (suc k) x h e l =
+      let c = counted i y ys in
+      let low = first_low n (f y) ys k x h e in
+      let one : cond (nat_lt (f y) i) 1 0 ≡ 1 = ap {B = ℕ} (λ b. cond b 1 0) (lt-ltb (f y) i (omega (arith, low, l))) in
+      let later = stands_before n i ys k x (tail_order n (f y) ys h) e l in
+      omega (arith, c, one, later)
+    where
+      first_low : (n m : ℕ) (zs : List X) (k : ℕ) (x : X) → is_in_order n (m ∷ map f zs) ≡ true → slice_get zs k ≡ Some x → m ≤ f x
+      first_low n m [] k x h e = cc
+      first_low n m (z ∷ zs) zero x h e = let same : z ≡ x = cc in subst (λ w. m ≤ f w) same (next_up n m z zs h)
+      first_low n m (z ∷ zs) (suc k) x h e = let a = next_up n m z zs h in let b : f z ≤ f x = first_low n (f z) zs k x (both _ _ h).1 e in omega (arith, a, b)
+
+  pub stands_after : (n i : ℕ) (xs : List X) (k : ℕ) (x : X) → is_in_order n (map f xs) ≡ true → slice_get xs k ≡ Some x → i ≤ f x → below i xs ≤ k
+  stands_after n i [] k x h e l = omega arith
+  stands_after n i (y ∷ ys) zero x h e l =
+      let same : y ≡ x = cc in
+      let up : i ≤ f y = subst (λ z. i ≤ f z) (sym same) l in
+      let c = counted i y ys in
+      let one : cond (nat_lt (f y) i) 1 0 ≡ 0 = ap {B = ℕ} (λ b. cond b 1 0) (le-ltb (f y) i up) in
+      let none = none_below n (f y) i ys h up in
+      omega (arith, c, one, none)
+  stands_after n i (y ∷ ys) (suc k) x h e l =
+      let c = counted i y ys in
+      let later = stands_after n i ys k x (tail_order n (f y) ys h) e l in
+      let one : cond (nat_lt (f y) i) 1 0 ≤ 1 = at_most_one (nat_lt (f y) i) in
+      omega (arith, c, one, later)
+    where
+      at_most_one : (b : Bool) → cond b 1 0 ≤ 1
+      at_most_one true = omega arith
+      at_most_one false = omega arith
+
+  pub below_within : (i : ℕ) (xs : List X) → below i xs ≤ length xs
+  below_within i [] = omega arith
+  below_within i (x ∷ xs) = let c = counted i x xs in let r = below_within i xs in let one = at_most_one (nat_lt (f x) i) in omega (arith, c, r, one)
+    where
+      at_most_one : (b : Bool) → cond b 1 0 ≤ 1
+      at_most_one true = omega arith
+      at_most_one false = omega arith

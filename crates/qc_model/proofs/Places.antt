@@ -1,6 +1,6 @@
--- The item at a place that counts from a number, and numbers found in ascending order.
-use Rattle.std.proofs.Common.{◌≡◌, ℕ, zero, suc, ◌<◌, ◌≤◌, Bool, true, false, ◌&&◌, ◌||◌, List, [], ◌∷◌, length, get_or, ◌⊎◌, inl, inr, add-one, refl, ap, sym, ◌∙◌, arith, IsTrue, ℤ, Result, Ok, Err}
-use Rattle.std.specs.Prelude.{pos, ◌+ℤ◌, ◌<ℤ◌, int_lt, nat_le, slice_get, is_ok}
+-- Numbers that differ, and numbers found in ascending order.
+use Rattle.std.proofs.Common.{◌≡◌, ℕ, zero, suc, ◌<◌, ◌≤◌, Bool, true, false, ◌&&◌, ◌||◌, List, [], ◌∷◌, length, get_or, ◌⊎◌, inl, inr, add-one, refl, sym, arith, IsTrue, ℤ, Result, Ok, Err}
+use Rattle.std.specs.Prelude.{pos, ◌<ℤ◌, int_lt, nat_le, is_ok}
 use Rattle.std.specs.List.{list_any, list_all}
 use Rattle.std.specs.List.Sorted.{IsBinarySearchResult, IsSearchInRange, IsSortedBy}
 use Rattle.std.specs.Ordering.{int_eq, int_cmp, is_lt, MatchOrdering}
@@ -13,30 +13,15 @@ use Rattle.std.proofs.lemmas.List.Recursion.{or_at, or_from_places}
 use Rattle.std.proofs.lemmas.List.Sorted.{searchable_from_sorted}
 use Rattle.qc_model.specs.declared.problem.Set.TheVariants.{Listed}
 use Rattle.qc_model.specs.Domains.{is_ascending, is_none_left}
-use Rattle.qc_model.specs.Evaluation.{is_some_item}
-use Rattle.qc_model.specs.Holds.{item_is}
 use Rattle.qc_model.specs.Valid.{is_set, is_number, has_gap}
-use Rattle.qc_model.proofs.Readable.{first, second}
+use Rattle.qc_model.proofs.Conjunctions.{first, second}
 
-differ : (a b : ℤ) → a <ℤ b → int_eq b a ≡ false
+pub differ : (a b : ℤ) → a <ℤ b → int_eq b a ≡ false
 differ a b h = go (int_eq b a) (Decides-int_eq b a).0
   where
     go : (t : Bool) → (t ≡ true → b ≡ a) → t ≡ false
     go true same = let e = same refl in absurd (omega (arith, ints))
     go false same = refl
-
-same : (a : ℤ) → int_eq a a ≡ true
-same a = (Decides-int_eq a a).1 refl
-
-pub before_place : (k b : ℤ) (xs : List ℤ) (c : ℤ) → b <ℤ k → item_is k b xs c ≡ false
-before_place k b [] c h = refl
-before_place k b (x ∷ xs) c h =
-    ap (λ t. (t && int_eq x c) || item_is (k +ℤ pos 1) b xs c) (differ b k h)
-    ∙ before_place (k +ℤ pos 1) b xs c (omega (arith, ints, h))
-
-or_false : (t : Bool) → (t || false) ≡ t
-or_false true = refl
-or_false false = refl
 
 pub differ_up : (a b : ℤ) → a <ℤ b → int_eq a b ≡ false
 differ_up a b h = go (int_eq a b) (Decides-int_eq a b).0
@@ -44,18 +29,6 @@ differ_up a b h = go (int_eq a b) (Decides-int_eq a b).0
     go : (t : Bool) → (t ≡ true → a ≡ b) → t ≡ false
     go true same = let e = same refl in absurd (omega (arith, ints))
     go false same = refl
-
-pub at_place : (k b : ℤ) (j : ℕ) (xs : List ℤ) (c : ℤ) → b ≡ k +ℤ pos j → item_is k b xs c ≡ is_some_item c (slice_get xs j)
-at_place k b zero [] c h = refl
-at_place k b (suc j) [] c h = refl
-at_place k b zero (x ∷ xs) c h =
-    let here : k ≡ b = omega (arith, ints, h) in
-    ap (λ t. (t && int_eq x c) || item_is (k +ℤ pos 1) b xs c) ((Decides-int_eq k b).1 here)
-    ∙ ap (λ t. int_eq x c || t) (before_place (k +ℤ pos 1) b xs c (omega (arith, ints, h)))
-    ∙ or_false (int_eq x c)
-at_place k b (suc j) (x ∷ xs) c h =
-    ap (λ t. (t && int_eq x c) || item_is (k +ℤ pos 1) b xs c) (differ_up k b (omega (arith, ints, h)))
-    ∙ at_place (k +ℤ pos 1) b j xs c (omega (arith, ints, h))
 
 pub listed_ascends : (ns : List ℤ) → IsTrue (is_set (Listed ns)) → IsTrue (is_ascending ns)
 listed_ascends ns h =

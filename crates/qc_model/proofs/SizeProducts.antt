@@ -12,7 +12,7 @@ use Rattle.qc_model.specs.Domains.{domain_values}
 use Rattle.qc_model.specs.Turns.{value_product}
 use Rattle.qc_model.specs.Valid.{is_domain}
 use Rattle.qc_model.proofs.DomainValues.{range_size}
-use Rattle.qc_model.proofs.Readable.{first, second}
+use Rattle.qc_model.proofs.Conjunctions.{first, second}
 
 size_positive : (d : Domain) → is_domain d ≡ true → 0 < length (domain_values d)
 size_positive Bits h = omega arith

@@ -1,9 +1,9 @@
 -- Small drafts that are valid, and such as break one rule, computed.
 use Rattle.std.proofs.Common.{◌≡◌, refl, ℕ, true, false, List, [], ◌∷◌, lit≤, arith}
-use Rattle.std.specs.Prelude.{Option, Some, None, codes, pos, negsuc}
+use Rattle.std.specs.Prelude.{Some, codes, pos, negsuc}
 use Rattle.qc_model.specs.declared.problem.Sense.TheVariants.{Min}
 use Rattle.qc_model.specs.declared.problem.Kind.TheVariants.{Exists}
-use Rattle.qc_model.specs.declared.problem.Fold.TheVariants.{Sum}
+use Rattle.qc_model.specs.declared.problem.Fold.TheVariants.{Sum, Greatest}
 use Rattle.qc_model.specs.declared.problem.Target.{Target}
 use Rattle.qc_model.specs.declared.problem.Target.TheVariants.{Var as VarTarget, Aggregate as Agg}
 use Rattle.qc_model.specs.declared.problem.Domain.TheVariants.{Bits, Range, Listed}
@@ -12,12 +12,16 @@ use Rattle.qc_model.specs.declared.problem.Arg.TheVariants.{Num}
 use Rattle.qc_model.specs.declared.problem.Argument.TheVariants.{One, Many, Numbers}
 use Rattle.qc_model.specs.declared.problem.Pred.TheVariants.{IntLe, IntLinLe, IntLinLeReif, ArrayIntMinimum, TableInt, BoolEq, Bool2int, AllDifferentInt, ArrayBoolElement}
 use Rattle.qc_model.specs.declared.problem.Scope.{Scope}
+use Rattle.qc_model.specs.declared.problem.Condition.{Condition}
 use Rattle.qc_model.specs.declared.problem.Variable.{Variable}
 use Rattle.qc_model.specs.declared.problem.Aggregate.{Aggregate}
 use Rattle.qc_model.specs.Content.{Game}
 use Rattle.qc_model.specs.Names.{is_name, names_differ}
 use Rattle.qc_model.specs.Sees.{SeesRight}
-use Rattle.qc_model.specs.Valid.{IsValid, is_number, is_domain, is_set, is_constraint, is_in_order, is_rising, is_scope, is_aggregate_of}
+use Rattle.qc_model.specs.Game.{aggregate_numbers}
+use Rattle.qc_model.specs.Demands.{demands_through}
+use Rattle.qc_model.specs.Bottlenecks.{bottleneck_last}
+use Rattle.qc_model.specs.Valid.{IsValid, is_number, is_domain, is_set, is_constraint, is_in_order, is_scope, is_aggregate_of}
 use Rattle.qc_model.proofs.TextExamples.{var, one_var, exists, forall, variable, rule, game, only_goal, many_forms}
 
 only_goal_is_valid : IsValid only_goal
@@ -25,6 +29,7 @@ only_goal_is_valid =
     record {
       few_scopes = lit≤ tt;
       few_variables = lit≤ tt;
+      few_aggregates = lit≤ tt;
       few_constraints = lit≤ tt;
       variable_order = refl;
       constraint_order = refl;
@@ -37,6 +42,7 @@ only_goal_is_valid =
       aggregates = refl;
       constraints = refl;
       sees = tt;
+      bottlenecks = refl;
     }
 
 many_forms_is_valid : IsValid many_forms
@@ -44,6 +50,7 @@ many_forms_is_valid =
     record {
       few_scopes = lit≤ tt;
       few_variables = lit≤ tt;
+      few_aggregates = lit≤ tt;
       few_constraints = lit≤ tt;
       variable_order = refl;
       constraint_order = refl;
@@ -55,7 +62,8 @@ many_forms_is_valid =
       scopes = refl;
       aggregates = refl;
       constraints = refl;
-      sees = (refl, (lit≤ tt, tt));
+      sees = (refl, ((lit≤ tt, tt), tt));
+      bottlenecks = refl;
     }
 
 -- numbers
@@ -113,9 +121,6 @@ of_no_scope = refl
 
 out_of_order : is_in_order 2 (1 ∷ 0 ∷ []) ≡ false
 out_of_order = refl
-
-two_aggregates_in_a_scope : is_rising (0 ∷ 2 ∷ 2 ∷ []) ≡ false
-two_aggregates_in_a_scope = refl
 
 -- names
 reserved : is_name (codes "sum") ≡ false
@@ -213,17 +218,14 @@ abbrev far_aggregate : Game
 far_aggregate = game (condition_on (Agg (record { 0 = 0 })) ∷ forall ∷ forall ∷ []) (variable (codes "t") 2 (Range (pos 0) (pos 3)) ∷ []) (sum_of 2 0 ∷ []) []
 
 far_aggregate_is_not_seen : SeesRight far_aggregate far_aggregate.scopes 0 → ⊥
-far_aggregate_is_not_seen h = none_seen h.0
-  where
-    none_seen : ◌≡◌ {A = Option ℕ} None (Some 0) → ⊥
-    none_seen e = cc
+far_aggregate_is_not_seen h = cc
 
 -- the aggregate of the next universal scope is seen
 abbrev near_aggregate : Game
 near_aggregate = game (condition_on (Agg (record { 0 = 0 })) ∷ forall ∷ []) (variable (codes "t") 1 (Range (pos 0) (pos 3)) ∷ []) (sum_of 1 0 ∷ []) []
 
 near_aggregate_is_seen : SeesRight near_aggregate near_aggregate.scopes 0
-near_aggregate_is_seen = (refl, (lit≤ tt, tt))
+near_aggregate_is_seen = (refl, ((lit≤ tt, tt), tt))
 
 -- a variable of the next universal scope isn't seen before it, and one of the block is
 abbrev variable_beyond : Game
@@ -243,7 +245,7 @@ abbrev fold_of_itself : Game
 fold_of_itself = game (forall ∷ []) [] (record { name = codes "g"; scope = record { 0 = 0 }; fold = Sum; target = Agg (record { 0 = 0 }) } ∷ []) []
 
 fold_of_itself_is_not_seen : SeesRight fold_of_itself fold_of_itself.scopes 0 → ⊥
-fold_of_itself_is_not_seen h = h.0
+fold_of_itself_is_not_seen h = h.0.0
 
 -- an aggregate stands in a universal scope
 existential_aggregate : is_aggregate_of (game (exists ∷ []) three [] []) (sum_of 0 0) ≡ false
@@ -251,3 +253,63 @@ existential_aggregate = refl
 
 universal_aggregate : is_aggregate_of (game (forall ∷ []) three [] []) (sum_of 0 0) ≡ true
 universal_aggregate = refl
+
+-- the entry that the aggregate be small
+abbrev minimum : ℕ → Condition
+minimum q = record { sense = Min; target = Agg (record { 0 = q }) }
+
+-- exists minimize CONDITION; exists minimize CONDITION; forall; var 1..2: t; aggregate s = sum(z);
+-- aggregate m = greatest(w) else 0; exists; var 0..3: z; var 0..3: w; constraint int_lin_le([1,-1,-1],[t,z,w],0); goal; solve;
+abbrev two_aggregates : ℕ → ℕ → Game
+two_aggregates first second = record {
+  scopes = condition_on (Agg (record { 0 = first })) ∷ condition_on (Agg (record { 0 = second })) ∷ forall ∷ exists ∷ [];
+  variables = variable (codes "t") 2 (Range (pos 1) (pos 2)) ∷ variable (codes "z") 3 (Range (pos 0) (pos 3)) ∷ variable (codes "w") 3 (Range (pos 0) (pos 3)) ∷ [];
+  aggregates =
+      record { name = codes "s"; scope = record { 0 = 2 }; fold = Sum; target = VarTarget (record { 0 = 1 }) }
+      ∷ record { name = codes "m"; scope = record { 0 = 2 }; fold = Greatest (pos 0); target = VarTarget (record { 0 = 2 }) } ∷ [];
+  constraints = rule 3 IntLinLe (Numbers (pos 1 ∷ negsuc 0 ∷ negsuc 0 ∷ []) ∷ Many (var 0 ∷ var 1 ∷ var 2 ∷ []) ∷ One (Num (pos 0)) ∷ []) ∷ [];
+}
+
+-- the sum is asked for first, by the nearer condition, and the greatest last
+sum_first_is_valid : IsValid (two_aggregates 1 0)
+sum_first_is_valid =
+    record {
+      few_scopes = lit≤ tt;
+      few_variables = lit≤ tt;
+      few_aggregates = lit≤ tt;
+      few_constraints = lit≤ tt;
+      variable_order = refl;
+      constraint_order = refl;
+      aggregate_order = refl;
+      names = refl;
+      distinct_names = refl;
+      domains = refl;
+      widths = lit≤ tt;
+      scopes = refl;
+      aggregates = refl;
+      constraints = refl;
+      sees = (refl, (refl, ((lit≤ tt, (lit≤ tt, tt)), (tt, tt))));
+      bottlenecks = refl;
+    }
+
+-- the other way round the greatest stands first, and the sum after it
+bottleneck_first_is_not_valid : IsValid (two_aggregates 0 1) → ⊥
+bottleneck_first_is_not_valid v = let e : false ≡ true = v.bottlenecks in cc
+
+-- one aggregate of a bottleneck twice is no harm, and neither is a variable after it
+twice_the_same : bottleneck_last (two_aggregates 1 1) (minimum 1 ∷ minimum 1 ∷ []) ≡ true
+twice_the_same = refl
+
+least_after_sum : bottleneck_last (two_aggregates 1 0) (minimum 0 ∷ minimum 1 ∷ minimum 0 ∷ []) ≡ false
+least_after_sum = refl
+
+-- the list after the universal scope asks each aggregate's target once, as it is first named
+list_after : demands_through (two_aggregates 1 0) (minimum 0 ∷ minimum 1 ∷ minimum 0 ∷ []) ≡ record { sense = Min; target = VarTarget (record { 0 = 1 }) } ∷ record { sense = Min; target = VarTarget (record { 0 = 2 }) } ∷ []
+list_after = refl
+
+-- the numbers of the aggregates of the first three scopes
+numbers_of_scopes : aggregate_numbers (two_aggregates 1 0) 1 ≡ (0, 0)
+numbers_of_scopes = refl
+
+numbers_of_universal_scope : aggregate_numbers (two_aggregates 1 0) 2 ≡ (0, 2)
+numbers_of_universal_scope = refl

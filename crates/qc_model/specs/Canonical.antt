@@ -23,7 +23,7 @@ use Rattle.qc_model.specs.declared.problem.Scope.{Scope}
 use Rattle.qc_model.specs.declared.problem.Variable.{Variable}
 use Rattle.qc_model.specs.declared.problem.Aggregate.{Aggregate}
 use Rattle.qc_model.specs.Content.{Game, Rule}
-use Rattle.qc_model.specs.Signature.{Sort, integer, boolean, integers, booleans, numbers, truths, members, sorts_of, pred_name}
+use Rattle.qc_model.specs.Signature.{ArgKind, integer, boolean, integers, booleans, numbers, truths, members, arg_kinds_of, pred_name}
 
 -- the texts with commas between them
 abbrev pub with_commas : List (List ℕ) → List ℕ
@@ -64,7 +64,7 @@ abbrev pub arg_text : (ℤ → List ℕ) → List Variable → Arg → List ℕ
 arg_text literal xs (Var x) = variable_name (slice_get xs x.0)
 arg_text literal xs (Num n) = literal n
 
-abbrev pub literal_text : Sort → ℤ → List ℕ
+abbrev pub literal_text : ArgKind → ℤ → List ℕ
 literal_text boolean n = truth_text n
 literal_text booleans n = truth_text n
 literal_text truths n = truth_text n
@@ -73,20 +73,20 @@ literal_text integers n = signed_decimal n
 literal_text numbers n = signed_decimal n
 literal_text members n = signed_decimal n
 
-abbrev pub argument_text : List Variable → Sort → Argument → List ℕ
+abbrev pub argument_text : List Variable → ArgKind → Argument → List ℕ
 argument_text xs s (One a) = arg_text (literal_text s) xs a
 argument_text xs s (Many items) = brackets (map (arg_text (literal_text s) xs) items)
 argument_text xs s (Numbers ns) = brackets (map (literal_text s) ns)
 argument_text xs s (Members m) = set_text m
 
-abbrev pub argument_texts : List Variable → List Sort → List Argument → List (List ℕ)
+abbrev pub argument_texts : List Variable → List ArgKind → List Argument → List (List ℕ)
 argument_texts xs [] args = []
 argument_texts xs (s ∷ sorts) [] = []
 argument_texts xs (s ∷ sorts) (a ∷ args) = argument_text xs s a ∷ argument_texts xs sorts args
 
 abbrev pub constraint_text : List Variable → Rule → List ℕ
 constraint_text xs c =
-    codes "constraint " ++ pred_name c.pred ++ codes "(" ++ with_commas (argument_texts xs (sorts_of c.pred) c.args) ++ codes ");\n"
+    codes "constraint " ++ pred_name c.pred ++ codes "(" ++ with_commas (argument_texts xs (arg_kinds_of c.pred) c.args) ++ codes ");\n"
 
 abbrev pub variable_text : Variable → List ℕ
 variable_text x = codes "var " ++ domain_text x.domain ++ codes ": " ++ x.name ++ codes ";\n"
@@ -119,7 +119,7 @@ kind_text Forall = codes "forall"
 abbrev pub constraints_text : Game → ℕ → List ℕ
 constraints_text g i = flat_map (constraint_text g.variables) (filter (λ c. c.owner.0 == i) g.constraints)
 
--- the head of scope i, its variables, its aggregate and its constraints
+-- the head of scope i, its variables, its aggregates and its constraints, each in order
 abbrev pub scope_text : Game → ℕ → Scope → List ℕ
 scope_text g i s =
     kind_text s.kind ++ condition_text g s.condition ++ codes ";\n"

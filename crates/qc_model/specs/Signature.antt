@@ -1,58 +1,68 @@
 -- Which arguments each predicate takes, and its name.
 use Rattle.std.specs.Prelude.{ℕ, List, [], ◌∷◌, codes}
-pub use Rattle.qc_model.specs.declared.signature.Sort.{Sort}
-pub use Rattle.qc_model.specs.declared.signature.Sort.TheVariants.{Integer as integer, Boolean as boolean, Integers as integers, Booleans as booleans, Numbers as numbers, Truths as truths, Members as members}
+pub use Rattle.qc_model.specs.declared.signature.ArgKind.{ArgKind}
+pub use Rattle.qc_model.specs.declared.signature.ArgKind.TheVariants.{Integer as integer, Boolean as boolean, Integers as integers, Booleans as booleans, Numbers as numbers, Truths as truths, Members as members}
 use Rattle.qc_model.specs.declared.problem.Pred.{Pred}
 use Rattle.qc_model.specs.declared.problem.Pred.TheVariants.{IntEq, IntNe, IntLe, IntLt, IntLinEq, IntLinNe, IntLinLe, IntPlus, IntTimes, IntAbs, IntMin, IntMax, IntDiv, IntMod, BoolEq, Bool2int, BoolNot, BoolLe, BoolLt, ArrayIntElement, ArrayBoolElement, ArrayVarIntElement, ArrayVarBoolElement, ArrayIntMinimum, ArrayIntMaximum, SetIn, BoolAnd, BoolOr, BoolXor, ArrayBoolAnd, ArrayBoolOr, ArrayBoolXor, BoolClause, AllDifferentInt, TableInt, IntEqReif, IntNeReif, IntLeReif, IntLtReif, IntLinEqReif, IntLinNeReif, IntLinLeReif, SetInReif, BoolEqReif, BoolLeReif, BoolLtReif, BoolClauseReif}
 
-abbrev pub sorts_of : Pred → List Sort
-sorts_of IntEq = integer ∷ integer ∷ []
-sorts_of IntNe = integer ∷ integer ∷ []
-sorts_of IntLe = integer ∷ integer ∷ []
-sorts_of IntLt = integer ∷ integer ∷ []
-sorts_of IntLinEq = numbers ∷ integers ∷ integer ∷ []
-sorts_of IntLinNe = numbers ∷ integers ∷ integer ∷ []
-sorts_of IntLinLe = numbers ∷ integers ∷ integer ∷ []
-sorts_of IntPlus = integer ∷ integer ∷ integer ∷ []
-sorts_of IntTimes = integer ∷ integer ∷ integer ∷ []
-sorts_of IntAbs = integer ∷ integer ∷ []
-sorts_of IntMin = integer ∷ integer ∷ integer ∷ []
-sorts_of IntMax = integer ∷ integer ∷ integer ∷ []
-sorts_of IntDiv = integer ∷ integer ∷ integer ∷ []
-sorts_of IntMod = integer ∷ integer ∷ integer ∷ []
-sorts_of BoolEq = boolean ∷ boolean ∷ []
-sorts_of Bool2int = boolean ∷ integer ∷ []
-sorts_of BoolNot = boolean ∷ boolean ∷ []
-sorts_of BoolLe = boolean ∷ boolean ∷ []
-sorts_of BoolLt = boolean ∷ boolean ∷ []
-sorts_of ArrayIntElement = integer ∷ numbers ∷ integer ∷ []
-sorts_of ArrayBoolElement = integer ∷ truths ∷ boolean ∷ []
-sorts_of ArrayVarIntElement = integer ∷ integers ∷ integer ∷ []
-sorts_of ArrayVarBoolElement = integer ∷ booleans ∷ boolean ∷ []
-sorts_of ArrayIntMinimum = integer ∷ integers ∷ []
-sorts_of ArrayIntMaximum = integer ∷ integers ∷ []
-sorts_of SetIn = integer ∷ members ∷ []
-sorts_of BoolAnd = boolean ∷ boolean ∷ boolean ∷ []
-sorts_of BoolOr = boolean ∷ boolean ∷ boolean ∷ []
-sorts_of BoolXor = boolean ∷ boolean ∷ boolean ∷ []
-sorts_of ArrayBoolAnd = booleans ∷ boolean ∷ []
-sorts_of ArrayBoolOr = booleans ∷ boolean ∷ []
-sorts_of ArrayBoolXor = booleans ∷ []
-sorts_of BoolClause = booleans ∷ booleans ∷ []
-sorts_of AllDifferentInt = integers ∷ []
-sorts_of TableInt = integers ∷ numbers ∷ []
-sorts_of IntEqReif = integer ∷ integer ∷ boolean ∷ []
-sorts_of IntNeReif = integer ∷ integer ∷ boolean ∷ []
-sorts_of IntLeReif = integer ∷ integer ∷ boolean ∷ []
-sorts_of IntLtReif = integer ∷ integer ∷ boolean ∷ []
-sorts_of IntLinEqReif = numbers ∷ integers ∷ integer ∷ boolean ∷ []
-sorts_of IntLinNeReif = numbers ∷ integers ∷ integer ∷ boolean ∷ []
-sorts_of IntLinLeReif = numbers ∷ integers ∷ integer ∷ boolean ∷ []
-sorts_of SetInReif = integer ∷ members ∷ boolean ∷ []
-sorts_of BoolEqReif = boolean ∷ boolean ∷ boolean ∷ []
-sorts_of BoolLeReif = boolean ∷ boolean ∷ boolean ∷ []
-sorts_of BoolLtReif = boolean ∷ boolean ∷ boolean ∷ []
-sorts_of BoolClauseReif = booleans ∷ booleans ∷ boolean ∷ []
+-- how many numbers braces may have
+abbrev pub most_in_braces : ℕ
+most_in_braces = 100000
+
+-- how many items an array may have where an argument of this kind stands: fewer where they may be variables
+abbrev pub most_items : ArgKind → ℕ
+most_items integers = 1000
+most_items booleans = 1000
+most_items _ = 100000
+
+abbrev pub arg_kinds_of : Pred → List ArgKind
+arg_kinds_of IntEq = integer ∷ integer ∷ []
+arg_kinds_of IntNe = integer ∷ integer ∷ []
+arg_kinds_of IntLe = integer ∷ integer ∷ []
+arg_kinds_of IntLt = integer ∷ integer ∷ []
+arg_kinds_of IntLinEq = numbers ∷ integers ∷ integer ∷ []
+arg_kinds_of IntLinNe = numbers ∷ integers ∷ integer ∷ []
+arg_kinds_of IntLinLe = numbers ∷ integers ∷ integer ∷ []
+arg_kinds_of IntPlus = integer ∷ integer ∷ integer ∷ []
+arg_kinds_of IntTimes = integer ∷ integer ∷ integer ∷ []
+arg_kinds_of IntAbs = integer ∷ integer ∷ []
+arg_kinds_of IntMin = integer ∷ integer ∷ integer ∷ []
+arg_kinds_of IntMax = integer ∷ integer ∷ integer ∷ []
+arg_kinds_of IntDiv = integer ∷ integer ∷ integer ∷ []
+arg_kinds_of IntMod = integer ∷ integer ∷ integer ∷ []
+arg_kinds_of BoolEq = boolean ∷ boolean ∷ []
+arg_kinds_of Bool2int = boolean ∷ integer ∷ []
+arg_kinds_of BoolNot = boolean ∷ boolean ∷ []
+arg_kinds_of BoolLe = boolean ∷ boolean ∷ []
+arg_kinds_of BoolLt = boolean ∷ boolean ∷ []
+arg_kinds_of ArrayIntElement = integer ∷ numbers ∷ integer ∷ []
+arg_kinds_of ArrayBoolElement = integer ∷ truths ∷ boolean ∷ []
+arg_kinds_of ArrayVarIntElement = integer ∷ integers ∷ integer ∷ []
+arg_kinds_of ArrayVarBoolElement = integer ∷ booleans ∷ boolean ∷ []
+arg_kinds_of ArrayIntMinimum = integer ∷ integers ∷ []
+arg_kinds_of ArrayIntMaximum = integer ∷ integers ∷ []
+arg_kinds_of SetIn = integer ∷ members ∷ []
+arg_kinds_of BoolAnd = boolean ∷ boolean ∷ boolean ∷ []
+arg_kinds_of BoolOr = boolean ∷ boolean ∷ boolean ∷ []
+arg_kinds_of BoolXor = boolean ∷ boolean ∷ boolean ∷ []
+arg_kinds_of ArrayBoolAnd = booleans ∷ boolean ∷ []
+arg_kinds_of ArrayBoolOr = booleans ∷ boolean ∷ []
+arg_kinds_of ArrayBoolXor = booleans ∷ []
+arg_kinds_of BoolClause = booleans ∷ booleans ∷ []
+arg_kinds_of AllDifferentInt = integers ∷ []
+arg_kinds_of TableInt = integers ∷ numbers ∷ []
+arg_kinds_of IntEqReif = integer ∷ integer ∷ boolean ∷ []
+arg_kinds_of IntNeReif = integer ∷ integer ∷ boolean ∷ []
+arg_kinds_of IntLeReif = integer ∷ integer ∷ boolean ∷ []
+arg_kinds_of IntLtReif = integer ∷ integer ∷ boolean ∷ []
+arg_kinds_of IntLinEqReif = numbers ∷ integers ∷ integer ∷ boolean ∷ []
+arg_kinds_of IntLinNeReif = numbers ∷ integers ∷ integer ∷ boolean ∷ []
+arg_kinds_of IntLinLeReif = numbers ∷ integers ∷ integer ∷ boolean ∷ []
+arg_kinds_of SetInReif = integer ∷ members ∷ boolean ∷ []
+arg_kinds_of BoolEqReif = boolean ∷ boolean ∷ boolean ∷ []
+arg_kinds_of BoolLeReif = boolean ∷ boolean ∷ boolean ∷ []
+arg_kinds_of BoolLtReif = boolean ∷ boolean ∷ boolean ∷ []
+arg_kinds_of BoolClauseReif = booleans ∷ booleans ∷ boolean ∷ []
 
 -- as the problem text writes it
 abbrev pub pred_name : Pred → List ℕ

@@ -22,9 +22,10 @@ use Rattle.qc_model.specs.Content.{Game, Rule}
 use Rattle.qc_model.specs.Domains.{is_none_left, least_value, greatest_value, is_ascending}
 use Rattle.qc_model.specs.Block.{of_kind}
 use Rattle.qc_model.specs.Meaning.{Meaning, sum_equal, sum_different, sum_at_most, minimum, maximum, table, reified, meaning_of}
-use Rattle.qc_model.specs.Signature.{Sort, integer, boolean, integers, booleans, numbers, truths, members, sorts_of}
+use Rattle.qc_model.specs.Signature.{ArgKind, integer, boolean, integers, booleans, numbers, truths, members, arg_kinds_of, most_items, most_in_braces}
 use Rattle.qc_model.specs.Names.{is_name, names_differ}
 use Rattle.qc_model.specs.Sees.{SeesRight}
+use Rattle.qc_model.specs.Bottlenecks.{bottlenecks_last}
 
 -- from -1,000,000,000 to 1,000,000,000
 abbrev pub is_number : ℤ → Bool
@@ -42,9 +43,9 @@ domain_width Bits = 2
 domain_width (Range low high) = nat_abs (high -ℤ low) + 1
 domain_width (Listed ns) = width_of ns
 
--- numbers in ascending order, without repeats, at most 100,000 of them
+-- numbers in ascending order, without repeats, as many as braces may have
 abbrev pub is_listed : List ℤ → Bool
-is_listed ns = nat_le (length ns) 100000 && list_all is_number ns && is_ascending ns
+is_listed ns = nat_le (length ns) most_in_braces && list_all is_number ns && is_ascending ns
 
 -- some number between the least and the greatest is missing
 abbrev pub has_gap : List ℤ → Bool
@@ -85,19 +86,19 @@ abbrev pub is_boolean : List Variable → Arg → Bool
 is_boolean xs (Var x) = is_variable_with is_bits (slice_get xs x.0)
 is_boolean xs (Num n) = is_truth n
 
--- an argument of this sort; arrays that may hold variables have at most 1,000 items, and those of numbers 100,000
-abbrev pub is_of_sort : List Variable → Sort → Argument → Bool
+-- an argument of this kind; an array has as many items as it may have there
+abbrev pub is_of_sort : List Variable → ArgKind → Argument → Bool
 is_of_sort xs integer (One a) = is_integer xs a
 is_of_sort xs boolean (One a) = is_boolean xs a
-is_of_sort xs integers (Many items) = nat_le (length items) 1000 && list_all (is_integer xs) items
-is_of_sort xs booleans (Many items) = nat_le (length items) 1000 && list_all (is_boolean xs) items
-is_of_sort xs numbers (Numbers ns) = nat_le (length ns) 100000 && list_all is_number ns
-is_of_sort xs truths (Numbers ns) = nat_le (length ns) 100000 && list_all is_truth ns
+is_of_sort xs integers (Many items) = nat_le (length items) (most_items integers) && list_all (is_integer xs) items
+is_of_sort xs booleans (Many items) = nat_le (length items) (most_items booleans) && list_all (is_boolean xs) items
+is_of_sort xs numbers (Numbers ns) = nat_le (length ns) (most_items numbers) && list_all is_number ns
+is_of_sort xs truths (Numbers ns) = nat_le (length ns) (most_items truths) && list_all is_truth ns
 is_of_sort xs members (Members s) = is_set s
 is_of_sort xs _ _ = false
 
 -- as many arguments as sorts, each of its own
-abbrev pub are_of_sorts : List Variable → List Sort → List Argument → Bool
+abbrev pub are_of_sorts : List Variable → List ArgKind → List Argument → Bool
 are_of_sorts xs [] [] = true
 are_of_sorts xs [] (a ∷ args) = false
 are_of_sorts xs (s ∷ sorts) [] = false
@@ -148,7 +149,7 @@ argument_sees xs i (Members s) = true
 -- the arguments are those of the predicate, and no variable of a later scope than the constraint's own
 abbrev pub is_constraint : List Variable → Rule → Bool
 is_constraint xs c =
-    are_of_sorts xs (sorts_of c.pred) c.args && have_lengths (meaning_of c.pred) c.args
+    are_of_sorts xs (arg_kinds_of c.pred) c.args && have_lengths (meaning_of c.pred) c.args
     && list_all (argument_sees xs c.owner.0) c.args
 
 -- each number is at least the one before it, and below n
@@ -183,24 +184,18 @@ is_fold (Greatest n) = is_number n
 abbrev pub is_aggregate_of : Game → Aggregate → Bool
 is_aggregate_of g q = is_universal (slice_get g.scopes q.scope.0) && is_fold q.fold && is_target g.variables q.target
 
--- each number is above the one before it
-abbrev pub is_rising : List ℕ → Bool
-is_rising [] = true
-is_rising (i ∷ []) = true
-is_rising (i ∷ j ∷ is) = nat_lt i j && is_rising (j ∷ is)
-
 abbrev pub declared_names : Game → List (List ℕ)
 declared_names g = map (λ x. x.name) g.variables ++ map (λ q. q.name) g.aggregates
 
 pub record IsValid (g : Game) : Type 0 where
   pub few_scopes : length g.scopes ≤ 64
   pub few_variables : length g.variables ≤ 500
+  pub few_aggregates : length g.aggregates ≤ 255
   pub few_constraints : length g.constraints ≤ 20000
   -- variables, aggregates and constraints stand in the order of their scopes; the goal counts as the last
   pub variable_order : IsTrue (is_in_order (length g.scopes) (map (λ x. x.scope.0) g.variables))
   pub constraint_order : IsTrue (is_in_order (length g.scopes + 1) (map (λ c. c.owner.0) g.constraints))
-  -- at most one aggregate a scope
-  pub aggregate_order : IsTrue (is_rising (map (λ q. q.scope.0) g.aggregates))
+  pub aggregate_order : IsTrue (is_in_order (length g.scopes) (map (λ q. q.scope.0) g.aggregates))
   pub names : IsTrue (list_all is_name (declared_names g))
   pub distinct_names : IsTrue (names_differ (declared_names g))
   pub domains : IsTrue (list_all (λ x. is_domain x.domain) g.variables)
@@ -210,3 +205,4 @@ pub record IsValid (g : Game) : Type 0 where
   pub constraints : IsTrue (list_all (is_constraint g.variables) g.constraints)
   -- conditions and folds see their targets
   pub sees : SeesRight g g.scopes 0
+  pub bottlenecks : IsTrue (bottlenecks_last g g.scopes [])

@@ -1,24 +1,12 @@
 //! Aggregates by their numbers and by their scopes, and where the block of a scope ends.
-ghost use Rattle.std.specs.Prelude.{◌≡◌, ◌<◌, ◌≤◌, length, slice_get, IsTrue};
-ghost use Rattle.std.specs.Option.{option_map};
+ghost use Rattle.std.specs.Prelude.{◌≡◌, ◌↔◌, ◌<◌, ◌≤◌, ℕ, length, slice_get, IsTrue};
 ghost use Rattle.qc_model.specs.BlockEnd.{is_existential, block_end_of, exists_run};
-ghost use Rattle.qc_model.specs.Demands.{aggregate_from, aggregate_of as aggregate_number};
+ghost use Rattle.qc_model.specs.Game.{aggregate_numbers};
+ghost use Rattle.qc_model.specs.Sees.{stands_in};
 
+use crate::order::aggregates_below;
 use crate::problem::{AggId, Aggregate, Kind, Scope, ScopeId};
 use crate::valid_problem::Problem;
-
-/// The number of the scope's aggregate among few.
-fn find_aggregate(aggregates: &[Aggregate], i: ScopeId) -> Option<AggId>
-    requires { length aggregates.now ≤ 64 }
-    ensures { option_map (λ g. g.0) result ≡ aggregate_from 0 aggregates.now i.0 }
-{
-    for (q, aggregate) in aggregates.iter().enumerate() {
-        if aggregate.scope.0 == i.0 {
-            return Some(AggId(q as u8));
-        }
-    }
-    None
-}
 
 /// How many of the scopes come before the first universal one.
 fn count_existential(scopes: &[Scope]) -> usize
@@ -44,12 +32,17 @@ impl Problem {
         &self.all_aggregates()[g.0 as usize]
     }
 
-    /// The aggregate of a scope; None where it has none.
-    pub fn aggregate_of(&self, i: ScopeId) -> Option<AggId>
-        ensures { option_map (λ g. g.0) result ≡ aggregate_number self.now i.0 }
+    /// The number of the first aggregate of a scope, and the one after its last: those between are the
+    /// scope's own. They are equal where it has none.
+    pub fn aggregates_of(&self, i: ScopeId) -> (u8, u8)
+        ensures numbers { result ≡ aggregate_numbers self.now i.0 }
+        ensures own { (q : ℕ) → IsTrue (stands_in i.0 (slice_get self.now.aggregates q)) ↔ ((result.0 ≤ q) × (q < result.1)) }
     {
         self.known();
-        find_aggregate(self.all_aggregates(), i)
+        let all = self.all_aggregates();
+        let first = aggregates_below(all, i.0 as usize);
+        let end = aggregates_below(all, i.0 as usize + 1);
+        (first as u8, end as u8)
     }
 
     /// The last scope of the block of an existential scope: the one before the next universal scope,

@@ -15,6 +15,9 @@ pub const SCOPES: usize = 64;
 /// The most variables.
 pub const VARIABLES: usize = 500;
 
+/// The most aggregates.
+pub const AGGREGATES: usize = 255;
+
 /// The most constraints, the goal's included.
 pub const CONSTRAINTS: usize = 20_000;
 

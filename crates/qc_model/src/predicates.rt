@@ -1,7 +1,7 @@
 //! What each predicate means: the table of predicates. Predicates of the same meaning have the same
 //! row, and a reified predicate has the row of its plain one.
 ghost use Rattle.std.specs.Prelude.{◌≡◌, true, false};
-ghost use Rattle.qc_model.specs.Evaluation.{row_meaning};
+ghost use Rattle.qc_model.specs.RowMeaning.{row_meaning};
 ghost use Rattle.qc_model.specs.Meaning.{meaning_of as meaning_in_spec};
 
 use crate::problem::Pred;

@@ -167,6 +167,30 @@ fn conditions_see_the_aggregate_of_the_next_universal_scope(rt: HostRuntime) -> 
     Ok(())
 }
 
+// One universal scope with `count` sums.
+fn with_sums(alloc: Global, count: u16) -> Result<Draft, AllocError> {
+    let mut game = draft(alloc, [FORALL].as_slice())?;
+    game.variables
+        .push(variable(alloc, "t", 0, Domain::Range(0, 3))?)?;
+    for k in 0..count {
+        let name = format!(in alloc; "g{k}")?;
+        game.aggregates.push(Aggregate {
+            name: Name::new(alloc, name.as_str())?,
+            scope: ScopeId(0),
+            fold: Fold::Sum,
+            target: Target::Var(VarId(0)),
+        })?;
+    }
+    Ok(game)
+}
+
+#[test]
+fn aggregates_have_a_limit(rt: HostRuntime) -> Result<(), Fail> {
+    assert!(rt; is_built(with_sums(rt.alloc(), 255)?));
+    assert!(rt; !is_built(with_sums(rt.alloc(), 256)?));
+    Ok(())
+}
+
 #[test]
 fn a_problem_gives_its_parts(rt: HostRuntime) -> Result<(), Fail> {
     let alloc = rt.alloc();
@@ -179,5 +203,41 @@ fn a_problem_gives_its_parts(rt: HostRuntime) -> Result<(), Fail> {
     assert_eq!(rt; problem.scopes(), 2);
     assert_eq!(rt; problem.variables_before(1), 1);
     assert_eq!(rt; problem.restriction(2).len(), 1);
+    assert!(rt; problem.aggregates_of(ScopeId(1)) == (0, 0));
     Ok(())
+}
+
+#[test]
+fn a_block_ends_before_a_universal_scope_or_the_goal(rt: HostRuntime) -> Result<(), Fail> {
+    let alloc = rt.alloc();
+    let game = draft(alloc, [EXISTS, EXISTS, FORALL, EXISTS].as_slice())?;
+    let problem = build(game).ok_or("not built")?;
+    for (scope, end) in [(0, 1), (1, 1), (3, 3)] {
+        assert!(rt; usize::from(scope) < problem.scopes());
+        assert!(rt; problem.scope(ScopeId(scope)).kind == Kind::Exists);
+        assert_eq!(rt; problem.block_end(ScopeId(scope)).0, end, "of {scope}");
+    }
+    Ok(())
+}
+
+#[test]
+fn an_aggregate_is_found_by_its_number(rt: HostRuntime) -> Result<(), Fail> {
+    let problem = build(with_sums(rt.alloc(), 2)?).ok_or("not built")?;
+    assert_eq!(rt; problem.aggregates(), 2);
+    assert_eq!(rt; problem.aggregate(AggId(1)).name.text(), "g1");
+    assert!(rt; problem.aggregates_of(ScopeId(0)) == (0, 2));
+    Ok(())
+}
+
+#[test]
+fn a_reified_predicate_is_in_the_family_of_its_plain_one(rt: HostRuntime) {
+    for (pred, family) in [
+        (Pred::IntLinLe, Family::Linear),
+        (Pred::IntLinLeReif, Family::Linear),
+        (Pred::IntTimes, Family::Arith),
+        (Pred::SetInReif, Family::Element),
+        (Pred::BoolXor, Family::Bool),
+    ] {
+        assert!(rt; family_of(pred) == family);
+    }
 }

@@ -1,10 +1,15 @@
 //! A problem: a draft that is valid, behind calls that keep it so.
-ghost use Rattle.std.specs.Prelude.{◌≡◌, ◌<◌, ◌≤◌, ◌^◌, ◌==◌, filter, length, slice_get};
+ghost use Rattle.std.specs.Prelude.{◌≡◌, ◌+◌, ◌<◌, ◌≤◌, ◌^◌, ◌==◌, filter, length, slice_get};
+ghost use Rattle.qc_model.specs.Demands.{demands_after as demands_after_of};
 ghost use Rattle.qc_model.specs.Game.{before, restriction as restriction_of};
+ghost use Rattle.qc_model.specs.Sees.{aggregates_in as aggregates_of_scope};
 ghost use Rattle.qc_model.specs.Valid.{IsValid};
 
-use crate::order::{constraints_below, variables_below};
-use crate::problem::{Aggregate, ConId, Constraint, Draft, Scope, ScopeId, VarId, Variable};
+use crate::demands::{DemandedList, demands_after};
+use crate::order::{aggregates_below, constraints_below, variables_below};
+use crate::problem::{
+    Aggregate, ConId, Condition, Constraint, Draft, Scope, ScopeId, VarId, Variable,
+};
 use std::marker::Model;
 
 /// A valid draft. Only `build` makes one.
@@ -87,7 +92,7 @@ impl Problem {
         self.draft.constraints.len()
     }
 
-    /// The number of aggregates, at most one for each universal scope.
+    /// The number of aggregates, at most 255.
     pub fn aggregates(&self) -> usize
         ensures { result ≡ length self.now.aggregates }
     {
@@ -140,6 +145,29 @@ impl Problem {
         let (_earlier, rest) = all.split_at(from);
         let (here, _later) = rest.split_at(to - from);
         here
+    }
+
+    /// The aggregates of scope i, which is universal where there are any.
+    pub fn aggregates_in(&self, i: usize) -> &[Aggregate]
+        requires { i < 2 ^ 63 }
+        ensures { result.now ≡ aggregates_of_scope self.now i }
+    {
+        self.known();
+        let all = self.all_aggregates();
+        let from = aggregates_below(all, i);
+        let to = aggregates_below(all, i + 1);
+        let (_earlier, rest) = all.split_at(from);
+        let (here, _later) = rest.split_at(to - from);
+        here
+    }
+
+    /// The demanded list after a scope, where `entries` is that of the scope itself.
+    pub fn list_after(&self, scope: &Scope, entries: &[Condition]) -> DemandedList
+        requires { length entries.now < 64 }
+        ensures list { result ≡ demands_after_of self.now scope.now.kind scope.now.condition entries.now }
+        ensures room { length result ≤ length entries.now + 1 }
+    {
+        demands_after(&self.draft, scope, entries)
     }
 
     /// The constraints of scope i, or of the goal where i is the number of scopes.

@@ -2,11 +2,11 @@
 //!
 //! The counts are looked at first and the order next, so that a draft far beyond the limits is
 //! refused before its names, domains and constraints are walked.
-ghost use Rattle.std.specs.Prelude.{◌≡◌, ◌↔◌, ◌≤◌, ◌+◌, IfSome, IsSome, IsTrue, length, map, sum_by, ◌&&◌};
+ghost use Rattle.std.specs.Prelude.{◌≡◌, ◌↔◌, ◌≤◌, ◌+◌, [], IfSome, IsSome, IsTrue, length, map, sum_by, ◌&&◌};
 ghost use Rattle.std.specs.List.{list_all};
 ghost use Rattle.qc_model.specs.Names.{is_name, names_differ as all_differ};
 ghost use Rattle.qc_model.specs.Sees.{SeesRight};
-ghost use Rattle.qc_model.specs.Valid.{IsValid, declared_names, domain_width, is_aggregate_of, is_constraint as is_constraint_of, is_domain, is_in_order, is_rising, is_scope as is_scope_of};
+ghost use Rattle.qc_model.specs.Valid.{IsValid, declared_names, domain_width, is_aggregate_of, is_constraint as is_constraint_of, is_domain, is_in_order, is_scope as is_scope_of};
 
 mod arguments;
 mod domains;
@@ -14,30 +14,32 @@ mod names;
 mod order;
 mod sight;
 
+use crate::demands::bottlenecks_last;
 use crate::limits;
 use crate::problem::{Constraint, Draft, Variable};
 use crate::valid_problem::Problem;
 use crate::validity::arguments::is_constraint;
 use crate::validity::domains::{are_domains, total_width};
 use crate::validity::names::{are_names, names_differ};
-use crate::validity::order::{aggregates_rise, constraints_in_order, variables_in_order};
+use crate::validity::order::{aggregates_in_order, constraints_in_order, variables_in_order};
 use crate::validity::sight::{is_aggregate, is_scope, scopes_see};
 
 fn are_few(draft: &Draft) -> bool
-    ensures { IsTrue result ↔ ((length draft.now.scopes ≤ 64) × (length draft.now.variables ≤ 500) × (length draft.now.constraints ≤ 20000)) }
+    ensures { IsTrue result ↔ ((length draft.now.scopes ≤ 64) × (length draft.now.variables ≤ 500) × (length draft.now.aggregates ≤ 255) × (length draft.now.constraints ≤ 20000)) }
 {
     draft.scopes.len() <= limits::SCOPES
         && draft.variables.len() <= limits::VARIABLES
+        && draft.aggregates.len() <= limits::AGGREGATES
         && draft.constraints.len() <= limits::CONSTRAINTS
 }
 
 fn are_in_order(draft: &Draft) -> bool
-    ensures { result ≡ (is_in_order (length draft.now.scopes) (map (λ x. x.scope.0) draft.now.variables) && is_in_order (length draft.now.scopes + 1) (map (λ c. c.owner.0) draft.now.constraints) && is_rising (map (λ q. q.scope.0) draft.now.aggregates)) }
+    ensures { result ≡ (is_in_order (length draft.now.scopes) (map (λ x. x.scope.0) draft.now.variables) && is_in_order (length draft.now.scopes + 1) (map (λ c. c.owner.0) draft.now.constraints) && is_in_order (length draft.now.scopes) (map (λ q. q.scope.0) draft.now.aggregates)) }
 {
     let scopes = draft.scopes.len();
     variables_in_order(scopes, draft.variables.as_slice())
         && constraints_in_order(scopes + 1, draft.constraints.as_slice())
-        && aggregates_rise(draft.aggregates.as_slice())
+        && aggregates_in_order(scopes, draft.aggregates.as_slice())
 }
 
 fn are_named(draft: &Draft) -> bool
@@ -103,23 +105,28 @@ fn is_valid(draft: &Draft) -> bool
     if !scopes_see(draft, draft.scopes.as_slice(), 0) {
         return false;
     }
+    if !bottlenecks_last(draft) {
+        return false;
+    }
     are_constraints(draft.variables.as_slice(), draft.constraints.as_slice())
 }
 
 /// The problem with this content, where the draft is valid.
 ///
 /// A draft is valid where:
-/// - scopes, variables, constraints, numbers, domains, sets and arrays are within the limits of
+/// - scopes, variables, aggregates, constraints, numbers, domains, sets and arrays are within the limits of
 ///   `limits`, and no domain is empty;
-/// - variables, aggregates and constraints stand in the order of their scopes, at most one aggregate
-///   in each; the goal's constraints come last;
+/// - variables, aggregates and constraints stand in the order of their scopes; the goal's constraints
+///   come last;
 /// - names are words that aren't reserved, and all differ;
 /// - each domain and set has its one form;
 /// - each constraint's arguments have the sorts and lengths of its predicate, and no variable is of
 ///   a later scope than the constraint's own;
 /// - conditions stand in existential scopes and aggregates in universal ones, and what they name is
-///   seen there: an integer variable of a scope before the next universal scope, or that scope's
-///   aggregate.
+///   seen there: an integer variable of a scope before the next universal scope, or an aggregate of
+///   that scope;
+/// - no universal scope is asked for an aggregate by least or greatest and, after it, for a different
+///   one.
 ///
 /// It takes no memory.
 pub fn build(draft: Draft) -> Option<Problem>

@@ -16,8 +16,8 @@ use Rattle.qc_model.specs.Arguments.{Filled, filled_one, filled_many, filled_num
 use Rattle.qc_model.specs.Holds.{Given, value_at, values_at, last_value, arg_value}
 use Rattle.qc_model.specs.Left.{Lefts, left_at}
 use Rattle.qc_model.specs.Refuted.{left_to}
-use Rattle.qc_model.specs.declared.signature.Sort.{Sort}
-use Rattle.qc_model.specs.declared.signature.Sort.TheVariants.{Boolean as boolean, Integers as integers, Booleans as booleans}
+use Rattle.qc_model.specs.declared.signature.ArgKind.{ArgKind}
+use Rattle.qc_model.specs.declared.signature.ArgKind.TheVariants.{Boolean as boolean, Integers as integers, Booleans as booleans}
 use Rattle.qc_model.specs.Valid.{is_bits, is_variable_with, is_boolean, is_of_sort, are_of_sorts, item_count, is_literal}
 use Rattle.qc_model.specs.Visible.{ArgBelow, ArgsBelow, ArgumentBelow, ArgumentsBelow}
 use Rattle.qc_model.proofs.Sound.{differ, both}
@@ -56,23 +56,23 @@ module _ (xs : List Variable) (w : List ℤ) (b : InBox w (map (λ x. domain_val
       (arg_truth a l.0 p.0, arg_truths items l.1 p.1)
 
 -- a truth value, or an array of such, where the sort asks for it
-abbrev pub OfSort : Sort → Filled ℤ → Type 0
+abbrev pub OfSort : ArgKind → Filled ℤ → Type 0
 OfSort boolean (filled_one v) = IsTruth v
 OfSort booleans (filled_many vs) = AllTruths vs
 OfSort s v = ⊤
 
-abbrev pub OfSorts : List Sort → Given → Type 0
+abbrev pub OfSorts : List ArgKind → Given → Type 0
 OfSorts [] [] = ⊤
 OfSorts [] (v ∷ vs) = ⊥
 OfSorts (s ∷ sorts) [] = ⊥
 OfSorts (s ∷ sorts) (v ∷ vs) = OfSort s v × OfSorts sorts vs
 
-of_sort : (xs : List Variable) (w : List ℤ) → InBox w (map (λ x. domain_values x.domain) xs) → (s : Sort) (a : Argument) → ArgumentBelow (length w) a → is_of_sort xs s a ≡ true → OfSort s (fill (arg_value w) a)
+of_sort : (xs : List Variable) (w : List ℤ) → InBox w (map (λ x. domain_values x.domain) xs) → (s : ArgKind) (a : Argument) → ArgumentBelow (length w) a → is_of_sort xs s a ≡ true → OfSort s (fill (arg_value w) a)
 of_sort xs w b boolean (One a) l e = arg_truth xs w b a l e
 of_sort xs w b booleans (Many items) l e = arg_truths xs w b items l (both (nat_le (length items) 1000) (list_all (is_boolean xs) items) e).1
 of_sort xs w b s a l e = tt
 
-pub of_sorts : (xs : List Variable) (w : List ℤ) → InBox w (map (λ x. domain_values x.domain) xs) → (sorts : List Sort) (args : List Argument) → ArgumentsBelow (length w) args → are_of_sorts xs sorts args ≡ true → OfSorts sorts (given_of w args)
+pub of_sorts : (xs : List Variable) (w : List ℤ) → InBox w (map (λ x. domain_values x.domain) xs) → (sorts : List ArgKind) (args : List Argument) → ArgumentsBelow (length w) args → are_of_sorts xs sorts args ≡ true → OfSorts sorts (given_of w args)
 of_sorts xs w b [] [] l e = tt
 of_sorts xs w b [] (a ∷ args) l e = absurd (differ e)
 of_sorts xs w b (s ∷ sorts) [] l e = absurd (differ e)
@@ -80,12 +80,12 @@ of_sorts xs w b (s ∷ sorts) (a ∷ args) l e =
     let p = both (is_of_sort xs s a) (are_of_sorts xs sorts args) e in
     (of_sort xs w b s a l.0 p.0, of_sorts xs w b sorts args l.1 p.1)
 
-pub truth_at : (sorts : List Sort) (vs : Given) (k : ℕ) → OfSorts sorts vs → slice_get sorts k ≡ Some boolean → IsTruth (value_at vs k)
+pub truth_at : (sorts : List ArgKind) (vs : Given) (k : ℕ) → OfSorts sorts vs → slice_get sorts k ≡ Some boolean → IsTruth (value_at vs k)
 truth_at sorts [] k o e = (false, refl)
 truth_at [] (v ∷ vs) k o e = absurd o
-truth_at (s ∷ sorts) (v ∷ vs) zero o e = at v (subst (λ (t : Sort). OfSort t v) (some_same s boolean e) o.0)
+truth_at (s ∷ sorts) (v ∷ vs) zero o e = at v (subst (λ (t : ArgKind). OfSort t v) (some_same s boolean e) o.0)
   where
-    some_same : (s t : Sort) → Some s ≡ Some t → s ≡ t
+    some_same : (s t : ArgKind) → Some s ≡ Some t → s ≡ t
     some_same s t e = cc
 
     at : (v : Filled ℤ) → OfSort boolean v → IsTruth (value_at (v ∷ []) 0)
@@ -95,12 +95,12 @@ truth_at (s ∷ sorts) (v ∷ vs) zero o e = at v (subst (λ (t : Sort). OfSort 
     at (filled_members s) o = (false, refl)
 truth_at (s ∷ sorts) (v ∷ vs) (suc k) o e = truth_at sorts vs k o.1 e
 
-pub truths_at : (sorts : List Sort) (vs : Given) (k : ℕ) → OfSorts sorts vs → slice_get sorts k ≡ Some booleans → AllTruths (values_at vs k)
+pub truths_at : (sorts : List ArgKind) (vs : Given) (k : ℕ) → OfSorts sorts vs → slice_get sorts k ≡ Some booleans → AllTruths (values_at vs k)
 truths_at sorts [] k o e = tt
 truths_at [] (v ∷ vs) k o e = absurd o
-truths_at (s ∷ sorts) (v ∷ vs) zero o e = at v (subst (λ (t : Sort). OfSort t v) (some_same s booleans e) o.0)
+truths_at (s ∷ sorts) (v ∷ vs) zero o e = at v (subst (λ (t : ArgKind). OfSort t v) (some_same s booleans e) o.0)
   where
-    some_same : (s t : Sort) → Some s ≡ Some t → s ≡ t
+    some_same : (s t : ArgKind) → Some s ≡ Some t → s ≡ t
     some_same s t e = cc
 
     at : (v : Filled ℤ) → OfSort booleans v → AllTruths (values_at (v ∷ []) 0)
@@ -111,12 +111,12 @@ truths_at (s ∷ sorts) (v ∷ vs) zero o e = at v (subst (λ (t : Sort). OfSort
 truths_at (s ∷ sorts) (v ∷ vs) (suc k) o e = truths_at sorts vs k o.1 e
 
 -- the last argument is a truth value
-abbrev pub EndsBoolean : List Sort → Type 0
+abbrev pub EndsBoolean : List ArgKind → Type 0
 EndsBoolean [] = ⊥
 EndsBoolean (s ∷ []) = s ≡ boolean
 EndsBoolean (s ∷ t ∷ sorts) = EndsBoolean (t ∷ sorts)
 
-pub truth_last : (sorts : List Sort) (vs : Given) → OfSorts sorts vs → EndsBoolean sorts → IsTruth (last_value vs)
+pub truth_last : (sorts : List ArgKind) (vs : Given) → OfSorts sorts vs → EndsBoolean sorts → IsTruth (last_value vs)
 truth_last [] vs o e = absurd e
 truth_last (s ∷ sorts) [] o e = absurd o
 truth_last (s ∷ []) (v ∷ []) o e = truth_at (s ∷ []) (v ∷ []) 0 o (ap Some e)
@@ -138,14 +138,14 @@ literal_at w box (a ∷ args) zero e = at a e
 literal_at w box (a ∷ args) (suc k) e = literal_at w box args k e
 
 -- an array that isn't empty
-pub item_at : (xs : List Variable) (w : List ℤ) (sorts : List Sort) (args : List Argument) (k : ℕ) → are_of_sorts xs sorts args ≡ true → slice_get sorts k ≡ Some integers → nat_lt 0 (item_count (slice_get args k)) ≡ true → HasItem (values_at (given_of w args) k)
+pub item_at : (xs : List Variable) (w : List ℤ) (sorts : List ArgKind) (args : List Argument) (k : ℕ) → are_of_sorts xs sorts args ≡ true → slice_get sorts k ≡ Some integers → nat_lt 0 (item_count (slice_get args k)) ≡ true → HasItem (values_at (given_of w args) k)
 item_at xs w [] [] k o s e = absurd (differ e)
 item_at xs w [] (a ∷ args) k o s e = absurd (differ o)
 item_at xs w (t ∷ sorts) [] k o s e = absurd (differ o)
 item_at xs w (t ∷ sorts) (a ∷ args) zero o s e =
-    at a (subst (λ (q : Sort). is_of_sort xs q a ≡ true) (some_same t integers s) (both (is_of_sort xs t a) (are_of_sorts xs sorts args) o).0) e
+    at a (subst (λ (q : ArgKind). is_of_sort xs q a ≡ true) (some_same t integers s) (both (is_of_sort xs t a) (are_of_sorts xs sorts args) o).0) e
   where
-    some_same : (s t : Sort) → Some s ≡ Some t → s ≡ t
+    some_same : (s t : ArgKind) → Some s ≡ Some t → s ≡ t
     some_same s t e = cc
 
     at : (a : Argument) → is_of_sort xs integers a ≡ true → nat_lt 0 (item_count (Some a)) ≡ true → HasItem (values_at (given_of w (a ∷ [])) 0)

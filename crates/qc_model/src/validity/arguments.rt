@@ -2,12 +2,11 @@
 ghost use Rattle.std.specs.Prelude.{◌≡◌, ◌&&◌, slice_get};
 ghost use Rattle.std.specs.List.{list_all};
 ghost use Rattle.qc_model.specs.Meaning.{meaning_of};
-ghost use Rattle.qc_model.specs.Signature.{sorts_of as sorts_of_pred};
+ghost use Rattle.qc_model.specs.Signature.{arg_kinds_of as arg_kinds_of_pred};
 ghost use Rattle.qc_model.specs.Valid.{are_of_sorts as are_of_sorts_of, arg_sees as arg_sees_of, argument_sees as argument_sees_of, have_lengths as have_lengths_of, is_bits, is_boolean as is_boolean_of, is_constraint as is_constraint_of, is_integer as is_integer_of, is_integer_domain, is_literal as is_literal_of, is_of_sort as is_of_sort_of, is_sum as is_sum_of, is_variable_with, item_count as item_count_of};
 
-use crate::limits;
 use crate::problem::{Arg, Argument, Constraint, Domain, Pred, VarId, Variable};
-use crate::signature::{Sort, sorts_of};
+use crate::signature::{ArgKind, arg_kinds_of, most_items};
 use crate::validity::domains::{are_numbers, are_truths, is_number, is_set, is_truth};
 
 /// Whether x is an integer variable of the list.
@@ -67,35 +66,35 @@ fn are_booleans(variables: &[Variable], args: &[Arg]) -> bool
     args.iter().all(|arg| is_boolean(variables, arg))
 }
 
-fn is_of_sort(variables: &[Variable], sort: Sort, argument: &Argument) -> bool
+fn is_of_sort(variables: &[Variable], sort: ArgKind, argument: &Argument) -> bool
     ensures { result ≡ is_of_sort_of variables.now sort argument.now }
 {
     match (sort, argument) {
-        (Sort::Integer, Argument::One(arg)) => is_integer(variables, arg),
-        (Sort::Boolean, Argument::One(arg)) => is_boolean(variables, arg),
-        (Sort::Integers, Argument::Many(args)) => {
+        (ArgKind::Integer, Argument::One(arg)) => is_integer(variables, arg),
+        (ArgKind::Boolean, Argument::One(arg)) => is_boolean(variables, arg),
+        (ArgKind::Integers, Argument::Many(args)) => {
             let args = args.items();
-            args.len() <= limits::ITEMS && are_integers(variables, args)
+            args.len() <= most_items(sort) && are_integers(variables, args)
         }
-        (Sort::Booleans, Argument::Many(args)) => {
+        (ArgKind::Booleans, Argument::Many(args)) => {
             let args = args.items();
-            args.len() <= limits::ITEMS && are_booleans(variables, args)
+            args.len() <= most_items(sort) && are_booleans(variables, args)
         }
-        (Sort::Numbers, Argument::Numbers(numbers)) => {
+        (ArgKind::Numbers, Argument::Numbers(numbers)) => {
             let numbers = numbers.items();
-            numbers.len() <= limits::NUMBERS && are_numbers(numbers)
+            numbers.len() <= most_items(sort) && are_numbers(numbers)
         }
-        (Sort::Truths, Argument::Numbers(numbers)) => {
+        (ArgKind::Truths, Argument::Numbers(numbers)) => {
             let numbers = numbers.items();
-            numbers.len() <= limits::NUMBERS && are_truths(numbers)
+            numbers.len() <= most_items(sort) && are_truths(numbers)
         }
-        (Sort::Members, Argument::Members(set)) => is_set(set),
+        (ArgKind::Members, Argument::Members(set)) => is_set(set),
         _ => false,
     }
 }
 
 /// Whether there are as many arguments as sorts, each of its own.
-fn are_of_sorts(variables: &[Variable], sorts: &[Sort], args: &[Argument]) -> bool
+fn are_of_sorts(variables: &[Variable], sorts: &[ArgKind], args: &[Argument]) -> bool
     ensures { result ≡ are_of_sorts_of variables.now sorts.now args.now }
 {
     match (sorts.split_first(), args.split_first()) {
@@ -189,9 +188,9 @@ fn arguments_see(variables: &[Variable], scope: u8, args: &[Argument]) -> bool
 
 /// Whether the arguments are those of the predicate.
 fn fit_predicate(variables: &[Variable], pred: Pred, args: &[Argument]) -> bool
-    ensures { result ≡ (are_of_sorts_of variables.now (sorts_of_pred pred) args.now && have_lengths_of (meaning_of pred) args.now) }
+    ensures { result ≡ (are_of_sorts_of variables.now (arg_kinds_of_pred pred) args.now && have_lengths_of (meaning_of pred) args.now) }
 {
-    are_of_sorts(variables, sorts_of(pred), args) && have_lengths(pred, args)
+    are_of_sorts(variables, arg_kinds_of(pred), args) && have_lengths(pred, args)
 }
 
 /// Whether the arguments are those of the predicate, and no variable is of a later scope than the

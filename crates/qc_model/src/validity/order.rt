@@ -1,6 +1,6 @@
 //! Variables, aggregates and constraints in the order of their scopes.
 ghost use Rattle.std.specs.Prelude.{◌≡◌, map};
-ghost use Rattle.qc_model.specs.Valid.{is_in_order, is_rising};
+ghost use Rattle.qc_model.specs.Valid.{is_in_order};
 
 use crate::problem::{Aggregate, Constraint, Variable};
 
@@ -26,9 +26,13 @@ pub(crate) fn constraints_in_order(n: usize, constraints: &[Constraint]) -> bool
         }
 }
 
-/// Whether each aggregate's scope is above the one before it.
-pub(crate) fn aggregates_rise(aggregates: &[Aggregate]) -> bool
-    ensures { result ≡ is_rising (map (λ q. q.scope.0) aggregates.now) }
+/// Whether the aggregates stand in the order of their scopes, which are below n.
+pub(crate) fn aggregates_in_order(n: usize, aggregates: &[Aggregate]) -> bool
+    ensures { result ≡ is_in_order n (map (λ q. q.scope.0) aggregates.now) }
 {
-    aggregates.is_sorted_by(|a, b| a.scope.0 < b.scope.0)
+    aggregates.is_sorted_by(|a, b| a.scope.0 <= b.scope.0)
+        && match aggregates.last() {
+            Some(q) => (q.scope.0 as usize) < n,
+            None => true,
+        }
 }
