@@ -1,0 +1,5 @@
+pub mod Last
+pub mod Written
+pub mod Values
+pub mod Boxes
+pub mod Apart

@@ -1,0 +1,7 @@
+use Rattle.qc_evaluation.proofs.Readable.{constraint_readable}
+use Rattle.qc_evaluation.proofs.evaluate.satisfies.Goals as goal
+
+pub holds_plainly-truth-requires : goal.holds_plainly-truth-requires
+holds_plainly-truth-requires c =
+    rw c.arguments-args.ensures
+    (constraint_readable c.args.problem.now.variables c.args.rule.now c.args.values.now c.requires.rule c.requires.values)
