@@ -1,10 +1,10 @@
 //! The counts of trees, against numbers counted by hand.
-ghost use Rattle.std.specs.Prelude.{◌≡◌, ◌<◌, ◌^◌, [], None, IfOk};
-ghost use Rattle.proof_tree.specs.Shape.{tree_of, body_of, ending_of, branches_of};
+ghost use Rattle.std.specs.Prelude.{◌≡◌, ◌≤◌, ◌^◌, [], None, IfOk};
+ghost use Rattle.proof_tree.specs.Shape.{tree_of, body_of, ending_of, branches_of, pieces_of};
 ghost use Rattle.proof_tree.specs.Tree.{tree, next as next_ending, branch as branch_ending};
-ghost use Rattle.proof_tree.specs.Counts.{turns_of, opens_of, ends_of, depth_of};
+ghost use Rattle.proof_tree.specs.Counts.{depth_of, cases_of};
 
-use crate::{Body, Case, CaseList, Cases, End, Node, StepList, depth, ends, opens, turns};
+use crate::{Body, Case, CaseList, Cases, End, Node, Piece, StepList, depth, ends, opens, turns};
 use qc_model::VarId;
 use std::alloc::{AllocError, Global};
 use std::test::Fail;
@@ -32,7 +32,7 @@ fn next(alloc: Global, body: Body) -> Result<End, AllocError>
 
 /// A branch on the variable of this index.
 fn branch(index: u16, cases: CaseList) -> End
-    ensures { ending_of result ≡ branch_ending (record { 0 = index }) (branches_of cases.items.items) }
+    ensures { ending_of result ≡ branch_ending (record { 0 = index }) (branches_of (pieces_of cases)) }
 {
     End::Branch {
         x: VarId(index),
@@ -40,9 +40,17 @@ fn branch(index: u16, cases: CaseList) -> End
     }
 }
 
+/// A case of one value.
+fn one(case: Case) -> Piece
+    ensures { result ≡ record { upto = None; case = case } }
+{
+    Piece { upto: None, case }
+}
+
 /// So many next nodes, one above the other, and then the goal.
 fn nested(alloc: Global, deep: u32) -> Result<Node, AllocError>
-    ensures { IfOk result (λ node. depth_of (tree_of node) ≡ deep) }
+    ensures deep { IfOk result (λ node. depth_of (tree_of node) ≡ deep) }
+    ensures none { IfOk result (λ node. cases_of (tree_of node) ≡ 0) }
 {
     let mut body = Body::Goal;
     for _ in 0..deep {
@@ -56,23 +64,21 @@ fn nested(alloc: Global, deep: u32) -> Result<Node, AllocError>
 
 /// A tree with each kind of case and of end: two branches, one below the other.
 fn each_kind(alloc: Global) -> Result<Node, AllocError>
-    ensures turns { IfOk result (λ node. turns_of (tree_of node) < 2 ^ 32) }
-    ensures opens { IfOk result (λ node. opens_of (tree_of node) < 2 ^ 64) }
-    ensures ends { IfOk result (λ node. ends_of (tree_of node) < 2 ^ 64) }
-    ensures depth { IfOk result (λ node. depth_of (tree_of node) < 2 ^ 32) }
+    ensures shallow { IfOk result (λ node. depth_of (tree_of node) ≤ 1000) }
+    ensures few { IfOk result (λ node. cases_of (tree_of node) ≤ 2 ^ 30) }
 {
     let mut inner = CaseList::new(alloc);
-    inner.push(Case::Open)?;
-    inner.push(Case::Go(own(alloc, next(alloc, Body::Goal)?)))?;
+    inner.push(one(Case::Open))?;
+    inner.push(one(Case::Go(own(alloc, next(alloc, Body::Goal)?))))?;
     let below = own(alloc, branch(1, inner));
     let mut outer = CaseList::new(alloc);
-    outer.push(Case::Skip)?;
-    outer.push(Case::Open)?;
-    outer.push(Case::Go(own(alloc, next(alloc, Body::Tree(below))?)))?;
-    outer.push(Case::Go(own(alloc, next(alloc, Body::Stuck)?)))?;
-    outer.push(Case::Go(own(alloc, End::Barred)))?;
-    outer.push(Case::Go(own(alloc, End::Barred)))?;
-    outer.push(Case::Go(own(alloc, End::Empty)))?;
+    outer.push(one(Case::Skip))?;
+    outer.push(one(Case::Open))?;
+    outer.push(one(Case::Go(own(alloc, next(alloc, Body::Tree(below))?))))?;
+    outer.push(one(Case::Go(own(alloc, next(alloc, Body::Stuck)?))))?;
+    outer.push(one(Case::Go(own(alloc, End::Barred))))?;
+    outer.push(one(Case::Go(own(alloc, End::Barred))))?;
+    outer.push(one(Case::Go(own(alloc, End::Empty))))?;
     Ok(Node {
         horizon: None,
         body: Body::Tree(own(alloc, branch(0, outer))),
@@ -93,6 +99,7 @@ fn counts_each_kind(rt: HostRuntime) -> Result<(), Fail> {
 #[test]
 fn counts_and_drops_a_deep_tree(rt: HostRuntime) -> Result<(), Fail> {
     let node = nested(rt.alloc(), 1000)?;
-    assert_eq!(rt; depth(&node), 1000);
+    let counted = (turns(&node), opens(&node), ends(&node), depth(&node));
+    assert!(rt; counted == (0, 0, 1, 1000));
     Ok(())
 }

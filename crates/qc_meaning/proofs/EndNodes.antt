@@ -16,14 +16,16 @@ use Rattle.qc_model.specs.Optimal.{Optimal}
 use Rattle.qc_model.specs.Counter.{CanPassBlock, RepliesTo, CounterWins}
 use Rattle.qc_model.specs.Demands.{vector, is_better_vector}
 use Rattle.qc_model.specs.Sees.{IsVisible, AllVisible}
-use Rattle.qc_model.specs.ForallVerdict.{entry_value, entry_values, goal_verdict}
+use Rattle.qc_model.specs.ForallVerdict.{entry_value, entry_values, numbers_for, goal_verdict}
 use Rattle.qc_model.proofs.Moves.{moves_to}
 use Rattle.qc_model.proofs.Vectors.{no_better_self}
 use Rattle.proof_tree.specs.InPlace.{is_horizon}
 use Rattle.proof_tree.specs.Finding.{kind_stuck, stuck_finding, goal_finding}
 use Rattle.proof_tree.specs.Meaning.{PlanLies, VerdictMeans}
 use Rattle.qc_model.specs.Table.{IsOrdered}
-use Rattle.qc_meaning.proofs.Blocks.{Blocked, none_pass, none_among}
+use Rattle.qc_laws.proofs.Universal.{vector_under}
+use Rattle.proof_tree.specs.Good.{IsBlocked}
+use Rattle.qc_meaning.proofs.Blocks.{none_pass, none_among}
 use Rattle.qc_meaning.proofs.Boxes.{differ, in_front}
 use Rattle.qc_meaning.proofs.GoodValues.{good_front, pass_good}
 use Rattle.qc_meaning.proofs.Passing.{goal_move}
@@ -33,11 +35,11 @@ use Rattle.qc_meaning.proofs.Entering.{declared_move, rest_declared, all_good}
 use Rattle.qc_meaning.proofs.LeafRules.{choice_front}
 
 -- at the end the list names variables alone
-end_vector : (g : Game) (i : ℕ) (d : List Condition) (a : List ℤ) → AllVisible g [] i d → vector g d a finish ≡ entry_values g d a []
-end_vector g i [] a h = refl
-end_vector g i (c ∷ d) a h = ap (λ v. v ∷ vector g d a finish) (by c.target h.0) ∙ ap (λ vs. entry_value g a [] c.target ∷ vs) (end_vector g i d a h.1)
+end_vector : (g : Game) (i : ℕ) (ns : ℕ → List ℤ) (d : List Condition) (a : List ℤ) → AllVisible g [] i d → vector g d a finish ≡ entry_values g d a ns
+end_vector g i ns [] a h = refl
+end_vector g i ns (c ∷ d) a h = ap (λ v. v ∷ vector g d a finish) (by c.target h.0) ∙ ap (λ vs. entry_value g a ns c.target ∷ vs) (end_vector g i ns d a h.1)
   where
-    by : (x : Target) → IsVisible g [] i x → value g finish x a ≡ entry_value g a [] x
+    by : (x : Target) → IsVisible g [] i x → value g finish x a ≡ entry_value g a ns x
     by (Var x) h = refl
     by (Agg q) h = absurd h
 
@@ -45,44 +47,40 @@ goal_by : (g : Game) (i : ℕ) (d : List Condition) (a : List ℤ) (box : Box) (
     VerdictMeans (goal_verdict g t d a) g [] i d a box (record { verdict = goal_verdict g t d a; own = None; strategy = finish; counter = finish }) b
 goal_by g i d a box b true v h e = record {
   is_optimal = record { optimal = (tt, e); lies = h };
-  has_vector = end_vector g i d a v;
+  has_vector = end_vector g i (numbers_for d []) d a v;
   best = λ r o. best r o.optimal;
 }
   where
-    best : (r : Plan) → Optimal g [] i a r → is_better_vector d (vector g d a r) (entry_values g d a []) ≡ false
-    best finish o = ap (is_better_vector d (vector g d a finish)) (sym (end_vector g i d a v)) ∙ no_better_self d (vector g d a finish)
+    best : (r : Plan) → Optimal g [] i a r → is_better_vector d (vector g d a r) (entry_values g d a (numbers_for d [])) ≡ false
+    best finish o = ap (is_better_vector d (vector g d a finish)) (sym (end_vector g i (numbers_for d []) d a v)) ∙ no_better_self d (vector g d a finish)
     best (choose t s) o = absurd o.0
     best (answer l) o = absurd o.0
 goal_by g i d a box b false v h e = record {
   none = λ r o. differ (sym e ∙ o.optimal.1);
   loses = λ q. (tt, λ w. differ (sym e ∙ w));
+  once = tt;
 }
 
 pub goal_node : (g : Game) (i : ℕ) (d : List Condition) (a : List ℤ) (box : Box) (b : Bool) → AllVisible g [] i d → InBox a box → VerdictMeans (goal_finding g i d a).verdict g [] i d a box (goal_finding g i d a) b
 goal_node g i d a box b v h = goal_by g i d a box b (allows g i a) v h refl
 
 -- over no branch each target has its entry's value
-empty_vector : (g : Game) (d : List Condition) (a : List ℤ) → vector g d a (answer no_entries) ≡ entry_values g d a []
-empty_vector g [] a = refl
-empty_vector g (c ∷ d) a = ap (λ v. v ∷ vector g d a (answer no_entries)) (by c.target) ∙ ap (λ vs. entry_value g a [] c.target ∷ vs) (empty_vector g d a)
-  where
-    by : (x : Target) → value g (answer no_entries) x a ≡ entry_value g a [] x
-    by (Var x) = refl
-    by (Agg q) = refl
+empty_vector : (g : Game) (d : List Condition) (a : List ℤ) → vector g d a (answer no_entries) ≡ entry_values g d a (numbers_for d [])
+empty_vector g d a = vector_under g a no_entries d
 
-module _ (g : Game) (ordered : IsOrdered g) (later : List Scope) (i : ℕ) (d : List Condition) (a : List ℤ) (box : Box) (b : Bool) (h : Option ℕ) (blocked : Blocked g i a box h) (here : is_horizon h i ≡ true) (full : has_empty box ≡ false) where
+module _ (g : Game) (ordered : IsOrdered g) (later : List Scope) (i : ℕ) (d : List Condition) (a : List ℤ) (box : Box) (b : Bool) (h : Option ℕ) (blocked : IsBlocked g i a box h) (here : is_horizon h i ≡ true) (full : has_empty box ≡ false) where
   passed : (t : List ℤ) → IsMove g i a t → InBox (a ++ t) box → ⊥
   passed t m j = none_pass g i a t box h here blocked m j
 
   stuck_goal : i ≡ length g.scopes → Frame g i a box → VerdictMeans (stuck_finding [] g d a).verdict g [] i d a box (stuck_finding [] g d a) b
-  stuck_goal e f = record { none = λ r o. nobody o.optimal.1; loses = λ q. (tt, nobody) }
+  stuck_goal e f = record { none = λ r o. nobody o.optimal.1; loses = λ q. (tt, nobody); once = tt }
     where
       nobody : IsTrue (allows g i a) → ⊥
       nobody ok = passed [] (goal_move g ordered i a e ok) (subst (λ u. InBox u box) (sym (append-nil a)) (front_in g i a box f full))
 
   stuck_exists : (x : Option Condition) → FairNode g b (record { kind = Exists; condition = x } ∷ later) i a box →
       VerdictMeans (kind_stuck Exists g d a).verdict g (record { kind = Exists; condition = x } ∷ later) i d a box (kind_stuck Exists g d a) b
-  stuck_exists x f = record { none = λ r o. nobody r o.optimal o.lies; loses = replies }
+  stuck_exists x f = record { none = λ r o. nobody r o.optimal o.lies; loses = replies; once = (tt, tt) }
     where
       nobody : (r : Plan) → Optimal g (record { kind = Exists; condition = x } ∷ later) i a r → PlanLies box a r → ⊥
       nobody finish o l = o
@@ -109,7 +107,7 @@ module _ (g : Game) (ordered : IsOrdered g) (later : List Scope) (i : ℕ) (d : 
           let m = moves_to g i a t k in
           passed t m (declared_move g i a t box f.frame.count (front_in g i a box f.frame full) (rest_declared g b x later i a box full f) m))
 
-      best : (r : Plan) → Optimal g (record { kind = Forall; condition = x } ∷ later) i a r → is_better_vector d (vector g d a r) (entry_values g d a []) ≡ false
+      best : (r : Plan) → Optimal g (record { kind = Forall; condition = x } ∷ later) i a r → is_better_vector d (vector g d a r) (entry_values g d a (numbers_for d [])) ≡ false
       best finish o = absurd o
       best (choose t s) o = absurd o
       best (answer no_entries) o = ap (is_better_vector d (vector g d a (answer no_entries))) (sym (empty_vector g d a)) ∙ no_better_self d (vector g d a (answer no_entries))
@@ -118,7 +116,7 @@ module _ (g : Game) (ordered : IsOrdered g) (later : List Scope) (i : ℕ) (d : 
           some_entry : {us : List (List ℤ)} {u : List ℤ} → ¬ (u ∷ us ≡ [])
           some_entry q = cc
 
-pub stuck_node : (g : Game) (ordered : IsOrdered g) (later : List Scope) (i : ℕ) (d : List Condition) (a : List ℤ) (box : Box) (b : Bool) (h : Option ℕ) → i + length later ≡ length g.scopes → Blocked g i a box h → is_horizon h i ≡ true → has_empty box ≡ false →
+pub stuck_node : (g : Game) (ordered : IsOrdered g) (later : List Scope) (i : ℕ) (d : List Condition) (a : List ℤ) (box : Box) (b : Bool) (h : Option ℕ) → i + length later ≡ length g.scopes → IsBlocked g i a box h → is_horizon h i ≡ true → has_empty box ≡ false →
     FairNode g b later i a box → VerdictMeans (stuck_finding later g d a).verdict g later i d a box (stuck_finding later g d a) b
 stuck_node g ordered [] i d a box b h len blocked here full f = stuck_goal g ordered [] i d a box b h blocked here full (omega arith) f.frame
 stuck_node g ordered (s ∷ later) i d a box b h len blocked here full f = by s.kind s.condition f

@@ -16,6 +16,7 @@ use Rattle.qc_model.proofs.Before.{before-le, before-zero}
 use Rattle.qc_laws.specs.Distinct.{EachDistinct}
 use Rattle.proof_tree.specs.Place.{position, is_fixed}
 use Rattle.proof_tree.specs.Good.{Good}
+use Rattle.proof_tree.specs.Fair.{bounded_within}
 use Rattle.qc_meaning.proofs.Boxes.{singles, in_take, from_take, in_append, in_rest, in_singles, singles_of, all_single, heads_singles}
 use Rattle.qc_meaning.proofs.FreeFront.{before_wider, free_above}
 use Rattle.qc_meaning.proofs.GoodValues.{good_front, declared_keeps}
@@ -39,18 +40,13 @@ farther g a t box e =
     subst (λ j. drop j box ≡ drop j (declared_box g)) (sym (length-append a t))
     (sym (drop-drop (length t) (length a) box) ∙ ap (drop (length t)) e ∙ drop-drop (length t) (length a) (declared_box g))
 
--- below a universal scope no bound of its block stands above
-abbrev pub bounded_in : Kind → Bool → Bool
-bounded_in Exists b = b
-bounded_in Forall b = false
-
 -- at a universal scope all later domains are the declared ones
 pub rest_declared : (g : Game) (b : Bool) (c : Option Condition) (later : List Scope) (i : ℕ) (a : List ℤ) (box : Box) → has_empty box ≡ false →
     FairNode g b (record { kind = Forall; condition = c } ∷ later) i a box → drop (length a) box ≡ drop (length a) (declared_box g)
 rest_declared g b c later i a box full f = f.rest a refl (front_in g i a box f.frame full)
 
 pub enter : (g : Game) (b : Bool) (k : Kind) (c : Option Condition) (later : List Scope) (i : ℕ) (a : List ℤ) (box : Box) → has_empty box ≡ false →
-    FairNode g b (record { kind = k; condition = c } ∷ later) i a box → FairPart g (bounded_in k b) k later i a box
+    FairNode g b (record { kind = k; condition = c } ∷ later) i a box → FairPart g (bounded_within k b) k later i a box
 enter g b Exists c later i a box full f = record {
   frame = f.frame;
   keeps = λ t w m good h.

@@ -24,6 +24,7 @@ use Rattle.qc_laws.proofs.Existence.{neither_better}
 use Rattle.qc_laws.proofs.Choosing.{best_one, vector_long, choose_vector}
 use Rattle.proof_tree.specs.Finding.{Leaf, seen_of, all_replies, exists_finding}
 use Rattle.proof_tree.specs.Meaning.{PlanLies, FirstIsNoBetter, ExactMeans, VerdictMeans}
+use Rattle.qc_meaning.proofs.Once.{kind_once}
 use Rattle.qc_meaning.proofs.Boxes.{differ}
 use Rattle.qc_meaning.proofs.GoodValues.{pass_good}
 use Rattle.qc_meaning.proofs.LeafWords.{exists_lost, none_skipped, decide_reached}
@@ -256,7 +257,7 @@ module _ (g : Game) (later : List Scope) (i : ℕ) (a : List ℤ) (box : Box) wh
   exists_node b x d ls mean fair full = by (exists_verdict x (with_condition x d) (map seen_of ls)) refl
     where
       by : (v : Verdict) → exists_verdict x (with_condition x d) (map seen_of ls) ≡ v → VerdictMeans v g (record { kind = Exists; condition = x } ∷ later) i d a box (exists_finding x (with_condition x d) a ls) b
-      by lost q = record { none = λ r o. exists_none b x d ls mean q r o.optimal o.lies; loses = exists_loses b x d ls mean fair full q }
+      by lost q = record { none = λ r o. exists_none b x d ls mean q r o.optimal o.lies; loses = exists_loses b x d ls mean fair full q; once = kind_once Exists x g i d a ls mean.once mean.distinct }
       by (exact v) q = exists_exact b x d ls mean fair full v q
       by (at_most p) q = λ r o. at_most_none b x d ls mean p q r o.optimal o.lies
       by unknown q = tt

@@ -1,14 +1,16 @@
 -- The boxes that the induction carries are the fair ones: at a node, and within a scope's own tree.
-use Rattle.std.proofs.Common.{◌≡◌, inl, ℕ, zero, suc, ◌+◌, ◌≤◌, Bool, true, false, List, [], ◌∷◌, ◌++◌, length, drop, refl, subst, arith, Option}
+use Rattle.std.proofs.Common.{◌≡◌, ℕ, zero, suc, ◌+◌, ◌≤◌, Bool, true, false, List, [], ◌∷◌, ◌++◌, length, drop, refl, subst, arith, Option}
 use Rattle.std.specs.Prelude.{ℤ, pos, slice_get, slice_index_or}
 use Rattle.qc_model.specs.declared.problem.Kind.{Kind}
 use Rattle.qc_model.specs.declared.problem.Kind.TheVariants.{Exists, Forall}
 use Rattle.qc_model.specs.declared.problem.Condition.{Condition}
 use Rattle.qc_model.specs.declared.problem.Scope.{Scope}
 use Rattle.qc_model.specs.Content.{Game}
-use Rattle.qc_model.specs.Domains.{Box, InBox, declared_box, box_at, box_within, box_without, has_empty}
+use Rattle.qc_model.specs.Domains.{Values, Box, InBox, declared_box, box_within, box_without, has_empty}
 use Rattle.qc_model.specs.Game.{before, IsMove}
 use Rattle.qc_model.specs.Table.{IsOrdered, IsTableSound}
+use Rattle.qc_model.specs.Lists.{Among}
+use Rattle.proof_tree.specs.Cover.{box_to}
 use Rattle.proof_tree.specs.Steps.{is_refuted_within}
 use Rattle.proof_tree.specs.Fair.{free_stop, Taken, Agrees, FairAt, FairAtKind, FairWithinKind}
 use Rattle.qc_meaning.proofs.Passing.{move_count}
@@ -59,8 +61,8 @@ pub allowed_pruned : (g : Game) (sound : IsTableSound g) (ordered : IsOrdered g)
     is_refuted_within i (suc i) (slice_get g.constraints c) (box_within box x lo hi) ≡ true → Frame g i a box → (t : List ℤ) → IsMove g i a t → InBox (a ++ t) box → InBox (a ++ t) (box_without box x lo hi)
 allowed_pruned g sound ordered later i a box x lo hi c len refuted f t m h = prune_stays g sound ordered Forall later i a box x lo hi c len refuted f t (a ++ t) m refl h
 
-pub allowed_case : (w : List ℤ) (box : Box) (x : ℕ) (v : ℤ) → slice_index_or w x (pos 0) ≡ v → InBox w box → InBox w (box_at box x v)
-allowed_case [] box x v e h = tt
-allowed_case (u ∷ w) [] x v e h = absurd h
-allowed_case (u ∷ w) (d ∷ box) zero v e h = (inl e, h.1)
-allowed_case (u ∷ w) (d ∷ box) (suc x) v e h = (h.0, allowed_case w box x v e h.1)
+pub allowed_case : (w : List ℤ) (box : Box) (x : ℕ) (vs : Values) → Among (slice_index_or w x (pos 0)) vs → InBox w box → InBox w (box_to box x vs)
+allowed_case [] box x vs e h = tt
+allowed_case (u ∷ w) [] x vs e h = absurd h
+allowed_case (u ∷ w) (d ∷ box) zero vs e h = (e, h.1)
+allowed_case (u ∷ w) (d ∷ box) (suc x) vs e h = (h.0, allowed_case w box x vs e h.1)

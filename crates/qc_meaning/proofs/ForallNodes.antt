@@ -1,11 +1,10 @@
 -- The verdict of a universal scope means what it says, where its leaves do.
-use Rattle.std.proofs.Common.{◌≡◌, ◌⊎◌, inl, inr, ℕ, suc, Bool, true, false, ◌||◌, List, [], ◌∷◌, ◌++◌, length, map, drop, refl, sym, ap, ◌∙◌, subst, cond, Option, Some, None}
-use Rattle.std.specs.Prelude.{ℤ, slice_get}
+use Rattle.std.proofs.Common.{◌≡◌, ◌⊎◌, inl, inr, ℕ, suc, Bool, true, false, ◌||◌, List, [], ◌∷◌, ◌++◌, length, map, drop, refl, sym, ap, ◌∙◌, subst, cond, Option}
+use Rattle.std.specs.Prelude.{ℤ}
 use Rattle.std.specs.List.{list_all}
 use Rattle.std.proofs.Math.Seq.{drop-append_seam}
 use Rattle.qc_model.specs.declared.problem.Kind.{Kind}
 use Rattle.qc_model.specs.declared.problem.Kind.TheVariants.{Exists, Forall}
-use Rattle.qc_model.specs.declared.problem.Target.{Target}
 use Rattle.qc_model.specs.declared.problem.Scope.{Scope}
 use Rattle.qc_model.specs.declared.problem.Condition.{Condition}
 use Rattle.qc_model.specs.Content.{Game}
@@ -13,25 +12,25 @@ use Rattle.qc_model.specs.Lists.{Among, same_values}
 use Rattle.qc_model.specs.Domains.{Box, InBox, has_empty}
 use Rattle.qc_model.specs.Game.{IsMove, moves}
 use Rattle.qc_model.specs.Plan.{Plan, choose, answer}
-use Rattle.qc_model.specs.Value.{value, branch_values, aggregate_fold, inner_target}
 use Rattle.qc_model.specs.Optimal.{ChoosesBest, Optimal}
 use Rattle.qc_model.specs.Counter.{CounterWins}
-use Rattle.qc_model.specs.Demands.{vector, IsBestVector, demands_through, aggregate_of}
-use Rattle.qc_model.specs.Verdict.{Verdict, lost, exact, at_most, unknown, is_lost, is_exact, some_node, each_node, first_value}
-use Rattle.qc_model.specs.ForallVerdict.{entry_values, forall_verdict}
+use Rattle.qc_model.specs.Demands.{vector, IsBestVector, demands_through}
+use Rattle.qc_model.specs.Bottlenecks.{bottleneck_last}
+use Rattle.qc_model.specs.Verdict.{Verdict, lost, exact, at_most, unknown, is_lost, is_exact, some_node, each_node}
+use Rattle.qc_model.specs.ForallVerdict.{entry_values, numbers_for, forall_verdict}
 use Rattle.qc_model.proofs.Moves.{moves_to, moves_from}
-use Rattle.qc_laws.specs.Branches.{AllOwn}
 use Rattle.qc_laws.specs.Positions.{AtMost}
 use Rattle.qc_laws.specs.Verdicts.{Means, none_skipped}
 use Rattle.qc_laws.specs.Verdicts.{seen_in, EachClaim, IsComplete}
 use Rattle.qc_laws.proofs.Order.{moves_distinct}
 use Rattle.qc_laws.proofs.Domains.{EachListedDiffers, domains_differ}
-use Rattle.qc_laws.proofs.Universal.{scope_fold, named, entries_at, number_under, names_or_fixed, demand_is, vector_is, entries_are, optimal_universal}
+use Rattle.qc_laws.proofs.Universal.{branch_vectors, vector_is, optimal_universal}
 use Rattle.qc_laws.proofs.Existence.{best_is_one}
 use Rattle.qc_laws.proofs.Leaves.{best_each}
 use Rattle.qc_laws.proofs.Joins.{leaves_mean}
 use Rattle.proof_tree.specs.Finding.{Leaf, leaf_barred, leaf_skipped, leaf_bound, leaf_node, seen_of, first_choice, strategy_at, answers, forall_finding}
 use Rattle.proof_tree.specs.Meaning.{FirstIsNoBetter, ExactMeans, VerdictMeans}
+use Rattle.qc_meaning.proofs.Once.{kind_once}
 use Rattle.qc_meaning.proofs.Boxes.{differ}
 use Rattle.qc_meaning.proofs.ForallRules.{any_forall_lost, any_forall_exact}
 use Rattle.qc_meaning.proofs.LeafWords.{Reached, not_skipped, same_true, same_self, answer_tuples, answer_each, none_skipped as none_left_out}
@@ -123,41 +122,21 @@ module _ (g : Game) (later : List Scope) (i : ℕ) (a : List ℤ) (box : Box) (e
           (p.tuple, f.counter, ap (λ t. choose t f.counter) (ap (drop (length a)) p.after ∙ drop-append_seam a p.tuple), p.is_move, subst (λ u. CounterWins g later (suc i) u f.counter) p.after (l.0 z))
       pick false z q rest = rest q
 
--- the values in the branches of an answer made of leaves
-answer_values : (g : Game) (a : List ℤ) (ls : List Leaf) (x : Target) (ts : List (List ℤ)) → branch_values g (answers a ls ts) x a ≡ map (λ t. value g (strategy_at (a ++ t) ls) x (a ++ t)) ts
-answer_values g a ls x [] = refl
-answer_values g a ls x (t ∷ ts) = ap (λ ns. value g (strategy_at (a ++ t) ls) x (a ++ t) ∷ ns) (answer_values g a ls x ts)
-
-first_values : (g : Game) (a : List ℤ) (ls : List Leaf) (c : Condition) (ts : List (List ℤ)) →
-    map first_value (map (λ t. vector g (c ∷ []) (a ++ t) (strategy_at (a ++ t) ls)) ts) ≡ map (λ t. value g (strategy_at (a ++ t) ls) c.target (a ++ t)) ts
-first_values g a ls c [] = refl
-first_values g a ls c (t ∷ ts) = ap (λ ns. value g (strategy_at (a ++ t) ls) c.target (a ++ t) ∷ ns) (first_values g a ls c ts)
+-- the vectors in the branches of an answer made of leaves
+answer_vectors : (g : Game) (e : List Condition) (a : List ℤ) (ls : List Leaf) (ts : List (List ℤ)) → branch_vectors g e (answers a ls ts) a ≡ map (λ t. vector g e (a ++ t) (strategy_at (a ++ t) ls)) ts
+answer_vectors g e a ls [] = refl
+answer_vectors g e a ls (t ∷ ts) = ap (λ ws. vector g e (a ++ t) (strategy_at (a ++ t) ls) ∷ ws) (answer_vectors g e a ls ts)
 
 -- the answer's vector, by the vectors of its branches
-answer_vector : (g : Game) (own : Option ℕ) (a : List ℤ) (ls : List Leaf) (ts : List (List ℤ)) (d : List Condition) → AllOwn own d →
-    vector g d a (answer (answers a ls ts)) ≡ entry_values g d a (map first_value (map (λ t. vector g (demands_through g own d) (a ++ t) (strategy_at (a ++ t) ls)) ts))
-answer_vector g own a ls ts d h =
-    vector_is g own a (answers a ls ts) d h ∙ same own (names_or_fixed own a d h)
-    ∙ entries_are g own a (map first_value (map (λ t. vector g (demands_through g own d) (a ++ t) (strategy_at (a ++ t) ls)) ts)) d h
-  where
-    number : (own : Option ℕ) (c : Condition) → named own d ≡ Some c →
-        number_under g own (answers a ls ts) a ≡ scope_fold g own (map first_value (map (λ t. vector g (demands_through g own d) (a ++ t) (strategy_at (a ++ t) ls)) ts))
-    number None c q = cc
-    number (Some n) c q =
-        let x : Condition = record { sense = c.sense; target = inner_target (slice_get g.aggregates n) } in
-        ap (aggregate_fold (slice_get g.aggregates n))
-        (answer_values g a ls x.target ts ∙ sym (first_values g a ls x ts)
-        ∙ ap (λ z. map first_value (map (λ t. vector g z (a ++ t) (strategy_at (a ++ t) ls)) ts)) (sym (demand_is g n d c q)))
-
-    same : (own : Option ℕ) → ((c : Condition) × (named own d ≡ Some c)) ⊎ ((x y : ℤ) → entries_at a x d ≡ entries_at a y d) →
-        entries_at a (number_under g own (answers a ls ts) a) d ≡ entries_at a (scope_fold g own (map first_value (map (λ t. vector g (demands_through g own d) (a ++ t) (strategy_at (a ++ t) ls)) ts))) d
-    same own k = elim k [ inl n ↦ ap (λ z. entries_at a z d) (number own n.0 n.1) | inr f ↦ f _ _ ]
+answer_vector : (g : Game) (a : List ℤ) (ls : List Leaf) (ts : List (List ℤ)) (d : List Condition) →
+    vector g d a (answer (answers a ls ts)) ≡ entry_values g d a (numbers_for d (map (λ t. vector g (demands_through g d) (a ++ t) (strategy_at (a ++ t) ls)) ts))
+answer_vector g a ls ts d = vector_is g a (answers a ls ts) d ∙ ap (λ ws. entry_values g d a (numbers_for d ws)) (answer_vectors g (demands_through g d) a ls ts)
 
 module _ (g : Game) (later : List Scope) (i : ℕ) (a : List ℤ) (box : Box) (b : Bool) (x : Option Condition) (d : List Condition) (ls : List Leaf)
-    (mean : LeavesMean g false Forall later i (demands_through g (aggregate_of g i) d) a box ls) (fair : FairNode g b (record { kind = Forall; condition = x } ∷ later) i a box) (full : has_empty box ≡ false)
-    (own : AllOwn (aggregate_of g i) d) (differs : EachListedDiffers g.variables) where
+    (mean : LeavesMean g false Forall later i (demands_through g d) a box ls) (fair : FairNode g b (record { kind = Forall; condition = x } ∷ later) i a box) (full : has_empty box ≡ false)
+    (last : bottleneck_last g d ≡ true) (differs : EachListedDiffers g.variables) where
   abbrev after : List Condition
-  after = demands_through g (aggregate_of g i) d
+  after = demands_through g d
 
   abbrev scope : Scope
   scope = record { kind = Forall; condition = x }
@@ -179,13 +158,13 @@ module _ (g : Game) (later : List Scope) (i : ℕ) (a : List ℤ) (box : Box) (b
   all_mean : Means g d a (Optimal g (scope ∷ later) i a) (forall_verdict g d a (map seen_of ls))
   all_mean =
       subst (λ xs. Means g d a (Optimal g (scope ∷ later) i a) (forall_verdict g d a xs)) (claims_seen (length a) ls)
-      (leaves_mean g i a (Optimal g later (suc i)) (ChoosesBest x g i a (Optimal g later (suc i))) (aggregate_of g i) d (map (claim (length a)) ls) own (claims_mean g later i a box after ls mean.each) reordering)
+      (leaves_mean g i a (Optimal g later (suc i)) (ChoosesBest x g i a (Optimal g later (suc i))) d (map (claim (length a)) ls) last (claims_mean g later i a box after ls mean.each) reordering)
 
   the_answer : each_node is_exact (map seen_of ls) ≡ true → (v : List ℤ) → IsBestVector g d a (Optimal g (scope ∷ later) i a) v → ExactMeans g (scope ∷ later) i d a box (answer (answers a ls (moves g i a))) v
   the_answer q v best =
       let branch = λ (t : List ℤ) (m : Among t (moves g i a)). strategy_best g later i a box after (a ++ t) ls mean.each q (complete (none_left_out is_exact ls q) t (moves_to g i a t m)) in
       let ws = map (λ t. vector g after (a ++ t) (strategy_at (a ++ t) ls)) (moves g i a) in
-      let is = optimal_universal g later x i a d ws own (best_each g after a (Optimal g later (suc i)) (λ t. vector g after (a ++ t) (strategy_at (a ++ t) ls)) (moves g i a) (λ t m. (branch t m).1)) in
+      let is = optimal_universal g later x i a d ws last (best_each g after a (Optimal g later (suc i)) (λ t. vector g after (a ++ t) (strategy_at (a ++ t) ls)) (moves g i a) (λ t m. (branch t m).1)) in
       record {
         is_optimal = record {
           optimal = record {
@@ -194,7 +173,7 @@ module _ (g : Game) (later : List Scope) (i : ℕ) (a : List ℤ) (box : Box) (b
           };
           lies = front_in g i a box fair.frame full;
         };
-        has_vector = answer_vector g (aggregate_of g i) a ls (moves g i a) d own ∙ best_is_one g d a (Optimal g (scope ∷ later) i a) (entry_values g d a (map first_value ws)) v is best;
+        has_vector = answer_vector g a ls (moves g i a) d ∙ best_is_one g d a (Optimal g (scope ∷ later) i a) (entry_values g d a (numbers_for d ws)) v is best;
         best = λ r o. best.none_better r o.optimal;
       }
 
@@ -204,10 +183,11 @@ module _ (g : Game) (later : List Scope) (i : ℕ) (a : List ℤ) (box : Box) (b
       by : (v : Verdict) → forall_verdict g d a (map seen_of ls) ≡ v → Means g d a (Optimal g (record { kind = Forall; condition = x } ∷ later) i a) v →
           VerdictMeans v g (record { kind = Forall; condition = x } ∷ later) i d a box (forall_finding g i d a ls) b
       by lost q m =
-          let r = first_lost g later i a box (demands_through g (aggregate_of g i) d) Forall ls mean.each (mean.loses refl (λ n. absurd (never n))) (any_forall_lost g d a (map seen_of ls) (ap is_lost q)) in
+          let r = first_lost g later i a box (demands_through g d) Forall ls mean.each (mean.loses refl (λ n. absurd (never n))) (any_forall_lost g d a (map seen_of ls) (ap is_lost q)) in
           record {
             none = λ s o. m s o.optimal;
             loses = λ _. subst (λ p. CounterWins g (record { kind = Forall; condition = x } ∷ later) i a p) (sym r.2) (record { is_move = r.3; after = r.4 });
+            once = kind_once Forall x g i d a ls mean.once mean.distinct;
           }
       by (exact v) q m = the_answer (any_forall_exact g d a (map seen_of ls) (ap is_exact q)) v m
       by (at_most p) q m = λ s o. bound_all g d a (Optimal g (record { kind = Forall; condition = x } ∷ later) i a) p m s o.optimal

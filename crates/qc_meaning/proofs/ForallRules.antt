@@ -1,5 +1,5 @@
 -- Which rule gave the verdict of a universal scope.
-use Rattle.std.proofs.Common.{◌≡◌, Bool, true, false, List, [], ◌∷◌, map, refl, sym, ◌∙◌, cond, Option, Some, None}
+use Rattle.std.proofs.Common.{◌≡◌, Bool, true, false, List, [], ◌∷◌, refl, sym, ◌∙◌, cond, Option, Some, None}
 use Rattle.std.specs.Prelude.{ℤ}
 use Rattle.qc_model.specs.declared.problem.Sense.{Sense}
 use Rattle.qc_model.specs.declared.problem.Sense.TheVariants.{Min, Max}
@@ -11,8 +11,8 @@ use Rattle.qc_model.specs.declared.problem.Aggregate.{Aggregate}
 use Rattle.qc_model.specs.declared.problem.Condition.{Condition}
 use Rattle.qc_model.specs.Content.{Game}
 use Rattle.qc_model.specs.Value.{aggregate_fold}
-use Rattle.qc_model.specs.Verdict.{Verdict, lost, exact, at_most, Seen, is_exact, is_lost, some_node, each_node, exact_vectors, first_value}
-use Rattle.qc_model.specs.ForallVerdict.{forall_verdict, bounded_forall, first_entry_bound, one_sided, fold_bound, known_numbers, is_known, entry_values}
+use Rattle.qc_model.specs.Verdict.{Verdict, lost, exact, at_most, Seen, is_exact, is_lost, some_node, each_node, exact_vectors}
+use Rattle.qc_model.specs.ForallVerdict.{forall_verdict, bounded_forall, first_entry_bound, one_sided, fold_bound, known_numbers, is_known, entry_values, numbers_for}
 use Rattle.qc_meaning.proofs.Boxes.{differ}
 use Rattle.std.specs.Prelude.{slice_get}
 
@@ -46,7 +46,7 @@ between_forall g (c ∷ d) xs = by c.target
     by (Agg q) = choice (each_node is_known xs) (aggregate_fold (slice_get g.aggregates q.0) (known_numbers xs)) (one_sided c.sense (slice_get g.aggregates q.0) (known_numbers xs)) (sided c.sense (slice_get g.aggregates q.0) (known_numbers xs))
 
 pub any_forall_lost : (g : Game) (d : List Condition) (a : List ℤ) (xs : List Seen) → is_lost (forall_verdict g d a xs) ≡ true → some_node is_lost xs ≡ true
-any_forall_lost g d a xs e = go (some_node is_lost xs) (each_node is_exact xs) (entry_values g d a (map first_value (exact_vectors xs))) (bounded_forall g d xs) (between_forall g d xs) e
+any_forall_lost g d a xs e = go (some_node is_lost xs) (each_node is_exact xs) (entry_values g d a (numbers_for d (exact_vectors xs))) (bounded_forall g d xs) (between_forall g d xs) e
   where
     go : (x y : Bool) (v : List ℤ) (b : Verdict) → IsBetween b → is_lost (cond x lost (cond y (exact v) b)) ≡ true → x ≡ true
     go true y v b n e = refl
@@ -54,7 +54,7 @@ any_forall_lost g d a xs e = go (some_node is_lost xs) (each_node is_exact xs) (
     go false false v b n e = absurd (differ (sym n.0 ∙ e))
 
 pub any_forall_exact : (g : Game) (d : List Condition) (a : List ℤ) (xs : List Seen) → is_exact (forall_verdict g d a xs) ≡ true → each_node is_exact xs ≡ true
-any_forall_exact g d a xs e = go (some_node is_lost xs) (each_node is_exact xs) (entry_values g d a (map first_value (exact_vectors xs))) (bounded_forall g d xs) (between_forall g d xs) e
+any_forall_exact g d a xs e = go (some_node is_lost xs) (each_node is_exact xs) (entry_values g d a (numbers_for d (exact_vectors xs))) (bounded_forall g d xs) (between_forall g d xs) e
   where
     go : (x y : Bool) (v : List ℤ) (b : Verdict) → IsBetween b → is_exact (cond x lost (cond y (exact v) b)) ≡ true → y ≡ true
     go true y v b n e = absurd (differ e)

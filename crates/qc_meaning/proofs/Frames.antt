@@ -8,7 +8,7 @@ use Rattle.qc_model.specs.declared.problem.Kind.TheVariants.{Exists, Forall}
 use Rattle.qc_model.specs.declared.problem.Scope.{Scope}
 use Rattle.qc_model.specs.declared.problem.Condition.{Condition}
 use Rattle.qc_model.specs.Content.{Game}
-use Rattle.qc_model.specs.Lists.{Among}
+use Rattle.qc_model.specs.Lists.{Among, Distinct}
 use Rattle.qc_model.specs.Domains.{Box, InBox, declared_box, values_left, is_within, values_within, values_outside, box_within, box_without, has_empty}
 use Rattle.qc_model.specs.Game.{before, IsMove}
 use Rattle.qc_model.specs.Block.{of_kind, block_stop}
@@ -17,11 +17,11 @@ use Rattle.proof_tree.specs.Steps.{is_refuted_within}
 use Rattle.proof_tree.specs.Good.{Good, GoodThrough}
 use Rattle.qc_model.specs.Table.{IsTableSound, IsOrdered}
 use Rattle.proof_tree.specs.Fair.{free_stop, KeepsGood, LeavesRest}
-use Rattle.qc_meaning.proofs.Boxes.{singles, in_singles, filter_widen, filter_split, value_widen, singles_stay}
+use Rattle.qc_meaning.proofs.Boxes.{singles, in_singles, filter_widen, filter_split, some_widen, singles_stay}
 use Rattle.qc_meaning.proofs.FreeFront.{before_wider, free_above}
 use Rattle.qc_meaning.proofs.GoodValues.{good_front, after_front}
 use Rattle.qc_meaning.proofs.HorizonHolds.{not_refuted}
-use Rattle.qc_meaning.proofs.Narrowed.{IsWithin, within_filter, within_value, within_in, past_set}
+use Rattle.qc_meaning.proofs.Narrowed.{IsWithin, within_filter, within_some, within_in, past_set}
 use Rattle.qc_meaning.proofs.Passing.{GoodAfter, move_count, after_passes}
 use Rattle.qc_meaning.proofs.Taken.{taken_less, still_in, filtered_distinct, set_distinct}
 
@@ -144,23 +144,23 @@ bound_fair g b later i a box x lo hi l full f = record {
     stop_least true = omega arith
     stop_least false = free_above later (suc i)
 
--- a variable of the scope takes one of its values
-pub narrow_fair : (g : Game) (b : Bool) (k : Kind) (later : List Scope) (i : ℕ) (a : List ℤ) (box : Box) (x : ℕ) (v : ℤ) → before g i ≤ x → x < before g (suc i) → Among v (values_left box x) → has_empty box ≡ false →
-    FairPart g b k later i a box → FairPart g b k later i a (set box x (v ∷ []))
-narrow_fair g b k later i a box x v low high among full f = record {
+-- a variable of the scope keeps some of its values
+pub narrow_fair : (g : Game) (b : Bool) (k : Kind) (later : List Scope) (i : ℕ) (a : List ℤ) (box : Box) (x : ℕ) (us : List ℤ) → before g i ≤ x → x < before g (suc i) → Distinct us → ((z : ℤ) → Among z us → Among z (values_left box x)) → has_empty box ≡ false →
+    FairPart g b k later i a box → FairPart g b k later i a (set box x us)
+narrow_fair g b k later i a box x us low high new among full f = record {
   frame = record {
-    size = length-set box x (v ∷ []) ∙ f.frame.size;
-    within = λ j u h. f.frame.within j u (within_value box x j v u among h);
-    distinct = set_distinct box x (v ∷ []) f.frame.distinct (λ n. n, tt);
-    earlier = λ e. take-set-le (before g i) box x (v ∷ []) low ∙ f.frame.earlier full;
+    size = length-set box x us ∙ f.frame.size;
+    within = λ j u h. f.frame.within j u (within_some box x j us u among h);
+    distinct = set_distinct box x us f.frame.distinct new;
+    earlier = λ e. take-set-le (before g i) box x us low ∙ f.frame.earlier full;
     count = f.frame.count;
   };
   keeps = λ t w m good h.
       let n = before g (stop_of b later (suc i)) in
       let up = before_wider g (suc i) (stop_of b later (suc i)) (stop_above b later (suc i)) in
-      still_in n x (v ∷ []) w box (omega arith) (f.keeps t w m good (value_widen box x v (take n w) among h)) h;
+      still_in n x us w box (omega arith) (f.keeps t w m good (some_widen box x us (take n w) among h)) h;
   rest = λ t w m good h.
-      drop-set-lt (length w) box x (v ∷ []) (far t w m good) ∙ f.rest t w m good (value_widen box x v w among h);
+      drop-set-lt (length w) box x us (far t w m good) ∙ f.rest t w m good (some_widen box x us w among h);
 }
   where
     far : (t w : List ℤ) → IsMove g i a t → GoodAfter k g later i (a ++ t) w → x < length w

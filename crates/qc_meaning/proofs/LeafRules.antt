@@ -26,10 +26,10 @@ use Rattle.proof_tree.specs.Place.{position}
 use Rattle.proof_tree.specs.Finding.{Finding, Leaf, leaf_barred, leaf_skipped, leaf_bound, leaf_node, seen_of}
 use Rattle.proof_tree.specs.Good.{Good}
 use Rattle.proof_tree.specs.Meaning.{FirstIsNoBetter, VerdictMeans}
-use Rattle.qc_meaning.proofs.Boxes.{differ, in_front, empty_past, none_past, none_at, values_split}
+use Rattle.qc_meaning.proofs.Boxes.{differ, in_front, empty_past, none_past, none_at, set_widen, values_split}
 use Rattle.qc_meaning.proofs.GoodValues.{good_front, after_front}
 use Rattle.qc_meaning.proofs.LeafWords.{not_skipped, reached_left, reached_right}
-use Rattle.qc_meaning.proofs.Narrowed.{first_widen, rest_widen}
+use Rattle.qc_model.proofs.Moves.{among_left, among_right}
 use Rattle.qc_meaning.proofs.Passing.{GoodAfter, move_count}
 use Rattle.qc_meaning.proofs.Places.{both}
 use Rattle.qc_meaning.proofs.Taken.{apart}
@@ -192,34 +192,34 @@ none_mean g b k later i e a box x n high = record {
     nothing t m j = let c = move_count g i a t n m in none_at box x (a ++ t) (omega arith) j
 
 -- a case that is left out
-pub skipped_mean : (g : Game) (b : Bool) (k : Kind) (later : List Scope) (i : ℕ) (e : List Condition) (a : List ℤ) (box : Box) (x : ℕ) (v : ℤ) (vs : List ℤ) (ls : List Leaf) →
-    LeavesMean g b k later i e a (set box x vs) ls → LeavesMean g b k later i e a (set box x (v ∷ vs)) (leaf_skipped ∷ ls)
-skipped_mean g b k later i e a box x v vs ls h = record {
-  each = each_wider g k later i e a (set box x vs) (set box x (v ∷ vs)) ls (rest_widen box x v vs) h.each;
-  loses = h.loses;
+pub skipped_mean : (g : Game) (b : Bool) (k : Kind) (later : List Scope) (i : ℕ) (e : List Condition) (a : List ℤ) (box : Box) → LeavesMean g b k later i e a box (leaf_skipped ∷ [])
+skipped_mean g b k later i e a box = record {
+  each = tt;
+  loses = λ _ _. tt;
   complete = λ _ z. absurd (differ z);
   covers = λ q t s m o j. inl tt;
-  distinct = h.distinct;
-  once = h.once;
-  no_marks = h.no_marks;
+  distinct = tt;
+  once = tt;
+  no_marks = λ _. refl;
 }
 
--- a case, and the others
-pub go_mean : (g : Game) (b : Bool) (k : Kind) (later : List Scope) (i : ℕ) (e : List Condition) (a : List ℤ) (box : Box) (x : ℕ) (v : ℤ) (vs : List ℤ) (ks ls : List Leaf) →
-    length a ≡ before g i → x < before g (suc i) → (¬ Among v vs) →
-    LeavesMean g b k later i e a (set box x (v ∷ [])) ks → LeavesMean g b k later i e a (set box x vs) ls → LeavesMean g b k later i e a (set box x (v ∷ vs)) (ks ++ ls)
-go_mean g b k later i e a box x v vs ks ls n high new one rest = record {
-  each = each_append g k later i e a whole ks ls (each_wider g k later i e a first whole ks (first_widen box x v vs) one.each) (each_wider g k later i e a others whole ls (rest_widen box x v vs) rest.each);
+-- a case with the values us, and the others
+pub case_mean : (g : Game) (b : Bool) (k : Kind) (later : List Scope) (i : ℕ) (e : List Condition) (a : List ℤ) (box : Box) (x : ℕ) (us vs : List ℤ) (ks ls : List Leaf) →
+    length a ≡ before g i → x < before g (suc i) → ((z : ℤ) → Among z us → ¬ Among z vs) →
+    LeavesMean g b k later i e a (set box x us) ks → LeavesMean g b k later i e a (set box x vs) ls → LeavesMean g b k later i e a (set box x (us ++ vs)) (ks ++ ls)
+case_mean g b k later i e a box x us vs ks ls n high new one rest = record {
+  each = each_append g k later i e a whole ks ls (each_wider g k later i e a first whole ks (λ w. set_widen box x us (us ++ vs) w (λ z. among_left z us vs)) one.each)
+      (each_wider g k later i e a others whole ls (λ w. set_widen box x vs (us ++ vs) w (λ z. among_right z us vs)) rest.each);
   loses = λ q u. loses_append g later i ks ls (one.loses q (λ j. (unmarked u j).0)) (rest.loses q (λ j. (unmarked u j).1));
   complete = λ u z t w m good j.
       let y = both (list_all not_skipped ks) (list_all not_skipped ls) (sym (list_all-append not_skipped ks ls) ∙ z) in
-      elim (values_split box x v vs w j) [
+      elim (values_split box x us vs w j) [
         | inl r ↦ reached_left (a ++ t) ks ls (one.complete (λ p. (unmarked u p).0) y.0 t w m good r)
         | inr r ↦ reached_right (a ++ t) ks ls (rest.complete (λ p. (unmarked u p).1) y.1 t w m good r)
       ];
   covers = λ q t s m o j.
       subst (λ xs. SomeAllows e xs (vector g e (a ++ t) s)) (sym (map-append seen_of ks ls))
-      (elim (values_split box x v vs (reach (a ++ t) s) j) [
+      (elim (values_split box x us vs (reach (a ++ t) s) j) [
         | inl r ↦ allows_left e (map seen_of ks) (map seen_of ls) (vector g e (a ++ t) s) (one.covers q t s m o r)
         | inr r ↦ allows_right e (map seen_of ks) (map seen_of ls) (vector g e (a ++ t) s) (rest.covers q t s m o r)
       ]);
@@ -227,16 +227,16 @@ go_mean g b k later i e a box x v vs ks ls n high new one rest = record {
       let y = tuple_lies g k later i e a first ks one.each t p in
       let z = tuple_lies g k later i e a others ls rest.each t q in
       let c = move_count g i a t n y.0 in
-      apart box x v vs (a ++ t) (omega arith) new y.1 z.1));
+      apart box x us vs (a ++ t) (omega arith) new y.1 z.1));
   once = once_append ks ls one.once rest.once;
   no_marks = λ q. unmarked_append ks ls ∙ (ap (λ y. y && is_unmarked ls) (one.no_marks q) ∙ rest.no_marks q);
 }
   where
     whole : Box
-    whole = set box x (v ∷ vs)
+    whole = set box x (us ++ vs)
 
     first : Box
-    first = set box x (v ∷ [])
+    first = set box x us
 
     others : Box
     others = set box x vs

@@ -27,4 +27,8 @@ pub mod ForallNodes
 pub mod EndNodes
 pub mod Trees
 pub mod Outcomes
+pub mod Standing
+pub mod FairForms
+pub mod HandedOn
+pub mod InnerNodes
 mod Examples

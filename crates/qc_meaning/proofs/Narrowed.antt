@@ -1,5 +1,5 @@
 -- Values that lie in boxes whose domains were made smaller.
-use Rattle.std.proofs.Common.{◌≡◌, ◌⊎◌, inl, inr, ℕ, zero, suc, ◌≤◌, Bool, true, false, not, List, [], ◌∷◌, length, set, get_or, filter, sym, subst, arith, cond}
+use Rattle.std.proofs.Common.{◌≡◌, ◌⊎◌, inl, inr, ℕ, zero, suc, ◌≤◌, Bool, true, false, not, List, [], ◌∷◌, length, set, get_or, filter, arith, cond}
 use Rattle.std.specs.Prelude.{ℤ}
 use Rattle.qc_model.specs.Content.{Game}
 use Rattle.qc_model.specs.Lists.{Among}
@@ -8,7 +8,7 @@ use Rattle.proof_tree.specs.declared.tree.Step.{Step}
 use Rattle.proof_tree.specs.declared.tree.Step.TheVariants.{Prune, Bound}
 use Rattle.proof_tree.specs.Steps.{after_step, after_steps}
 use Rattle.qc_meaning.proofs.Boxes.{filter_widen}
-use Rattle.std.proofs.Common.{◌≡◌, inl, inr, ℕ, zero, suc, ◌≤◌, Bool, true, false, not, List, [], ◌∷◌, length, set, sym, subst, arith}
+use Rattle.std.proofs.Common.{◌≡◌, inl, inr, ℕ, zero, suc, ◌≤◌, Bool, true, false, not, List, [], ◌∷◌, length, set, arith}
 use Rattle.std.specs.Prelude.{ℤ}
 use Rattle.qc_model.specs.Domains.{Box, InBox, declared_box}
 use Rattle.proof_tree.specs.Steps.{after_steps}
@@ -51,22 +51,10 @@ steps_widen [] box w h = h
 steps_widen (Prune x lo hi c ∷ steps) box w h = filter_widen (λ u. not (is_within lo hi u)) box x.0 w (steps_widen steps (after_step (Prune x lo hi c) box) w h)
 steps_widen (Bound x lo hi ∷ steps) box w h = filter_widen (λ u. not (is_within lo hi u)) box x.0 w (steps_widen steps (after_step (Bound x lo hi) box) w h)
 
--- a domain set to one of its values
-pub within_value : (ds : Box) (x k : ℕ) (v u : ℤ) → Among v (get_or ds x []) → Among u (get_or (set ds x (v ∷ [])) k []) → Among u (get_or ds k [])
-within_value [] x k v u m h = h
-within_value (d ∷ ds) zero zero v u m h = elim h [ inl e ↦ subst (λ z. Among z d) (sym e) m | inr n ↦ absurd n ]
-within_value (d ∷ ds) zero (suc k) v u m h = h
-within_value (d ∷ ds) (suc x) zero v u m h = h
-within_value (d ∷ ds) (suc x) (suc k) v u m h = within_value ds x k v u m h
-
-pub first_widen : (ds : Box) (x : ℕ) (v : ℤ) (vs : List ℤ) (w : List ℤ) → InBox w (set ds x (v ∷ [])) → InBox w (set ds x (v ∷ vs))
-first_widen ds x v vs [] h = tt
-first_widen [] x v vs (u ∷ w) h = h
-first_widen (d ∷ ds) zero v vs (u ∷ w) h = (elim h.0 [ inl e ↦ inl e | inr m ↦ absurd m ], h.1)
-first_widen (d ∷ ds) (suc x) v vs (u ∷ w) h = (h.0, first_widen ds x v vs w h.1)
-
-pub rest_widen : (ds : Box) (x : ℕ) (v : ℤ) (vs : List ℤ) (w : List ℤ) → InBox w (set ds x vs) → InBox w (set ds x (v ∷ vs))
-rest_widen ds x v vs [] h = tt
-rest_widen [] x v vs (u ∷ w) h = h
-rest_widen (d ∷ ds) zero v vs (u ∷ w) h = (inr h.0, h.1)
-rest_widen (d ∷ ds) (suc x) v vs (u ∷ w) h = (h.0, rest_widen ds x v vs w h.1)
+-- a domain set to some of its values
+pub within_some : (ds : Box) (x k : ℕ) (us : List ℤ) (u : ℤ) → ((z : ℤ) → Among z us → Among z (get_or ds x [])) → Among u (get_or (set ds x us) k []) → Among u (get_or ds k [])
+within_some [] x k us u f h = h
+within_some (d ∷ ds) zero zero us u f h = f u h
+within_some (d ∷ ds) zero (suc k) us u f h = h
+within_some (d ∷ ds) (suc x) zero us u f h = h
+within_some (d ∷ ds) (suc x) (suc k) us u f h = within_some ds x k us u f h

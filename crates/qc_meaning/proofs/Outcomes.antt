@@ -44,7 +44,7 @@ root_means g t valid e =
     let fair : FairNode g false g.scopes 0 (position g 0 (declared_box g)) (declared_box g) =
     subst (λ a. FairNode g false g.scopes 0 a (declared_box g)) (sym (no_position g (declared_box g))) (root_fair g (domains_differ g differs)) in
     subst (λ a. NodeMeans g false g.scopes 0 [] a (declared_box g) (root_finding g t)) (no_position g (declared_box g))
-    (tree_means g r t g.scopes 0 [] (declared_box g) false None (omega arith) r.valid.sees (nothing g.scopes) r.ordered.no_empty fair tt e)
+    (tree_means g r t g.scopes 0 [] (declared_box g) false None (omega arith) r.valid.sees (nothing g.scopes, r.valid.bottlenecks) r.ordered.no_empty fair tt e)
   where
     nothing : (scopes : List Scope) → AllVisible g scopes 0 []
     nothing [] = tt
@@ -87,8 +87,10 @@ optimum_is g f v (s ∷ later) q h own x o = by s.kind s.condition q h own
     by : (k : Kind) (c : Option Condition) → g.scopes ≡ record { kind = k; condition = c } ∷ later → of_kind k (is_some c) false ≡ true → OwnBy c g [] f → OptimumBy c g v
     by Forall c q h own = absurd (differ h)
     by Exists None q h own = absurd (differ h)
-    by Exists (Some c) q h own = λ p w.
-        optimum_same g later c 0 [] p f.strategy (subst (λ z. Optimal g z 0 [] p) q w) (subst (λ z. Optimal g z 0 [] f.strategy) q o) ∙ own v x
+    by Exists (Some c) q h own = record {
+      won = optimal_wins g g.scopes 0 [] f.strategy o;
+      has_value = λ p w. optimum_same g later c 0 [] p f.strategy (subst (λ z. Optimal g z 0 [] p) q w) (subst (λ z. Optimal g z 0 [] f.strategy) q o) ∙ own v x;
+    }
 
 pub outcome_means : (g : Game) (outcome : Outcome) (optimum : Option ℤ) (t : Tree) → IsValid g → IsTrue (proves g outcome optimum t) → OutcomeMeans outcome optimum g t
 outcome_means g True None t r e =

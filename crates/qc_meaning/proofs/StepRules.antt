@@ -30,7 +30,7 @@ use Rattle.proof_tree.specs.declared.tree.Step.TheVariants.{Prune, Bound}
 use Rattle.proof_tree.specs.Place.{Tracked, owner_of, tracked_target, tracked_first, tracked_variable}
 use Rattle.proof_tree.specs.Steps.{after_step, after_steps, is_legal, are_legal, removes_some, is_refuted_within, is_tracked, best_value, step_marks}
 use Rattle.proof_tree.specs.Finding.{Leaf, leaf_bound}
-use Rattle.proof_tree.specs.Fair.{free_stop}
+use Rattle.proof_tree.specs.Fair.{free_stop, bounded_after}
 use Rattle.qc_meaning.proofs.Boxes.{differ, filter_widen, filter_split}
 use Rattle.qc_meaning.proofs.Narrowed.{past_set}
 use Rattle.qc_meaning.proofs.Places.{both, not_true}
@@ -42,13 +42,9 @@ use Rattle.qc_meaning.proofs.LeafLists.{LeavesMean}
 use Rattle.qc_meaning.proofs.LeafRules.{same_mean, bound_mean}
 
 -- whether a bound stands above, after the steps
-abbrev pub flag_step : Step → Bool → Bool
-flag_step (Prune x lo hi c) b = b
-flag_step (Bound x lo hi) b = true
-
 abbrev pub flag_after : List Step → Bool → Bool
 flag_after [] b = b
-flag_after (st ∷ steps) b = flag_after steps (flag_step st b)
+flag_after (st ∷ steps) b = flag_after steps (bounded_after st b)
 
 -- the best of some values is the best number
 least_number : (n : ℤ) (vs : Values) → least_from n vs ≡ best_number_from Min n vs
@@ -114,8 +110,8 @@ module _ (g : Game) (r : IsSound g) (s : Scope) (later : List Scope) (i : ℕ) (
   bounded None x q h = absurd (differ h)
   bounded (Some u) x q h = let f = bound_free g r.valid s later i e u visible q in (u, refl, same_variable u.variable x h, f.0, f.1)
 
-  step_fair : (t : Option Tracked) → tracked_variable g (s ∷ later) i e ≡ t → (st : Step) (b : Bool) (box : Box) → legal t st box ≡ true → FairPart g b s.kind later i a box →
-      FairPart g (flag_step st b) s.kind later i a (after_step st box)
+  pub step_fair : (t : Option Tracked) → tracked_variable g (s ∷ later) i e ≡ t → (st : Step) (b : Bool) (box : Box) → legal t st box ≡ true → FairPart g b s.kind later i a box →
+      FairPart g (bounded_after st b) s.kind later i a (after_step st box)
   step_fair t q (Prune x lo hi c) b box h f =
       let p = both (removes_some box x.0 lo hi) (is_refuted_within i (force_stop (s ∷ later) i) (slice_get g.constraints c.0) (box_within box x.0 lo hi)) h in
       let p1 = both (not (has_empty box)) (not (is_none_left (values_within lo hi (values_left box x.0)))) p.0 in
@@ -132,7 +128,7 @@ module _ (g : Game) (r : IsSound g) (s : Scope) (later : List Scope) (i : ℕ) (
   steps_fair t q [] b box h f = f
   steps_fair t q (st ∷ steps) b box h f =
       let p = both (legal t st box) (are_legal g i (force_stop (s ∷ later) i) t steps (after_step st box)) h in
-      steps_fair t q steps (flag_step st b) (after_step st box) p.1 (step_fair t q st b box p.0 f)
+      steps_fair t q steps (bounded_after st b) (after_step st box) p.1 (step_fair t q st b box p.0 f)
 
   pub steps_mean : (t : Option Tracked) → tracked_variable g (s ∷ later) i e ≡ t → (steps : List Step) (b : Bool) (box : Box) (ls : List Leaf) → are_legal g i (force_stop (s ∷ later) i) t steps box ≡ true → FairPart g b s.kind later i a box →
       LeavesMean g (flag_after steps b) s.kind later i e a (after_steps steps box) ls → LeavesMean g b s.kind later i e a box (map leaf_bound (step_marks t steps box) ++ ls)

@@ -4,6 +4,7 @@ use Rattle.std.specs.Prelude.{ℤ}
 use Rattle.qc_model.specs.Lists.{Among}
 use Rattle.qc_model.specs.Domains.{Box, InBox}
 use Rattle.qc_model.specs.Lists.{Distinct}
+use Rattle.qc_model.proofs.Moves.{among_left, among_right}
 use Rattle.qc_laws.specs.Distinct.{EachDistinct}
 use Rattle.qc_laws.proofs.Order.{distinct_filter}
 
@@ -56,8 +57,24 @@ pub filtered_distinct : (p : ℤ → Bool) (ds : Box) (x : ℕ) → EachDistinct
 filtered_distinct p ds x h = set_distinct ds x (filter p (get_or ds x [])) h (distinct_filter p (get_or ds x []) (get_distinct ds x h))
 
 -- no values lie in the boxes of two cases
-pub apart : (ds : Box) (x : ℕ) (v : ℤ) (vs : List ℤ) (w : List ℤ) → x < length w → (¬ Among v vs) → InBox w (set ds x (v ∷ [])) → InBox w (set ds x vs) → ⊥
-apart ds x v vs [] l n h k = absurd (omega arith)
-apart [] x v vs (u ∷ w) l n h k = h
-apart (d ∷ ds) zero v vs (u ∷ w) l n h k = elim h.0 [ inl e ↦ n (subst (λ z. Among z vs) e k.0) | inr m ↦ m ]
-apart (d ∷ ds) (suc x) v vs (u ∷ w) l n h k = apart ds x v vs w (omega arith) n h.1 k.1
+pub apart : (ds : Box) (x : ℕ) (us vs w : List ℤ) → x < length w → ((z : ℤ) → Among z us → ¬ Among z vs) → InBox w (set ds x us) → InBox w (set ds x vs) → ⊥
+apart ds x us vs [] l n h k = absurd (omega arith)
+apart [] x us vs (u ∷ w) l n h k = h
+apart (d ∷ ds) zero us vs (u ∷ w) l n h k = n u h.0 k.0
+apart (d ∷ ds) (suc x) us vs (u ∷ w) l n h k = apart ds x us vs w (omega arith) n h.1 k.1
+
+-- the parts of a list that repeats no value
+pub record AreApart (us vs : List ℤ) : Type 0 where
+  pub first : Distinct us
+  pub second : Distinct vs
+  pub none : (z : ℤ) → Among z us → ¬ Among z vs
+
+pub distinct_parts : (us vs : List ℤ) → Distinct (us ++ vs) → AreApart us vs
+distinct_parts [] vs h = record { first = tt; second = h; none = λ z m k. m }
+distinct_parts (u ∷ us) vs h =
+    let p = distinct_parts us vs h.1 in
+    record {
+      first = (λ m. h.0 (among_left u us vs m), p.first);
+      second = p.second;
+      none = λ z m k. elim m [ inl e ↦ h.0 (among_right u us vs (subst (λ y. Among y vs) e k)) | inr n ↦ p.none z n k ];
+    }

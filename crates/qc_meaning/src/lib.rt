@@ -5,4 +5,7 @@
 
 mod laws;
 
-pub use laws::{outcomes_are_true, root_means_its_verdict};
+pub use laws::{
+    fair_boxes_are_handed_on, horizons_block, nodes_mean_their_verdicts, outcomes_are_true,
+    root_means_its_verdict,
+};
