@@ -1,26 +1,23 @@
 -- Bytes that begin as one of a symbol's choices says begin with a text of the symbol.
-use Rattle.std.proofs.Common.{◌≡◌, ◌⊎◌, inl, inr, refl, sym, ap, ◌∙◌, subst, ℕ, ◌+◌, ◌-◌, ◌*◌, ◌^◌, ◌≤◌, ◌<◌, List, [], ◌∷◌, ◌++◌, Option, Some, None, Bool, true, false, ◌&&◌, max, append_assoc, arith, leb-true, le-leb}
-use Rattle.std.specs.Prelude.{IsTrue, ℤ, nat_le, unsigned_abs, codes}
+use Rattle.std.proofs.Common.{◌≡◌, inl, inr, refl, sym, ap, ◌∙◌, subst, ℕ, ◌+◌, ◌-◌, ◌≤◌, List, [], ◌∷◌, ◌++◌, Option, Some, None, Bool, true, false, max, append_assoc, arith, le-leb}
+use Rattle.std.specs.Prelude.{IsTrue, ℤ, nat_le, codes}
 use Rattle.std.specs.Fmt.{decimal, signed_decimal}
-use Rattle.std.specs.List.{list_all}
 use Rattle.std.proofs.lemmas.Bool.{and_from}
-use Rattle.std.proofs.Math.Nat.{le-max_left, le-max_right}
-use Rattle.qc_model.specs.declared.problem.VarId.{VarId}
-use Rattle.qc_model.specs.declared.problem.ConId.{ConId}
-use Rattle.qc_model.specs.declared.problem.ScopeId.{ScopeId}
-use Rattle.proof_tree.specs.declared.tree.Outcome.{Outcome}
 use Rattle.proof_tree.specs.declared.tree.Outcome.TheVariants.{True, False, Open}
 use Rattle.proof_tree.specs.declared.tree.Horizon.{Horizon}
 use Rattle.proof_tree.specs.declared.tree.Step.{Step}
 use Rattle.proof_tree.specs.declared.tree.Step.TheVariants.{Prune, Bound}
-use Rattle.proof_tree.specs.Unbounded.{is_prune}
-use Rattle.proof_tree.specs.Tree.{Tree, tree, Body, stuck, goal, cases as cases_body, Ending, empty, barred, next, branch, Branches, no_more, skip, left_open, go}
-use Rattle.proof_tree.specs.Counts.{depth_of, body_depth, ending_depth, branch_depth}
-use Rattle.proof_tree.specs.Text.{step_text, steps_text, tree_text, body_text, ending_text, branches_text, outcome_text, is_place, step_fits, tree_fits, body_fits, ending_fits, branches_fit, outcome_fits, horizon_text, horizon_fits}
-use Rattle.proof_text.specs.Symbols.{Symbol, byte, number, signed, digits, outcome, optimum, prunes, node, body, cases, ending, branches, Choices, bytes, prune_line, bound_line, outcome_choices, optimum_choices, prune_choices, ending_choices, case_choices, body_choices, node_choices, branch_choices}
-use Rattle.proof_text.proofs.Grammar.{Begins, Runs, Choice, IsNumber, IsSigned, IsOutcome, IsOptimum, ArePrunes, IsNode, IsBody, IsEnding, AreCases, AreBranches, optimum_text, runs_split, bytes_then}
+use Rattle.proof_tree.specs.Steps.{is_prune}
+use Rattle.proof_tree.specs.Tree.{tree, stuck, goal, cases as cases_body, empty, barred, next, branch, no_more, piece, skip, left_open, go}
+use Rattle.proof_tree.specs.Counts.{branch_depth, case_depth}
+use Rattle.proof_tree.specs.Text.{outcome_text, is_place, step_fits, upto_fits}
+use Rattle.proof_text.specs.Parts.{step_text, steps_text, tree_text, body_text, ending_text, branches_text, upto_text, case_text}
+use Rattle.proof_text.specs.Symbols.{number, optimum, prunes, cases, branches, prune_line, bound_line, certificate_choices, outcome_choices, optimum_choices, prune_choices, ending_choices, case_choices, body_choices, node_choices, one_choices, with_range, followed, branch_choices}
+use Rattle.proof_text.proofs.Grammar.{Runs, Choice, IsNumber, IsOutcome, IsOptimum, ArePrunes, IsNode, IsBody, IsEnding, AreCases, AreBranches, IsCase, IsCertificate, optimum_text, runs_split, bytes_then}
 use Rattle.proof_text.proofs.Choices.{choice_followed}
-use Rattle.proof_text.proofs.Forward.{rest_of_step, letter_of_step, line_of_step, step_is, steps_are, branch_pieces, node_pieces, go_pieces}
+use Rattle.proof_text.proofs.Forward.{step_is, branch_pieces, node_pieces, go_pieces}
+use Rattle.proof_tree.specs.declared.tree.Version.{Version}
+use Rattle.proof_tree.specs.declared.tree.Version.TheVariants.{One, Two}
 
 -- the number's place, from 0
 place_of : (most end : ℕ) (u b : List ℕ) (h : IsNumber most end u b) → IsTrue (is_place most (h.n - 1)) × (u ≡ decimal (h.n - 1 + 1) ++ end ∷ b)
@@ -132,10 +129,10 @@ prune_back m u b (inr (inr h)) = absurd h
 letter_line : (u w v b : List ℕ) (c : ℕ) → u ≡ c ∷ w → w ≡ 10 ∷ v → v ≡ b → u ≡ c ∷ 10 ∷ b
 letter_line u w v b c h g e = rw (h, g, e)
 
-pub ending_back : (m n : ℕ) (u b : List ℕ) → n ≤ m → Choice m (ending_choices n) u b → IsEnding m n u b
-ending_back m n u b d (inl h) = record { end = empty; fits = refl; shallow = omega arith; told = letter_line u h.0 h.2.0 b 101 h.1 h.2.1 h.2.2 }
-ending_back m n u b d (inr (inl h)) = record { end = barred; fits = refl; shallow = omega arith; told = letter_line u h.0 h.2.0 b 120 h.1 h.2.1 h.2.2 }
-ending_back m n u b d (inr (inr (inl h))) =
+pub ending_back : (m : ℕ) (ver : Version) (n : ℕ) (u b : List ℕ) → n ≤ m → Choice m (ending_choices ver n) u b → IsEnding m ver n u b
+ending_back m ver n u b d (inl h) = record { end = empty; fits = refl; shallow = omega arith; told = letter_line u h.0 h.2.0 b 101 h.1 h.2.1 h.2.2 }
+ending_back m ver n u b d (inr (inl h)) = record { end = barred; fits = refl; shallow = omega arith; told = letter_line u h.0 h.2.0 b 120 h.1 h.2.1 h.2.2 }
+ending_back m ver n u b d (inr (inr (inl h))) =
     let t = h.2.2.1 in
     let s = t.shallow in
     record {
@@ -145,7 +142,7 @@ ending_back m n u b d (inr (inr (inl h))) =
       told =
           letter_line u h.0 h.2.0 _ 110 h.1 h.2.1 (t.told ∙ ap (λ (l : List ℕ). tree_text t.t ++ l) h.2.2.2);
     }
-ending_back m n u b d (inr (inr (inr (inl h)))) =
+ending_back m ver n u b d (inr (inr (inr (inl h)))) =
     let x = place_of 500 10 h.2.0 h.2.2.0 h.2.2.1 in
     let bs = h.2.2.2.1 in
     let s = bs.shallow in
@@ -157,48 +154,48 @@ ending_back m n u b d (inr (inr (inr (inl h)))) =
           h.1 ∙ ap (λ (l : List ℕ). 118 ∷ l) (h.2.1 ∙ ap (λ (l : List ℕ). 32 ∷ l) (x.1 ∙ ap (λ (l : List ℕ). decimal (h.2.2.1.n - 1 + 1) ++ 10 ∷ l) (bs.told ∙ ap (λ (l : List ℕ). branches_text bs.bs ++ 46 ∷ 10 ∷ l) h.2.2.2.2)))
           ∙ sym (branch_pieces (codes "v ") (decimal (h.2.2.1.n - 1 + 1)) (codes "\n") (branches_text bs.bs) (codes ".\n") b);
     }
-ending_back m n u b d (inr (inr (inr (inr h)))) = absurd h
+ending_back m ver n u b d (inr (inr (inr (inr h)))) = absurd h
 
-pub case_back : (m n : ℕ) (u b : List ℕ) → n ≤ m → Choice m (case_choices n) u b → AreCases m n u b
-case_back m n u b d (inl h) =
-    let r = runs_split m prune_line (cases n ∷ []) h.0 b h.2 in
+pub case_back : (m : ℕ) (ver : Version) (n : ℕ) (u b : List ℕ) → n ≤ m → Choice m (case_choices ver n) u b → AreCases m ver n u b
+case_back m ver n u b d (inl h) =
+    let r = runs_split m prune_line (cases ver n ∷ []) h.0 b h.2 in
     let s = prune_of m h.0 r.0 r.1 in
     let p = r.2.1 in
     record {
       steps = s.step ∷ p.steps;
       fit = and_from _ _ s.fits p.fit;
       rest = p.rest;
-      end = subst (λ (l : List ℕ). IsEnding m n p.rest l) r.2.2 p.end;
+      end = subst (λ (l : List ℕ). IsEnding m ver n p.rest l) r.2.2 p.end;
       told =
           h.1 ∙ more_steps 112 true h.0 r.0 p.rest p.steps s p.told;
     }
-case_back m n u b d (inr (inl h)) =
-    let r = runs_split m bound_line (cases n ∷ []) h.0 b h.2 in
+case_back m ver n u b d (inr (inl h)) =
+    let r = runs_split m bound_line (cases ver n ∷ []) h.0 b h.2 in
     let s = bound_of m h.0 r.0 r.1 in
     let p = r.2.1 in
     record {
       steps = s.step ∷ p.steps;
       fit = and_from _ _ s.fits p.fit;
       rest = p.rest;
-      end = subst (λ (l : List ℕ). IsEnding m n p.rest l) r.2.2 p.end;
+      end = subst (λ (l : List ℕ). IsEnding m ver n p.rest l) r.2.2 p.end;
       told =
           h.1 ∙ more_steps 98 false h.0 r.0 p.rest p.steps s p.told;
     }
-case_back m n u b d (inr (inr h)) = record { steps = []; fit = refl; rest = u; end = ending_back m n u b d h; told = refl }
+case_back m ver n u b d (inr (inr h)) = record { steps = []; fit = refl; rest = u; end = ending_back m ver n u b d h; told = refl }
 
 -- cases, with their end
-pub cases_told : (m n : ℕ) (u b : List ℕ) (h : AreCases m n u b) → u ≡ (steps_text h.steps ++ ending_text h.end.end) ++ b
-cases_told m n u b h = h.told ∙ ap (λ (l : List ℕ). steps_text h.steps ++ l) h.end.told ∙ sym (append_assoc (steps_text h.steps) (ending_text h.end.end) b)
+pub cases_told : (m : ℕ) (ver : Version) (n : ℕ) (u b : List ℕ) (h : AreCases m ver n u b) → u ≡ (steps_text h.steps ++ ending_text h.end.end) ++ b
+cases_told m ver n u b h = h.told ∙ ap (λ (l : List ℕ). steps_text h.steps ++ l) h.end.told ∙ sym (append_assoc (steps_text h.steps) (ending_text h.end.end) b)
 
-pub body_back : (m n : ℕ) (u b : List ℕ) → n ≤ m → Choice m (body_choices n) u b → IsBody m n u b
-body_back m n u b d (inl h) = record { t = stuck; fits = refl; shallow = omega arith; told = letter_line u h.0 h.2.0 b 116 h.1 h.2.1 h.2.2 }
-body_back m n u b d (inr (inl h)) = record { t = goal; fits = refl; shallow = omega arith; told = letter_line u h.0 h.2.0 b 103 h.1 h.2.1 h.2.2 }
-body_back m n u b d (inr (inr h)) =
-    let c = case_back m n u b d h in
-    record { t = cases_body c.steps c.end.end; fits = and_from _ _ c.fit c.end.fits; shallow = c.end.shallow; told = cases_told m n u b c }
+pub body_back : (m : ℕ) (ver : Version) (n : ℕ) (u b : List ℕ) → n ≤ m → Choice m (body_choices ver n) u b → IsBody m ver n u b
+body_back m ver n u b d (inl h) = record { t = stuck; fits = refl; shallow = omega arith; told = letter_line u h.0 h.2.0 b 116 h.1 h.2.1 h.2.2 }
+body_back m ver n u b d (inr (inl h)) = record { t = goal; fits = refl; shallow = omega arith; told = letter_line u h.0 h.2.0 b 103 h.1 h.2.1 h.2.2 }
+body_back m ver n u b d (inr (inr h)) =
+    let c = case_back m ver n u b d h in
+    record { t = cases_body c.steps c.end.end; fits = and_from _ _ c.fit c.end.fits; shallow = c.end.shallow; told = cases_told m ver n u b c }
 
-pub node_back : (m n : ℕ) (u b : List ℕ) → n ≤ m → Choice m (node_choices n) u b → IsNode m n u b
-node_back m n u b d (inl h) =
+pub node_back : (m : ℕ) (ver : Version) (n : ℕ) (u b : List ℕ) → n ≤ m → Choice m (node_choices ver n) u b → IsNode m ver n u b
+node_back m ver n u b d (inl h) =
     let x = place_of 65 10 h.2.0 h.2.2.0 h.2.2.1 in
     let p = h.2.2.2.1 in
     let t = h.2.2.2.2.1 in
@@ -212,45 +209,68 @@ node_back m n u b d (inl h) =
           (p.told ∙ ap (λ (l : List ℕ). steps_text p.steps ++ 46 ∷ 10 ∷ l) (t.told ∙ ap (λ (l : List ℕ). body_text t.t ++ l) h.2.2.2.2.2))))
           ∙ sym (node_pieces (codes "h ") (decimal (h.2.2.1.n - 1 + 1)) (codes "\n") (steps_text p.steps) (codes ".\n") (body_text t.t) b);
     }
-node_back m n u b d (inr h) =
-    let t = body_back m n u b d h in
+node_back m ver n u b d (inr h) =
+    let t = body_back m ver n u b d h in
     record { t = tree None t.t; fits = t.fits; shallow = t.shallow; told = t.told }
 
-go_pieces_back : (s e r d : List ℕ) → (s ++ e) ++ (r ++ d) ≡ (s ++ e ++ r) ++ d
-go_pieces_back s e r d = append_assoc s e (r ++ d) ∙ sym (go_pieces s e r d)
+go_pieces_back : (s e r d : List ℕ) → s ++ (e ++ (r ++ d)) ≡ (s ++ e ++ r) ++ d
+go_pieces_back s e r d = sym (go_pieces s e r d)
 
 -- n + max a b within a limit
 pub max_within : (m n a b : ℕ) → n + a ≤ m → n + b ≤ m → n + max a b ≤ m
 max_within m n a b h g = grind (arith)
 
-pub branch_back : (m n : ℕ) (u b : List ℕ) → n ≤ m → Choice m (branch_choices n) u b → AreBranches m n u b
-branch_back m n u b d (inl h) =
-    let r = h.2.2.1 in
-    record {
-      bs = skip r.bs;
-      fit = r.fit;
-      shallow = r.shallow;
-      told =
-          letter_line u h.0 h.2.0 _ 115 h.1 h.2.1 (r.told ∙ ap (λ (l : List ℕ). branches_text r.bs ++ 46 ∷ 10 ∷ l) h.2.2.2);
-    }
-branch_back m n u b d (inr (inl h)) =
-    let r = h.2.2.1 in
-    record {
-      bs = left_open r.bs;
-      fit = r.fit;
-      shallow = r.shallow;
-      told =
-          letter_line u h.0 h.2.0 _ 111 h.1 h.2.1 (r.told ∙ ap (λ (l : List ℕ). branches_text r.bs ++ 46 ∷ 10 ∷ l) h.2.2.2);
-    }
-branch_back m n u b d (inr (inr (inl h))) = record { bs = no_more; fit = refl; shallow = omega arith; told = letter_line u h.0 h.2.0 b 46 h.1 h.2.1 h.2.2 }
-branch_back m n u b d (inr (inr (inr h))) =
-    let r = choice_followed m (case_choices n) (branches n) u b h in
-    let c = case_back m n u r.0 d r.1 in
-    let bs = r.2 in
-    record {
-      bs = go c.steps c.end.end bs.bs;
-      fit = and_from _ _ (and_from _ _ c.fit c.end.fits) bs.fit;
-      shallow = max_within m n (ending_depth c.end.end) (branch_depth bs.bs) c.end.shallow bs.shallow;
-      told = cases_told m n u r.0 c ∙ ap (λ (l : List ℕ). (steps_text c.steps ++ ending_text c.end.end) ++ l) bs.told
-          ∙ go_pieces_back (steps_text c.steps) (ending_text c.end.end) (branches_text bs.bs) (46 ∷ 10 ∷ b);
-    }
+pub one_back : (m : ℕ) (ver : Version) (n : ℕ) (u b : List ℕ) → n ≤ m → Choice m (one_choices ver n) u b → IsCase m ver n u b
+one_back m ver n u b d (inl h) = record { c = skip; fits = refl; shallow = omega arith; told = letter_line u h.0 h.2.0 b 115 h.1 h.2.1 h.2.2 }
+one_back m ver n u b d (inr (inl h)) = record { c = left_open; fits = refl; shallow = omega arith; told = letter_line u h.0 h.2.0 b 111 h.1 h.2.1 h.2.2 }
+one_back m ver n u b d (inr (inr h)) =
+    let c = case_back m ver n u b d h in
+    record { c = go c.steps c.end.end; fits = and_from _ _ c.fit c.end.fits; shallow = c.end.shallow; told = cases_told m ver n u b c }
+
+-- a case, and the cases after it
+with_case : (m : ℕ) (ver : Version) (n : ℕ) (upto : Option ℤ) (u v b : List ℕ) → IsTrue (upto_fits ver upto) → (c : IsCase m ver n u v) → (bs : AreBranches m ver n v b) → (w : List ℕ) → w ≡ upto_text upto ++ u → AreBranches m ver n w b
+with_case m ver n upto u v b f c bs w e = record {
+  bs = piece upto c.c bs.bs;
+  fit = and_from _ _ (and_from _ _ f c.fits) bs.fit;
+  shallow = max_within m n (case_depth c.c) (branch_depth bs.bs) c.shallow bs.shallow;
+  told = e ∙ ap (λ (l : List ℕ). upto_text upto ++ l) (c.told ∙ ap (λ (l : List ℕ). case_text c.c ++ l) bs.told)
+      ∙ go_pieces_back (upto_text upto) (case_text c.c) (branches_text bs.bs) (46 ∷ 10 ∷ b);
+}
+
+single_back : (m : ℕ) (ver : Version) (n : ℕ) (u b : List ℕ) → n ≤ m → Choice m (followed (one_choices ver n) (branches ver n)) u b → AreBranches m ver n u b
+single_back m ver n u b d h =
+    let r = choice_followed m (one_choices ver n) (branches ver n) u b h in
+    with_case m ver n None u r.0 b refl (one_back m ver n u r.0 d r.1) r.2 u refl
+
+range_line : (u w v z b h : List ℕ) → u ≡ 114 ∷ w → w ≡ 32 ∷ v → v ≡ h ++ 10 ∷ z → u ≡ (codes "r " ++ h ++ codes "\n") ++ z
+range_line u w v z b h e f g = e ∙ ap (λ (l : List ℕ). 114 ∷ l) (f ∙ ap (λ (l : List ℕ). 32 ∷ l) (g ∙ sym (append_assoc h (10 ∷ []) z)))
+
+ranges_back : (m : ℕ) (ver : Version) (n : ℕ) (u b : List ℕ) → n ≤ m → Choice m (with_range ver n (followed (one_choices ver n) (branches ver n))) u b → AreBranches m ver n u b
+ranges_back m One n u b d h = single_back m One n u b d h
+ranges_back m Two n u b d (inl h) =
+    let z = h.2.2.1 in
+    let c = h.2.2.2.1 in
+    let bs = h.2.2.2.2.1 in
+    subst (λ (l : List ℕ). AreBranches m Two n u l) h.2.2.2.2.2
+    (with_case m Two n (Some z.z) _ _ _ z.fits c bs u (range_line u h.0 h.2.0 _ b (signed_decimal z.z) h.1 h.2.1 z.told))
+ranges_back m Two n u b d (inr h) = single_back m Two n u b d h
+
+pub branch_back : (m : ℕ) (ver : Version) (n : ℕ) (u b : List ℕ) → n ≤ m → Choice m (branch_choices ver n) u b → AreBranches m ver n u b
+branch_back m ver n u b d (inl h) = record { bs = no_more; fit = refl; shallow = omega arith; told = letter_line u h.0 h.2.0 b 46 h.1 h.2.1 h.2.2 }
+branch_back m ver n u b d (inr h) = ranges_back m ver n u b d h
+
+told_of : (m c : ℕ) (u b w v x y : List ℕ) (o : IsOutcome v x) (t : List ℕ) → u ≡ c ∷ w → w ≡ 10 ∷ v → x ≡ t ++ y → y ≡ b → codes "qcert " ++ u ≡ codes "qcert " ++ c ∷ 10 ∷ (outcome_text o.o o.v ++ (t ++ b))
+told_of m c u b w v x y o t e f g h = ap (λ (l : List ℕ). codes "qcert " ++ l) (e ∙ ap (λ (l : List ℕ). c ∷ l) (f ∙ ap (λ (l : List ℕ). 10 ∷ l) (o.told ∙ ap (λ (l : List ℕ). outcome_text o.o o.v ++ l) (g ∙ ap (λ (l : List ℕ). t ++ l) h))))
+
+pub certificate_back : (m : ℕ) (u b : List ℕ) → Choice m certificate_choices u b → IsCertificate m u b
+certificate_back m u b (inl h) =
+    let o = h.2.2.1 in
+    let t = h.2.2.2.1 in
+    let s = t.shallow in
+    record { ver = One; o = o.o; v = o.v; t = t.t; outcome = o.fits; fits = t.fits; shallow = omega (arith, s); told = told_of m 49 u b h.0 h.2.0 _ _ o (tree_text t.t) h.1 h.2.1 t.told h.2.2.2.2 }
+certificate_back m u b (inr (inl h)) =
+    let o = h.2.2.1 in
+    let t = h.2.2.2.1 in
+    let s = t.shallow in
+    record { ver = Two; o = o.o; v = o.v; t = t.t; outcome = o.fits; fits = t.fits; shallow = omega (arith, s); told = told_of m 50 u b h.0 h.2.0 _ _ o (tree_text t.t) h.1 h.2.1 t.told h.2.2.2.2 }
+certificate_back m u b (inr (inr h)) = absurd h

@@ -1,7 +1,7 @@
 -- What is owed after a first byte, from the table of choices.
-use Rattle.std.proofs.Common.{◌≡◌, ◌⊎◌, inl, inr, refl, sym, ap, ◌∙◌, subst, ℕ, List, [], ◌∷◌, ◌++◌, Option, Some, None, Bool, true, false, cond, eqb}
+use Rattle.std.proofs.Common.{◌≡◌, inl, inr, refl, sym, ap, ◌∙◌, subst, ℕ, List, [], ◌∷◌, Option, Some, None, Bool, true, false, cond, eqb}
 use Rattle.std.proofs.lemmas.Bool.{eqb-true, eq-eqb}
-use Rattle.proof_text.specs.Symbols.{Symbol, Choices, chosen, followed, after}
+use Rattle.proof_text.specs.Symbols.{Symbol, Choices, chosen, followed}
 use Rattle.proof_text.proofs.Grammar.{Begins, Runs, Choice, runs_append, runs_split}
 
 -- u begins as the answer to its first byte says

@@ -1,10 +1,12 @@
 -- A tree has no more ends than its text has bytes.
-use Rattle.std.proofs.Common.{◌≡◌, ◌∙◌, ap, ℕ, ◌+◌, ◌≤◌, List, [], ◌∷◌, ◌++◌, length, arith, length-append}
+use Rattle.std.proofs.Common.{◌≡◌, ◌∙◌, ap, ℕ, ◌+◌, ◌≤◌, List, ◌++◌, length, arith, length-append}
 use Rattle.std.specs.Prelude.{codes}
 use Rattle.std.specs.Fmt.{decimal}
-use Rattle.proof_tree.specs.Tree.{Tree, tree, Body, stuck, goal, cases, Ending, empty, barred, next, branch, Branches, no_more, skip, left_open, go}
-use Rattle.proof_tree.specs.Counts.{ends_of, body_ends, ending_ends, branch_ends}
-use Rattle.proof_tree.specs.Text.{steps_text, horizon_text, tree_text, body_text, ending_text, branches_text}
+use Rattle.proof_tree.specs.declared.tree.Version.{Version}
+use Rattle.proof_tree.specs.Tree.{Tree, tree, Body, stuck, goal, cases, Ending, empty, barred, next, branch, Branches, no_more, piece, Case, skip, left_open, go}
+use Rattle.proof_tree.specs.Counts.{ends_of, body_ends, ending_ends, branch_ends, case_ends}
+use Rattle.proof_tree.specs.Text.{version_text}
+use Rattle.proof_text.specs.Parts.{steps_text, horizon_text, tree_text, body_text, ending_text, branches_text, upto_text, case_text}
 
 after_front : (a b : List ℕ) (n : ℕ) → n ≤ length b → n ≤ length (a ++ b)
 after_front a b n h = let l = length-append a b in omega arith
@@ -35,15 +37,18 @@ mutual
 
   branches_long : (bs : Branches) → branch_ends bs ≤ length (branches_text bs)
   branches_long no_more = omega arith
-  branches_long (skip bs) = after_front (codes "s\n") (branches_text bs) (branch_ends bs) (branches_long bs)
-  branches_long (left_open bs) = after_front (codes "o\n") (branches_text bs) (branch_ends bs) (branches_long bs)
-  branches_long (go steps end bs) = case_long (steps_text steps) (ending_text end) (branches_text bs) (ending_ends end) (branch_ends bs) (ending_long end) (branches_long bs)
+  branches_long (piece upto c bs) = case_long (upto_text upto) (case_text c) (branches_text bs) (case_ends c) (branch_ends bs) (one_long c) (branches_long bs)
+
+  one_long : (c : Case) → case_ends c ≤ length (case_text c)
+  one_long skip = omega arith
+  one_long left_open = omega arith
+  one_long (go steps end) = after_front (steps_text steps) (ending_text end) (ending_ends end) (ending_long end)
 
 -- the ends of a tree that was read, after other bytes
-pub few_ends : (text head line rest more : List ℕ) (t : Tree) (after : List ℕ) (most : ℕ) → length text ≤ most → text ≡ head ++ rest → rest ≡ line ++ more → more ≡ tree_text t ++ after → ends_of t ≤ most
-few_ends text head line rest more t after most h e f g =
-    let l = ap length e ∙ length-append head rest in
-    let m = ap length f ∙ length-append line more in
-    let n = ap length g ∙ length-append (tree_text t) after in
+pub few_ends : (text line : List ℕ) (ver : Version) (rest more last : List ℕ) (t : Tree) (after : List ℕ) (most : ℕ) → length text ≤ most → text ≡ codes "qcert " ++ rest → codes "qcert " ++ rest ≡ version_text ver ++ more → more ≡ line ++ last → last ≡ tree_text t ++ after → ends_of t ≤ most
+few_ends text line ver rest more last t after most h e f g k =
+    let l = ap length (e ∙ f) ∙ length-append (version_text ver) more in
+    let m = ap length g ∙ length-append line last in
+    let n = ap length k ∙ length-append (tree_text t) after in
     let ends = tree_ends t in
     omega arith

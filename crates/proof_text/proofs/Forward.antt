@@ -1,23 +1,25 @@
 -- A text of a symbol begins as one of the symbol's choices says.
-use Rattle.std.proofs.Common.{◌≡◌, ◌⊎◌, inl, inr, refl, sym, ap, ◌∙◌, subst, ℕ, ◌+◌, ◌-◌, ◌*◌, ◌^◌, ◌≤◌, ◌<◌, List, [], ◌∷◌, ◌++◌, Option, Some, None, Bool, true, false, ◌&&◌, max, append_assoc, arith, leb-true, le-leb}
+use Rattle.std.proofs.Common.{◌≡◌, inl, inr, refl, sym, ap, ◌∙◌, subst, ℕ, ◌+◌, ◌≤◌, List, [], ◌∷◌, ◌++◌, Option, Some, None, ◌&&◌, append_assoc, arith, leb-true}
 use Rattle.std.specs.Prelude.{IsTrue, ℤ, nat_le, unsigned_abs, codes}
 use Rattle.std.specs.Fmt.{decimal, signed_decimal}
 use Rattle.std.specs.List.{list_all}
 use Rattle.std.proofs.lemmas.Bool.{and_parts}
 use Rattle.std.proofs.Math.Nat.{le-max_left, le-max_right}
-use Rattle.qc_model.specs.declared.problem.VarId.{VarId}
 use Rattle.proof_tree.specs.declared.tree.Outcome.{Outcome}
 use Rattle.proof_tree.specs.declared.tree.Outcome.TheVariants.{True, False, Open}
 use Rattle.proof_tree.specs.declared.tree.Horizon.{Horizon}
 use Rattle.proof_tree.specs.declared.tree.Step.{Step}
 use Rattle.proof_tree.specs.declared.tree.Step.TheVariants.{Prune, Bound}
-use Rattle.proof_tree.specs.Unbounded.{is_prune}
-use Rattle.proof_tree.specs.Tree.{Tree, tree, Body, stuck, goal, cases as cases_body, Ending, empty, barred, next, branch, Branches, no_more, skip, left_open, go}
-use Rattle.proof_tree.specs.Counts.{depth_of, body_depth, ending_depth, branch_depth}
-use Rattle.proof_tree.specs.Text.{step_text, steps_text, tree_text, body_text, ending_text, branches_text, outcome_text, is_place, step_fits, tree_fits, body_fits, ending_fits, branches_fit, outcome_fits, horizon_text, horizon_fits}
-use Rattle.proof_text.specs.Symbols.{Symbol, byte, number, signed, digits, outcome, optimum, prunes, node, body, cases, ending, branches, Choices, bytes, prune_line, bound_line, outcome_choices, optimum_choices, prune_choices, ending_choices, case_choices, body_choices, node_choices, branch_choices}
-use Rattle.proof_text.proofs.Grammar.{Begins, Runs, Choice, IsNumber, IsSigned, IsOutcome, IsOptimum, ArePrunes, IsNode, IsBody, IsEnding, AreCases, AreBranches, optimum_text, runs_append}
+use Rattle.proof_tree.specs.Steps.{is_prune}
+use Rattle.proof_tree.specs.Tree.{Tree, tree, Body, stuck, goal, cases as cases_body, Ending, empty, barred, next, branch, Branches, no_more, piece, Case, skip, left_open, go}
+use Rattle.proof_tree.specs.Counts.{depth_of, body_depth, ending_depth, branch_depth, case_depth}
+use Rattle.proof_tree.specs.Text.{version_text, outcome_text, is_place, step_fits, tree_fits, body_fits, ending_fits, branches_fit, upto_fits, case_fits, outcome_fits, horizon_fits}
+use Rattle.proof_text.specs.Parts.{step_text, steps_text, tree_text, body_text, ending_text, branches_text, upto_text, case_text}
+use Rattle.proof_text.specs.Symbols.{Symbol, prunes, cases, branches, Choices, prune_line, bound_line, certificate_choices, outcome_choices, optimum_choices, prune_choices, ending_choices, case_choices, body_choices, node_choices, one_choices, with_range, branch_choices}
+use Rattle.proof_text.proofs.Grammar.{Runs, Choice, IsNumber, IsSigned, IsOutcome, IsOptimum, ArePrunes, IsNode, IsBody, IsEnding, AreCases, AreBranches, IsCase, IsCertificate, optimum_text, runs_append}
 use Rattle.proof_text.proofs.Choices.{followed_choice}
+use Rattle.proof_tree.specs.declared.tree.Version.{Version}
+use Rattle.proof_tree.specs.declared.tree.Version.TheVariants.{One, Two}
 
 -- a place is a number from 1
 place_is : (most k end : ℕ) (b : List ℕ) → IsTrue (is_place most k) → IsNumber most end (decimal (k + 1) ++ end ∷ b) b
@@ -105,63 +107,63 @@ prune_choice m u b h = at_bytes m prune_choices u _ b h.told (prune_choices_of m
 pub branch_pieces : (v x n bs d b : List ℕ) → (v ++ x ++ n ++ bs ++ d) ++ b ≡ v ++ (x ++ (n ++ (bs ++ (d ++ b))))
 branch_pieces v x n bs d b = simp append_assoc
 
-ending_choices_of : (m n : ℕ) (end : Ending) (b : List ℕ) → IsTrue (ending_fits end) → n + ending_depth end ≤ m → Choice m (ending_choices n) (ending_text end ++ b) b
-ending_choices_of m n empty b f d = inl (_, refl, (b, refl, refl))
-ending_choices_of m n barred b f d = inr (inl (_, refl, (b, refl, refl)))
-ending_choices_of m n (next t) b f d = inr (inr (inl (_, refl, (_, refl, (b, record { t = t; fits = f; shallow = omega arith; told = refl }, refl)))))
-ending_choices_of m n (branch x bs) b f d =
-    let p = and_parts (is_place 500 x.0) (branches_fit bs) f in
+ending_choices_of : (m : ℕ) (ver : Version) (n : ℕ) (end : Ending) (b : List ℕ) → IsTrue (ending_fits ver end) → n + ending_depth end ≤ m → Choice m (ending_choices ver n) (ending_text end ++ b) b
+ending_choices_of m ver n empty b f d = inl (_, refl, (b, refl, refl))
+ending_choices_of m ver n barred b f d = inr (inl (_, refl, (b, refl, refl)))
+ending_choices_of m ver n (next t) b f d = inr (inr (inl (_, refl, (_, refl, (b, record { t = t; fits = f; shallow = omega arith; told = refl }, refl)))))
+ending_choices_of m ver n (branch x bs) b f d =
+    let p = and_parts (is_place 500 x.0) (branches_fit ver bs) f in
     inr (inr (inr (inl (
       _,
       branch_pieces (codes "v ") (decimal (x.0 + 1)) (codes "\n") (branches_text bs) (codes ".\n") b,
       (_, refl, (_, place_is 500 x.0 10 (branches_text bs ++ 46 ∷ 10 ∷ b) p.0, (b, record { bs = bs; fit = p.1; shallow = omega arith; told = refl }, refl))),
     ))))
 
-pub ending_choice : (m n : ℕ) (u b : List ℕ) → IsEnding m n u b → Choice m (ending_choices n) u b
-ending_choice m n u b h = at_bytes m (ending_choices n) u _ b h.told (ending_choices_of m n h.end b h.fits h.shallow)
+pub ending_choice : (m : ℕ) (ver : Version) (n : ℕ) (u b : List ℕ) → IsEnding m ver n u b → Choice m (ending_choices ver n) u b
+ending_choice m ver n u b h = at_bytes m (ending_choices ver n) u _ b h.told (ending_choices_of m ver n h.end b h.fits h.shallow)
 
-case_choices_of : (m n : ℕ) (steps : List Step) (rest b : List ℕ) → IsTrue (list_all step_fits steps) → IsEnding m n rest b → Choice m (case_choices n) (steps_text steps ++ rest) b
-case_choices_of m n [] rest b f e = inr (inr (ending_choice m n rest b e))
-case_choices_of m n (Prune x low high c ∷ steps) rest b f e =
+case_choices_of : (m : ℕ) (ver : Version) (n : ℕ) (steps : List Step) (rest b : List ℕ) → IsTrue (list_all step_fits steps) → IsEnding m ver n rest b → Choice m (case_choices ver n) (steps_text steps ++ rest) b
+case_choices_of m ver n [] rest b f e = inr (inr (ending_choice m ver n rest b e))
+case_choices_of m ver n (Prune x low high c ∷ steps) rest b f e =
     let g = and_parts (step_fits (Prune x low high c)) (list_all step_fits steps) f in
     let v : List ℕ = steps_text steps ++ rest in
     inl (
       rest_of_step (Prune x low high c) v,
       steps_are (Prune x low high c) steps rest,
-      runs_append m prune_line (cases n ∷ []) _ v b (step_runs m (Prune x low high c) v g.0) (b, record { steps = steps; fit = g.1; rest = rest; end = e; told = refl }, refl),
+      runs_append m prune_line (cases ver n ∷ []) _ v b (step_runs m (Prune x low high c) v g.0) (b, record { steps = steps; fit = g.1; rest = rest; end = e; told = refl }, refl),
     )
-case_choices_of m n (Bound x low high ∷ steps) rest b f e =
+case_choices_of m ver n (Bound x low high ∷ steps) rest b f e =
     let g = and_parts (step_fits (Bound x low high)) (list_all step_fits steps) f in
     let v : List ℕ = steps_text steps ++ rest in
     inr (inl (
       rest_of_step (Bound x low high) v,
       steps_are (Bound x low high) steps rest,
-      runs_append m bound_line (cases n ∷ []) _ v b (step_runs m (Bound x low high) v g.0) (b, record { steps = steps; fit = g.1; rest = rest; end = e; told = refl }, refl),
+      runs_append m bound_line (cases ver n ∷ []) _ v b (step_runs m (Bound x low high) v g.0) (b, record { steps = steps; fit = g.1; rest = rest; end = e; told = refl }, refl),
     ))
 
-pub case_choice : (m n : ℕ) (u b : List ℕ) → AreCases m n u b → Choice m (case_choices n) u b
-case_choice m n u b h = at_bytes m (case_choices n) u _ b h.told (case_choices_of m n h.steps h.rest b h.fit h.end)
+pub case_choice : (m : ℕ) (ver : Version) (n : ℕ) (u b : List ℕ) → AreCases m ver n u b → Choice m (case_choices ver n) u b
+case_choice m ver n u b h = at_bytes m (case_choices ver n) u _ b h.told (case_choices_of m ver n h.steps h.rest b h.fit h.end)
 
 -- the cases of a body, or of a branch
-pub cases_are : (m n : ℕ) (steps : List Step) (end : Ending) (b : List ℕ) → IsTrue (list_all step_fits steps) → IsTrue (ending_fits end) → n + ending_depth end ≤ m → AreCases m n (steps_text steps ++ (ending_text end ++ b)) b
-cases_are m n steps end b f g d = record { steps = steps; fit = f; rest = ending_text end ++ b; end = record { end = end; fits = g; shallow = d; told = refl }; told = refl }
+pub cases_are : (m : ℕ) (ver : Version) (n : ℕ) (steps : List Step) (end : Ending) (b : List ℕ) → IsTrue (list_all step_fits steps) → IsTrue (ending_fits ver end) → n + ending_depth end ≤ m → AreCases m ver n (steps_text steps ++ (ending_text end ++ b)) b
+cases_are m ver n steps end b f g d = record { steps = steps; fit = f; rest = ending_text end ++ b; end = record { end = end; fits = g; shallow = d; told = refl }; told = refl }
 
-body_choices_of : (m n : ℕ) (t : Body) (b : List ℕ) → IsTrue (body_fits t) → n + body_depth t ≤ m → Choice m (body_choices n) (body_text t ++ b) b
-body_choices_of m n stuck b f d = inl (_, refl, (b, refl, refl))
-body_choices_of m n goal b f d = inr (inl (_, refl, (b, refl, refl)))
-body_choices_of m n (cases_body steps end) b f d =
-    let p = and_parts (list_all step_fits steps) (ending_fits end) f in
-    inr (inr (at_bytes m (case_choices n) _ _ b (append_assoc (steps_text steps) (ending_text end) b) (case_choice m n _ b (cases_are m n steps end b p.0 p.1 d))))
+body_choices_of : (m : ℕ) (ver : Version) (n : ℕ) (t : Body) (b : List ℕ) → IsTrue (body_fits ver t) → n + body_depth t ≤ m → Choice m (body_choices ver n) (body_text t ++ b) b
+body_choices_of m ver n stuck b f d = inl (_, refl, (b, refl, refl))
+body_choices_of m ver n goal b f d = inr (inl (_, refl, (b, refl, refl)))
+body_choices_of m ver n (cases_body steps end) b f d =
+    let p = and_parts (list_all step_fits steps) (ending_fits ver end) f in
+    inr (inr (at_bytes m (case_choices ver n) _ _ b (append_assoc (steps_text steps) (ending_text end) b) (case_choice m ver n _ b (cases_are m ver n steps end b p.0 p.1 d))))
 
-pub body_choice : (m n : ℕ) (u b : List ℕ) → IsBody m n u b → Choice m (body_choices n) u b
-body_choice m n u b h = at_bytes m (body_choices n) u _ b h.told (body_choices_of m n h.t b h.fits h.shallow)
+pub body_choice : (m : ℕ) (ver : Version) (n : ℕ) (u b : List ℕ) → IsBody m ver n u b → Choice m (body_choices ver n) u b
+body_choice m ver n u b h = at_bytes m (body_choices ver n) u _ b h.told (body_choices_of m ver n h.t b h.fits h.shallow)
 
 pub node_pieces : (h k n s d t b : List ℕ) → ((h ++ k ++ n ++ s ++ d) ++ t) ++ b ≡ h ++ (k ++ (n ++ (s ++ (d ++ (t ++ b)))))
 node_pieces h k n s d t b = simp append_assoc
 
-node_choices_of : (m n : ℕ) (z : Option Horizon) (t : Body) (b : List ℕ) → IsTrue (horizon_fits z) → IsTrue (body_fits t) → n + body_depth t ≤ m → Choice m (node_choices n) (tree_text (tree z t) ++ b) b
-node_choices_of m n None t b f g d = inr (body_choices_of m n t b g d)
-node_choices_of m n (Some z) t b f g d =
+node_choices_of : (m : ℕ) (ver : Version) (n : ℕ) (z : Option Horizon) (t : Body) (b : List ℕ) → IsTrue (horizon_fits z) → IsTrue (body_fits ver t) → n + body_depth t ≤ m → Choice m (node_choices ver n) (tree_text (tree z t) ++ b) b
+node_choices_of m ver n None t b f g d = inr (body_choices_of m ver n t b g d)
+node_choices_of m ver n (Some z) t b f g d =
     let p = and_parts (is_place 65 z.scope.0 && list_all step_fits z.steps) (list_all is_prune z.steps) f in
     let q = and_parts (is_place 65 z.scope.0) (list_all step_fits z.steps) p.0 in
     inl (
@@ -170,29 +172,65 @@ node_choices_of m n (Some z) t b f g d =
       (_, refl, (_, place_is 65 z.scope.0 10 _ q.0, (_, record { steps = z.steps; fit = q.1; are = p.1; told = refl }, (b, record { t = t; fits = g; shallow = d; told = refl }, refl)))),
     )
 
-node_parts : (m n : ℕ) (t : Tree) (b : List ℕ) → IsTrue (tree_fits t) → n + depth_of t ≤ m → Choice m (node_choices n) (tree_text t ++ b) b
-node_parts m n (tree z t) b f d = let p = and_parts (horizon_fits z) (body_fits t) f in node_choices_of m n z t b p.0 p.1 d
+node_parts : (m : ℕ) (ver : Version) (n : ℕ) (t : Tree) (b : List ℕ) → IsTrue (tree_fits ver t) → n + depth_of t ≤ m → Choice m (node_choices ver n) (tree_text t ++ b) b
+node_parts m ver n (tree z t) b f d = let p = and_parts (horizon_fits z) (body_fits ver t) f in node_choices_of m ver n z t b p.0 p.1 d
 
-pub node_choice : (m n : ℕ) (u b : List ℕ) → IsNode m n u b → Choice m (node_choices n) u b
-node_choice m n u b h = at_bytes m (node_choices n) u _ b h.told (node_parts m n h.t b h.fits h.shallow)
+pub node_choice : (m : ℕ) (ver : Version) (n : ℕ) (u b : List ℕ) → IsNode m ver n u b → Choice m (node_choices ver n) u b
+node_choice m ver n u b h = at_bytes m (node_choices ver n) u _ b h.told (node_parts m ver n h.t b h.fits h.shallow)
 
 pub go_pieces : (s e r d : List ℕ) → (s ++ e ++ r) ++ d ≡ s ++ (e ++ (r ++ d))
 go_pieces s e r d = simp append_assoc
 
-branch_choices_of : (m n : ℕ) (bs : Branches) (b : List ℕ) → IsTrue (branches_fit bs) → n + branch_depth bs ≤ m → Choice m (branch_choices n) (branches_text bs ++ 46 ∷ 10 ∷ b) b
-branch_choices_of m n no_more b f d = inr (inr (inl (_, refl, (b, refl, refl))))
-branch_choices_of m n (skip bs) b f d = inl (_, refl, (_, refl, (b, record { bs = bs; fit = f; shallow = d; told = refl }, refl)))
-branch_choices_of m n (left_open bs) b f d = inr (inl (_, refl, (_, refl, (b, record { bs = bs; fit = f; shallow = d; told = refl }, refl))))
-branch_choices_of m n (go steps end bs) b f d =
-    let p = and_parts (list_all step_fits steps && ending_fits end) (branches_fit bs) f in
-    let q = and_parts (list_all step_fits steps) (ending_fits end) p.0 in
-    let left = le-max_left (ending_depth end) (branch_depth bs) in
-    let right = le-max_right (ending_depth end) (branch_depth bs) in
-    let v : List ℕ = branches_text bs ++ 46 ∷ 10 ∷ b in
-    at_bytes m (branch_choices n) _ _ b (go_pieces (steps_text steps) (ending_text end) (branches_text bs) (46 ∷ 10 ∷ b))
-    (inr (inr (inr (followed_choice m (case_choices n) (branches n) _ v b
-    (case_choice m n _ v (cases_are m n steps end v q.0 q.1 (omega arith)))
-    (record { bs = bs; fit = p.1; shallow = omega arith; told = refl })))))
+one_choices_of : (m : ℕ) (ver : Version) (n : ℕ) (c : Case) (b : List ℕ) → IsTrue (case_fits ver c) → n + case_depth c ≤ m → Choice m (one_choices ver n) (case_text c ++ b) b
+one_choices_of m ver n skip b f d = inl (_, refl, (b, refl, refl))
+one_choices_of m ver n left_open b f d = inr (inl (_, refl, (b, refl, refl)))
+one_choices_of m ver n (go steps end) b f d =
+    let p = and_parts (list_all step_fits steps) (ending_fits ver end) f in
+    inr (inr (at_bytes m (case_choices ver n) _ _ b (append_assoc (steps_text steps) (ending_text end) b) (case_choice m ver n _ b (cases_are m ver n steps end b p.0 p.1 d))))
 
-pub branch_choice : (m n : ℕ) (u b : List ℕ) → AreBranches m n u b → Choice m (branch_choices n) u b
-branch_choice m n u b h = at_bytes m (branch_choices n) u _ b h.told (branch_choices_of m n h.bs b h.fit h.shallow)
+pub one_choice : (m : ℕ) (ver : Version) (n : ℕ) (u b : List ℕ) → IsCase m ver n u b → Choice m (one_choices ver n) u b
+one_choice m ver n u b h = at_bytes m (one_choices ver n) u _ b h.told (one_choices_of m ver n h.c b h.fits h.shallow)
+
+-- a choice that is there in either version
+pub in_either : (m : ℕ) (ver : Version) (n : ℕ) (choices : Choices) (u b : List ℕ) → Choice m choices u b → Choice m (with_range ver n choices) u b
+in_either m One n choices u b h = h
+in_either m Two n choices u b h = inr h
+
+range_pieces : (r h n c d : List ℕ) → (r ++ h ++ n) ++ (c ++ d) ≡ r ++ (h ++ (n ++ (c ++ d)))
+range_pieces r h n c d = simp append_assoc
+
+piece_choices_of : (m : ℕ) (ver : Version) (n : ℕ) (upto : Option ℤ) (v b : List ℕ) (c : Case) → IsTrue (upto_fits ver upto) → IsTrue (case_fits ver c) → n + case_depth c ≤ m → AreBranches m ver n v b →
+    Choice m (branch_choices ver n) (upto_text upto ++ (case_text c ++ v)) b
+piece_choices_of m ver n None v b c f g d bs = inr (in_either m ver n _ _ b (followed_choice m (one_choices ver n) (branches ver n) _ v b (one_choices_of m ver n c v g d) bs))
+piece_choices_of m One n (Some high) v b c f g d bs = absurd (cc)
+piece_choices_of m Two n (Some high) v b c f g d bs =
+    inr (inl (
+      _,
+      range_pieces (codes "r ") (signed_decimal high) (codes "\n") (case_text c) v,
+      (_, refl, (_, signed_is 1000000000 10 high _ f, (v, record { c = c; fits = g; shallow = d; told = refl }, (b, bs, refl)))),
+    ))
+
+branch_choices_of : (m : ℕ) (ver : Version) (n : ℕ) (bs : Branches) (b : List ℕ) → IsTrue (branches_fit ver bs) → n + branch_depth bs ≤ m → Choice m (branch_choices ver n) (branches_text bs ++ 46 ∷ 10 ∷ b) b
+branch_choices_of m ver n no_more b f d = inl (_, refl, (b, refl, refl))
+branch_choices_of m ver n (piece upto c bs) b f d =
+    let p = and_parts (upto_fits ver upto && case_fits ver c) (branches_fit ver bs) f in
+    let q = and_parts (upto_fits ver upto) (case_fits ver c) p.0 in
+    let left = le-max_left (case_depth c) (branch_depth bs) in
+    let right = le-max_right (case_depth c) (branch_depth bs) in
+    let v : List ℕ = branches_text bs ++ 46 ∷ 10 ∷ b in
+    at_bytes m (branch_choices ver n) _ _ b (go_pieces (upto_text upto) (case_text c) (branches_text bs) (46 ∷ 10 ∷ b))
+    (piece_choices_of m ver n upto v b c q.0 q.1 (omega arith) (record { bs = bs; fit = p.1; shallow = omega arith; told = refl }))
+
+pub branch_choice : (m : ℕ) (ver : Version) (n : ℕ) (u b : List ℕ) → AreBranches m ver n u b → Choice m (branch_choices ver n) u b
+branch_choice m ver n u b h = at_bytes m (branch_choices ver n) u _ b h.told (branch_choices_of m ver n h.bs b h.fit h.shallow)
+
+pub after_word : (u v : List ℕ) → codes "qcert " ++ u ≡ codes "qcert " ++ v → u ≡ v
+after_word u v h = cc
+
+certificate_of : (m : ℕ) (ver : Version) (o : Outcome) (v : Option ℤ) (t : Tree) (u b : List ℕ) → IsTrue (outcome_fits o v) → IsTrue (tree_fits ver t) → depth_of t ≤ m → codes "qcert " ++ u ≡ version_text ver ++ (outcome_text o v ++ (tree_text t ++ b)) →
+    Choice m certificate_choices u b
+certificate_of m One o v t u b f g d e = inl (_, after_word u _ e, (_, refl, (_, record { o = o; v = v; fits = f; told = refl }, (b, record { t = t; fits = g; shallow = omega (arith, d); told = refl }, refl))))
+certificate_of m Two o v t u b f g d e = inr (inl (_, after_word u _ e, (_, refl, (_, record { o = o; v = v; fits = f; told = refl }, (b, record { t = t; fits = g; shallow = omega (arith, d); told = refl }, refl)))))
+
+pub certificate_choice : (m : ℕ) (u b : List ℕ) → IsCertificate m u b → Choice m certificate_choices u b
+certificate_choice m u b h = certificate_of m h.ver h.o h.v h.t u b h.outcome h.fits h.shallow h.told

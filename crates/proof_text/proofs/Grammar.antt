@@ -1,18 +1,20 @@
 -- What a symbol stands for: the texts that it can have.
 --
 -- Each relation speaks of bytes that begin with such a text, and of the bytes after it.
-use Rattle.std.proofs.Common.{◌≡◌, ◌⊎◌, refl, sym, subst, ap, ◌∙◌, ℕ, ◌+◌, ◌-◌, ◌*◌, ◌≤◌, ◌<◌, List, [], ◌∷◌, ◌++◌, Option, Some, None}
+use Rattle.std.proofs.Common.{◌≡◌, ◌⊎◌, refl, sym, subst, ap, ◌∙◌, ℕ, ◌+◌, ◌-◌, ◌*◌, ◌≤◌, List, [], ◌∷◌, ◌++◌, Option, Some, None}
 use Rattle.std.specs.Prelude.{IsTrue, ℤ, nat_le, unsigned_abs, codes}
 use Rattle.std.specs.Fmt.{decimal, signed_decimal}
 use Rattle.std.specs.List.{list_all}
+use Rattle.proof_tree.specs.declared.tree.Version.{Version}
 use Rattle.proof_tree.specs.declared.tree.Outcome.{Outcome}
 use Rattle.proof_tree.specs.declared.tree.Outcome.TheVariants.{True}
 use Rattle.proof_tree.specs.declared.tree.Step.{Step}
-use Rattle.proof_tree.specs.Unbounded.{is_prune}
-use Rattle.proof_tree.specs.Tree.{Tree, Body, Ending, Branches}
-use Rattle.proof_tree.specs.Counts.{depth_of, body_depth, ending_depth, branch_depth}
-use Rattle.proof_tree.specs.Text.{steps_text, tree_text, body_text, ending_text, branches_text, outcome_text, step_fits, tree_fits, body_fits, ending_fits, branches_fit, outcome_fits}
-use Rattle.proof_text.specs.Symbols.{Symbol, byte, number, signed, digits, outcome, optimum, prunes, node, body, cases, ending, branches, Choices, bytes}
+use Rattle.proof_tree.specs.Steps.{is_prune}
+use Rattle.proof_tree.specs.Tree.{Tree, Body, Ending, Branches, Case}
+use Rattle.proof_tree.specs.Counts.{depth_of, body_depth, ending_depth, branch_depth, case_depth}
+use Rattle.proof_tree.specs.Text.{outcome_text, version_text, step_fits, tree_fits, body_fits, ending_fits, branches_fit, case_fits, outcome_fits}
+use Rattle.proof_text.specs.Parts.{steps_text, tree_text, body_text, ending_text, branches_text, case_text}
+use Rattle.proof_text.specs.Symbols.{Symbol, byte, number, signed, digits, certificate, outcome, optimum, prunes, node, body, cases, ending, case, branches, Choices, bytes}
 
 abbrev pub AreDigits : List ℕ → Type 0
 AreDigits [] = Unit {0}
@@ -61,37 +63,54 @@ pub record ArePrunes (u b : List ℕ) : Type 0 where
   pub are : IsTrue (list_all is_prune steps)
   pub told : u ≡ steps_text steps ++ 46 ∷ 10 ∷ b
 
-pub record IsNode (m n : ℕ) (u b : List ℕ) : Type 0 where
+pub record IsNode (m : ℕ) (ver : Version) (n : ℕ) (u b : List ℕ) : Type 0 where
   pub t : Tree
-  pub fits : IsTrue (tree_fits t)
+  pub fits : IsTrue (tree_fits ver t)
   pub shallow : n + depth_of t ≤ m
   pub told : u ≡ tree_text t ++ b
 
-pub record IsBody (m n : ℕ) (u b : List ℕ) : Type 0 where
+pub record IsBody (m : ℕ) (ver : Version) (n : ℕ) (u b : List ℕ) : Type 0 where
   pub t : Body
-  pub fits : IsTrue (body_fits t)
+  pub fits : IsTrue (body_fits ver t)
   pub shallow : n + body_depth t ≤ m
   pub told : u ≡ body_text t ++ b
 
-pub record IsEnding (m n : ℕ) (u b : List ℕ) : Type 0 where
+pub record IsEnding (m : ℕ) (ver : Version) (n : ℕ) (u b : List ℕ) : Type 0 where
   pub end : Ending
-  pub fits : IsTrue (ending_fits end)
+  pub fits : IsTrue (ending_fits ver end)
   pub shallow : n + ending_depth end ≤ m
   pub told : u ≡ ending_text end ++ b
 
-pub record AreCases (m n : ℕ) (u b : List ℕ) : Type 0 where
+pub record AreCases (m : ℕ) (ver : Version) (n : ℕ) (u b : List ℕ) : Type 0 where
   pub steps : List Step
   pub fit : IsTrue (list_all step_fits steps)
   pub rest : List ℕ
-  pub end : IsEnding m n rest b
+  pub end : IsEnding m ver n rest b
   pub told : u ≡ steps_text steps ++ rest
 
-pub record AreBranches (m n : ℕ) (u b : List ℕ) : Type 0 where
+pub record AreBranches (m : ℕ) (ver : Version) (n : ℕ) (u b : List ℕ) : Type 0 where
   pub bs : Branches
-  pub fit : IsTrue (branches_fit bs)
+  pub fit : IsTrue (branches_fit ver bs)
   -- the branch itself is a level, and so its cases are at most as deep as the limit
   pub shallow : n + branch_depth bs ≤ m
   pub told : u ≡ branches_text bs ++ 46 ∷ 10 ∷ b
+
+pub record IsCase (m : ℕ) (ver : Version) (n : ℕ) (u b : List ℕ) : Type 0 where
+  pub c : Case
+  pub fits : IsTrue (case_fits ver c)
+  pub shallow : n + case_depth c ≤ m
+  pub told : u ≡ case_text c ++ b
+
+-- the version's digit, and the rest of a certificate
+pub record IsCertificate (m : ℕ) (u b : List ℕ) : Type 0 where
+  pub ver : Version
+  pub o : Outcome
+  pub v : Option ℤ
+  pub t : Tree
+  pub outcome : IsTrue (outcome_fits o v)
+  pub fits : IsTrue (tree_fits ver t)
+  pub shallow : depth_of t ≤ m
+  pub told : codes "qcert " ++ u ≡ version_text ver ++ (outcome_text o v ++ (tree_text t ++ b))
 
 -- u is a text of the symbol and then b, nested at most so deep
 abbrev pub Begins : ℕ → Symbol → List ℕ → List ℕ → Type 0
@@ -99,14 +118,16 @@ Begins m (byte c) u b = u ≡ c ∷ b
 Begins m (number most end) u b = IsNumber most end u b
 Begins m (signed most end) u b = IsSigned most end u b
 Begins m (digits most v end) u b = AreLastDigits most v end u b
+Begins m certificate u b = IsCertificate m u b
 Begins m outcome u b = IsOutcome u b
 Begins m optimum u b = IsOptimum u b
 Begins m prunes u b = ArePrunes u b
-Begins m (node n) u b = IsNode m n u b
-Begins m (body n) u b = IsBody m n u b
-Begins m (cases n) u b = AreCases m n u b
-Begins m (ending n) u b = IsEnding m n u b
-Begins m (branches n) u b = AreBranches m n u b
+Begins m (node ver n) u b = IsNode m ver n u b
+Begins m (body ver n) u b = IsBody m ver n u b
+Begins m (cases ver n) u b = AreCases m ver n u b
+Begins m (ending ver n) u b = IsEnding m ver n u b
+Begins m (case ver n) u b = IsCase m ver n u b
+Begins m (branches ver n) u b = AreBranches m ver n u b
 
 -- a text of each symbol, one after the other, and then b
 abbrev pub Runs : ℕ → List Symbol → List ℕ → List ℕ → Type 0

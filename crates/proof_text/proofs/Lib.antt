@@ -1,3 +1,10 @@
+mod TooDeepLetters
+mod LevelsKept
+mod LinesRead
+mod Numerals
+mod Openings
+mod PartLines
+pub mod Standings
 mod Examples
 pub mod Grammar
 pub mod Digits
@@ -14,4 +21,5 @@ pub mod PlacesFound
 pub mod Prefixes
 pub mod Unique
 pub mod UniqueTrees
+pub mod EachText
 pub mod Ends

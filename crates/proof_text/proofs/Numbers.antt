@@ -1,12 +1,12 @@
 -- Numbers by their first bytes, both ways.
-use Rattle.std.proofs.Common.{◌≡◌, ◌⊎◌, inl, inr, refl, sym, ap, ◌∙◌, subst, ℕ, zero, suc, ◌+◌, ◌-◌, ◌*◌, ◌^◌, ◌≤◌, ◌<◌, List, [], ◌∷◌, ◌++◌, Option, Some, None, Bool, true, false, ◌&&◌, cond, eqb, append_assoc, arith, leb-true, le-leb}
+use Rattle.std.proofs.Common.{◌≡◌, refl, sym, ap, ◌∙◌, subst, ℕ, zero, suc, ◌+◌, ◌-◌, ◌*◌, ◌^◌, ◌≤◌, ◌<◌, List, [], ◌∷◌, ◌++◌, Some, None, Bool, true, false, ◌&&◌, cond, eqb, arith, leb-true, le-leb}
 use Rattle.std.specs.Prelude.{IsTrue, ℤ, pos, negsuc, nat_le, unsigned_abs}
 use Rattle.std.specs.Fmt.{decimal, signed_decimal}
 use Rattle.std.proofs.lemmas.Fmt.{decimal_digit}
 use Rattle.std.proofs.lemmas.Bool.{and_from, and_parts, eq-eqb, ne_eqb, eqb-true}
 use Rattle.proof_text.specs.Symbols.{Symbol, byte, number, signed, digits, after, first_digit, next_digit}
-use Rattle.proof_text.proofs.Grammar.{Begins, Runs, IsNumber, IsSigned, AreLastDigits, AreDigits, value}
-use Rattle.proof_text.proofs.Digits.{parts, Parts, value_grows, decimal_value}
+use Rattle.proof_text.proofs.Grammar.{Runs, IsNumber, IsSigned, AreLastDigits, AreDigits, value}
+use Rattle.proof_text.proofs.Digits.{parts, value_grows, decimal_value}
 use Rattle.proof_text.proofs.Choices.{Enters}
 
 -- three tests of a digit

@@ -1,18 +1,15 @@
 -- What stands for a symbol, and what is owed after its first byte, are the same texts.
-use Rattle.std.proofs.Common.{◌≡◌, ◌⊎◌, inl, inr, refl, sym, ap, ◌∙◌, subst, ℕ, zero, suc, ◌+◌, ◌-◌, ◌*◌, ◌^◌, ◌≤◌, ◌<◌, List, [], ◌∷◌, ◌++◌, Option, Some, None, Bool, true, false, ◌&&◌, ◌||◌, cond, eqb, append_assoc, arith, leb-true, le-leb}
-use Rattle.std.specs.Prelude.{nat_le, nat_eq, pos}
+use Rattle.std.proofs.Common.{◌≡◌, inl, inr, refl, sym, ap, ◌∙◌, subst, ℕ, suc, ◌+◌, ◌^◌, ◌≤◌, ◌<◌, List, [], ◌∷◌, Option, Some, Bool, true, false, ◌&&◌, ◌||◌, cond, eqb, arith, leb-true, le-leb}
+use Rattle.std.specs.Prelude.{nat_le, nat_eq}
 use Rattle.std.specs.List.{list_all}
-use Rattle.std.proofs.lemmas.Bool.{and_from, and_parts, eq-eqb, ne_eqb, eqb-true}
-use Rattle.std.proofs.lemmas.Fmt.{decimal_digit}
-use Rattle.std.proofs.lemmas.List.Folds.{list_all-append}
-use Rattle.proof_tree.specs.declared.tree.Outcome.TheVariants.{False}
-use Rattle.proof_tree.specs.Tree.{tree, stuck, empty, no_more}
-use Rattle.proof_text.specs.Symbols.{Symbol, byte, number, signed, digits, outcome, optimum, prunes, node, body, cases, ending, branches, Choices, after, chosen, first_digit, next_digit, outcome_choices, optimum_choices, prune_choices, ending_choices, case_choices, body_choices, node_choices, branch_choices}
+use Rattle.std.proofs.lemmas.Bool.{and_from, and_parts, eqb-true}
+use Rattle.proof_tree.specs.declared.tree.Version.TheVariants.{One, Two}
+use Rattle.proof_text.specs.Symbols.{Symbol, byte, number, signed, digits, certificate, outcome, optimum, prunes, node, body, cases, ending, case, branches, Choices, after, chosen, first_digit, next_digit, certificate_choices, outcome_choices, optimum_choices, prune_choices, ending_choices, case_choices, body_choices, node_choices, one_choices, branch_choices}
 use Rattle.proof_text.specs.Running.{nests_within}
-use Rattle.proof_text.proofs.Grammar.{Begins, Runs, Choice, runs_append, runs_split}
-use Rattle.proof_text.proofs.Choices.{Enters, AreDistinct, choice_enters, chosen_choice}
-use Rattle.proof_text.proofs.Forward.{outcome_choice, optimum_choice, prune_choice, ending_choice, case_choice, body_choice, node_choice, branch_choice, at_bytes}
-use Rattle.proof_text.proofs.Backward.{outcome_back, optimum_back, prune_back, ending_back, case_back, body_back, node_back, branch_back}
+use Rattle.proof_text.proofs.Grammar.{Begins, Runs, Choice}
+use Rattle.proof_text.proofs.Choices.{Enters, choice_enters, chosen_choice}
+use Rattle.proof_text.proofs.Forward.{certificate_choice, outcome_choice, optimum_choice, prune_choice, ending_choice, case_choice, body_choice, node_choice, one_choice, branch_choice}
+use Rattle.proof_text.proofs.Backward.{certificate_back, outcome_back, optimum_back, prune_back, ending_back, case_back, body_back, node_back, one_back, branch_back}
 use Rattle.proof_text.proofs.Numbers.{number_enters, signed_enters, digits_enter, number_leaves, signed_leaves, digits_leave, is_first, is_next}
 
 -- the ranges of numbers that occur, and the bytes after them
@@ -24,14 +21,16 @@ is_sound (byte c) = true
 is_sound (number most end) = is_range most end
 is_sound (signed most end) = is_range most end
 is_sound (digits most v end) = nat_le v most && is_range most end
+is_sound certificate = true
 is_sound outcome = true
 is_sound optimum = true
 is_sound prunes = true
-is_sound (node n) = true
-is_sound (body n) = true
-is_sound (cases n) = true
-is_sound (ending n) = true
-is_sound (branches n) = true
+is_sound (node ver n) = true
+is_sound (body ver n) = true
+is_sound (cases ver n) = true
+is_sound (ending ver n) = true
+is_sound (case ver n) = true
+is_sound (branches ver n) = true
 
 pub record Range (most end : ℕ) : Type 0 where
   pub low : 9 ≤ most
@@ -55,14 +54,17 @@ enter m (signed most end) u b f h = enters_at m _ u _ b h.told (signed_enters m 
 enter m (digits most v end) u b f h =
     let p = and_parts (nat_le v most) (is_range most end) f in
     enters_at m _ u _ b h.told (digits_enter m most v end h.ds b h.are h.high (range most end p.1).ended)
+enter m certificate u b f h = choice_enters m certificate_choices u b (refl, (refl, tt)) (certificate_choice m u b h)
 enter m outcome u b f h = choice_enters m outcome_choices u b (refl, (refl, (refl, tt))) (outcome_choice m u b h)
 enter m optimum u b f h = choice_enters m optimum_choices u b (refl, (refl, tt)) (optimum_choice m u b h)
 enter m prunes u b f h = choice_enters m prune_choices u b (refl, (refl, tt)) (prune_choice m u b h)
-enter m (node n) u b f h = choice_enters m (node_choices n) u b (refl, (refl, (refl, (refl, (refl, (refl, (refl, (refl, (refl, tt))))))))) (node_choice m n u b h)
-enter m (body n) u b f h = choice_enters m (body_choices n) u b (refl, (refl, (refl, (refl, (refl, (refl, (refl, (refl, tt)))))))) (body_choice m n u b h)
-enter m (cases n) u b f h = choice_enters m (case_choices n) u b (refl, (refl, (refl, (refl, (refl, (refl, tt)))))) (case_choice m n u b h)
-enter m (ending n) u b f h = choice_enters m (ending_choices n) u b (refl, (refl, (refl, (refl, tt)))) (ending_choice m n u b h)
-enter m (branches n) u b f h = choice_enters m (branch_choices n) u b (refl, (refl, (refl, (refl, (refl, (refl, (refl, (refl, (refl, tt))))))))) (branch_choice m n u b h)
+enter m (node ver n) u b f h = choice_enters m (node_choices ver n) u b (refl, (refl, (refl, (refl, (refl, (refl, (refl, (refl, (refl, tt))))))))) (node_choice m ver n u b h)
+enter m (body ver n) u b f h = choice_enters m (body_choices ver n) u b (refl, (refl, (refl, (refl, (refl, (refl, (refl, (refl, tt)))))))) (body_choice m ver n u b h)
+enter m (cases ver n) u b f h = choice_enters m (case_choices ver n) u b (refl, (refl, (refl, (refl, (refl, (refl, tt)))))) (case_choice m ver n u b h)
+enter m (ending ver n) u b f h = choice_enters m (ending_choices ver n) u b (refl, (refl, (refl, (refl, tt)))) (ending_choice m ver n u b h)
+enter m (case ver n) u b f h = choice_enters m (one_choices ver n) u b (refl, (refl, (refl, (refl, (refl, (refl, (refl, (refl, tt)))))))) (one_choice m ver n u b h)
+enter m (branches One n) u b f h = choice_enters m (branch_choices One n) u b (refl, (refl, (refl, (refl, (refl, (refl, (refl, (refl, (refl, tt))))))))) (branch_choice m One n u b h)
+enter m (branches Two n) u b f h = choice_enters m (branch_choices Two n) u b (refl, (refl, (refl, (refl, (refl, (refl, (refl, (refl, (refl, (refl, tt)))))))))) (branch_choice m Two n u b h)
 
 byte_back : (m c : ℕ) (u b : List ℕ) → Choice m ((c, []) ∷ []) u b → u ≡ c ∷ b
 byte_back m c u b (inl h) = h.1 ∙ ap (λ (l : List ℕ). c ∷ l) h.2
@@ -75,14 +77,16 @@ leave m (signed most end) c owed w b f g h r = signed_leaves m most end c owed w
 leave m (digits most v end) c owed w b f g h r =
     let p = and_parts (nat_le v most) (is_range most end) f in
     digits_leave m most v end c owed w b (leb-true _ _ p.0) h r
+leave m certificate c owed w b f g h r = certificate_back m _ b (chosen_choice m certificate_choices c w b owed h r)
 leave m outcome c owed w b f g h r = outcome_back m _ b (chosen_choice m outcome_choices c w b owed h r)
 leave m optimum c owed w b f g h r = optimum_back m _ b (chosen_choice m optimum_choices c w b owed h r)
 leave m prunes c owed w b f g h r = prune_back m _ b (chosen_choice m prune_choices c w b owed h r)
-leave m (node n) c owed w b f g h r = node_back m n _ b (leb-true _ _ g) (chosen_choice m (node_choices n) c w b owed h r)
-leave m (body n) c owed w b f g h r = body_back m n _ b (leb-true _ _ g) (chosen_choice m (body_choices n) c w b owed h r)
-leave m (cases n) c owed w b f g h r = case_back m n _ b (leb-true _ _ g) (chosen_choice m (case_choices n) c w b owed h r)
-leave m (ending n) c owed w b f g h r = ending_back m n _ b (leb-true _ _ g) (chosen_choice m (ending_choices n) c w b owed h r)
-leave m (branches n) c owed w b f g h r = branch_back m n _ b (leb-true _ _ g) (chosen_choice m (branch_choices n) c w b owed h r)
+leave m (node ver n) c owed w b f g h r = node_back m ver n _ b (leb-true _ _ g) (chosen_choice m (node_choices ver n) c w b owed h r)
+leave m (body ver n) c owed w b f g h r = body_back m ver n _ b (leb-true _ _ g) (chosen_choice m (body_choices ver n) c w b owed h r)
+leave m (cases ver n) c owed w b f g h r = case_back m ver n _ b (leb-true _ _ g) (chosen_choice m (case_choices ver n) c w b owed h r)
+leave m (ending ver n) c owed w b f g h r = ending_back m ver n _ b (leb-true _ _ g) (chosen_choice m (ending_choices ver n) c w b owed h r)
+leave m (case ver n) c owed w b f g h r = one_back m ver n _ b (leb-true _ _ g) (chosen_choice m (one_choices ver n) c w b owed h r)
+leave m (branches ver n) c owed w b f g h r = branch_back m ver n _ b (leb-true _ _ g) (chosen_choice m (branch_choices ver n) c w b owed h r)
 
 -- what is so of each choice is so of the one taken
 by_test : (t : Bool) (test : ℕ × List Symbol → Bool) (x : ℕ × List Symbol) (choices : Choices) (c : ℕ) (owed : List Symbol) → eqb c x.0 ≡ t → test x ≡ true → cond t (Some x.1) (chosen c choices) ≡ Some owed
@@ -134,14 +138,17 @@ sound_after (byte x) c owed f h = of_choice sound_test ((x, []) ∷ []) c owed r
 sound_after (number most end) c owed f h = number_sound most end c owed f h
 sound_after (signed most end) c owed f h = signed_sound (eqb c 45) (eqb c 48) most end c owed f h
 sound_after (digits most v end) c owed f h = digits_sound (eqb c end) most v end c owed (and_parts (nat_le v most) (is_range most end) f).1 h
+sound_after certificate c owed f h = of_choice sound_test certificate_choices c owed refl h
 sound_after outcome c owed f h = of_choice sound_test outcome_choices c owed refl h
 sound_after optimum c owed f h = of_choice sound_test optimum_choices c owed refl h
 sound_after prunes c owed f h = of_choice sound_test prune_choices c owed refl h
-sound_after (node n) c owed f h = of_choice sound_test (node_choices n) c owed refl h
-sound_after (body n) c owed f h = of_choice sound_test (body_choices n) c owed refl h
-sound_after (cases n) c owed f h = of_choice sound_test (case_choices n) c owed refl h
-sound_after (ending n) c owed f h = of_choice sound_test (ending_choices n) c owed refl h
-sound_after (branches n) c owed f h = of_choice sound_test (branch_choices n) c owed refl h
+sound_after (node ver n) c owed f h = of_choice sound_test (node_choices ver n) c owed refl h
+sound_after (body ver n) c owed f h = of_choice sound_test (body_choices ver n) c owed refl h
+sound_after (cases ver n) c owed f h = of_choice sound_test (case_choices ver n) c owed refl h
+sound_after (ending ver n) c owed f h = of_choice sound_test (ending_choices ver n) c owed refl h
+sound_after (case ver n) c owed f h = of_choice sound_test (one_choices ver n) c owed refl h
+sound_after (branches One n) c owed f h = of_choice sound_test (branch_choices One n) c owed refl h
+sound_after (branches Two n) c owed f h = of_choice sound_test (branch_choices Two n) c owed refl h
 
 -- The nesting grows by one at most, and only at a `v` or an `n`.
 abbrev pub nest_test : ℕ → Test
@@ -179,30 +186,44 @@ nests_after m (byte x) c owed g h = of_choice (nest_test m) ((x, []) ∷ []) c o
 nests_after m (number most end) c owed g h = number_nests m most end c owed h
 nests_after m (signed most end) c owed g h = signed_nests (eqb c 45) (eqb c 48) m most end c owed h
 nests_after m (digits most v end) c owed g h = digits_nest (eqb c end) m most v end c owed h
+nests_after m certificate c owed g h =
+    let e : nat_le 0 (suc m) ≡ true = le-leb _ _ (omega arith) in
+    let f : nat_le 0 m ≡ true = le-leb _ _ (omega arith) in
+    of_choice (nest_test m) certificate_choices c owed (rw (e, f) refl) h
 nests_after m outcome c owed g h = of_choice (nest_test m) outcome_choices c owed refl h
 nests_after m optimum c owed g h = of_choice (nest_test m) optimum_choices c owed refl h
 nests_after m prunes c owed g h = of_choice (nest_test m) prune_choices c owed refl h
-nests_after m (node n) c owed g h =
+nests_after m (node ver n) c owed g h =
     let le = leb-true _ _ g in
     let e : nat_le n (suc m) ≡ true = le-leb _ _ (omega arith) in
     let f : nat_le (n + 1) (suc m) ≡ true = le-leb _ _ (omega arith) in
-    of_choice (nest_test m) (node_choices n) c owed (rw (e, f, g, or_true (nat_le (n + 1) m && true)) refl) h
-nests_after m (body n) c owed g h =
+    of_choice (nest_test m) (node_choices ver n) c owed (rw (e, f, g, or_true (nat_le (n + 1) m && true)) refl) h
+nests_after m (body ver n) c owed g h =
     let le = leb-true _ _ g in
     let e : nat_le n (suc m) ≡ true = le-leb _ _ (omega arith) in
     let f : nat_le (n + 1) (suc m) ≡ true = le-leb _ _ (omega arith) in
-    of_choice (nest_test m) (body_choices n) c owed (rw (e, f, g, or_true (nat_le (n + 1) m && true)) refl) h
-nests_after m (cases n) c owed g h =
+    of_choice (nest_test m) (body_choices ver n) c owed (rw (e, f, g, or_true (nat_le (n + 1) m && true)) refl) h
+nests_after m (cases ver n) c owed g h =
     let le = leb-true _ _ g in
     let e : nat_le n (suc m) ≡ true = le-leb _ _ (omega arith) in
     let f : nat_le (n + 1) (suc m) ≡ true = le-leb _ _ (omega arith) in
-    of_choice (nest_test m) (case_choices n) c owed (rw (e, f, g, or_true (nat_le (n + 1) m && true)) refl) h
-nests_after m (ending n) c owed g h =
+    of_choice (nest_test m) (case_choices ver n) c owed (rw (e, f, g, or_true (nat_le (n + 1) m && true)) refl) h
+nests_after m (ending ver n) c owed g h =
     let le = leb-true _ _ g in
     let f : nat_le (n + 1) (suc m) ≡ true = le-leb _ _ (omega arith) in
-    of_choice (nest_test m) (ending_choices n) c owed (rw (f, or_true (nat_le (n + 1) m && true)) refl) h
-nests_after m (branches n) c owed g h =
+    of_choice (nest_test m) (ending_choices ver n) c owed (rw (f, or_true (nat_le (n + 1) m && true)) refl) h
+nests_after m (case ver n) c owed g h =
     let le = leb-true _ _ g in
     let e : nat_le n (suc m) ≡ true = le-leb _ _ (omega arith) in
     let f : nat_le (n + 1) (suc m) ≡ true = le-leb _ _ (omega arith) in
-    of_choice (nest_test m) (branch_choices n) c owed (rw (e, f, g, or_true (nat_le (n + 1) m && true)) refl) h
+    of_choice (nest_test m) (one_choices ver n) c owed (rw (e, f, g, or_true (nat_le (n + 1) m && true)) refl) h
+nests_after m (branches One n) c owed g h =
+    let le = leb-true _ _ g in
+    let e : nat_le n (suc m) ≡ true = le-leb _ _ (omega arith) in
+    let f : nat_le (n + 1) (suc m) ≡ true = le-leb _ _ (omega arith) in
+    of_choice (nest_test m) (branch_choices One n) c owed (rw (e, f, g, or_true (nat_le (n + 1) m && true)) refl) h
+nests_after m (branches Two n) c owed g h =
+    let le = leb-true _ _ g in
+    let e : nat_le n (suc m) ≡ true = le-leb _ _ (omega arith) in
+    let f : nat_le (n + 1) (suc m) ≡ true = le-leb _ _ (omega arith) in
+    of_choice (nest_test m) (branch_choices Two n) c owed (rw (e, f, g, or_true (nat_le (n + 1) m && true)) refl) h

@@ -1,44 +1,46 @@
 -- From verdicts on what is owed to places in texts.
-use Rattle.std.proofs.Common.{◌≡◌, ◌⊎◌, inl, inr, refl, sym, ap, ◌∙◌, subst, ℕ, zero, suc, ◌+◌, ◌-◌, ◌≤◌, ◌<◌, List, [], ◌∷◌, ◌++◌, length, take, drop, get_or, arith, append_assoc, length-append, take-append-drop, Bool, true, false, ◌&&◌}
-use Rattle.std.specs.Prelude.{IsTrue, codes, Option, ℤ}
+use Rattle.std.proofs.Common.{◌≡◌, ◌⊎◌, inl, inr, refl, sym, ap, ◌∙◌, subst, ℕ, suc, ◌+◌, ◌-◌, ◌≤◌, List, [], ◌∷◌, ◌++◌, length, take, drop, get_or, arith, length-append, take-append-drop}
+use Rattle.std.specs.Prelude.{codes}
 use Rattle.std.proofs.lemmas.Bool.{and_from, and_parts, cases_lt}
 use Rattle.std.proofs.lemmas.List.{append-nil}
-use Rattle.proof_tree.specs.declared.tree.Outcome.{Outcome}
-use Rattle.proof_tree.specs.Tree.{Tree}
-use Rattle.proof_tree.specs.Counts.{depth_of}
-use Rattle.proof_tree.specs.Text.{certificate_text, has_text, outcome_text, outcome_fits, tree_text, tree_fits}
-use Rattle.proof_text.specs.declared.flaw.Flaw.{Flaw}
-use Rattle.proof_text.specs.declared.flaw.Flaw.TheVariants.{Wrong, Deep, Memory}
-use Rattle.proof_text.specs.declared.fault.CertFault.{CertFault}
-use Rattle.proof_text.specs.declared.fault.CertFault.TheVariants.{NotACertificate, TooDeep, Memory as Want}
-use Rattle.proof_text.specs.Symbols.{Symbol, outcome, node, start}
-use Rattle.proof_text.specs.Running.{run, Verdict, wrong, deep}
-use Rattle.proof_text.specs.Places.{IsText, BeginsText, IsNotACertificate, IsTooDeep, IsFault, IsWant}
+use Rattle.proof_tree.specs.declared.tree.Version.{Version}
+use Rattle.proof_tree.specs.declared.tree.Version.TheVariants.{One, Two}
+use Rattle.proof_tree.specs.Text.{version_text, outcome_text, outcome_fits, tree_fits}
+use Rattle.proof_text.specs.Parts.{tree_text}
+use Rattle.proof_text.specs.declared.part_fault.PartFault.TheVariants.{Wrong, Deep}
+use Rattle.proof_text.specs.Symbols.{certificate, start}
+use Rattle.proof_text.specs.Running.{Verdict}
+use Rattle.proof_text.specs.Places.{IsText, BeginsText, IsNotACertificate, IsTooDeep}
 use Rattle.proof_text.specs.Reading.{Stops}
+use Rattle.proof_text.proofs.LinesRead.{certificate_told}
 use Rattle.proof_text.proofs.Grammar.{Runs, bytes_then, then_bytes}
 use Rattle.proof_text.proofs.Verdicts.{Says, says, StopsAt, DeepAt, CanGo, AreReady}
 
 -- the texts of certificates are what is owed at the start
+after_version : (ver : Version) (u : List ℕ) → (w : List ℕ) × (version_text ver ++ u ≡ codes "qcert " ++ w)
+after_version One u = (_, refl)
+after_version Two u = (_, refl)
+
 pub text_runs : (m : ℕ) (u : List ℕ) → IsText m u → Runs m start u []
 text_runs m u h =
-    let p = and_parts (outcome_fits h.0 h.1) (tree_fits h.2) h.3 in
-    let depth = h.4 in
-    subst (λ (l : List ℕ). Runs m start l []) (sym h.5)
-    (then_bytes m (codes "qcert 1\n") (outcome ∷ node 0 ∷ []) (outcome_text h.0 h.1 ++ tree_text h.2) []
-    (tree_text h.2, record { o = h.0; v = h.1; fits = p.0; told = refl }, ([], record { t = h.2; fits = p.1; shallow = omega arith; told = sym (append-nil (tree_text h.2)) }, refl)))
+    let p = and_parts (outcome_fits h.1 h.2) (tree_fits h.0 h.3) h.4 in
+    let w = after_version h.0 (outcome_text h.1 h.2 ++ tree_text h.3) in
+    let told = sym w.1 ∙ ap (λ (l : List ℕ). version_text h.0 ++ (outcome_text h.1 h.2 ++ l)) (sym (append-nil (tree_text h.3))) in
+    subst (λ (l : List ℕ). Runs m start l []) (sym (h.6 ∙ certificate_told h.0 h.1 h.2 h.3 ∙ w.1))
+    (then_bytes m (codes "qcert ") (certificate ∷ []) w.0 [] ([], record { ver = h.0; o = h.1; v = h.2; t = h.3; outcome = p.0; fits = p.1; shallow = h.5; told = told }, refl))
 
 pub runs_text : (m : ℕ) (u : List ℕ) → Runs m start u [] → IsText m u
 runs_text m u h =
-    let r = bytes_then m (codes "qcert 1\n") (outcome ∷ node 0 ∷ []) u [] h in
-    let o = r.2.1 in
-    let n = r.2.2.1 in
-    let depth = n.shallow in (
-      o.o,
-      o.v,
-      n.t,
-      and_from (outcome_fits o.o o.v) (tree_fits n.t) o.fits n.fits,
-      omega arith,
-      r.1 ∙ ap (λ (l : List ℕ). codes "qcert 1\n" ++ l) (o.told ∙ ap (λ (l : List ℕ). outcome_text o.o o.v ++ l) (n.told ∙ ap (λ (l : List ℕ). tree_text n.t ++ l) r.2.2.2 ∙ append-nil (tree_text n.t))),
+    let r = bytes_then m (codes "qcert ") (certificate ∷ []) u [] h in
+    let c = r.2.1 in (
+      c.ver,
+      c.o,
+      c.v,
+      c.t,
+      and_from (outcome_fits c.o c.v) (tree_fits c.ver c.t) c.outcome c.fits,
+      c.shallow,
+      r.1 ∙ c.told ∙ ap (λ (l : List ℕ). version_text c.ver ++ (outcome_text c.o c.v ++ l)) (ap (λ (l : List ℕ). tree_text c.t ++ l) r.2.2 ∙ append-nil (tree_text c.t))
+          ∙ sym (certificate_told c.ver c.o c.v c.t),
     )
 
 goes_text : (m : ℕ) (u : List ℕ) → CanGo m start u → BeginsText m u

@@ -1,9 +1,10 @@
 -- No text is a proper front of another.
-use Rattle.std.proofs.Common.{◌≡◌, refl, sym, ap, ◌∙◌, subst, ℕ, ◌+◌, ◌≤◌, List, [], ◌∷◌, ◌++◌, Option, Some, None, Bool, true, arith}
+use Rattle.std.proofs.Common.{◌≡◌, refl, sym, ap, ◌∙◌, ℕ, List, [], ◌∷◌, ◌++◌, Option, Some, true, arith}
 use Rattle.std.specs.Prelude.{IsTrue, ℤ}
 use Rattle.std.specs.List.{list_all}
 use Rattle.std.proofs.lemmas.Bool.{and_from, and_parts}
 use Rattle.std.proofs.lemmas.List.Folds.{list_all-append}
+use Rattle.proof_tree.specs.declared.tree.Version.{Version}
 use Rattle.proof_tree.specs.declared.tree.Outcome.{Outcome}
 use Rattle.proof_tree.specs.Tree.{Tree}
 use Rattle.proof_tree.specs.Counts.{depth_of}
@@ -32,5 +33,5 @@ alone (c ∷ cs) rest (s ∷ k) m n f h g =
 pub text_alone : (u rest : List ℕ) (m n : ℕ) → IsText m u → IsText n (u ++ rest) → rest ≡ []
 text_alone u rest m n h g = alone u rest start m n refl (text_runs m u h) (text_runs n (u ++ rest) g)
 
-pub no_proper_front : (o p : Outcome) (v w : Option ℤ) (t u : Tree) (rest : List ℕ) → IsTrue (has_text o v t) → IsTrue (has_text p w u) → certificate_text o v t ++ rest ≡ certificate_text p w u → rest ≡ []
-no_proper_front o p v w t u rest h g e = text_alone (certificate_text o v t) rest (depth_of t) (depth_of u) (o, v, t, h, omega arith, refl) (p, w, u, g, omega arith, e)
+pub no_proper_front : (x y : Version) (o p : Outcome) (v w : Option ℤ) (t u : Tree) (rest : List ℕ) → IsTrue (has_text x o v t) → IsTrue (has_text y p w u) → certificate_text x o v t ++ rest ≡ certificate_text y p w u → rest ≡ []
+no_proper_front x y o p v w t u rest h g e = text_alone (certificate_text x o v t) rest (depth_of t) (depth_of u) (x, o, v, t, h, omega arith, refl) (y, p, w, u, g, omega arith, e)

@@ -1,13 +1,14 @@
 -- Reading a part, and then the next.
-use Rattle.std.proofs.Common.{◌≡◌, refl, sym, ap, ◌∙◌, ℕ, suc, ◌+◌, ◌-◌, ◌*◌, ◌^◌, ◌≤◌, ◌<◌, List, [], ◌∷◌, ◌++◌, take, drop, get_or, length, Result, Ok, Err, arith, add-one, append_assoc, Option, Some, None, Bool, true, false, cond, eqb}
-use Rattle.std.proofs.Math.Seq.{drop-cons, take-suc}
-use Rattle.std.proofs.lemmas.Bool.{eq-eqb, ne_eqb}
-use Rattle.proof_text.specs.declared.flaw.Flaw.{Flaw}
-use Rattle.proof_text.specs.declared.flaw.Flaw.TheVariants.{Wrong, Deep, Memory}
+use Rattle.std.proofs.Common.{◌≡◌, true, refl, sym, ap, ◌∙◌, ℕ, ◌+◌, ◌-◌, ◌*◌, ◌^◌, ◌≤◌, ◌<◌, List, [], ◌∷◌, ◌++◌, take, drop, get_or, length, Result, Ok, Err, arith, add-one, append_assoc, false}
+use Rattle.std.proofs.Math.Seq.{drop-cons}
+use Rattle.std.proofs.lemmas.Bool.{ne_eqb}
+use Rattle.proof_text.specs.declared.part_fault.PartFault.{PartFault}
+use Rattle.proof_text.specs.declared.part_fault.PartFault.TheVariants.{Wrong, Deep, Memory}
 use Rattle.proof_text.specs.Symbols.{Symbol, byte, bytes, number, signed, digits}
-use Rattle.proof_text.specs.Running.{run}
+use Rattle.proof_text.specs.Running.{run, wrong}
 use Rattle.proof_text.specs.Reading.{Passes, Fails}
-use Rattle.std.specs.Prelude.{IfOk}
+use Rattle.std.proofs.lemmas.Bool.Decides.{nat_tests}
+use Rattle.std.specs.Prelude.{IfOk, ◌==◌}
 use Rattle.std.specs.Fmt.{decimal}
 use Rattle.std.proofs.lemmas.Fmt.{decimal_digit}
 use Rattle.std.proofs.lemmas.List.{take_more}
@@ -18,7 +19,7 @@ use Rattle.proof_text.proofs.Numbers.{next_is, first_is, plain_digit}
 abbrev pub Leads : List Symbol → List ℕ → List Symbol → List ℕ → Type 0
 Leads ss bytes ts rest = (k : List Symbol) → (l : List Symbol) × (run (ss ++ k) bytes ≡ run (ts ++ l) rest)
 
-pub fails_by : (ss ts : List Symbol) (bytes rest : List ℕ) (flaw : Flaw) → Leads ss bytes ts rest → Fails ts rest flaw → Fails ss bytes flaw
+pub fails_by : (ss ts : List Symbol) (bytes rest : List ℕ) (fault : PartFault) → Leads ss bytes ts rest → Fails ts rest fault → Fails ss bytes fault
 fails_by ss ts bytes rest (Wrong left) h g = λ k. let r = h k in r.1 ∙ g r.0
 fails_by ss ts bytes rest (Deep left) h g = λ k. let r = h k in r.1 ∙ g r.0
 fails_by ss ts bytes rest (Memory e) h g = tt
@@ -48,7 +49,7 @@ digit_told v w c rest more front is one low high sum lt h =
     let lt2 : 10 * v + (c - 48) < 2 ^ 64 = omega arith in
     rw (sum, decimal_value v (c ∷ []) one (low, high, tt) lt2) (append_assoc (decimal v) (c ∷ []) more ∙ ap (λ (l : List ℕ). decimal v ++ l) (sym is) ∙ h)
 
-pub if_ok : {X : Type 0} (P Q : X → Type 0) (r : Result X Flaw) → ((x : X) → P x → Q x) → IfOk r P → IfOk r Q
+pub if_ok : {X : Type 0} (P Q : X → Type 0) (r : Result X PartFault) → ((x : X) → P x → Q x) → IfOk r P → IfOk r Q
 if_ok P Q (Ok x) f h = f x h
 if_ok P Q (Err e) f h = tt
 
@@ -72,3 +73,12 @@ zero_goes most end c text rest k is e = rw (is, e) refl
 
 pub zero_told : (end c : ℕ) (text rest more : List ℕ) → text ≡ c ∷ rest → c ≡ 48 → rest ≡ end ∷ more → text ≡ decimal 0 ++ end ∷ more
 zero_told end c text rest more is e f = is ∙ rw (e, f) (ap (λ (l : List ℕ). l ++ end ∷ more) (sym (decimal_digit 0 (omega arith))))
+
+-- nothing is owed, and more bytes are there
+pub too_long : (rest : List ℕ) → false ≡ (length rest == 0) → run [] rest ≡ wrong (length rest)
+too_long [] h = absurd (cc)
+too_long (c ∷ rest) h = refl
+
+pub none_left : (rest : List ℕ) → true ≡ (length rest == 0) → rest ≡ []
+none_left [] h = refl
+none_left (c ∷ rest) h = absurd (grind (arith, nat_tests))

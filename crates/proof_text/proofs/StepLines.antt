@@ -7,37 +7,38 @@ use Rattle.qc_model.specs.declared.problem.ConId.{ConId}
 use Rattle.std.specs.List.{list_all}
 use Rattle.std.proofs.lemmas.Bool.{ne_eqb, and_from}
 use Rattle.std.proofs.lemmas.List.Folds.{list_all-append}
+use Rattle.proof_tree.specs.declared.tree.Version.{Version}
 use Rattle.proof_tree.specs.declared.tree.Step.{Step}
 use Rattle.proof_tree.specs.declared.tree.Step.TheVariants.{Prune, Bound}
-use Rattle.proof_tree.specs.Text.{step_text, steps_text}
-use Rattle.proof_text.specs.declared.flaw.Flaw.{Flaw}
-use Rattle.proof_text.specs.Symbols.{Symbol, byte, bytes, prune_line, bound_line, prunes, cases, ending}
+use Rattle.proof_text.specs.Parts.{step_text, steps_text}
+use Rattle.proof_text.specs.declared.part_fault.PartFault.{PartFault}
+use Rattle.proof_text.specs.Symbols.{Symbol, byte, prune_line, bound_line, prunes, cases}
 use Rattle.proof_text.specs.Running.{run, onward}
 use Rattle.proof_text.specs.Reading.{Passes, Fails, BeginsNot, PassesSteps, GoesOn, FailsSteps}
 use Rattle.proof_text.proofs.Forward.{step_is}
-use Rattle.proof_text.proofs.Sequences.{Leads, fails_by}
+use Rattle.proof_text.proofs.Sequences.{fails_by}
 
-pub to_prune : (n : ℕ) (k : List Symbol) (text line : List ℕ) → n ≤ 1000 → text ≡ 112 ∷ line → run (cases n ∷ k) text ≡ run (prune_line ++ cases n ∷ k) line
-to_prune n k text line h is = rw (is, le-leb n 1000 h) refl
+pub to_prune : (ver : Version) (n : ℕ) (k : List Symbol) (text line : List ℕ) → n ≤ 1000 → text ≡ 112 ∷ line → run (cases ver n ∷ k) text ≡ run (prune_line ++ cases ver n ∷ k) line
+to_prune ver n k text line h is = rw (is, le-leb n 1000 h) refl
 
-pub to_bound : (n : ℕ) (k : List Symbol) (text line : List ℕ) → n ≤ 1000 → text ≡ 98 ∷ line → run (cases n ∷ k) text ≡ run (bound_line ++ cases n ∷ k) line
-to_bound n k text line h is = rw (is, le-leb n 1000 h) refl
+pub to_bound : (ver : Version) (n : ℕ) (k : List Symbol) (text line : List ℕ) → n ≤ 1000 → text ≡ 98 ∷ line → run (cases ver n ∷ k) text ≡ run (bound_line ++ cases ver n ∷ k) line
+to_bound ver n k text line h is = rw (is, le-leb n 1000 h) refl
 
-pub prune_fails : (text line : List ℕ) (flaw : Flaw) → text ≡ 112 ∷ line → Fails prune_line line flaw → FailsSteps text flaw
-prune_fails text line flaw is h = λ n le. fails_by (cases n ∷ []) prune_line text line flaw (λ k. (cases n ∷ k, to_prune n k text line le is)) h
+pub prune_fails : (text line : List ℕ) (fault : PartFault) → text ≡ 112 ∷ line → Fails prune_line line fault → FailsSteps text fault
+prune_fails text line fault is h = λ ver n le. fails_by (cases ver n ∷ []) prune_line text line fault (λ k. (cases ver n ∷ k, to_prune ver n k text line le is)) h
 
-pub bound_fails : (text line : List ℕ) (flaw : Flaw) → text ≡ 98 ∷ line → Fails bound_line line flaw → FailsSteps text flaw
-bound_fails text line flaw is h = λ n le. fails_by (cases n ∷ []) bound_line text line flaw (λ k. (cases n ∷ k, to_bound n k text line le is)) h
+pub bound_fails : (text line : List ℕ) (fault : PartFault) → text ≡ 98 ∷ line → Fails bound_line line fault → FailsSteps text fault
+bound_fails text line fault is h = λ ver n le. fails_by (cases ver n ∷ []) bound_line text line fault (λ k. (cases ver n ∷ k, to_bound ver n k text line le is)) h
 
 pub prune_goes : (text line rest : List ℕ) → text ≡ 112 ∷ line → Passes prune_line line rest → GoesOn text rest
-prune_goes text line rest is h = λ n le k. to_prune n k text line le is ∙ h (cases n ∷ k)
+prune_goes text line rest is h = λ ver n le k. to_prune ver n k text line le is ∙ h (cases ver n ∷ k)
 
 pub bound_goes : (text line rest : List ℕ) → text ≡ 98 ∷ line → Passes bound_line line rest → GoesOn text rest
-bound_goes text line rest is h = λ n le k. to_bound n k text line le is ∙ h (cases n ∷ k)
+bound_goes text line rest is h = λ ver n le k. to_bound ver n k text line le is ∙ h (cases ver n ∷ k)
 
 pub no_step : (text : List ℕ) → BeginsNot 112 text → BeginsNot 98 text → PassesSteps text text
-no_step [] p b = λ n le k. refl
-no_step (c ∷ cs) p b = λ n le k. rw (ne_eqb c 112 (λ e. p cs (ap (λ (x : ℕ). x ∷ cs) e)), ne_eqb c 98 (λ e. b cs (ap (λ (x : ℕ). x ∷ cs) e))) refl
+no_step [] p b = λ ver n le k. refl
+no_step (c ∷ cs) p b = λ ver n le k. rw (ne_eqb c 112 (λ e. p cs (ap (λ (x : ℕ). x ∷ cs) e)), ne_eqb c 98 (λ e. b cs (ap (λ (x : ℕ). x ∷ cs) e))) refl
 
 -- the same of the steps of a horizon
 pub to_line : (k : List Symbol) (text line : List ℕ) → text ≡ 112 ∷ line → run (prunes ∷ k) text ≡ run (prune_line ++ prunes ∷ k) line
@@ -51,11 +52,11 @@ pub no_prune : (text : List ℕ) (k : List Symbol) → BeginsNot 112 text → ru
 no_prune [] k p = refl
 no_prune (c ∷ cs) k p = rw (ne_eqb c 112 (λ e. p cs (ap (λ (x : ℕ). x ∷ cs) e))) (dot_by (eqb c 46) k cs (suc (length cs)))
 
-pub steps_fail : (text rest : List ℕ) (flaw : Flaw) → GoesOn text rest → FailsSteps rest flaw → FailsSteps text flaw
-steps_fail text rest flaw g h = λ n le. fails_by (cases n ∷ []) (cases n ∷ []) text rest flaw (λ k. (k, g n le k)) (h n le)
+pub steps_fail : (text rest : List ℕ) (fault : PartFault) → GoesOn text rest → FailsSteps rest fault → FailsSteps text fault
+steps_fail text rest fault g h = λ ver n le. fails_by (cases ver n ∷ []) (cases ver n ∷ []) text rest fault (λ k. (k, g ver n le k)) (h ver n le)
 
-pub prunes_fail : (text rest : List ℕ) (flaw : Flaw) → ((k : List Symbol) → run (prunes ∷ k) text ≡ run (prunes ∷ k) rest) → BeginsNot 112 rest → Fails (byte 46 ∷ byte 10 ∷ []) rest flaw → Fails (prunes ∷ []) text flaw
-prunes_fail text rest flaw g b h = fails_by (prunes ∷ []) (byte 46 ∷ byte 10 ∷ []) text rest flaw (λ k. (k, g k ∙ no_prune rest k b)) h
+pub prunes_fail : (text rest : List ℕ) (fault : PartFault) → ((k : List Symbol) → run (prunes ∷ k) text ≡ run (prunes ∷ k) rest) → BeginsNot 112 rest → Fails (byte 46 ∷ byte 10 ∷ []) rest fault → Fails (prunes ∷ []) text fault
+prunes_fail text rest fault g b h = fails_by (prunes ∷ []) (byte 46 ∷ byte 10 ∷ []) text rest fault (λ k. (k, g k ∙ no_prune rest k b)) h
 
 pub prune_told : (x : VarId) (low high : ℤ) (c : ConId) (text mid rest : List ℕ) → text ≡ 32 ∷ (decimal (x.0 + 1) ++ 32 ∷ (signed_decimal low ++ 32 ∷ (signed_decimal high ++ 32 ∷ mid))) → mid ≡ decimal (c.0 + 1) ++ 10 ∷ rest → 112 ∷ text ≡ step_text (Prune x low high c) ++ rest
 prune_told x low high c text mid rest h g = rw (h, g) (sym (step_is (Prune x low high c) rest))

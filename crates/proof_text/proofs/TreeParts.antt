@@ -1,25 +1,30 @@
 -- The parts of a tree, as they are read.
-use Rattle.std.proofs.Common.{◌≡◌, refl, sym, ap, ◌∙◌, subst, ℕ, suc, ◌+◌, ◌≤◌, ◌<◌, List, [], ◌∷◌, ◌++◌, length, map, max, arith, append_assoc, le-leb, length-append, Bool, true, false, ◌&&◌, cond, eqb, Option, Some, None}
+use Rattle.std.proofs.Common.{◌≡◌, refl, sym, ap, ◌∙◌, subst, ℕ, suc, ◌+◌, ◌≤◌, ◌<◌, List, [], ◌∷◌, ◌++◌, length, arith, append_assoc, le-leb, length-append, Bool, true, false, ◌&&◌, cond, eqb, Option, Some, None}
 use Rattle.std.specs.Prelude.{IsTrue, codes, MatchOption}
 use Rattle.std.specs.Option.{is_some}
 use Rattle.std.specs.List.{list_all}
 use Rattle.std.specs.Fmt.{decimal}
 use Rattle.std.proofs.lemmas.Bool.{ne_eqb, and_from, and_parts}
+use Rattle.std.proofs.lemmas.List.{append-nil}
 use Rattle.std.proofs.lemmas.List.Folds.{list_all-append}
-use Rattle.std.proofs.Math.Nat.{max-zero, le-max_left, le-max_right}
+use Rattle.std.proofs.Math.Nat.{le-max_left, le-max_right}
 use Rattle.qc_model.specs.declared.problem.VarId.{VarId}
+use Rattle.proof_tree.specs.declared.tree.Version.{Version}
+use Rattle.proof_tree.specs.declared.tree.Version.TheVariants.{One, Two}
 use Rattle.proof_tree.specs.declared.tree.CaseList.{CaseList}
-use Rattle.proof_tree.specs.declared.tree.Case.{Case, Skip, Open, Go'}
+use Rattle.proof_tree.specs.declared.tree.Piece.{Piece}
 use Rattle.proof_tree.specs.declared.tree.End.{Branch}
-use Rattle.proof_tree.specs.Shape.{ending_of, branches_of, put_case}
-use Rattle.proof_tree.specs.Tree.{Ending, Branches, empty, barred, next, branch, no_more}
-use Rattle.proof_tree.specs.Counts.{ending_depth, branch_depth}
-use Rattle.proof_tree.specs.Text.{is_place, steps_text, ending_text, ending_fits, step_fits, branches_text, branches_fit}
+use Rattle.proof_tree.specs.Shape.{ending_of, branches_of, pieces_of, case_of}
+use Rattle.proof_tree.specs.Tree.{Tree, tree, Body, stuck, goal, cases as cases_body, Ending, empty, barred, next, branch, Branches, no_more, piece, Case as TreeCase, skip, left_open, go}
+use Rattle.proof_tree.specs.Pieces.{each_case, body_each, ending_each, branches_each, inner_each, is_one, version_has}
+use Rattle.proof_tree.specs.Counts.{ending_depth, branch_depth, case_depth}
+use Rattle.proof_tree.specs.Text.{is_place, horizon_fits, tree_fits, body_fits, ending_fits, step_fits, branches_fit, upto_fits, case_fits}
+use Rattle.proof_text.specs.Parts.{ending_text, branches_text, upto_text, case_text}
 use Rattle.proof_tree.proofs.Shapes.{ending_branch}
-use Rattle.proof_text.specs.declared.flaw.Flaw.{Flaw}
-use Rattle.proof_text.specs.Symbols.{Symbol, Choices, byte, number, body, cases, ending, branches, chosen, followed, case_choices}
-use Rattle.proof_text.specs.Running.{run, onward, nests_within, deep}
-use Rattle.proof_text.specs.Reading.{Passes, Fails, BeginsNot, Spells, PassesCase}
+use Rattle.proof_text.specs.declared.part_fault.PartFault.{PartFault}
+use Rattle.proof_text.specs.Symbols.{Symbol, Choices, byte, number, signed, body, cases, ending, case, branches, chosen, followed, one_choices}
+use Rattle.proof_text.specs.Running.{run, onward, nests_within}
+use Rattle.proof_text.specs.Reading.{Fails, BeginsNot, Spells, PassesRange, FailsRange}
 use Rattle.proof_text.proofs.Sequences.{fails_by}
 use Rattle.proof_text.proofs.Forward.{branch_pieces}
 use Rattle.proof_text.proofs.Backward.{max_within}
@@ -28,12 +33,12 @@ other : (c letter : ℕ) (cs : List ℕ) → BeginsNot letter (c ∷ cs) → c �
 other c letter cs h e = h cs (ap (λ (x : ℕ). x ∷ cs) e)
 
 -- a body that is no leaf is cases
-pub no_leaf : (n : ℕ) (text : List ℕ) (k : List Symbol) → BeginsNot 116 text → BeginsNot 103 text → run (body n ∷ k) text ≡ run (cases n ∷ k) text
-no_leaf n [] k p q = refl
-no_leaf n (c ∷ cs) k p q = rw (ne_eqb c 116 (other c 116 cs p), ne_eqb c 103 (other c 103 cs q)) refl
+pub no_leaf : (ver : Version) (n : ℕ) (text : List ℕ) (k : List Symbol) → BeginsNot 116 text → BeginsNot 103 text → run (body ver n ∷ k) text ≡ run (cases ver n ∷ k) text
+no_leaf ver n [] k p q = refl
+no_leaf ver n (c ∷ cs) k p q = rw (ne_eqb c 116 (other c 116 cs p), ne_eqb c 103 (other c 103 cs q)) refl
 
-pub body_fails : (n : ℕ) (text : List ℕ) (flaw : Flaw) → BeginsNot 116 text → BeginsNot 103 text → Fails (cases n ∷ []) text flaw → Fails (body n ∷ []) text flaw
-body_fails n text flaw p q h = fails_by (body n ∷ []) (cases n ∷ []) text text flaw (λ k. (k, no_leaf n text k p q)) h
+pub body_fails : (ver : Version) (n : ℕ) (text : List ℕ) (fault : PartFault) → BeginsNot 116 text → BeginsNot 103 text → Fails (cases ver n ∷ []) text fault → Fails (body ver n ∷ []) text fault
+body_fails ver n text fault p q h = fails_by (body ver n ∷ []) (cases ver n ∷ []) text text fault (λ k. (k, no_leaf ver n text k p q)) h
 
 add_symbol : Symbol → Option (List Symbol) → Option (List Symbol)
 add_symbol s None = None
@@ -60,16 +65,37 @@ onward_followed None s k cs left h = refl
 onward_followed (Some owed) s k cs left h =
     rw (list_all-append (nests_within 1000) owed (s ∷ []), h, and_true (list_all (nests_within 1000) owed), append_assoc owed (s ∷ []) k) refl
 
--- a case that is neither skipped nor left open, where the branch doesn't end
-pub no_case : (n : ℕ) (text : List ℕ) (k : List Symbol) → n ≤ 1000 → BeginsNot 115 text → BeginsNot 111 text → BeginsNot 46 text → run (branches n ∷ k) text ≡ run (cases n ∷ branches n ∷ k) text
-no_case n [] k le p q r = refl
-no_case n (c ∷ cs) k le p q r =
-    rw (ne_eqb c 115 (other c 115 cs p), ne_eqb c 111 (other c 111 cs q), ne_eqb c 46 (other c 46 cs r))
-    (ap (λ (o : Option (List Symbol)). onward o (λ more. run (more ++ k) cs) (suc (length cs))) (chosen_followed c (case_choices n) (branches n))
-    ∙ onward_followed (chosen c (case_choices n)) (branches n) k cs (suc (length cs)) (le-leb n 1000 le))
+followed_run : (n : ℕ) (c : ℕ) (cs : List ℕ) (k : List Symbol) (choices : Choices) (s : Symbol) → nests_within 1000 s ≡ true →
+    onward (chosen c (followed choices s)) (λ more. run (more ++ k) cs) n ≡ onward (chosen c choices) (λ more. run (more ++ s ∷ k) cs) n
+followed_run n c cs k choices s h = ap (λ (o : Option (List Symbol)). onward o (λ more. run (more ++ k) cs) n) (chosen_followed c choices s) ∙ onward_followed (chosen c choices) s k cs n h
 
-pub case_fails : (n : ℕ) (text : List ℕ) (flaw : Flaw) → n ≤ 1000 → BeginsNot 115 text → BeginsNot 111 text → BeginsNot 46 text → Fails (cases n ∷ []) text flaw → Fails (branches n ∷ []) text flaw
-case_fails n text flaw le p q r h = fails_by (branches n ∷ []) (cases n ∷ []) text text flaw (λ k. (branches n ∷ k, no_case n text k le p q r)) h
+-- a case without the line of a range, where the branch doesn't end
+pub no_range_one : (text : List ℕ) → PassesRange One text text
+no_range_one [] r n le k = refl
+no_range_one (c ∷ cs) r n le k = rw (ne_eqb c 46 (other c 46 cs r)) (followed_run (suc (length cs)) c cs k (one_choices One n) (branches One n) (le-leb n 1000 le))
+
+pub no_range_two : (text : List ℕ) → BeginsNot 114 text → PassesRange Two text text
+no_range_two [] q r n le k = refl
+no_range_two (c ∷ cs) q r n le k = rw (ne_eqb c 46 (other c 46 cs r), ne_eqb c 114 (other c 114 cs q)) (followed_run (suc (length cs)) c cs k (one_choices Two n) (branches Two n) (le-leb n 1000 le))
+
+pub to_range : (n : ℕ) (k : List Symbol) (text line : List ℕ) → n ≤ 1000 → text ≡ 114 ∷ line → run (branches Two n ∷ k) text ≡ run (byte 32 ∷ signed 1000000000 10 ∷ case Two n ∷ branches Two n ∷ k) line
+to_range n k text line le is = rw (is, le-leb n 1000 le) refl
+
+pub range_fails : (ss : List Symbol) (text line : List ℕ) (fault : PartFault) → text ≡ 114 ∷ line → ((k : List Symbol) → (l : List Symbol) × ((byte 32 ∷ signed 1000000000 10 ∷ k) ≡ ss ++ l)) → Fails ss line fault → FailsRange Two text fault
+range_fails ss text line fault is h g = λ n le. fails_by (branches Two n ∷ []) ss text line fault (λ k.
+    let r = h (case Two n ∷ branches Two n ∷ k) in
+    (r.0, to_range n k text line le is ∙ ap (λ (l : List Symbol). run l line) r.1)) g
+
+-- a case that is neither skipped nor left open
+pub no_skip : (ver : Version) (n : ℕ) (text : List ℕ) (k : List Symbol) → BeginsNot 115 text → BeginsNot 111 text → run (case ver n ∷ k) text ≡ run (cases ver n ∷ k) text
+no_skip ver n [] k p q = refl
+no_skip ver n (c ∷ cs) k p q = rw (ne_eqb c 115 (other c 115 cs p), ne_eqb c 111 (other c 111 cs q)) refl
+
+pub case_fails : (ver : Version) (n : ℕ) (text : List ℕ) (fault : PartFault) → BeginsNot 115 text → BeginsNot 111 text → Fails (cases ver n ∷ []) text fault → Fails (case ver n ∷ []) text fault
+case_fails ver n text fault p q h = fails_by (case ver n ∷ []) (cases ver n ∷ []) text text fault (λ k. (k, no_skip ver n text k p q)) h
+
+pub piece_fails : (ver : Version) (n : ℕ) (text rest : List ℕ) (fault : PartFault) → n ≤ 1000 → BeginsNot 46 text → PassesRange ver text rest → Fails (case ver n ∷ []) rest fault → Fails (branches ver n ∷ []) text fault
+piece_fails ver n text rest fault le r h g = fails_by (branches ver n ∷ []) (case ver n ∷ []) text rest fault (λ k. (branches ver n ∷ k, h r n le k)) g
 
 pub not_some : {X : Type 0} (o : Option X) (P : Type 0) (Q : X → Type 0) → is_some o ≡ false → MatchOption o P Q → P
 not_some None P Q e h = h
@@ -91,74 +117,91 @@ cases_shorter a end text rest e =
     let l = ap length e ∙ length-append a (ending_text end ++ rest) in
     omega arith
 
-pub branch_spells : (n : ℕ) (x : VarId) (list : CaseList) (line a b rest : List ℕ) → line ≡ 32 ∷ a → a ≡ decimal (x.0 + 1) ++ 10 ∷ b → IsTrue (is_place 500 x.0)
-    → b ≡ branches_text (branches_of list.items.items) ++ 46 ∷ 10 ∷ rest → IsTrue (branches_fit (branches_of list.items.items)) → (n + 1) + branch_depth (branches_of list.items.items) ≤ 1000 → length rest ≤ length b
-    → Spells (ending_text (ending_of (Branch x list))) (ending_fits (ending_of (Branch x list))) (n + ending_depth (ending_of (Branch x list))) (118 ∷ line) rest
-branch_spells n x list line a b rest e f p g fit shallow le =
-    let bs : Branches = branches_of list.items.items in
-    subst (λ (end : Ending). Spells (ending_text end) (ending_fits end) (n + ending_depth end) (118 ∷ line) rest) (sym (ending_branch x list)) (
-      rw (e, f, g) (sym (branch_pieces (codes "v ") (decimal (x.0 + 1)) (codes "\n") (branches_text (branches_of list.items.items)) (codes ".\n") rest)),
+pub branch_spells : (ver : Version) (n : ℕ) (x : VarId) (list : CaseList) (line a b rest : List ℕ) → line ≡ 32 ∷ a → a ≡ decimal (x.0 + 1) ++ 10 ∷ b → IsTrue (is_place 500 x.0)
+    → b ≡ branches_text (branches_of (pieces_of list)) ++ 46 ∷ 10 ∷ rest → IsTrue (branches_fit ver (branches_of (pieces_of list))) → (n + 1) + branch_depth (branches_of (pieces_of list)) ≤ 1000 → length rest ≤ length b
+    → Spells (ending_text (ending_of (Branch x list))) (ending_fits ver (ending_of (Branch x list))) (n + ending_depth (ending_of (Branch x list))) (118 ∷ line) rest
+branch_spells ver n x list line a b rest e f p g fit shallow le =
+    let bs : Branches = branches_of (pieces_of list) in
+    subst (λ (end : Ending). Spells (ending_text end) (ending_fits ver end) (n + ending_depth end) (118 ∷ line) rest) (sym (ending_branch x list)) (
+      rw (e, f, g) (sym (branch_pieces (codes "v ") (decimal (x.0 + 1)) (codes "\n") (branches_text (branches_of (pieces_of list))) (codes ".\n") rest)),
       and_from _ _ p fit,
       omega arith,
       (let l = ap length f ∙ length-append (decimal (x.0 + 1)) (10 ∷ b) in let m = ap length e in omega arith),
     )
 
-go_nil : (s e b : List ℕ) → s ++ e ++ b ≡ (s ++ e ++ []) ++ b
-go_nil s e b = simp append_assoc
+pub to_branch : (ver : Version) (n : ℕ) (k : List Symbol) (line : List ℕ) → n < 1000 → run (ending ver n ∷ k) (118 ∷ line) ≡ run (byte 32 ∷ number 500 10 ∷ branches ver (n + 1) ∷ k) line
+to_branch ver n k line lt = rw (le-leb (n + 1) 1000 (omega arith)) refl
 
-pub to_branch : (n : ℕ) (k : List Symbol) (line : List ℕ) → n < 1000 → run (ending n ∷ k) (118 ∷ line) ≡ run (byte 32 ∷ number 500 10 ∷ branches (n + 1) ∷ k) line
-to_branch n k line lt = rw (le-leb (n + 1) 1000 (omega arith)) refl
-
-pub go_told : (s e r : List ℕ) (t : List ℕ) → t ≡ s ++ (e ++ r) → t ≡ (s ++ e ++ []) ++ r
-go_told s e r t h = h ∙ sym (simp append_assoc)
+pub piece_told : (u c text mid rest : List ℕ) → text ≡ u ++ mid → mid ≡ c ++ rest → text ≡ (u ++ c) ++ rest
+piece_told u c text mid rest h g = h ∙ ap (λ (l : List ℕ). u ++ l) g ∙ sym (append_assoc u c rest)
 
 -- one more case in a list
-put_text : (c : Case) (bs : Branches) → branches_text (put_case c bs) ≡ branches_text (put_case c no_more) ++ branches_text bs
-put_text Skip bs = refl
-put_text Open bs = refl
-put_text (Go' steps end) bs = go_nil (steps_text steps) (ending_text (ending_of end)) (branches_text bs)
+abbrev pub piece_text : Piece → List ℕ
+piece_text p = upto_text p.upto ++ case_text (case_of p.case)
 
-put_depth : (c : Case) (bs : Branches) → branch_depth (put_case c bs) ≡ max (branch_depth (put_case c no_more)) (branch_depth bs)
-put_depth Skip bs = grind (arith)
-put_depth Open bs = grind (arith)
-put_depth (Go' steps end) bs = ap (λ (x : ℕ). max x (branch_depth bs)) (sym (max-zero (ending_depth (ending_of end))))
+abbrev pub piece_fits : Version → Piece → Bool
+piece_fits ver p = upto_fits ver p.upto && case_fits ver (case_of p.case)
 
-put_fits : (c : Case) (bs : Branches) → branches_fit (put_case c bs) ≡ (branches_fit (put_case c no_more) && branches_fit bs)
-put_fits Skip bs = refl
-put_fits Open bs = refl
-put_fits (Go' steps end) bs = ap (λ (x : Bool). x && branches_fit bs) (sym (and_true (list_all step_fits steps && ending_fits (ending_of end))))
+push_text : (ps : List Piece) (p : Piece) → branches_text (branches_of (ps ++ p ∷ [])) ≡ branches_text (branches_of ps) ++ piece_text p
+push_text [] p = append-nil (piece_text p)
+push_text (q ∷ ps) p =
+    ap (λ (l : List ℕ). piece_text q ++ l) (push_text ps p) ∙ sym (append_assoc (piece_text q) (branches_text (branches_of ps)) (piece_text p))
 
-push_text : (cs : List Case) (c : Case) → branches_text (branches_of (cs ++ c ∷ [])) ≡ branches_text (branches_of cs) ++ branches_text (put_case c no_more)
-push_text [] c = refl
-push_text (d ∷ cs) c =
-    put_text d (branches_of (cs ++ c ∷ [])) ∙ ap (λ (l : List ℕ). branches_text (put_case d no_more) ++ l) (push_text cs c)
-    ∙ sym (append_assoc (branches_text (put_case d no_more)) (branches_text (branches_of cs)) (branches_text (put_case c no_more)))
-    ∙ ap (λ (l : List ℕ). l ++ branches_text (put_case c no_more)) (sym (put_text d (branches_of cs)))
+push_fits : (ver : Version) (ps : List Piece) (p : Piece) → IsTrue (branches_fit ver (branches_of ps)) → IsTrue (piece_fits ver p) → IsTrue (branches_fit ver (branches_of (ps ++ p ∷ [])))
+push_fits ver [] p h g = and_from _ _ g refl
+push_fits ver (q ∷ ps) p h g =
+    let r = and_parts (piece_fits ver q) (branches_fit ver (branches_of ps)) h in
+    and_from _ _ r.0 (push_fits ver ps p r.1 g)
 
-push_fits : (cs : List Case) (c : Case) → IsTrue (branches_fit (branches_of cs)) → IsTrue (branches_fit (put_case c no_more)) → IsTrue (branches_fit (branches_of (cs ++ c ∷ [])))
-push_fits [] c h g = g
-push_fits (d ∷ cs) c h g =
-    let p = and_parts _ _ (sym (put_fits d (branches_of cs)) ∙ h) in
-    put_fits d (branches_of (cs ++ c ∷ [])) ∙ and_from _ _ p.0 (push_fits cs c p.1 g)
+push_depth : (n : ℕ) (ps : List Piece) (p : Piece) → n + branch_depth (branches_of ps) ≤ 1000 → n + case_depth (case_of p.case) ≤ 1000 → n + branch_depth (branches_of (ps ++ p ∷ [])) ≤ 1000
+push_depth n [] p h g = max_within 1000 n (case_depth (case_of p.case)) 0 g h
+push_depth n (q ∷ ps) p h g =
+    let left = le-max_left (case_depth (case_of q.case)) (branch_depth (branches_of ps)) in
+    let right = le-max_right (case_depth (case_of q.case)) (branch_depth (branches_of ps)) in
+    let rest = push_depth n ps p (omega arith) g in
+    max_within 1000 n (case_depth (case_of q.case)) (branch_depth (branches_of (ps ++ p ∷ []))) (omega arith) rest
 
-push_depth : (n : ℕ) (cs : List Case) (c : Case) → n + branch_depth (branches_of cs) ≤ 1000 → n + branch_depth (put_case c no_more) ≤ 1000 → n + branch_depth (branches_of (cs ++ c ∷ [])) ≤ 1000
-push_depth n [] c h g = g
-push_depth n (d ∷ cs) c h g =
-    let e = put_depth d (branches_of cs) in
-    let left = le-max_left (branch_depth (put_case d no_more)) (branch_depth (branches_of cs)) in
-    let right = le-max_right (branch_depth (put_case d no_more)) (branch_depth (branches_of cs)) in
-    let rest = push_depth n cs c (omega arith) g in
-    subst (λ (x : ℕ). n + x ≤ 1000) (sym (put_depth d (branches_of (cs ++ c ∷ [])))) (max_within 1000 n (branch_depth (put_case d no_more)) (branch_depth (branches_of (cs ++ c ∷ []))) (omega arith) rest)
-
-pub record Pushed (n : ℕ) (all : List Case) (text rest : List ℕ) : Type 0 where
+pub record Pushed (ver : Version) (n : ℕ) (all : List Piece) (text rest : List ℕ) : Type 0 where
   pub told : branches_text (branches_of all) ++ rest ≡ text
-  pub fit : branches_fit (branches_of all) ≡ true
+  pub fit : branches_fit ver (branches_of all) ≡ true
   pub shallow : n + branch_depth (branches_of all) ≤ 1000
 
-pub pushed : (n : ℕ) (cs all : List Case) (c : Case) (text rest more : List ℕ) → all ≡ cs ++ c ∷ [] → branches_text (branches_of cs) ++ rest ≡ text → branches_fit (branches_of cs) ≡ true → n + branch_depth (branches_of cs) ≤ 1000
-    → Spells (branches_text (put_case c no_more)) (branches_fit (put_case c no_more)) (n + branch_depth (put_case c no_more)) rest more → Pushed n all text more
-pushed n cs all c text rest more e h f d s = subst (λ (l : List Case). Pushed n l text more) (sym e) (record {
-  told = ap (λ (l : List ℕ). l ++ more) (push_text cs c) ∙ append_assoc (branches_text (branches_of cs)) (branches_text (put_case c no_more)) more ∙ ap (λ (l : List ℕ). branches_text (branches_of cs) ++ l) (sym s.0) ∙ h;
-  fit = push_fits cs c f s.1;
-  shallow = push_depth n cs c d s.2;
+pub pushed : (ver : Version) (n : ℕ) (ps all : List Piece) (p : Piece) (text rest more : List ℕ) → all ≡ ps ++ p ∷ [] → branches_text (branches_of ps) ++ rest ≡ text → branches_fit ver (branches_of ps) ≡ true → n + branch_depth (branches_of ps) ≤ 1000
+    → Spells (piece_text p) (piece_fits ver p) (n + case_depth (case_of p.case)) rest more → Pushed ver n all text more
+pushed ver n ps all p text rest more e h f d s = subst (λ (l : List Piece). Pushed ver n l text more) (sym e) (record {
+  told = ap (λ (l : List ℕ). l ++ more) (push_text ps p) ∙ append_assoc (branches_text (branches_of ps)) (piece_text p) more ∙ ap (λ (l : List ℕ). branches_text (branches_of ps) ++ l) (sym s.0) ∙ h;
+  fit = push_fits ver ps p f s.1;
+  shallow = push_depth n ps p d s.2;
 })
+
+-- what a text of the first version says has no ranges
+mutual
+  tree_worded : (t : Tree) → IsTrue (tree_fits One t) → IsTrue (each_case is_one t)
+  tree_worded (tree z c) f = body_worded c (and_parts (horizon_fits z) (body_fits One c) f).1
+
+  body_worded : (c : Body) → IsTrue (body_fits One c) → IsTrue (body_each is_one c)
+  body_worded stuck f = refl
+  body_worded goal f = refl
+  body_worded (cases_body steps end) f = ending_worded end (and_parts (list_all step_fits steps) (ending_fits One end) f).1
+
+  ending_worded : (end : Ending) → IsTrue (ending_fits One end) → IsTrue (ending_each is_one end)
+  ending_worded empty f = refl
+  ending_worded barred f = refl
+  ending_worded (next t) f = tree_worded t f
+  ending_worded (branch x bs) f = branches_worded bs (and_parts (is_place 500 x.0) (branches_fit One bs) f).1
+
+  branches_worded : (bs : Branches) → IsTrue (branches_fit One bs) → IsTrue (branches_each is_one bs)
+  branches_worded no_more f = refl
+  branches_worded (piece None c bs) f =
+      let p = and_parts (case_fits One c) (branches_fit One bs) f in
+      and_from _ _ (inner_worded c p.0) (branches_worded bs p.1)
+  branches_worded (piece (Some high) c bs) f = absurd (cc)
+
+  inner_worded : (c : TreeCase) → IsTrue (case_fits One c) → IsTrue (inner_each is_one c)
+  inner_worded skip f = refl
+  inner_worded left_open f = refl
+  inner_worded (go steps end) f = ending_worded end (and_parts (list_all step_fits steps) (ending_fits One end) f).1
+
+pub worded : (ver : Version) (t : Tree) → IsTrue (tree_fits ver t) → IsTrue (version_has ver t)
+worded One t f = tree_worded t f
+worded Two t f = refl

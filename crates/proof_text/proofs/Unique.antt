@@ -1,6 +1,6 @@
 -- Equal texts are of equal parts: numbers and steps.
-use Rattle.std.proofs.Common.{◌≡◌, refl, sym, ap, ◌∙◌, subst, ℕ, zero, suc, ◌+◌, ◌-◌, ◌≤◌, ◌<◌, ◌^◌, List, [], ◌∷◌, ◌++◌, Bool, true, false, ◌&&◌, arith, append_assoc, leb-true, eqb, not, ◌||◌}
-use Rattle.std.specs.Prelude.{IsTrue, ℤ, pos, negsuc, nat_le, nat_eq, unsigned_abs}
+use Rattle.std.proofs.Common.{◌≡◌, refl, sym, ap, ◌∙◌, subst, ℕ, zero, suc, ◌+◌, ◌≤◌, ◌<◌, ◌^◌, List, [], ◌∷◌, ◌++◌, Bool, true, false, arith, append_assoc, leb-true, eqb, not, ◌||◌}
+use Rattle.std.specs.Prelude.{IsTrue, ℤ, pos, negsuc, nat_eq, unsigned_abs}
 use Rattle.std.specs.Fmt.{decimal, signed_decimal}
 use Rattle.std.specs.List.{list_all}
 use Rattle.std.proofs.lemmas.Bool.{and_parts, eqb-false}
@@ -9,7 +9,8 @@ use Rattle.qc_model.specs.declared.problem.VarId.{VarId}
 use Rattle.qc_model.specs.declared.problem.ConId.{ConId}
 use Rattle.proof_tree.specs.declared.tree.Step.{Step}
 use Rattle.proof_tree.specs.declared.tree.Step.TheVariants.{Prune, Bound}
-use Rattle.proof_tree.specs.Text.{is_place, step_text, steps_text, step_fits}
+use Rattle.proof_tree.specs.Text.{is_place, step_fits}
+use Rattle.proof_text.specs.Parts.{step_text, steps_text}
 use Rattle.proof_text.proofs.Grammar.{AreDigits}
 use Rattle.proof_text.proofs.Digits.{parts}
 use Rattle.proof_text.proofs.Forward.{rest_of_step, letter_of_step, step_is, steps_are}

@@ -1,14 +1,14 @@
 -- What it means how reading ends.
-use Rattle.std.proofs.Common.{◌≡◌, ◌⊎◌, inl, inr, refl, sym, ap, ◌∙◌, subst, ℕ, zero, suc, ◌+◌, ◌-◌, ◌*◌, ◌^◌, ◌≤◌, ◌<◌, List, [], ◌∷◌, ◌++◌, length, Option, Some, None, Bool, true, false, ◌&&◌, ◌||◌, cond, eqb, append_assoc, arith, leb-true, le-leb}
+use Rattle.std.proofs.Common.{◌≡◌, ◌⊎◌, inl, inr, refl, sym, ap, ◌∙◌, subst, ℕ, suc, List, [], ◌∷◌, ◌++◌, length, Option, Some, None, Bool, true, false, ◌||◌, cond, arith, leb-true, le-leb}
 use Rattle.std.specs.Prelude.{nat_le, nat_eq, pos}
 use Rattle.std.specs.List.{list_all}
 use Rattle.std.proofs.lemmas.Bool.{and_from, and_parts, or_cases, eqb-true}
-use Rattle.std.proofs.lemmas.List.{append-nil}
 use Rattle.std.proofs.lemmas.Fmt.{decimal_digit}
 use Rattle.std.proofs.lemmas.List.Folds.{list_all-append}
 use Rattle.proof_tree.specs.declared.tree.Outcome.TheVariants.{False}
-use Rattle.proof_tree.specs.Tree.{tree, stuck, empty, no_more}
-use Rattle.proof_text.specs.Symbols.{Symbol, byte, number, signed, digits, outcome, optimum, prunes, node, body, cases, ending, branches, after}
+use Rattle.proof_tree.specs.declared.tree.Version.TheVariants.{One}
+use Rattle.proof_tree.specs.Tree.{tree, stuck, empty, no_more, skip}
+use Rattle.proof_text.specs.Symbols.{Symbol, byte, number, signed, digits, certificate, outcome, optimum, prunes, node, body, cases, ending, case, branches, after}
 use Rattle.proof_text.specs.Running.{nests_within, run, onward, Verdict, whole, wrong, deep}
 use Rattle.proof_text.proofs.Grammar.{Begins, Runs, runs_append, runs_split}
 use Rattle.proof_text.proofs.Owed.{is_sound, is_range, range, enter, leave, sound_after, nests_after}
@@ -29,14 +29,16 @@ shortest m (signed most end) b f g = (48 ∷ end ∷ b, record { z = pos 0; fits
 shortest m (digits most v end) b f g =
     let p = and_parts (nat_le v most) (is_range most end) f in
     (end ∷ b, record { ds = []; are = tt; high = leb-true _ _ p.0; told = refl })
+shortest m certificate b f g = (_, record { ver = One; o = False; v = None; t = tree None stuck; outcome = refl; fits = refl; shallow = omega arith; told = refl })
 shortest m outcome b f g = (_, record { o = False; v = None; fits = refl; told = refl })
 shortest m optimum b f g = (_, record { v = None; fits = refl; told = refl })
 shortest m prunes b f g = (_, record { steps = []; fit = refl; are = refl; told = refl })
-shortest m (node n) b f g = let le = leb-true _ _ g in (_, record { t = tree None stuck; fits = refl; shallow = omega arith; told = refl })
-shortest m (body n) b f g = let le = leb-true _ _ g in (_, record { t = stuck; fits = refl; shallow = omega arith; told = refl })
-shortest m (cases n) b f g = let le = leb-true _ _ g in (_, record { steps = []; fit = refl; rest = _; end = record { end = empty; fits = refl; shallow = omega arith; told = refl }; told = refl })
-shortest m (ending n) b f g = let le = leb-true _ _ g in (_, record { end = empty; fits = refl; shallow = omega arith; told = refl })
-shortest m (branches n) b f g = let le = leb-true _ _ g in (_, record { bs = no_more; fit = refl; shallow = omega arith; told = refl })
+shortest m (node ver n) b f g = let le = leb-true _ _ g in (_, record { t = tree None stuck; fits = refl; shallow = omega arith; told = refl })
+shortest m (body ver n) b f g = let le = leb-true _ _ g in (_, record { t = stuck; fits = refl; shallow = omega arith; told = refl })
+shortest m (cases ver n) b f g = let le = leb-true _ _ g in (_, record { steps = []; fit = refl; rest = _; end = record { end = empty; fits = refl; shallow = omega arith; told = refl }; told = refl })
+shortest m (ending ver n) b f g = let le = leb-true _ _ g in (_, record { end = empty; fits = refl; shallow = omega arith; told = refl })
+shortest m (case ver n) b f g = let le = leb-true _ _ g in (_, record { c = skip; fits = refl; shallow = omega arith; told = refl })
+shortest m (branches ver n) b f g = let le = leb-true _ _ g in (_, record { bs = no_more; fit = refl; shallow = omega arith; told = refl })
 
 pub ready_parts : (m : ℕ) (s : Symbol) (k : List Symbol) → AreReady m (s ∷ k) → (is_sound s ≡ true) × (nests_within m s ≡ true) × AreReady m k
 ready_parts m s k h =
@@ -87,14 +89,16 @@ nests_since m (byte c) u b h = refl
 nests_since m (number most end) u b h = refl
 nests_since m (signed most end) u b h = refl
 nests_since m (digits most v end) u b h = refl
+nests_since m certificate u b h = refl
 nests_since m outcome u b h = refl
 nests_since m optimum u b h = refl
 nests_since m prunes u b h = refl
-nests_since m (node n) u b h = let s = h.shallow in le-leb _ _ (omega arith)
-nests_since m (body n) u b h = let s = h.shallow in le-leb _ _ (omega arith)
-nests_since m (cases n) u b h = let s = h.end.shallow in le-leb _ _ (omega arith)
-nests_since m (ending n) u b h = let s = h.shallow in le-leb _ _ (omega arith)
-nests_since m (branches n) u b h = let s = h.shallow in le-leb _ _ (omega arith)
+nests_since m (node ver n) u b h = let s = h.shallow in le-leb _ _ (omega arith)
+nests_since m (body ver n) u b h = let s = h.shallow in le-leb _ _ (omega arith)
+nests_since m (cases ver n) u b h = let s = h.end.shallow in le-leb _ _ (omega arith)
+nests_since m (ending ver n) u b h = let s = h.shallow in le-leb _ _ (omega arith)
+nests_since m (case ver n) u b h = let s = h.shallow in le-leb _ _ (omega arith)
+nests_since m (branches ver n) u b h = let s = h.shallow in le-leb _ _ (omega arith)
 
 pub all_nest : (m : ℕ) (k : List Symbol) (u b : List ℕ) → Runs m k u b → list_all (nests_within m) k ≡ true
 all_nest m [] u b h = refl
@@ -105,14 +109,16 @@ deeper_one m (byte c) h = refl
 deeper_one m (number most end) h = refl
 deeper_one m (signed most end) h = refl
 deeper_one m (digits most v end) h = refl
+deeper_one m certificate h = refl
 deeper_one m outcome h = refl
 deeper_one m optimum h = refl
 deeper_one m prunes h = refl
-deeper_one m (node n) h = let s = leb-true _ _ h in le-leb _ _ (omega arith)
-deeper_one m (body n) h = let s = leb-true _ _ h in le-leb _ _ (omega arith)
-deeper_one m (cases n) h = let s = leb-true _ _ h in le-leb _ _ (omega arith)
-deeper_one m (ending n) h = let s = leb-true _ _ h in le-leb _ _ (omega arith)
-deeper_one m (branches n) h = let s = leb-true _ _ h in le-leb _ _ (omega arith)
+deeper_one m (node ver n) h = let s = leb-true _ _ h in le-leb _ _ (omega arith)
+deeper_one m (body ver n) h = let s = leb-true _ _ h in le-leb _ _ (omega arith)
+deeper_one m (cases ver n) h = let s = leb-true _ _ h in le-leb _ _ (omega arith)
+deeper_one m (ending ver n) h = let s = leb-true _ _ h in le-leb _ _ (omega arith)
+deeper_one m (case ver n) h = let s = leb-true _ _ h in le-leb _ _ (omega arith)
+deeper_one m (branches ver n) h = let s = leb-true _ _ h in le-leb _ _ (omega arith)
 
 deeper_all : (m : ℕ) (k : List Symbol) → list_all (nests_within m) k ≡ true → list_all (nests_within (suc m)) k ≡ true
 deeper_all m [] h = refl
@@ -120,7 +126,7 @@ deeper_all m (s ∷ k) h =
     let p = and_parts (nests_within m s) (list_all (nests_within m) k) h in
     and_from _ _ (deeper_one m s p.0) (deeper_all m k p.1)
 
-append_ready : (m : ℕ) (k l : List Symbol) → list_all is_sound k ≡ true → list_all (nests_within m) k ≡ true → AreReady m l → AreReady m (k ++ l)
+pub append_ready : (m : ℕ) (k l : List Symbol) → list_all is_sound k ≡ true → list_all (nests_within m) k ≡ true → AreReady m l → AreReady m (k ++ l)
 append_ready m k l f g h = record {
   sound = list_all-append is_sound k l ∙ and_from _ _ f h.sound;
   nests = list_all-append (nests_within m) k l ∙ and_from _ _ g h.nests;

@@ -1,5 +1,12 @@
+pub mod Laws
+pub mod Letters
+pub mod Nesting
+pub mod Numerals
+pub mod PartLines
+pub mod Parts
 pub mod Places
 pub mod Reading
 pub mod Refusals
 pub mod Running
+pub mod Standing
 pub mod Symbols

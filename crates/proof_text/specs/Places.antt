@@ -2,6 +2,7 @@
 use Rattle.std.specs.Prelude.{ℕ, ◌+◌, ◌<◌, ◌≤◌, ◌≡◌, ◌⊎◌, List, ◌++◌, length, take, slice_index, Option, ℤ, IsTrue}
 use Rattle.proof_text.specs.declared.fault.CertFault.{CertFault}
 use Rattle.proof_text.specs.declared.fault.CertFault.TheVariants.{NotACertificate, TooDeep, Memory}
+use Rattle.proof_tree.specs.declared.tree.Version.{Version}
 use Rattle.proof_tree.specs.declared.tree.Outcome.{Outcome}
 use Rattle.proof_tree.specs.Tree.{Tree}
 use Rattle.proof_tree.specs.Counts.{depth_of}
@@ -9,7 +10,9 @@ use Rattle.proof_tree.specs.Text.{certificate_text, has_text}
 
 -- the bytes are the text of a certificate that is nested at most so deep
 abbrev pub IsText : ℕ → List ℕ → Type 0
-IsText limit bytes = (outcome : Outcome) × (optimum : Option ℤ) × (t : Tree) × IsTrue (has_text outcome optimum t) × (depth_of t ≤ limit) × (bytes ≡ certificate_text outcome optimum t)
+IsText limit bytes =
+    (version : Version) × (outcome : Outcome) × (optimum : Option ℤ) × (t : Tree) × IsTrue (has_text version outcome optimum t) × (depth_of t ≤ limit)
+    × (bytes ≡ certificate_text version outcome optimum t)
 
 -- such a text begins with the bytes
 abbrev pub BeginsText : ℕ → List ℕ → Type 0

@@ -5,17 +5,27 @@
 #![tactic(auto)]
 
 mod fault;
-mod flaw;
 mod laws;
+mod letters;
+mod levels;
 mod lines;
+mod numeral;
+mod part_fault;
+mod part_line;
 mod parts;
+mod ranges;
 mod read;
+mod reader;
 mod scan;
 #[cfg(test)]
 mod tests;
 mod write;
 
 pub use fault::CertFault;
-pub use laws::{each_text_is_of_one_certificate, no_text_begins_another};
+pub use laws::{
+    bytes_are_one_text_or_have_one_fault, each_text_is_of_one_certificate, no_text_begins_another,
+};
+pub use proof_tree::Line;
 pub use read::read_cert;
+pub use reader::each_standing_is_right;
 pub use write::write_cert;

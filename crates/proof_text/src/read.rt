@@ -8,8 +8,8 @@ ghost use Rattle.proof_text.specs.Places.{IsText, IsFault, IsWant};
 ghost use Rattle.proof_text.specs.Reading.{Stops};
 
 use crate::fault::CertFault;
-use crate::flaw::Flaw;
-use crate::lines::outcome;
+use crate::lines::{outcome, version};
+use crate::part_fault::PartFault;
 use crate::parts::node;
 use crate::scan::literal;
 use proof_tree::Certificate;
@@ -22,7 +22,7 @@ use std::alloc::Global;
 pub fn read_cert(alloc: Global, text: &[u8]) -> Result<Certificate, CertFault>
     requires { length text.now ≤ 1073741824 }
     // What is read is spelled so, each byte of it.
-    ensures ok { IfOk result (λ cert. (text.now ≡ certificate_text cert.outcome cert.optimum (tree_of cert.root)) × IsTrue (has_text cert.outcome cert.optimum (tree_of cert.root)) × (depth_of (tree_of cert.root) ≤ 1000)) }
+    ensures ok { IfOk result (λ cert. (text.now ≡ certificate_text cert.version cert.outcome cert.optimum (tree_of cert.root)) × IsTrue (has_text cert.version cert.outcome cert.optimum (tree_of cert.root)) × (depth_of (tree_of cert.root) ≤ 1000)) }
     // What is spelled so is read, unless memory runs out.
     ensures only { IsText 1000 text.now → IfErr result IsWant }
     // Where the bytes stop being a text, or a line nests too deep.
@@ -30,28 +30,30 @@ pub fn read_cert(alloc: Global, text: &[u8]) -> Result<Certificate, CertFault>
 {
     match whole(alloc, text) {
         Ok(cert) => Ok(cert),
-        Err(Flaw::Wrong { left }) => Err(CertFault::NotACertificate {
+        Err(PartFault::Wrong { left }) => Err(CertFault::NotACertificate {
             at: (text.len() - left) as u64,
         }),
-        Err(Flaw::Deep { left }) => Err(CertFault::TooDeep {
+        Err(PartFault::Deep { left }) => Err(CertFault::TooDeep {
             at: (text.len() - left) as u64,
         }),
-        Err(Flaw::Memory(error)) => Err(CertFault::Memory(error)),
+        Err(PartFault::Memory(error)) => Err(CertFault::Memory(error)),
     }
 }
 
-fn whole(alloc: Global, text: &[u8]) -> Result<Certificate, Flaw>
+fn whole(alloc: Global, text: &[u8]) -> Result<Certificate, PartFault>
     requires { length text.now ≤ 1073741824 }
-    ensures ok { IfOk result (λ cert. (text.now ≡ certificate_text cert.outcome cert.optimum (tree_of cert.root)) × IsTrue (has_text cert.outcome cert.optimum (tree_of cert.root)) × (depth_of (tree_of cert.root) ≤ 1000)) }
-    ensures err { IfErr result (λ flaw. Stops start text.now flaw) }
+    ensures ok { IfOk result (λ cert. (text.now ≡ certificate_text cert.version cert.outcome cert.optimum (tree_of cert.root)) × IsTrue (has_text cert.version cert.outcome cert.optimum (tree_of cert.root)) × (depth_of (tree_of cert.root) ≤ 1000)) }
+    ensures err { IfErr result (λ fault. Stops start text.now fault) }
 {
-    let rest = literal(text, b"qcert 1\n")?;
+    let rest = literal(text, b"qcert ")?;
+    let (version, rest) = version(rest)?;
     let ((outcome, optimum), rest) = outcome(rest)?;
-    let (root, rest) = node(alloc, rest, 0)?;
+    let (root, rest) = node(alloc, rest, version, 0)?;
     if !rest.is_empty() {
-        return Err(Flaw::Wrong { left: rest.len() });
+        return Err(PartFault::Wrong { left: rest.len() });
     }
     Ok(Certificate {
+        version,
         outcome,
         optimum,
         root,

@@ -5,21 +5,21 @@ ghost use Rattle.proof_tree.specs.Text.{place_text, is_place};
 ghost use Rattle.proof_text.specs.Symbols.{byte as a_byte, bytes, number as a_number, signed as a_signed, digits as some_digits, next_digit};
 ghost use Rattle.proof_text.specs.Reading.{Passes, Fails, BeginsNot};
 
-use crate::flaw::Flaw;
+use crate::part_fault::PartFault;
 
-pub fn byte(text: &[u8], wanted: u8) -> Result<&[u8], Flaw>
+pub(crate) fn byte(text: &[u8], wanted: u8) -> Result<&[u8], PartFault>
     ensures ok { IfOk result (λ rest. (text.now ≡ wanted ∷ rest.now) × Passes (a_byte wanted ∷ []) text.now rest.now) }
-    ensures err { IfErr result (λ flaw. Fails (a_byte wanted ∷ []) text.now flaw) }
+    ensures err { IfErr result (λ fault. Fails (a_byte wanted ∷ []) text.now fault) }
 {
     match text.split_first() {
         Some((first, rest)) if *first == wanted => Ok(rest),
-        _ => Err(Flaw::Wrong { left: text.len() }),
+        _ => Err(PartFault::Wrong { left: text.len() }),
     }
 }
 
-pub fn literal<'a>(text: &'a [u8], wanted: &[u8]) -> Result<&'a [u8], Flaw>
+pub(crate) fn literal<'a>(text: &'a [u8], wanted: &[u8]) -> Result<&'a [u8], PartFault>
     ensures ok { IfOk result (λ rest. (text.now ≡ wanted.now ++ rest.now) × Passes (bytes wanted.now) text.now rest.now) }
-    ensures err { IfErr result (λ flaw. Fails (bytes wanted.now) text.now flaw) }
+    ensures err { IfErr result (λ fault. Fails (bytes wanted.now) text.now fault) }
 {
     let mut rest = text;
     for next in wanted {
@@ -29,7 +29,7 @@ pub fn literal<'a>(text: &'a [u8], wanted: &[u8]) -> Result<&'a [u8], Flaw>
 }
 
 // The value with one more digit, where it is at most so far from 0.
-fn with_digit(value: u64, byte: u8, most: u64) -> Option<u64>
+pub(crate) fn with_digit(value: u64, byte: u8, most: u64) -> Option<u64>
     requires { (9 ≤ most) × (most ≤ 2 ^ 62) }
     ensures { MatchOption result ((48 ≤ byte) → (byte ≤ 57) → most < 10 * value + (byte - 48)) (λ sum. (48 ≤ byte) × (byte ≤ 57) × (sum ≡ 10 * value + (byte - 48)) × (sum ≤ most)) }
 {
@@ -46,10 +46,10 @@ fn with_digit(value: u64, byte: u8, most: u64) -> Option<u64>
     }
 }
 
-fn digits(text: &[u8], first: u64, most: u64, end: u8) -> Result<(u64, &[u8]), Flaw>
+fn digits(text: &[u8], first: u64, most: u64, end: u8) -> Result<(u64, &[u8]), PartFault>
     requires { (9 ≤ most) × (most ≤ 2 ^ 62) × (end < 48) × (1 ≤ first) × (first ≤ most) }
     ensures ok { IfOk result (λ r. (decimal first ++ text.now ≡ decimal r.0 ++ end ∷ r.1.now) × (1 ≤ r.0) × (r.0 ≤ most) × Passes (some_digits most first end ∷ []) text.now r.1.now) }
-    ensures err { IfErr result (λ flaw. Fails (some_digits most first end ∷ []) text.now flaw) }
+    ensures err { IfErr result (λ fault. Fails (some_digits most first end ∷ []) text.now fault) }
 {
     let mut value = first;
     let mut rest = text;
@@ -58,41 +58,41 @@ fn digits(text: &[u8], first: u64, most: u64, end: u8) -> Result<(u64, &[u8]), F
             return Ok((value, after));
         }
         let Some(more) = with_digit(value, *byte, most) else {
-            return Err(Flaw::Wrong { left: rest.len() });
+            return Err(PartFault::Wrong { left: rest.len() });
         };
         value = more;
         rest = after;
     }
-    Err(Flaw::Wrong { left: 0 })
+    Err(PartFault::Wrong { left: 0 })
 }
 
 // A number from 1, and the byte after it.
-pub fn number(text: &[u8], most: u64, end: u8) -> Result<(u64, &[u8]), Flaw>
+pub(crate) fn number(text: &[u8], most: u64, end: u8) -> Result<(u64, &[u8]), PartFault>
     requires { (9 ≤ most) × (most ≤ 2 ^ 62) × (end < 48) }
     ensures ok { IfOk result (λ r. (text.now ≡ decimal r.0 ++ end ∷ r.1.now) × (1 ≤ r.0) × (r.0 ≤ most) × Passes (a_number most end ∷ []) text.now r.1.now) }
-    ensures err { IfErr result (λ flaw. Fails (a_number most end ∷ []) text.now flaw) }
+    ensures err { IfErr result (λ fault. Fails (a_number most end ∷ []) text.now fault) }
 {
     match text.split_first() {
         Some((first @ b'1'..=b'9', rest)) => digits(rest, u64::from(*first - b'0'), most, end),
-        _ => Err(Flaw::Wrong { left: text.len() }),
+        _ => Err(PartFault::Wrong { left: text.len() }),
     }
 }
 
 // A number that the text counts from 1, and the byte after it.
-pub fn place(text: &[u8], most: u64, end: u8) -> Result<(u16, &[u8]), Flaw>
+pub(crate) fn place(text: &[u8], most: u64, end: u8) -> Result<(u16, &[u8]), PartFault>
     requires { (9 ≤ most) × (most ≤ 20000) × (end < 48) }
     ensures ok { IfOk result (λ r. (text.now ≡ place_text r.0 ++ end ∷ r.1.now) × IsTrue (is_place most r.0) × Passes (a_number most end ∷ []) text.now r.1.now) }
-    ensures err { IfErr result (λ flaw. Fails (a_number most end ∷ []) text.now flaw) }
+    ensures err { IfErr result (λ fault. Fails (a_number most end ∷ []) text.now fault) }
 {
     let (place, rest) = number(text, most, end)?;
     Ok(((place - 1) as u16, rest))
 }
 
 // A number at most so far from 0, and the byte after it.
-pub fn signed(text: &[u8], most: u64, end: u8) -> Result<(i64, &[u8]), Flaw>
+pub(crate) fn signed(text: &[u8], most: u64, end: u8) -> Result<(i64, &[u8]), PartFault>
     requires { (9 ≤ most) × (most ≤ 2 ^ 62) × (end < 48) }
     ensures ok { IfOk result (λ r. (text.now ≡ signed_decimal r.0 ++ end ∷ r.1.now) × IsTrue (nat_le (unsigned_abs r.0) most) × Passes (a_signed most end ∷ []) text.now r.1.now) }
-    ensures err { IfErr result (λ flaw. Fails (a_signed most end ∷ []) text.now flaw) }
+    ensures err { IfErr result (λ fault. Fails (a_signed most end ∷ []) text.now fault) }
 {
     match text.split_first() {
         Some((b'-', rest)) => {
@@ -104,12 +104,12 @@ pub fn signed(text: &[u8], most: u64, end: u8) -> Result<(i64, &[u8]), Flaw>
             let (size, rest) = number(text, most, end)?;
             Ok((size as i64, rest))
         }
-        _ => Err(Flaw::Wrong { left: text.len() }),
+        _ => Err(PartFault::Wrong { left: text.len() }),
     }
 }
 
 // What stands after the letter, where the text begins with it.
-pub fn after(text: &[u8], letter: u8) -> Option<&[u8]>
+pub(crate) fn after(text: &[u8], letter: u8) -> Option<&[u8]>
     ensures { MatchOption result (BeginsNot letter text.now) (λ rest. text.now ≡ letter ∷ rest.now) }
 {
     match text.split_first() {

@@ -7,6 +7,9 @@ use std::test::Fail;
 const EACH: &[u8] =
     b"qcert 1\ntrue -4\nh 2\np 1 -5 7 3\np 500 0 1000000000 20000\n.\np 2 10 -10 1\nb 1 0 3\nv 1\ns\no\nb 3 1 1\nn\nt\ne\nx\n.\n";
 
+// The same, and cases of several values.
+const RANGES: &[u8] = b"qcert 2\nfalse\nv 1\nr 4\np 1 0 4 1\ne\nr 8\ns\nn\nt\nr 1000000000\no\n.\n";
+
 fn fault(alloc: Global, text: &[u8]) -> Option<CertFault> {
     match read_cert(alloc, &text[..text.len().min(1 << 30)]) {
         Ok(_) => None,
@@ -16,6 +19,13 @@ fn fault(alloc: Global, text: &[u8]) -> Option<CertFault> {
 
 fn stops(at: u64) -> Option<CertFault> {
     Some(CertFault::NotACertificate { at })
+}
+
+// Whether the text is read, and written again as it was.
+fn is_read(alloc: Global, text: &[u8]) -> Result<bool, Fail> {
+    let cert = read_cert(alloc, &text[..text.len().min(1 << 30)])?;
+    let again = write_cert(alloc, &cert)?;
+    Ok(again.as_slice() == text)
 }
 
 // A head, and so many lines of the letter.
@@ -31,14 +41,10 @@ fn lines(alloc: Global, letter: u8, count: usize) -> Result<Vec<u8>, AllocError>
 #[test]
 fn reads_what_is_written(rt: HostRuntime) -> Result<(), Fail> {
     let alloc = rt.alloc();
-    let cert = read_cert(alloc, EACH)?;
-    let text = write_cert(alloc, &cert)?;
-    assert!(rt; text.as_slice() == EACH);
-    assert_eq!(rt; fault(alloc, b"qcert 1\nopen 10000000\ng\n"), None);
-    assert_eq!(rt;
-        fault(alloc, b"qcert 1\ntrue 4611686018427387904\nx\n"),
-        None
-    );
+    assert!(rt; is_read(alloc, EACH)?);
+    assert!(rt; is_read(alloc, RANGES)?);
+    assert!(rt; is_read(alloc, b"qcert 1\nopen 10000000\ng\n")?);
+    assert!(rt; is_read(alloc, b"qcert 1\ntrue 4611686018427387904\nx\n")?);
     Ok(())
 }
 
@@ -58,6 +64,12 @@ fn tells_places(rt: HostRuntime) {
     assert_eq!(rt; fault(alloc, b"qcert 1\nfalse\nh 1\nb"), stops(18));
     assert_eq!(rt; fault(alloc, b"qcert 1\nfalse\n\0"), stops(14));
     assert_eq!(rt; fault(alloc, b"qcert 1\nfalse\nt\ng\n"), stops(16));
+    assert_eq!(rt; fault(alloc, b"qcert 3\n"), stops(6));
+    assert_eq!(rt;
+        fault(alloc, b"qcert 1\ntrue\nv 1\nn\ng\nr 9\ns\n.\n"),
+        stops(21)
+    );
+    assert_eq!(rt; fault(alloc, b"qcert 2\ntrue\nv 1\nr 9\nr 9\n"), stops(21));
 }
 
 // A front of a text isn't ended, and no text goes on with another byte here.
@@ -82,7 +94,7 @@ fn tells_what_nests_too_deep(rt: HostRuntime) -> Result<(), Fail> {
     assert_eq!(rt; fault(alloc, &lines(alloc, b'n', 1_000_000)?), too_deep);
     let mut deepest = lines(alloc, b'n', 1000)?;
     deepest.extend_from_slice(b"t\n")?;
-    assert_eq!(rt; fault(alloc, &deepest), None);
+    assert!(rt; is_read(alloc, &deepest)?);
     Ok(())
 }
 

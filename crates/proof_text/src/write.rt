@@ -2,24 +2,37 @@
 ghost use Rattle.std.specs.Prelude.{◌≡◌, ◌+◌, ◌++◌, ◌^◌, ◌<◌, IfOk, OnOk, IsTrue, codes, ℕ, Option, Some, None, decimal};
 ghost use Rattle.std.specs.Fmt.{signed_decimal};
 ghost use Rattle.std.specs.Option.{option_map};
-ghost use Rattle.proof_tree.specs.Shape.{tree_of, body_of, ending_of, branches_of};
+ghost use Rattle.proof_tree.specs.Shape.{tree_of, body_of, ending_of, branches_of, case_of};
 ghost use Rattle.proof_tree.specs.Tree.{cases as cases_body};
-ghost use Rattle.proof_tree.specs.Text.{place_text, step_text, steps_text, horizon_text, tree_text, body_text, ending_text, branches_text, outcome_text, certificate_text, has_text};
+ghost use Rattle.proof_tree.specs.Text.{place_text, version_text, outcome_text, certificate_text, has_text};
+ghost use Rattle.proof_text.specs.Parts.{step_text, steps_text, horizon_text, tree_text, body_text, ending_text, branches_text, upto_text, case_text};
 
 use itoa::{Buffer, Integer};
-use proof_tree::{Body, Case, Cases, Certificate, End, Horizon, Node, Outcome, Step};
+use proof_tree::{
+    Body, Case, Cases, Certificate, End, Horizon, Node, Outcome, Piece, Step, Version,
+};
 use std::alloc::{AllocError, Global};
 
 /// The one text of a certificate. It asks that the optimum stands beside True alone, and that all
 /// numbers lie in the ranges that a text can have.
 pub fn write_cert(alloc: Global, cert: &Certificate) -> Result<Vec<u8>, AllocError>
-    requires { IsTrue (has_text cert.now.outcome cert.now.optimum (tree_of cert.now.root)) }
-    ensures { IfOk result (λ v. v.items ≡ certificate_text cert.now.outcome cert.now.optimum (tree_of cert.now.root)) }
+    requires { IsTrue (has_text cert.now.version cert.now.outcome cert.now.optimum (tree_of cert.now.root)) }
+    ensures { IfOk result (λ v. v.items ≡ certificate_text cert.now.version cert.now.outcome cert.now.optimum (tree_of cert.now.root)) }
 {
-    let mut out = Vec::from_slice(alloc, b"qcert 1\n")?;
+    let mut out = Vec::new(alloc);
+    put_version(&mut out, cert.version)?;
     put_outcome(&mut out, cert.outcome, cert.optimum)?;
     put_node(&mut out, &cert.root)?;
     Ok(out)
+}
+
+fn put_version(out: &mut Vec<u8>, version: Version) -> Result<(), AllocError>
+    ensures { OnOk result (out.new.items ≡ out.old.items ++ version_text version) }
+{
+    match version {
+        Version::One => out.extend_from_slice(b"qcert 1\n"),
+        Version::Two => out.extend_from_slice(b"qcert 2\n"),
+    }
 }
 
 fn put_outcome(out: &mut Vec<u8>, outcome: Outcome, optimum: Option<i64>) -> Result<(), AllocError>
@@ -92,17 +105,39 @@ fn put_end(out: &mut Vec<u8>, end: &End) -> Result<(), AllocError>
 }
 
 #[cycle(put)]
-fn put_case_list(out: &mut Vec<u8>, cases: &[Case]) -> Result<(), AllocError>
+fn put_case_list(out: &mut Vec<u8>, cases: &[Piece]) -> Result<(), AllocError>
     ensures { OnOk result (out.new.items ≡ out.old.items ++ branches_text (branches_of cases.now)) }
 {
-    for case in cases {
-        match case {
-            Case::Skip => out.extend_from_slice(b"s\n")?,
-            Case::Open => out.extend_from_slice(b"o\n")?,
-            Case::Go(inner) => put_cases(out, inner)?,
-        }
+    for piece in cases {
+        put_upto(out, piece.upto)?;
+        put_case(out, &piece.case)?;
     }
     Ok(())
+}
+
+#[cycle(put)]
+fn put_case(out: &mut Vec<u8>, case: &Case) -> Result<(), AllocError>
+    ensures { OnOk result (out.new.items ≡ out.old.items ++ case_text (case_of case.now)) }
+{
+    match case {
+        Case::Skip => out.extend_from_slice(b"s\n"),
+        Case::Open => out.extend_from_slice(b"o\n"),
+        Case::Go(inner) => put_cases(out, inner),
+    }
+}
+
+// The line of a case of several values.
+fn put_upto(out: &mut Vec<u8>, upto: Option<i64>) -> Result<(), AllocError>
+    ensures { OnOk result (out.new.items ≡ out.old.items ++ upto_text upto) }
+{
+    match upto {
+        None => Ok(()),
+        Some(high) => {
+            out.extend_from_slice(b"r ")?;
+            put_number(out, high)?;
+            out.extend_from_slice(b"\n")
+        }
+    }
 }
 
 fn put_horizon(out: &mut Vec<u8>, horizon: &Option<Horizon>) -> Result<(), AllocError>

@@ -1,7 +1,8 @@
 use Rattle.std.proofs.Common.{◌≡◌, ◌++◌, ◌∷◌, List, length, true}
 use Rattle.std.specs.List.{list_all}
-use Rattle.proof_tree.specs.Unbounded.{is_prune}
-use Rattle.proof_tree.specs.Text.{steps_text, step_fits}
+use Rattle.proof_tree.specs.Steps.{is_prune}
+use Rattle.proof_tree.specs.Text.{step_fits}
+use Rattle.proof_text.specs.Parts.{steps_text}
 use Rattle.proof_text.specs.Symbols.{Symbol, prunes}
 use Rattle.proof_text.specs.Running.{run}
 use Rattle.proof_text.proofs.lines.prunes.Given as goal

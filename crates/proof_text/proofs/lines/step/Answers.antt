@@ -1,6 +1,6 @@
-use Rattle.std.proofs.Common.{◌≡◌, ◌∙◌, ap}
+use Rattle.std.proofs.Common.{◌∙◌}
 use Rattle.std.proofs.lemmas.Result.{err_from_is_err_and}
-use Rattle.proof_text.proofs.StepLines.{prune_fails, bound_fails, prune_goes, bound_goes, no_step}
+use Rattle.proof_text.proofs.StepLines.{prune_fails, bound_fails, prune_goes, bound_goes}
 use Rattle.proof_text.proofs.lines.step.Goals as goal
 
 pub returns-in_err-found-clause-err : goal.returns-in_err-found-clause-err

@@ -1,6 +1,7 @@
 use Rattle.std.proofs.Common.{◌≡◌, ◌++◌, length, true}
 use Rattle.std.specs.List.{list_all}
-use Rattle.proof_tree.specs.Text.{steps_text, step_fits}
+use Rattle.proof_tree.specs.Text.{step_fits}
+use Rattle.proof_text.specs.Parts.{steps_text}
 use Rattle.proof_text.specs.Reading.{GoesOn}
 use Rattle.proof_text.proofs.lines.steps.Given as goal
 

@@ -1,4 +1,4 @@
-use Rattle.std.proofs.Common.{◌≡◌, ◌≤◌, refl, subst}
+use Rattle.std.proofs.Common.{refl, subst}
 use Rattle.proof_text.specs.Symbols.{start}
 use Rattle.proof_text.specs.Reading.{Stops}
 use Rattle.proof_text.proofs.PlacesFound.{wrong_place, deep_place, wrong_within, deep_within, no_wrong_text, no_deep_text}

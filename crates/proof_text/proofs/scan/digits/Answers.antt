@@ -1,4 +1,4 @@
-use Rattle.std.proofs.Common.{◌≡◌, ◌∙◌, ◌≤◌, ◌<◌, ◌^◌, arith}
+use Rattle.std.proofs.Common.{◌∙◌, arith}
 use Rattle.proof_text.proofs.Sequences.{digit_goes, digit_told}
 use Rattle.proof_text.proofs.scan.digits.Goals as goal
 

@@ -1,4 +1,4 @@
-use Rattle.std.proofs.Common.{◌≡◌, ◌∷◌, [], get_or}
+use Rattle.std.proofs.Common.{◌∷◌, [], get_or}
 use Rattle.std.proofs.lemmas.Result.{err_from_is_err_and}
 use Rattle.proof_text.specs.Symbols.{byte, bytes}
 use Rattle.proof_text.proofs.Sequences.{fails_by, literal_leads, literal_told, literal_goes}

@@ -1,4 +1,4 @@
-use Rattle.std.proofs.Common.{◌≡◌, ◌∙◌, ◌≤◌, ◌<◌, ◌^◌, ◌-◌, ap, arith}
+use Rattle.std.proofs.Common.{◌∙◌, arith}
 use Rattle.proof_text.proofs.Sequences.{if_ok, first_goes, first_told}
 use Rattle.proof_text.proofs.scan.number.Goals as goal
 

@@ -1,4 +1,4 @@
-use Rattle.std.proofs.Common.{◌≡◌, ◌∙◌, ◌≤◌, ◌<◌, ◌∷◌, [], arith, le-leb}
+use Rattle.std.proofs.Common.{◌∙◌, ◌∷◌, [], arith, le-leb}
 use Rattle.std.proofs.lemmas.Result.{err_from_is_err_and}
 use Rattle.proof_text.specs.Symbols.{signed, number}
 use Rattle.proof_text.proofs.Sequences.{fails_by, plain_goes, zero_goes, zero_told}

@@ -2,7 +2,8 @@ use Rattle.std.proofs.Common.{◌≡◌, ◌+◌, ◌++◌, List, ℕ, sym, ap, 
 use Rattle.std.specs.Prelude.{codes}
 use Rattle.proof_tree.specs.Shape.{ending_of, branches_of}
 use Rattle.proof_tree.specs.Counts.{ending_weight, branch_weight}
-use Rattle.proof_tree.specs.Text.{place_text, branches_text, ending_text}
+use Rattle.proof_tree.specs.Text.{place_text}
+use Rattle.proof_text.specs.Parts.{branches_text, ending_text}
 use Rattle.proof_tree.proofs.Shapes.{ending_branch}
 use Rattle.proof_text.proofs.write.+put.Goals as goal
 

@@ -1,5 +1,5 @@
 use Rattle.std.proofs.Common.{◌≡◌, ◌++◌, drop}
-use Rattle.proof_tree.specs.Text.{steps_text}
+use Rattle.proof_text.specs.Parts.{steps_text}
 use Rattle.proof_text.proofs.write.put_steps.Given as goal
 
 abbrev pub invariant-loop-step : goal.invariant-loop-step
