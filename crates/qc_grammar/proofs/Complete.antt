@@ -11,8 +11,8 @@ use Rattle.qc_grammar.specs.declared.tree.Members.{Members}
 use Rattle.qc_grammar.specs.declared.tree.DomainText.{DomainText}
 use Rattle.qc_grammar.specs.declared.tree.Members.TheVariants.{Range, Braces}
 use Rattle.qc_grammar.specs.declared.tree.DomainText.TheVariants.{Bits as BitsDomain, Members as MembersDomain}
-use Rattle.qc_grammar.specs.declared.tree.Argument.{Argument}
-use Rattle.qc_grammar.specs.declared.tree.Argument.TheVariants.{One as OneArgument, Members as MembersArgument, Array as ArrayArgument}
+use Rattle.qc_grammar.specs.declared.tree.ArgumentText.{ArgumentText}
+use Rattle.qc_grammar.specs.declared.tree.ArgumentText.TheVariants.{One as OneArgument, Members as MembersArgument, Array as ArrayArgument}
 use Rattle.qc_grammar.specs.declared.tree.FoldText.TheVariants.{Sum as SumFold, Least as LeastFold, Greatest as GreatestFold}
 use Rattle.qc_grammar.specs.declared.tree.Item.{Item}
 use Rattle.qc_grammar.specs.declared.tree.Item.TheVariants.{Exists as ExistsItem, Forall as ForallItem, Goal as GoalItem, Variable as VariableItem, Aggregate as AggregateItem, Constraint as ConstraintItem}
@@ -38,7 +38,7 @@ abbrev at_part : List Item → Phase → Part → Reading
 at_part items phase p = record { items = items; phase = phase; part = p }
 
 -- a reading of arguments
-abbrev in_call : List Item → Phase → ℕ → Word → List Argument → ArgumentPart → Reading
+abbrev in_call : List Item → Phase → ℕ → Word → List ArgumentText → ArgumentPart → Reading
 in_call items phase at name args p = at_part items phase (ConstraintIn (ConCall at name args p))
 
 -- the numbers in braces: of a domain ..
@@ -66,7 +66,7 @@ domain_run items phase at (MembersDomain (Braces place (n ∷ ns))) ls =
 
 -- .. and of an argument
 argument_numbers :
-    (items : List Item) (phase : Phase) (at : ℕ) (name : Word) (args : List Argument) (place : ℕ) (ns ms : List Figure) (ls : List Lexeme) →
+    (items : List Item) (phase : Phase) (at : ℕ) (name : Word) (args : List ArgumentText) (place : ℕ) (ns ms : List Figure) (ls : List Lexeme) →
     after_all (in_call items phase at name args (ArgMembers (MembersItem place ns))) (with_commas number_lexemes ms ++ BraceClose ∷ ls)
     ≡ after_all (in_call items phase at name (args ++ MembersArgument (Braces place (ns ++ ms)) ∷ []) ArgDone) ls
 unfolding after_lexeme
@@ -78,7 +78,7 @@ argument_numbers items phase at name args place ns (m ∷ ms) ls =
 
 -- the items of an array
 array_items :
-    (items : List Item) (phase : Phase) (at : ℕ) (name : Word) (args : List Argument) (place : ℕ) (xs ys : List One) (ls : List Lexeme) →
+    (items : List Item) (phase : Phase) (at : ℕ) (name : Word) (args : List ArgumentText) (place : ℕ) (xs ys : List One) (ls : List Lexeme) →
     after_all (in_call items phase at name args (ArgItem place xs)) (with_commas one_lexemes ys ++ BracketClose ∷ ls)
     ≡ after_all (in_call items phase at name (args ++ ArrayArgument place (xs ++ ys) ∷ []) ArgDone) ls
 unfolding after_lexeme
@@ -108,14 +108,14 @@ end_part true = ArgClosed
 end_part false = ArgComma
 
 done_run :
-    (items : List Item) (phase : Phase) (at : ℕ) (name : Word) (args : List Argument) (last : Bool) (ls : List Lexeme) →
+    (items : List Item) (phase : Phase) (at : ℕ) (name : Word) (args : List ArgumentText) (last : Bool) (ls : List Lexeme) →
     after_all (in_call items phase at name args ArgDone) (end_lexeme last ∷ ls) ≡ after_all (in_call items phase at name args (end_part last)) ls
 unfolding after_lexeme
 done_run items phase at name args true ls = refl
 done_run items phase at name args false ls = refl
 
 number_run :
-    (items : List Item) (phase : Phase) (at : ℕ) (name : Word) (args : List Argument) (n : Figure) (last : Bool) (ls : List Lexeme) →
+    (items : List Item) (phase : Phase) (at : ℕ) (name : Word) (args : List ArgumentText) (n : Figure) (last : Bool) (ls : List Lexeme) →
     after_all (in_call items phase at name args (ArgNumber n)) (end_lexeme last ∷ ls)
     ≡ after_all (in_call items phase at name (args ++ OneArgument (OneNumber n) ∷ []) (end_part last)) ls
 unfolding after_lexeme
@@ -124,7 +124,7 @@ number_run items phase at name args n false ls = refl
 
 -- a whole argument is read, but for a number, which a comma or the parenthesis ends
 set_run :
-    (items : List Item) (phase : Phase) (at : ℕ) (name : Word) (args : List Argument) (first : Bool) (x : Members) (ls : List Lexeme) →
+    (items : List Item) (phase : Phase) (at : ℕ) (name : Word) (args : List ArgumentText) (first : Bool) (x : Members) (ls : List Lexeme) →
     after_all (in_call items phase at name args (begins_after first)) (members_lexemes x ++ ls)
     ≡ after_all (in_call items phase at name (args ++ MembersArgument x ∷ []) ArgDone) ls
 unfolding after_lexeme
@@ -140,7 +140,7 @@ set_run items phase at name args false (Braces place (n ∷ ns)) ls =
     ∙ argument_numbers items phase at name args place (n ∷ []) ns ls
 
 array_run :
-    (items : List Item) (phase : Phase) (at : ℕ) (name : Word) (args : List Argument) (first : Bool) (place : ℕ) (xs : List One) (ls : List Lexeme) →
+    (items : List Item) (phase : Phase) (at : ℕ) (name : Word) (args : List ArgumentText) (first : Bool) (place : ℕ) (xs : List One) (ls : List Lexeme) →
     after_all (in_call items phase at name args (begins_after first)) (argument_lexemes (ArrayArgument place xs) ++ ls)
     ≡ after_all (in_call items phase at name (args ++ ArrayArgument place xs ∷ []) ArgDone) ls
 unfolding after_lexeme
@@ -166,7 +166,7 @@ array_run items phase at name args false place (OneTruth b ∷ xs) ls =
     ∙ array_items items phase at name args place (OneTruth b ∷ []) xs ls
 
 argument_run :
-    (items : List Item) (phase : Phase) (at : ℕ) (name : Word) (args : List Argument) (first last : Bool) (a : Argument) (ls : List Lexeme) →
+    (items : List Item) (phase : Phase) (at : ℕ) (name : Word) (args : List ArgumentText) (first last : Bool) (a : ArgumentText) (ls : List Lexeme) →
     after_all (in_call items phase at name args (begins_after first)) (argument_lexemes a ++ end_lexeme last ∷ ls)
     ≡ after_all (in_call items phase at name (args ++ a ∷ []) (end_part last)) ls
 unfolding after_lexeme
@@ -183,7 +183,7 @@ argument_run items phase at name args first last (ArrayArgument place xs) ls =
 
 -- the arguments, with one at least
 some_arguments_run :
-    (items : List Item) (phase : Phase) (at : ℕ) (name : Word) (args : List Argument) (first : Bool) (a : Argument) (more : List Argument) (ls : List Lexeme) →
+    (items : List Item) (phase : Phase) (at : ℕ) (name : Word) (args : List ArgumentText) (first : Bool) (a : ArgumentText) (more : List ArgumentText) (ls : List Lexeme) →
     after_all (in_call items phase at name args (begins_after first)) (argument_lexemes a ++ (with_commas argument_lexemes more ++ ParenClose ∷ ls))
     ≡ after_all (in_call items phase at name (args ++ a ∷ more) ArgClosed) ls
 some_arguments_run items phase at name args first a [] ls = argument_run items phase at name args first true a ls
@@ -191,10 +191,10 @@ some_arguments_run items phase at name args first a (b ∷ more) ls =
     ap (λ (k : List Lexeme). after_all (in_call items phase at name args (begins_after first)) (argument_lexemes a ++ Comma ∷ k)) (append_assoc (argument_lexemes b) (with_commas argument_lexemes more) (ParenClose ∷ ls))
     ∙ argument_run items phase at name args first false a (argument_lexemes b ++ (with_commas argument_lexemes more ++ ParenClose ∷ ls))
     ∙ some_arguments_run items phase at name (args ++ a ∷ []) false b more ls
-    ∙ ap (λ (k : List Argument). after_all (in_call items phase at name k ArgClosed) ls) (append_assoc args (a ∷ []) (b ∷ more))
+    ∙ ap (λ (k : List ArgumentText). after_all (in_call items phase at name k ArgClosed) ls) (append_assoc args (a ∷ []) (b ∷ more))
 
 arguments_run :
-    (items : List Item) (phase : Phase) (at : ℕ) (name : Word) (args : List Argument) (ls : List Lexeme) →
+    (items : List Item) (phase : Phase) (at : ℕ) (name : Word) (args : List ArgumentText) (ls : List Lexeme) →
     after_all (in_call items phase at name [] ArgOpen) (between_commas argument_lexemes args ++ ParenClose ∷ ls)
     ≡ after_all (in_call items phase at name args ArgClosed) ls
 unfolding after_lexeme

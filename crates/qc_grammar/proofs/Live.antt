@@ -11,8 +11,8 @@ use Rattle.qc_grammar.specs.declared.tree.One.TheVariants.{Number as OneNumber, 
 use Rattle.qc_grammar.specs.declared.tree.Members.{Members}
 use Rattle.qc_grammar.specs.declared.tree.Members.TheVariants.{Range, Braces}
 use Rattle.qc_grammar.specs.declared.tree.DomainText.TheVariants.{Bits as BitsDomain, Members as MembersDomain}
-use Rattle.qc_grammar.specs.declared.tree.Argument.{Argument}
-use Rattle.qc_grammar.specs.declared.tree.Argument.TheVariants.{One as OneArgument, Members as MembersArgument, Array as ArrayArgument}
+use Rattle.qc_grammar.specs.declared.tree.ArgumentText.{ArgumentText}
+use Rattle.qc_grammar.specs.declared.tree.ArgumentText.TheVariants.{One as OneArgument, Members as MembersArgument, Array as ArrayArgument}
 use Rattle.qc_grammar.specs.declared.tree.FoldText.TheVariants.{Sum as SumFold}
 use Rattle.qc_grammar.specs.declared.tree.Item.{Item}
 use Rattle.qc_grammar.specs.declared.tree.Item.TheVariants.{Exists as ExistsItem, Forall as ForallItem, Goal as GoalItem, Variable as VariableItem, Aggregate as AggregateItem, Constraint as ConstraintItem}
@@ -197,7 +197,7 @@ aggregate_stands phase (AggElse title fold w) h = h
 aggregate_stands phase (AggLast title fold w) h = h
 
 -- .. and of a constraint
-abbrev last_argument : ArgumentPart → List Argument
+abbrev last_argument : ArgumentPart → List ArgumentText
 last_argument ArgOpen = []
 last_argument ArgComma = OneArgument some_one ∷ []
 last_argument (ArgNumber n) = OneArgument (OneNumber n) ∷ []
@@ -221,7 +221,7 @@ arguments_missing ArgClosed = Semicolon ∷ []
 
 -- one argument more, of which this was read, and this is missing
 one_whole :
-    (args : List Argument) (a : Argument) (read missing : List Lexeme) → argument_lexemes a ≡ read ++ missing →
+    (args : List ArgumentText) (a : ArgumentText) (read missing : List Lexeme) → argument_lexemes a ≡ read ++ missing →
     between_commas argument_lexemes (args ++ a ∷ []) ++ ParenClose ∷ Semicolon ∷ [] ≡ (opened argument_lexemes args ++ read) ++ (missing ++ ParenClose ∷ Semicolon ∷ [])
 one_whole args a read missing h =
     ap (λ (k : List Lexeme). k ++ ParenClose ∷ Semicolon ∷ []) (between_more argument_lexemes args a ∙ ap (λ (k : List Lexeme). opened argument_lexemes args ++ k) h)
@@ -233,10 +233,10 @@ array_whole at items =
     ∙ ap (λ (k : List Lexeme). BracketOpen at ∷ k) (append_assoc (opened one_lexemes items) (Truth true ∷ []) (BracketClose ∷ []))
 
 arguments_whole :
-    (args : List Argument) (p : ArgumentPart) → IsTrue (arguments_fit args p) →
+    (args : List ArgumentText) (p : ArgumentPart) → IsTrue (arguments_fit args p) →
     between_commas argument_lexemes (args ++ last_argument p) ++ ParenClose ∷ Semicolon ∷ [] ≡ arguments_read args p ++ arguments_missing p
 arguments_whole args ArgOpen h =
-    ap (λ (k : List Argument). between_commas argument_lexemes k ++ ParenClose ∷ Semicolon ∷ []) (append-nil args)
+    ap (λ (k : List ArgumentText). between_commas argument_lexemes k ++ ParenClose ∷ Semicolon ∷ []) (append-nil args)
     ∙ ap (λ (k : List Lexeme). k ++ ParenClose ∷ Semicolon ∷ []) (sym (opened_none argument_lexemes args h))
 arguments_whole args ArgComma h =
     one_whole args (OneArgument some_one) [] (Truth true ∷ []) refl
@@ -247,9 +247,9 @@ arguments_whole args (ArgArray at) h = one_whole args (ArrayArgument at []) (Bra
 arguments_whole args (ArgItem at items) h = one_whole args (ArrayArgument at items) (BracketOpen at ∷ between_commas one_lexemes items) (BracketClose ∷ []) refl
 arguments_whole args (ArgItemComma at items) h =
     one_whole args (ArrayArgument at (items ++ some_one ∷ [])) (BracketOpen at ∷ opened one_lexemes items) (Truth true ∷ BracketClose ∷ []) (array_whole at items)
-arguments_whole args ArgDone h = ap (λ (k : List Argument). between_commas argument_lexemes k ++ ParenClose ∷ Semicolon ∷ []) (append-nil args)
+arguments_whole args ArgDone h = ap (λ (k : List ArgumentText). between_commas argument_lexemes k ++ ParenClose ∷ Semicolon ∷ []) (append-nil args)
 arguments_whole args ArgClosed h =
-    ap (λ (k : List Argument). between_commas argument_lexemes k ++ ParenClose ∷ Semicolon ∷ []) (append-nil args)
+    ap (λ (k : List ArgumentText). between_commas argument_lexemes k ++ ParenClose ∷ Semicolon ∷ []) (append-nil args)
     ∙ sym (append_assoc (between_commas argument_lexemes args) (ParenClose ∷ []) (Semicolon ∷ []))
 
 abbrev constraint_made : ConstraintPart → Item

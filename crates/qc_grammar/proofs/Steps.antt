@@ -6,8 +6,8 @@ use Rattle.qc_grammar.specs.declared.tree.Word.{Word}
 use Rattle.qc_grammar.specs.declared.tree.Number.{Number as Figure}
 use Rattle.qc_grammar.specs.declared.tree.One.{One}
 use Rattle.qc_grammar.specs.declared.tree.One.TheVariants.{Name as OneName, Number as OneNumber, Truth as OneTruth}
-use Rattle.qc_grammar.specs.declared.tree.Argument.{Argument}
-use Rattle.qc_grammar.specs.declared.tree.Argument.TheVariants.{One as OneArgument, Members as MembersArgument, Array as ArrayArgument}
+use Rattle.qc_grammar.specs.declared.tree.ArgumentText.{ArgumentText}
+use Rattle.qc_grammar.specs.declared.tree.ArgumentText.TheVariants.{One as OneArgument, Members as MembersArgument, Array as ArrayArgument}
 use Rattle.qc_grammar.specs.declared.lexeme.Lexeme.{Lexeme}
 use Rattle.qc_grammar.specs.declared.lexeme.Lexeme.TheVariants.{Exists, Forall, Goal, Solve, Var, Bits, Aggregate, Sum, Least, Greatest, Else, Optimise, Constraint, Truth, Name, Number, Semicolon, Colon, Comma, ParenOpen, ParenClose, BracketOpen, BracketClose, BraceOpen, BraceClose, Equals, Dots}
 use Rattle.qc_grammar.specs.declared.part.Phase.{Phase}
@@ -118,12 +118,12 @@ aggregate_good phase (AggLast title fold w) Semicolon s h = (refl, s)
 aggregate_good _ _ _ s h = tt
 
 -- of the arguments of a constraint
-abbrev ReadArguments : List Argument → ArgumentPart → Lexeme → ArgumentMove → Type 0
+abbrev ReadArguments : List ArgumentText → ArgumentPart → Lexeme → ArgumentMove → Type 0
 ReadArguments args p l (ArgGo q) = (arguments_read args q ≡ arguments_read args p ++ l ∷ []) × IsTrue (arguments_fit args q)
 ReadArguments args p l (ArgAdd a q) = (arguments_read (args ++ a ∷ []) q ≡ arguments_read args p ++ l ∷ []) × IsTrue (arguments_fit (args ++ a ∷ []) q)
 ReadArguments args p l ArgStuck = Unit {0}
 
-start_good : (args : List Argument) (l : Lexeme) → ReadArguments args ArgComma l (argument_start l)
+start_good : (args : List ArgumentText) (l : Lexeme) → ReadArguments args ArgComma l (argument_start l)
 start_good args (Name w) = (between_more argument_lexemes args (OneArgument (OneName w)), some_more args (OneArgument (OneName w)))
 start_good args (Number n) = (refl, refl)
 start_good args (Truth b) = (between_more argument_lexemes args (OneArgument (OneTruth b)), some_more args (OneArgument (OneTruth b)))
@@ -131,7 +131,7 @@ start_good args (BraceOpen at) = (refl, refl)
 start_good args (BracketOpen at) = (refl, refl)
 start_good args _ = tt
 
-set_good : (args : List Argument) (m : MembersPart) (l : Lexeme) (k : MembersMove) → ReadMembers m l k → ReadArguments args (ArgMembers m) l (set_move k)
+set_good : (args : List ArgumentText) (m : MembersPart) (l : Lexeme) (k : MembersMove) → ReadMembers m l k → ReadArguments args (ArgMembers m) l (set_move k)
 set_good args m l (MembersGo q) h =
     (ap (λ (k : List Lexeme). opened argument_lexemes args ++ k) h.0 ∙ sym (append_assoc (opened argument_lexemes args) (members_read m) (l ∷ [])), h.1)
 set_good args m l (MembersMake x) h = (
@@ -142,20 +142,20 @@ set_good args m l (MembersMake x) h = (
 set_good args m l MembersStuck h = tt
 
 -- the next item of an array, which is of one lexeme
-item_read : (args : List Argument) (at : ℕ) (items : List One) (a : One) (l : Lexeme) → one_lexemes a ≡ l ∷ [] → ReadArguments args (ArgItemComma at items) l (ArgGo (ArgItem at (items ++ a ∷ [])))
+item_read : (args : List ArgumentText) (at : ℕ) (items : List One) (a : One) (l : Lexeme) → one_lexemes a ≡ l ∷ [] → ReadArguments args (ArgItemComma at items) l (ArgGo (ArgItem at (items ++ a ∷ [])))
 item_read args at items a l e = (
   ap (λ (k : List Lexeme). opened argument_lexemes args ++ BracketOpen at ∷ k) (between_more one_lexemes items a ∙ ap (λ (k : List Lexeme). opened one_lexemes items ++ k) e)
       ∙ sym (append_assoc (opened argument_lexemes args) (BracketOpen at ∷ opened one_lexemes items) (l ∷ [])),
   some_more items a,
 )
 
-item_good : (args : List Argument) (at : ℕ) (items : List One) (l : Lexeme) → ReadArguments args (ArgItemComma at items) l (item_move at items (one_of l))
+item_good : (args : List ArgumentText) (at : ℕ) (items : List One) (l : Lexeme) → ReadArguments args (ArgItemComma at items) l (item_move at items (one_of l))
 item_good args at items (Name w) = item_read args at items (OneName w) (Name w) refl
 item_good args at items (Number n) = item_read args at items (OneNumber n) (Number n) refl
 item_good args at items (Truth b) = item_read args at items (OneTruth b) (Truth b) refl
 item_good args at items _ = tt
 
-argument_good : (args : List Argument) (p : ArgumentPart) (l : Lexeme) → IsTrue (arguments_fit args p) → ReadArguments args p l (argument_move p l)
+argument_good : (args : List ArgumentText) (p : ArgumentPart) (l : Lexeme) → IsTrue (arguments_fit args p) → ReadArguments args p l (argument_move p l)
 argument_good args ArgOpen ParenClose h = (ap (λ (k : List Lexeme). k ++ ParenClose ∷ []) (sym (opened_none argument_lexemes args h)), refl)
 argument_good args ArgOpen l h = start_good args l
 argument_good args ArgComma l h = start_good args l
@@ -181,7 +181,7 @@ argument_good args ArgDone Comma h = (opened_some argument_lexemes args h, h)
 argument_good args ArgDone ParenClose h = (refl, refl)
 argument_good args _ _ h = tt
 
-call_good : (phase : Phase) (at : ℕ) (name : Word) (args : List Argument) (p : ArgumentPart) (l : Lexeme) (k : ArgumentMove) → IsTrue (in_restriction phase) → ReadArguments args p l k → ReadPart phase (ConstraintIn (ConCall at name args p)) l (call_move at name args k)
+call_good : (phase : Phase) (at : ℕ) (name : Word) (args : List ArgumentText) (p : ArgumentPart) (l : Lexeme) (k : ArgumentMove) → IsTrue (in_restriction phase) → ReadArguments args p l k → ReadPart phase (ConstraintIn (ConCall at name args p)) l (call_move at name args k)
 call_good phase at name args p l (ArgGo q) s h = (ap (λ (k : List Lexeme). Constraint at ∷ Name name ∷ ParenOpen ∷ k) h.0, and_from _ _ s h.1)
 call_good phase at name args p l (ArgAdd a q) s h = (ap (λ (k : List Lexeme). Constraint at ∷ Name name ∷ ParenOpen ∷ k) h.0, and_from _ _ s h.1)
 call_good phase at name args p l ArgStuck s h = tt

@@ -4,8 +4,8 @@ use Rattle.std.proofs.lemmas.List.{take_more, take_all, map-append, take-append-
 use Rattle.qc_tokens.specs.declared.token.Token.{Token}
 use Rattle.qc_grammar.specs.declared.lexeme.Lexeme.{Lexeme}
 use Rattle.qc_grammar.specs.declared.tree.Item.{Item}
-use Rattle.qc_grammar.specs.declared.reader.Step.{Step}
-use Rattle.qc_grammar.specs.declared.reader.Step.TheVariants.{Taken, Refused}
+use Rattle.qc_grammar.specs.declared.reader.Reception.{Reception}
+use Rattle.qc_grammar.specs.declared.reader.Reception.TheVariants.{Taken, Refused}
 use Rattle.qc_grammar.specs.declared.part.Part.TheVariants.{Ended}
 use Rattle.qc_grammar.specs.Moves.{Reading, after_lexeme, after_all, bind}
 use Rattle.qc_grammar.specs.Grammar.{IsProblem}
@@ -33,11 +33,11 @@ after_all-push r (x ∷ xs) l =
     bind_same (after_lexeme r x) (λ q. after_all q (xs ++ l ∷ [])) (λ q. bind (after_all q xs) (λ p. after_lexeme p l)) (λ q. after_all-push q xs l)
     ∙ sym (bind_twice (after_lexeme r x) (λ q. after_all q xs) (λ p. after_lexeme p l))
 
-when_taken : (old new : Reading) (l : Lexeme) (s : Step) → Takes old l (Ok s) new → s ≡ Taken → after_lexeme old l ≡ Some new
+when_taken : (old new : Reading) (l : Lexeme) (s : Reception) → Takes old l (Ok s) new → s ≡ Taken → after_lexeme old l ≡ Some new
 when_taken old new l Taken takes is = takes
 when_taken old new l Refused takes is = absurd (cc)
 
-when_refused : (old new : Reading) (l : Lexeme) (s : Step) → Takes old l (Ok s) new → s ≡ Refused → after_lexeme old l ≡ None
+when_refused : (old new : Reading) (l : Lexeme) (s : Reception) → Takes old l (Ok s) new → s ≡ Refused → after_lexeme old l ≡ None
 when_refused old new l Taken takes is = absurd (cc)
 when_refused old new l Refused takes is = takes
 
@@ -45,7 +45,7 @@ when_refused old new l Refused takes is = takes
 abbrev pub HasRead : List ℕ → List Token → ℕ → Reading → Type 0
 HasRead text ts i r = after_all start (lexemes_of text (take i ts)) ≡ Some r
 
-pub has_read_more : (text : List ℕ) (ts : List Token) (i : ℕ) (r q : Reading) (l : Lexeme) (s : Step) (d : Token) → i < length ts → HasRead text ts i r
+pub has_read_more : (text : List ℕ) (ts : List Token) (i : ℕ) (r q : Reading) (l : Lexeme) (s : Reception) (d : Token) → i < length ts → HasRead text ts i r
     → l ≡ lexeme_of text (get_or ts i d) → Takes r l (Ok s) q → s ≡ Taken → HasRead text ts (i + 1) q
 has_read_more text ts i r q l s d lt inv e takes is =
     ap (λ xs. after_all start (lexemes_of text xs)) (take_more ts i d lt)
@@ -58,7 +58,7 @@ cut : (ts : List Token) (i : ℕ) (d : Token) → i < length ts → take i ts ++
 cut ts i d lt =
     ap (λ k. take i ts ++ get_or ts i d ∷ drop k ts) (add-one i) ∙ ap (λ xs. take i ts ++ xs) (sym (drop-cons ts i d lt)) ∙ take-append-drop i ts
 
-pub stops_at_token : (text : List ℕ) (ts : List Token) (i : ℕ) (r q : Reading) (l : Lexeme) (s : Step) (d : Token) → i < length ts → HasRead text ts i r
+pub stops_at_token : (text : List ℕ) (ts : List Token) (i : ℕ) (r q : Reading) (l : Lexeme) (s : Reception) (d : Token) → i < length ts → HasRead text ts i r
     → l ≡ lexeme_of text (get_or ts i d) → Takes r l (Ok s) q → s ≡ Refused → StopsAt text ts (get_or ts i d).start
 stops_at_token text ts i r q l s d lt inv e takes is =
     let P : List Token → Type 0 = λ xs. StopsAt text xs (get_or ts i d).start in

@@ -8,8 +8,8 @@ use Rattle.qc_grammar.specs.declared.tree.Members.{Members}
 use Rattle.qc_grammar.specs.declared.tree.Members.TheVariants.{Range, Braces}
 use Rattle.qc_grammar.specs.declared.tree.DomainText.{DomainText}
 use Rattle.qc_grammar.specs.declared.tree.DomainText.TheVariants.{Bits as BitsDomain, Members as MembersDomain}
-use Rattle.qc_grammar.specs.declared.tree.Argument.{Argument}
-use Rattle.qc_grammar.specs.declared.tree.Argument.TheVariants.{One as OneArgument, Members as MembersArgument, Array}
+use Rattle.qc_grammar.specs.declared.tree.ArgumentText.{ArgumentText}
+use Rattle.qc_grammar.specs.declared.tree.ArgumentText.TheVariants.{One as OneArgument, Members as MembersArgument, Array}
 use Rattle.qc_grammar.specs.declared.tree.ConditionText.{ConditionText}
 use Rattle.qc_grammar.specs.declared.tree.FoldText.{FoldText}
 use Rattle.qc_grammar.specs.declared.tree.FoldText.TheVariants.{Sum as SumFold, Least as LeastFold, Greatest as GreatestFold}
@@ -46,7 +46,7 @@ abbrev pub domain_lexemes : DomainText → List Lexeme
 domain_lexemes (BitsDomain at) = Bits at ∷ []
 domain_lexemes (MembersDomain m) = members_lexemes m
 
-abbrev pub argument_lexemes : Argument → List Lexeme
+abbrev pub argument_lexemes : ArgumentText → List Lexeme
 argument_lexemes (OneArgument a) = one_lexemes a
 argument_lexemes (MembersArgument m) = members_lexemes m
 argument_lexemes (Array at items) = BracketOpen at ∷ between_commas one_lexemes items ++ BracketClose ∷ []

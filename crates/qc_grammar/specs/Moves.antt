@@ -6,8 +6,8 @@ use Rattle.qc_grammar.specs.declared.tree.One.{One}
 use Rattle.qc_grammar.specs.declared.tree.One.TheVariants.{Name as OneName, Number as OneNumber, Truth as OneTruth}
 use Rattle.qc_grammar.specs.declared.tree.Members.TheVariants.{Range, Braces}
 use Rattle.qc_grammar.specs.declared.tree.DomainText.TheVariants.{Bits as BitsDomain, Members as MembersDomain}
-use Rattle.qc_grammar.specs.declared.tree.Argument.{Argument}
-use Rattle.qc_grammar.specs.declared.tree.Argument.TheVariants.{One as OneArgument, Members as MembersArgument, Array as ArrayArgument}
+use Rattle.qc_grammar.specs.declared.tree.ArgumentText.{ArgumentText}
+use Rattle.qc_grammar.specs.declared.tree.ArgumentText.TheVariants.{One as OneArgument, Members as MembersArgument, Array as ArrayArgument}
 use Rattle.qc_grammar.specs.declared.tree.FoldText.{FoldText}
 use Rattle.qc_grammar.specs.declared.tree.FoldText.TheVariants.{Sum as SumFold, Least as LeastFold, Greatest as GreatestFold}
 use Rattle.qc_grammar.specs.declared.tree.Item.{Item}
@@ -156,7 +156,7 @@ argument_move ArgDone Comma = ArgGo ArgComma
 argument_move ArgDone ParenClose = ArgGo ArgClosed
 argument_move _ _ = ArgStuck
 
-abbrev pub call_move : ℕ → Word → List Argument → ArgumentMove → Move
+abbrev pub call_move : ℕ → Word → List ArgumentText → ArgumentMove → Move
 call_move at name args (ArgGo p) = Goes (ConstraintIn (ConCall at name args p))
 call_move at name args (ArgAdd a p) = Goes (ConstraintIn (ConCall at name (args ++ a ∷ []) p))
 call_move at name args ArgStuck = Stuck

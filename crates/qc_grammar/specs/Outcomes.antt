@@ -5,13 +5,13 @@ use Rattle.qc_tokens.specs.declared.token.Token.{Token}
 use Rattle.qc_grammar.specs.declared.lexeme.Lexeme.{Lexeme}
 use Rattle.qc_grammar.specs.declared.fault.GrammarFault.{GrammarFault}
 use Rattle.qc_grammar.specs.declared.fault.GrammarFault.TheVariants.{Syntax, Memory}
-use Rattle.qc_grammar.specs.declared.reader.Step.{Step}
-use Rattle.qc_grammar.specs.declared.reader.Step.TheVariants.{Taken, Refused}
+use Rattle.qc_grammar.specs.declared.reader.Reception.{Reception}
+use Rattle.qc_grammar.specs.declared.reader.Reception.TheVariants.{Taken, Refused}
 use Rattle.qc_grammar.specs.Lexemes.{StopsAt}
 use Rattle.qc_grammar.specs.Moves.{Reading, after_lexeme}
 
 -- the reader has taken the lexeme, or the lexeme can't stand there
-abbrev pub Takes : Reading → Lexeme → Result Step AllocError → Reading → Type 0
+abbrev pub Takes : Reading → Lexeme → Result Reception AllocError → Reading → Type 0
 Takes old lexeme (Ok Taken) new = after_lexeme old lexeme ≡ Some new
 Takes old lexeme (Ok Refused) new = after_lexeme old lexeme ≡ None
 Takes old lexeme (Err e) new = Unit {0}

@@ -1,7 +1,7 @@
 -- The lexemes that a reading has read, and what is true of each reading that begins with nothing.
 use Rattle.std.specs.Prelude.{◌≡◌, Bool, true, false, ◌&&◌, IsTrue, List, [], ◌∷◌, ◌++◌, flat_map}
 use Rattle.qc_grammar.specs.declared.tree.Item.{Item}
-use Rattle.qc_grammar.specs.declared.tree.Argument.{Argument}
+use Rattle.qc_grammar.specs.declared.tree.ArgumentText.{ArgumentText}
 use Rattle.qc_grammar.specs.declared.lexeme.Lexeme.{Lexeme}
 use Rattle.qc_grammar.specs.declared.lexeme.Lexeme.TheVariants.{Exists, Forall, Goal, Solve, Var, Aggregate, Sum, Least, Greatest, Else, Optimise, Constraint, Name, Number, Semicolon, Colon, Comma, ParenOpen, ParenClose, BracketOpen, BraceOpen, Equals, Dots}
 use Rattle.qc_grammar.specs.declared.part.Phase.{Phase}
@@ -77,7 +77,7 @@ aggregate_read (AggElse title fold w) = title_read title (Equals ∷ fold_word f
 aggregate_read (AggLast title fold w) = title_read title (Equals ∷ fold_lexemes fold w)
 
 -- the arguments that are whole, and what was read after them
-abbrev pub arguments_read : List Argument → ArgumentPart → List Lexeme
+abbrev pub arguments_read : List ArgumentText → ArgumentPart → List Lexeme
 arguments_read args ArgOpen = opened argument_lexemes args
 arguments_read args ArgComma = opened argument_lexemes args
 arguments_read args (ArgNumber n) = opened argument_lexemes args ++ Number n ∷ []
@@ -146,7 +146,7 @@ aggregate_fits (AggClosed title fold w) = true
 aggregate_fits (AggElse title fold w) = may_have_else fold
 aggregate_fits (AggLast title fold w) = true
 
-abbrev pub arguments_fit : List Argument → ArgumentPart → Bool
+abbrev pub arguments_fit : List ArgumentText → ArgumentPart → Bool
 arguments_fit args ArgOpen = has_none args
 arguments_fit args ArgComma = has_some args
 arguments_fit args (ArgNumber n) = true

@@ -5,7 +5,7 @@ ghost use Rattle.qc_grammar.specs.Moves.{argument_start as argument_start_of, on
 use crate::lexeme::Lexeme;
 use crate::members::members_move;
 use crate::part::{ArgumentMove, ArgumentPart, MembersMove, MembersPart};
-use crate::tree::{Argument, Number, One, OneList};
+use crate::tree::{ArgumentText, Number, One, OneList};
 use std::alloc::{AllocError, Global};
 
 fn argument_start(lexeme: Lexeme) -> ArgumentMove
@@ -13,11 +13,11 @@ fn argument_start(lexeme: Lexeme) -> ArgumentMove
 {
     match lexeme {
         Lexeme::Name(name) => {
-            ArgumentMove::Adds(Argument::One(One::Name(name)), ArgumentPart::Done)
+            ArgumentMove::Adds(ArgumentText::One(One::Name(name)), ArgumentPart::Done)
         }
         Lexeme::Number(number) => ArgumentMove::Goes(ArgumentPart::Number(number)),
         Lexeme::Truth(value) => {
-            ArgumentMove::Adds(Argument::One(One::Truth(value)), ArgumentPart::Done)
+            ArgumentMove::Adds(ArgumentText::One(One::Truth(value)), ArgumentPart::Done)
         }
         Lexeme::BraceOpen(at) => {
             ArgumentMove::Goes(ArgumentPart::Members(MembersPart::Open { at }))
@@ -57,7 +57,7 @@ fn set_move(next: MembersMove) -> ArgumentMove
     match next {
         MembersMove::Goes(members) => ArgumentMove::Goes(ArgumentPart::Members(members)),
         MembersMove::Makes(members) => {
-            ArgumentMove::Adds(Argument::Members(members), ArgumentPart::Done)
+            ArgumentMove::Adds(ArgumentText::Members(members), ArgumentPart::Done)
         }
         MembersMove::Stuck => ArgumentMove::Stuck,
     }
@@ -70,10 +70,10 @@ fn number_move(number: Number, lexeme: Lexeme) -> ArgumentMove
     match lexeme {
         Lexeme::Dots => ArgumentMove::Goes(ArgumentPart::Members(MembersPart::Dots(number))),
         Lexeme::Comma => {
-            ArgumentMove::Adds(Argument::One(One::Number(number)), ArgumentPart::Comma)
+            ArgumentMove::Adds(ArgumentText::One(One::Number(number)), ArgumentPart::Comma)
         }
         Lexeme::ParenClose => {
-            ArgumentMove::Adds(Argument::One(One::Number(number)), ArgumentPart::Closed)
+            ArgumentMove::Adds(ArgumentText::One(One::Number(number)), ArgumentPart::Closed)
         }
         _ => ArgumentMove::Stuck,
     }
@@ -86,7 +86,7 @@ fn after_item(at: u32, items: OneList, lexeme: Lexeme) -> ArgumentMove
     match lexeme {
         Lexeme::Comma => ArgumentMove::Goes(ArgumentPart::ItemComma { at, items }),
         Lexeme::BracketClose => {
-            ArgumentMove::Adds(Argument::Array { at, items }, ArgumentPart::Done)
+            ArgumentMove::Adds(ArgumentText::Array { at, items }, ArgumentPart::Done)
         }
         _ => ArgumentMove::Stuck,
     }
@@ -111,7 +111,7 @@ pub(crate) fn argument_move(
         ArgumentPart::Array { at } => match lexeme {
             Lexeme::BracketClose => {
                 let items = OneList::new(alloc);
-                Ok(ArgumentMove::Adds(Argument::Array { at, items }, ArgumentPart::Done))
+                Ok(ArgumentMove::Adds(ArgumentText::Array { at, items }, ArgumentPart::Done))
             }
             _ => item_move(at, OneList::new(alloc), one_of(lexeme)),
         },

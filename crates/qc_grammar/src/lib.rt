@@ -24,8 +24,8 @@ pub use laws::{others_stop_at_one_place, texts_are_read_in_one_way};
 pub use lexeme::Lexeme;
 pub use read::read_items;
 pub use tree::{
-    Argument, ArgumentList, ConditionText, DomainText, FoldText, Item, Members, Number, NumberList,
-    One, OneList, Word,
+    ArgumentList, ArgumentText, ConditionText, DomainText, FoldText, Item, Members, Number,
+    NumberList, One, OneList, Word,
 };
 
 #[cfg(test)]

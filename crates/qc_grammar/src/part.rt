@@ -3,8 +3,8 @@
 //! The grammar has no part that holds another of its own kind, so what was read of an item is one of
 //! few parts, each with what it holds by then. A move tells what the next lexeme makes of a part.
 use crate::tree::{
-    Argument, ArgumentList, ConditionText, DomainText, FoldText, Item, Members, Number, NumberList,
-    OneList, Word,
+    ArgumentList, ArgumentText, ConditionText, DomainText, FoldText, Item, Members, Number,
+    NumberList, OneList, Word,
 };
 use qc_model::Sense;
 
@@ -141,7 +141,7 @@ pub(crate) enum ArgumentPart {
 #[derive(Drop)]
 pub(crate) enum ArgumentMove {
     Goes(ArgumentPart),
-    Adds(Argument, ArgumentPart),
+    Adds(ArgumentText, ArgumentPart),
     Stuck,
 }
 

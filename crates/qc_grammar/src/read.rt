@@ -7,7 +7,7 @@ ghost use Rattle.qc_grammar.specs.Lexemes.{lexemes_of};
 ghost use Rattle.qc_grammar.specs.Outcomes.{Explains};
 
 use crate::fault::GrammarFault;
-use crate::reader::{Reader, Step};
+use crate::reader::{Reader, Reception};
 use crate::tree::Item;
 use crate::words::lexeme;
 use qc_tokens::Token;
@@ -31,8 +31,8 @@ pub fn read_items(alloc: Global, text: &[u8], tokens: &[Token]) -> Result<Vec<It
     let mut reader = Reader::new(alloc);
     for token in tokens {
         match reader.take(alloc, lexeme(text, *token))? {
-            Step::Taken => {}
-            Step::Refused => return Err(GrammarFault::Syntax { at: token.start }),
+            Reception::Taken => {}
+            Reception::Refused => return Err(GrammarFault::Syntax { at: token.start }),
         }
     }
     if reader.has_ended() {

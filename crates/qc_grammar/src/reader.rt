@@ -18,7 +18,7 @@ use std::mem;
 
 /// What became of a lexeme.
 #[derive(Clone, Copy, PartialEq, Eq)]
-pub(crate) enum Step {
+pub(crate) enum Reception {
     Taken,
     /// It can't stand there.
     Refused,
@@ -83,21 +83,21 @@ impl Reader {
     /// Takes the next lexeme, if it can stand there. A reader that has refused one, or that had no
     /// memory for one, has lost the part that it was reading.
     #[tactic(auto, unfolding(crate::specs::Moves::after_lexeme))]
-    pub(crate) fn take(&mut self, alloc: Global, lexeme: Lexeme) -> Result<Step, AllocError>
+    pub(crate) fn take(&mut self, alloc: Global, lexeme: Lexeme) -> Result<Reception, AllocError>
         ensures { Takes self.old lexeme result self.new }
     {
         let part = mem::replace(&mut self.part, Part::Ready);
         match part_move(alloc, self.phase, part, lexeme)? {
             Move::Goes(part) => {
                 self.part = part;
-                Ok(Step::Taken)
+                Ok(Reception::Taken)
             }
             Move::Makes(item) => {
                 self.phase = phase_after(self.phase, &item);
                 self.items.push(item)?;
-                Ok(Step::Taken)
+                Ok(Reception::Taken)
             }
-            Move::Stuck => Ok(Step::Refused),
+            Move::Stuck => Ok(Reception::Refused),
         }
     }
 

@@ -46,7 +46,7 @@ pub enum DomainText {
 
 /// An argument of a constraint; an array with the place of its bracket.
 #[derive(Drop)]
-pub enum Argument {
+pub enum ArgumentText {
     One(One),
     Members(Members),
     Array { at: u32, items: OneList },
@@ -184,14 +184,14 @@ impl OneList {
 /// The arguments of a constraint, in order.
 #[derive(Drop)]
 pub struct ArgumentList {
-    items: Vec<Argument>,
+    items: Vec<ArgumentText>,
 }
 
 impl Model for ArgumentList {
     ghost use Rattle.std.specs.Prelude.{List};
-    ghost use Rattle.qc_grammar.specs.declared.tree.Argument.{Argument};
+    ghost use Rattle.qc_grammar.specs.declared.tree.ArgumentText.{ArgumentText};
 
-    ghost Value = { List Argument };
+    ghost Value = { List ArgumentText };
 
     ghost view = { λ a. a.items.items };
 }
@@ -207,7 +207,7 @@ impl ArgumentList {
     }
 
     /// Appends the argument; without memory for it, nothing has changed.
-    pub fn push(&mut self, item: Argument) -> Result<(), AllocError>
+    pub fn push(&mut self, item: ArgumentText) -> Result<(), AllocError>
         ensures ok { OnOk result (self.new ≡ self.old ++ item ∷ []) }
         ensures err { OnErr result (self.new ≡ self.old) }
     {
@@ -216,7 +216,7 @@ impl ArgumentList {
     }
 
     /// The arguments, in order.
-    pub fn items(&self) -> &[Argument]
+    pub fn items(&self) -> &[ArgumentText]
         ensures { result.now ≡ self.now }
     {
         self.items.as_slice()

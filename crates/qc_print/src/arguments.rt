@@ -4,19 +4,21 @@ ghost use Rattle.std.specs.Option.{option_copied};
 ghost use Rattle.qc_model.specs.Canonical.{with_commas, brackets, variable_name, arg_text, literal_text, argument_text, argument_texts, constraint_text};
 
 use crate::parts::{put_number, put_set, put_truth};
-use qc_model::{Arg, Argument, Constraint, Sort, Variable, pred_name, sorts_of};
+use qc_model::{Arg, ArgKind, Argument, Constraint, Variable, arg_kinds_of, pred_name};
 use std::alloc::AllocError;
 
-fn put_literal(out: &mut Vec<u8>, sort: Sort, number: i64) -> Result<(), AllocError>
+fn put_literal(out: &mut Vec<u8>, sort: ArgKind, number: i64) -> Result<(), AllocError>
     ensures { OnOk result (out.new.items ≡ out.old.items ++ literal_text sort number) }
 {
     match sort {
-        Sort::Boolean | Sort::Booleans | Sort::Truths => put_truth(out, number),
-        Sort::Integer | Sort::Integers | Sort::Numbers | Sort::Members => put_number(out, number),
+        ArgKind::Boolean | ArgKind::Booleans | ArgKind::Truths => put_truth(out, number),
+        ArgKind::Integer | ArgKind::Integers | ArgKind::Numbers | ArgKind::Members => put_number(
+            out, number,
+        ),
     }
 }
 
-pub fn put_name(out: &mut Vec<u8>, variable: Option<&Variable>) -> Result<(), AllocError>
+pub(crate) fn put_name(out: &mut Vec<u8>, variable: Option<&Variable>) -> Result<(), AllocError>
     ensures { OnOk result (out.new.items ≡ out.old.items ++ variable_name (option_copied variable.entry)) }
 {
     match variable {
@@ -28,7 +30,7 @@ pub fn put_name(out: &mut Vec<u8>, variable: Option<&Variable>) -> Result<(), Al
 fn put_arg(
     out: &mut Vec<u8>,
     variables: &[Variable],
-    sort: Sort,
+    sort: ArgKind,
     arg: Arg,
 ) -> Result<(), AllocError>
     ensures { OnOk result (out.new.items ≡ out.old.items ++ arg_text (literal_text sort) variables.now arg) }
@@ -42,7 +44,7 @@ fn put_arg(
 fn put_items(
     out: &mut Vec<u8>,
     variables: &[Variable],
-    sort: Sort,
+    sort: ArgKind,
     items: &[Arg],
 ) -> Result<(), AllocError>
     ensures { OnOk result (out.new.items ≡ out.old.items ++ brackets (map (arg_text (literal_text sort) variables.now) items.now)) }
@@ -59,7 +61,7 @@ fn put_items(
 fn put_other_items(
     out: &mut Vec<u8>,
     variables: &[Variable],
-    sort: Sort,
+    sort: ArgKind,
     items: &[Arg],
 ) -> Result<(), AllocError>
     ensures { OnOk result (out.new.items ≡ out.old.items ++ flat_map (λ u. codes "," ++ u) (map (arg_text (literal_text sort) variables.now) items.now)) }
@@ -71,7 +73,7 @@ fn put_other_items(
     Ok(())
 }
 
-fn put_literals(out: &mut Vec<u8>, sort: Sort, numbers: &[i64]) -> Result<(), AllocError>
+fn put_literals(out: &mut Vec<u8>, sort: ArgKind, numbers: &[i64]) -> Result<(), AllocError>
     ensures { OnOk result (out.new.items ≡ out.old.items ++ brackets (map (literal_text sort) numbers.now)) }
 {
     out.push(b'[')?;
@@ -83,7 +85,7 @@ fn put_literals(out: &mut Vec<u8>, sort: Sort, numbers: &[i64]) -> Result<(), Al
     Ok(())
 }
 
-fn put_other_literals(out: &mut Vec<u8>, sort: Sort, numbers: &[i64]) -> Result<(), AllocError>
+fn put_other_literals(out: &mut Vec<u8>, sort: ArgKind, numbers: &[i64]) -> Result<(), AllocError>
     ensures { OnOk result (out.new.items ≡ out.old.items ++ flat_map (λ u. codes "," ++ u) (map (literal_text sort) numbers.now)) }
 {
     for number in numbers {
@@ -96,7 +98,7 @@ fn put_other_literals(out: &mut Vec<u8>, sort: Sort, numbers: &[i64]) -> Result<
 fn put_argument(
     out: &mut Vec<u8>,
     variables: &[Variable],
-    sort: Sort,
+    sort: ArgKind,
     argument: &Argument,
 ) -> Result<(), AllocError>
     ensures { OnOk result (out.new.items ≡ out.old.items ++ argument_text variables.now sort argument.now) }
@@ -112,7 +114,7 @@ fn put_argument(
 fn put_arguments(
     out: &mut Vec<u8>,
     variables: &[Variable],
-    sorts: &[Sort],
+    sorts: &[ArgKind],
     args: &[Argument],
 ) -> Result<(), AllocError>
     ensures { OnOk result (out.new.items ≡ out.old.items ++ with_commas (argument_texts variables.now sorts.now args.now)) }
@@ -130,7 +132,7 @@ fn put_arguments(
 fn put_other_arguments(
     out: &mut Vec<u8>,
     variables: &[Variable],
-    sorts: &[Sort],
+    sorts: &[ArgKind],
     args: &[Argument],
 ) -> Result<(), AllocError>
     ensures { OnOk result (out.new.items ≡ out.old.items ++ flat_map (λ u. codes "," ++ u) (argument_texts variables.now sorts.now args.now)) }
@@ -146,7 +148,7 @@ fn put_other_arguments(
     put_other_arguments(out, variables, sorts, args)
 }
 
-pub fn put_constraint(
+pub(crate) fn put_constraint(
     out: &mut Vec<u8>,
     variables: &[Variable],
     constraint: &Constraint,
@@ -159,7 +161,7 @@ pub fn put_constraint(
     put_arguments(
         out,
         variables,
-        sorts_of(constraint.pred),
+        arg_kinds_of(constraint.pred),
         constraint.args.as_slice(),
     )?;
     out.extend_from_slice(b");\n")?;

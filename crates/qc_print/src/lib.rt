@@ -1,6 +1,6 @@
 //! A problem as its one text.
 //!
-//! Every item stands on a line of its own: a scope's head, its variables, its aggregate and its
+//! Every item stands on a line of its own: a scope's head, its variables, its aggregates and its
 //! constraints, and then the goal. The text is made in one pass.
 #![tactic(auto)]
 

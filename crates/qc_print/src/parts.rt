@@ -7,14 +7,14 @@ use itoa::Buffer;
 use qc_model::{Domain, Set};
 use std::alloc::AllocError;
 
-pub fn put_number(out: &mut Vec<u8>, number: i64) -> Result<(), AllocError>
+pub(crate) fn put_number(out: &mut Vec<u8>, number: i64) -> Result<(), AllocError>
     ensures { OnOk result (out.new.items ≡ out.old.items ++ signed_decimal number) }
 {
     let mut buffer = Buffer::new();
     out.extend_from_slice(buffer.format(number).as_bytes())
 }
 
-pub fn put_truth(out: &mut Vec<u8>, number: i64) -> Result<(), AllocError>
+pub(crate) fn put_truth(out: &mut Vec<u8>, number: i64) -> Result<(), AllocError>
     ensures { OnOk result (out.new.items ≡ out.old.items ++ truth_text number) }
 {
     if number == 1 {
@@ -24,7 +24,7 @@ pub fn put_truth(out: &mut Vec<u8>, number: i64) -> Result<(), AllocError>
     }
 }
 
-pub fn put_range(out: &mut Vec<u8>, low: i64, high: i64) -> Result<(), AllocError>
+pub(crate) fn put_range(out: &mut Vec<u8>, low: i64, high: i64) -> Result<(), AllocError>
     ensures { OnOk result (out.new.items ≡ out.old.items ++ range_text low high) }
 {
     put_number(out, low)?;
@@ -33,7 +33,7 @@ pub fn put_range(out: &mut Vec<u8>, low: i64, high: i64) -> Result<(), AllocErro
     Ok(())
 }
 
-pub fn put_braces(out: &mut Vec<u8>, numbers: &[i64]) -> Result<(), AllocError>
+pub(crate) fn put_braces(out: &mut Vec<u8>, numbers: &[i64]) -> Result<(), AllocError>
     ensures { OnOk result (out.new.items ≡ out.old.items ++ braces numbers.now) }
 {
     out.extend_from_slice(b"{")?;
@@ -56,7 +56,7 @@ fn put_others(out: &mut Vec<u8>, numbers: &[i64]) -> Result<(), AllocError>
     Ok(())
 }
 
-pub fn put_domain(out: &mut Vec<u8>, domain: &Domain) -> Result<(), AllocError>
+pub(crate) fn put_domain(out: &mut Vec<u8>, domain: &Domain) -> Result<(), AllocError>
     ensures { OnOk result (out.new.items ≡ out.old.items ++ domain_text domain.now) }
 {
     match domain {
@@ -66,7 +66,7 @@ pub fn put_domain(out: &mut Vec<u8>, domain: &Domain) -> Result<(), AllocError>
     }
 }
 
-pub fn put_set(out: &mut Vec<u8>, set: &Set) -> Result<(), AllocError>
+pub(crate) fn put_set(out: &mut Vec<u8>, set: &Set) -> Result<(), AllocError>
     ensures { OnOk result (out.new.items ≡ out.old.items ++ set_text set.now) }
 {
     match set {

@@ -52,7 +52,7 @@ fn put_scope(
     put_condition(out, problem, scope.condition)?;
     out.extend_from_slice(b";\n")?;
     put_variables(out, problem.variables_of(i))?;
-    put_aggregates(out, problem, i)?;
+    put_aggregates(out, problem, problem.aggregates_in(i))?;
     put_constraints(out, problem, i)?;
     Ok(())
 }
@@ -118,14 +118,15 @@ fn put_variable(out: &mut Vec<u8>, variable: &Variable) -> Result<(), AllocError
     Ok(())
 }
 
-// A scope has at most one aggregate, and a problem at most 64.
-fn put_aggregates(out: &mut Vec<u8>, problem: &Problem, i: usize) -> Result<(), AllocError>
-    ensures { OnOk result (out.new.items ≡ out.old.items ++ flat_map (aggregate_text problem.now) (filter (λ q. q.scope.0 == i) problem.now.aggregates)) }
+fn put_aggregates(
+    out: &mut Vec<u8>,
+    problem: &Problem,
+    aggregates: &[Aggregate],
+) -> Result<(), AllocError>
+    ensures { OnOk result (out.new.items ≡ out.old.items ++ flat_map (aggregate_text problem.now) aggregates.now) }
 {
-    for aggregate in problem.all_aggregates() {
-        if aggregate.scope.0 as usize == i {
-            put_aggregate(out, problem, aggregate)?;
-        }
+    for aggregate in aggregates {
+        put_aggregate(out, problem, aggregate)?;
     }
     Ok(())
 }

@@ -43,7 +43,7 @@ read_again g valid =
         };
         problem = subst (λ (ts : List Token). IsProblem parts.items (lexemes_of text ts)) same parts.problem;
       };
-      faultless = no_fault g valid text parts.items parts.stand (tokens_of text)
+      unrefused = no_fault g valid text parts.items parts.stand (tokens_of text)
           (subst (λ (ts : List Token). first_far ts ≡ None) same (numbers_are_near g valid));
       game = sym (same_game g valid text parts.items parts.stand);
     }

@@ -14,8 +14,8 @@ use Rattle.qc_model.specs.declared.problem.Arg.TheVariants.{Var, Num}
 use Rattle.qc_model.specs.declared.problem.Argument.{Argument as ModelArgument}
 use Rattle.qc_model.specs.declared.problem.Argument.TheVariants.{One as ModelOne, Many, Numbers, Members as ModelMembers}
 use Rattle.qc_model.specs.declared.problem.Variable.{Variable}
-use Rattle.qc_model.specs.declared.signature.Sort.{Sort}
-use Rattle.qc_model.specs.declared.signature.Sort.TheVariants.{Integer as integer, Boolean as boolean, Integers as integers, Booleans as booleans, Numbers as numbers, Truths as truths, Members as members}
+use Rattle.qc_model.specs.declared.signature.ArgKind.{ArgKind}
+use Rattle.qc_model.specs.declared.signature.ArgKind.TheVariants.{Integer as integer, Boolean as boolean, Integers as integers, Booleans as booleans, Numbers as numbers, Truths as truths, Members as members}
 use Rattle.qc_model.specs.Valid.{is_number, is_truth}
 use Rattle.qc_model.specs.Canonical.{variable_name, truth_text}
 use Rattle.qc_grammar.specs.declared.tree.Number.{Number as Figure}
@@ -25,8 +25,8 @@ use Rattle.qc_grammar.specs.declared.tree.Members.{Members}
 use Rattle.qc_grammar.specs.declared.tree.Members.TheVariants.{Range, Braces}
 use Rattle.qc_grammar.specs.declared.tree.DomainText.{DomainText}
 use Rattle.qc_grammar.specs.declared.tree.DomainText.TheVariants.{Bits as BitsDomain, Members as MembersDomain}
-use Rattle.qc_grammar.specs.declared.tree.Argument.{Argument}
-use Rattle.qc_grammar.specs.declared.tree.Argument.TheVariants.{One as OneArgument, Members as MembersArgument, Array}
+use Rattle.qc_grammar.specs.declared.tree.ArgumentText.{ArgumentText}
+use Rattle.qc_grammar.specs.declared.tree.ArgumentText.TheVariants.{One as OneArgument, Members as MembersArgument, Array}
 use Rattle.qc_grammar.specs.declared.lexeme.Lexeme.{Lexeme}
 use Rattle.qc_grammar.specs.declared.lexeme.Lexeme.TheVariants.{Truth, Comma, BraceOpen, BracketOpen}
 use Rattle.qc_grammar.specs.Grammar.{with_commas, between_commas, number_lexemes, one_lexemes, members_lexemes, domain_lexemes, argument_lexemes}
@@ -150,11 +150,11 @@ truth_read at n h = by (int_eq n (pos 1)) refl
         }
 
 -- that a literal is read as one that stands for it
-abbrev LiteralRead : ℕ → Sort → ℤ → Type 0
+abbrev LiteralRead : ℕ → ArgKind → ℤ → Type 0
 LiteralRead at s n = Reads One one_lexemes (StandsLiteral s n) at (literal_chunks s n)
 
 -- a literal is read so, as its sort asks
-literal_read : (at : ℕ) (s : Sort) (n : ℤ) → fits_literal s n ≡ true → LiteralRead at s n
+literal_read : (at : ℕ) (s : ArgKind) (n : ℤ) → fits_literal s n ≡ true → LiteralRead at s n
 literal_read at boolean n h = let t = truth_read at n h in record { got = OneTruth t.got; written = t.written; means = t.means }
 literal_read at booleans n h = let t = truth_read at n h in record { got = OneTruth t.got; written = t.written; means = t.means }
 literal_read at truths n h = let t = truth_read at n h in record { got = OneTruth t.got; written = t.written; means = t.means }
@@ -164,7 +164,7 @@ literal_read at numbers n h = record { got = OneNumber (figure_at at n); written
 literal_read at members n h = absurd cc
 
 -- a variable's name, a number or a truth value
-arg_read : (text : List ℕ) (xs : List Variable) (s : Sort) (at : ℕ) (a : Arg) → fits_arg xs s a ≡ true → AllLie text at (arg_chunks xs s a) → Reads One one_lexemes (StandsArg text xs s a) at (arg_chunks xs s a)
+arg_read : (text : List ℕ) (xs : List Variable) (s : ArgKind) (at : ℕ) (a : Arg) → fits_arg xs s a ≡ true → AllLie text at (arg_chunks xs s a) → Reads One one_lexemes (StandsArg text xs s a) at (arg_chunks xs s a)
 arg_read text xs s at (Var x) h l =
     let name = variable_name (slice_get xs x.0) in
     record { got = OneName (word_at at name); written = ap (λ m. m ∷ []) (name_lexeme name at h); means = l.0 }
@@ -185,7 +185,7 @@ array_read at cs Means r = record {
 }
 
 -- an argument is read as one that stands for it
-pub argument_read : (text : List ℕ) (xs : List Variable) (s : Sort) (at : ℕ) (a : ModelArgument) → fits_argument xs s a ≡ true → AllLie text at (argument_chunks xs s a) → Reads Argument argument_lexemes (StandsArgument text xs s a) at (argument_chunks xs s a)
+pub argument_read : (text : List ℕ) (xs : List Variable) (s : ArgKind) (at : ℕ) (a : ModelArgument) → fits_argument xs s a ≡ true → AllLie text at (argument_chunks xs s a) → Reads ArgumentText argument_lexemes (StandsArgument text xs s a) at (argument_chunks xs s a)
 argument_read text xs s at (ModelOne a) h l =
     let r = arg_read text xs s at a h l in
     record { got = OneArgument r.got; written = r.written; means = r.means }
@@ -204,8 +204,8 @@ argument_read text xs s at (ModelMembers m) h l =
     record { got = MembersArgument r.got; written = r.written; means = r.means }
 
 -- the arguments of a constraint: each with a comma before it ..
-more_arguments_read : (text : List ℕ) (xs : List Variable) (sorts : List Sort) (at : ℕ) (args : List ModelArgument) → fits_arguments xs sorts args ≡ true → AllLie text at (commas (arguments_chunks xs sorts args))
-    → Reads (List Argument) (with_commas argument_lexemes) (StandArguments text xs sorts args) at (commas (arguments_chunks xs sorts args))
+more_arguments_read : (text : List ℕ) (xs : List Variable) (sorts : List ArgKind) (at : ℕ) (args : List ModelArgument) → fits_arguments xs sorts args ≡ true → AllLie text at (commas (arguments_chunks xs sorts args))
+    → Reads (List ArgumentText) (with_commas argument_lexemes) (StandArguments text xs sorts args) at (commas (arguments_chunks xs sorts args))
 more_arguments_read text xs [] at [] h l = record { got = []; written = refl; means = tt }
 more_arguments_read text xs [] at (a ∷ args) h l = absurd cc
 more_arguments_read text xs (s ∷ sorts) at [] h l = absurd cc
@@ -222,8 +222,8 @@ more_arguments_read text xs (s ∷ sorts) at (a ∷ args) h l =
     }
 
 -- .. and with commas between them
-pub arguments_read : (text : List ℕ) (xs : List Variable) (sorts : List Sort) (at : ℕ) (args : List ModelArgument) → fits_arguments xs sorts args ≡ true → AllLie text at (between (arguments_chunks xs sorts args))
-    → Reads (List Argument) (between_commas argument_lexemes) (StandArguments text xs sorts args) at (between (arguments_chunks xs sorts args))
+pub arguments_read : (text : List ℕ) (xs : List Variable) (sorts : List ArgKind) (at : ℕ) (args : List ModelArgument) → fits_arguments xs sorts args ≡ true → AllLie text at (between (arguments_chunks xs sorts args))
+    → Reads (List ArgumentText) (between_commas argument_lexemes) (StandArguments text xs sorts args) at (between (arguments_chunks xs sorts args))
 arguments_read text xs [] at [] h l = record { got = []; written = refl; means = tt }
 arguments_read text xs [] at (a ∷ args) h l = absurd cc
 arguments_read text xs (s ∷ sorts) at [] h l = absurd cc

@@ -1,7 +1,7 @@
 -- What the items of a text declare, where they say what the parts of a problem are.
-use Rattle.std.proofs.Common.{◌≡◌, ◌∙◌, sym, ap, refl, ◌+◌, ◌<◌, ◌&&◌, ◌++◌, ℕ, zero, suc, Bool, true, false, List, [], ◌∷◌, length, map, filter_map, slice_get, Option, Some, None, arith}
+use Rattle.std.proofs.Common.{◌≡◌, ◌∙◌, sym, ap, refl, ◌+◌, ◌++◌, ℕ, suc, Bool, true, false, List, [], ◌∷◌, length, map, filter_map, slice_get, Option, Some, None, arith}
 use Rattle.std.specs.List.{cons_option}
-use Rattle.std.proofs.lemmas.Bool.{and_parts, false≢true}
+use Rattle.std.proofs.lemmas.Bool.{false≢true}
 use Rattle.qc_model.specs.declared.problem.Kind.{Kind}
 use Rattle.qc_model.specs.declared.problem.Kind.TheVariants.{Exists, Forall}
 use Rattle.qc_model.specs.declared.problem.Condition.{Condition}
@@ -10,7 +10,7 @@ use Rattle.qc_model.specs.declared.problem.Variable.{Variable as ModelVariable}
 use Rattle.qc_model.specs.declared.problem.Aggregate.{Aggregate as ModelAggregate}
 use Rattle.qc_model.specs.Content.{Game, Rule}
 use Rattle.qc_model.specs.Names.{names_differ}
-use Rattle.qc_model.specs.Valid.{is_universal, is_fold, is_target, is_aggregate_of, IsValid}
+use Rattle.qc_model.specs.Valid.{IsValid}
 use Rattle.qc_grammar.specs.declared.tree.Item.{Item}
 use Rattle.qc_grammar.specs.declared.tree.Item.TheVariants.{Exists as ExistsItem, Forall as ForallItem, Goal as GoalItem, Variable, Aggregate as AggregateItem, Constraint}
 use Rattle.qc_resolve.specs.declared.names.Named.{Named}
@@ -19,8 +19,7 @@ use Rattle.qc_resolve.specs.Owned.{word_bytes, kind_of, kinds_of, heads_after, o
 use Rattle.qc_resolve.specs.Names.{Declared, variable_named, declared_from, declared, look_up, first_repeated}
 use Rattle.qc_reread.specs.Parts.{Part, head, variable, aggregate, constraint, goal, parts_of}
 use Rattle.qc_reread.specs.Stands.{Along, StandsHead, Stands, AllStand}
-use Rattle.qc_reread.proofs.Scoped.{all_scopes, ordered, rising_ordered}
-use Rattle.qc_reread.proofs.EachElement.{each_at, all_at}
+use Rattle.qc_reread.proofs.Scoped.{all_scopes, ordered}
 use Rattle.qc_reread.proofs.PartLists.{part_scope, part_variable, part_aggregate, part_constraint, scopes_of_parts, variables_of_parts, aggregates_of_parts, constraints_of_parts}
 use Rattle.qc_reread.proofs.Targets.{kinds, domain_named}
 use Rattle.qc_reread.proofs.Good.{part_owner, heads_with, AreGood, all_good}
@@ -100,11 +99,6 @@ pub record Looks (g : Game) (ds : List Declared) : Type 0 where
   pub variables : (k : ℕ) (x : ModelVariable) → slice_get g.variables k ≡ Some x → look_up ds x.name ≡ Some (record { named = domain_named x.domain k; scope = x.scope.0 })
   pub aggregates : (k : ℕ) (q : ModelAggregate) → slice_get g.aggregates k ≡ Some q → look_up ds q.name ≡ Some (record { named = Aggregate k; scope = q.scope.0 })
 
-scope_there : (ss : List Scope) (k : ℕ) → is_universal (slice_get ss k) ≡ true → k < length ss
-scope_there [] k h = absurd cc
-scope_there (s ∷ ss) zero h = omega arith
-scope_there (s ∷ ss) (suc k) h = let r = scope_there ss k h in omega (arith, r)
-
 module _ (g : Game) (v : IsValid g) where
   pub scopes_are : filter_map part_scope (parts_of g) ≡ g.scopes
   scopes_are = scopes_of_parts g g.scopes 0
@@ -115,11 +109,7 @@ module _ (g : Game) (v : IsValid g) where
   pub aggregates_are : filter_map part_aggregate (parts_of g) ≡ g.aggregates
   aggregates_are =
       aggregates_of_parts g g.scopes 0
-      ∙ all_scopes (λ (q : ModelAggregate). q.scope.0) (length g.scopes) 0 0 (length g.scopes) g.aggregates (rising_ordered (λ (q : ModelAggregate). q.scope.0) (length g.scopes) g.aggregates v.aggregate_order
-      (each_at (λ (q : ModelAggregate). q.scope.0 < length g.scopes) g.aggregates (λ k q e. below q (all_at (is_aggregate_of g) g.aggregates k q v.aggregates e)))) (omega arith) (omega arith)
-    where
-      below : (q : ModelAggregate) → is_aggregate_of g q ≡ true → q.scope.0 < length g.scopes
-      below q h = scope_there g.scopes q.scope.0 (and_parts (is_universal (slice_get g.scopes q.scope.0)) (is_fold q.fold) (and_parts (is_universal (slice_get g.scopes q.scope.0) && is_fold q.fold) (is_target g.variables q.target) h).0).0
+      ∙ all_scopes (λ (q : ModelAggregate). q.scope.0) (length g.scopes) 0 0 (length g.scopes) g.aggregates (ordered (λ (q : ModelAggregate). q.scope.0) (length g.scopes) g.aggregates v.aggregate_order) (omega arith) (omega arith)
 
   pub constraints_are : filter_map part_constraint (parts_of g) ≡ g.constraints
   constraints_are = constraints_of_parts g g.scopes 0 ∙ all_scopes (λ (c : Rule). c.owner.0) (suc (length g.scopes)) 0 0 (length g.scopes + 1) g.constraints (ordered (λ (c : Rule). c.owner.0) (length g.scopes + 1) g.constraints v.constraint_order) (omega arith) (omega arith)

@@ -12,15 +12,13 @@ use Rattle.qc_model.specs.declared.problem.Variable.{Variable}
 use Rattle.qc_model.specs.declared.problem.Aggregate.{Aggregate}
 use Rattle.qc_model.specs.Content.{Game, Rule}
 use Rattle.qc_model.specs.Block.{of_kind}
-use Rattle.qc_model.specs.Demands.{aggregate_of}
-use Rattle.qc_model.specs.Value.{inner_target}
-use Rattle.qc_model.specs.Sees.{IsVisible, ScopeSees, AggregateSees, SeesRight}
+use Rattle.qc_model.specs.Sees.{IsVisible, aggregates_in, ScopeSees, SeesRight}
 use Rattle.qc_model.specs.Valid.{is_domain, is_constraint, is_condition, is_scope, is_universal, is_fold, is_target, is_aggregate_of, IsValid}
 use Rattle.qc_resolve.specs.Hidden.{universal_from, is_seen}
 use Rattle.qc_reread.specs.Parts.{Part, head, variable, aggregate, constraint, goal, parts_from, parts_of}
 use Rattle.qc_reread.proofs.Scoped.{each_true, each_kept, AreOrdered, ordered}
-use Rattle.qc_reread.proofs.EachElement.{each_both, each_change, each_at, all_at, each_map, first_left, next_left, left_map}
-use Rattle.qc_reread.proofs.Targets.{kinds, target_meant, IsGoodTarget, aggregate_first, visible_good}
+use Rattle.qc_reread.proofs.EachElement.{each_both, each_map, first_left, next_left, left_map}
+use Rattle.qc_reread.proofs.Targets.{kinds, target_meant, IsGoodTarget, visible_good}
 
 -- the scope of a part, and how many scopes have begun with it, where n had before it
 abbrev pub part_owner : ℕ → ℕ → Part → ℕ
@@ -78,20 +76,10 @@ good_last g n i (aggregate q ∷ ps) h = (h.0, good_last g n i ps h.1)
 good_last g n i (constraint c ∷ ps) h = (h.0, good_last g n i ps h.1)
 good_last g n i (goal ∷ ps) h = absurd h.0
 
--- an aggregate with its number, which is the number of its scope's aggregate
-record IsNumbered (g : Game) (q : Aggregate) : Type 0 where
-  number : ℕ
-  found : slice_get g.aggregates number ≡ Some q
-  first : aggregate_of g q.scope.0 ≡ Some number
-  good : is_aggregate_of g q ≡ true
-
 module _ (g : Game) (v : IsValid g) where
-  -- the variables are in order, and each aggregate has its number
+  -- the variables are in order
   in_order : AreOrdered (λ (x : Variable). x.scope.0) (length g.scopes) 0 g.variables
   in_order = ordered (λ (x : Variable). x.scope.0) (length g.scopes) g.variables v.variable_order
-
-  numbered : AllByRecursion (IsNumbered g) g.aggregates
-  numbered = each_at (IsNumbered g) g.aggregates (λ k q e. record { number = k; found = e; first = aggregate_first g v.aggregate_order k q e; good = all_at (is_aggregate_of g) g.aggregates k q v.aggregates e })
 
   -- the constraints and the variables of scope i are good there
   constraints_at : (i : ℕ) → AllByRecursion (IsInside g i) (map constraint (filter (λ c. c.owner.0 == i) g.constraints))
@@ -104,7 +92,7 @@ module _ (g : Game) (v : IsValid g) where
       each_map variable (IsInside g i) (filter (λ (x : Variable). x.scope.0 == i) g.variables)
       (each_kept (λ (x : Variable). x.scope.0) (λ x. is_domain x.domain ≡ true) i g.variables (each_true (λ x. is_domain x.domain) g.variables v.domains))
 
-  module _ (s : Scope) (later : List Scope) (i : ℕ) (left : drop i g.scopes ≡ s ∷ later) (sees : ScopeSees s.kind g later (suc i) s.condition (aggregate_of g i)) where
+  module _ (s : Scope) (later : List Scope) (i : ℕ) (left : drop i g.scopes ≡ s ∷ later) (sees : ScopeSees s.kind g later (suc i) s.condition (aggregates_in g i)) where
     -- the kinds of the scopes that are left
     kinds_left : drop (suc i) (kinds g) ≡ map (λ z. z.kind) later
     kinds_left = left_map (λ (z : Scope). z.kind) (suc i) g.scopes ∙ ap (λ (l : List Scope). map (λ (z : Scope). z.kind) l) (next_left i g.scopes s later left)
@@ -115,31 +103,31 @@ module _ (g : Game) (v : IsValid g) where
         let a = visible_good g (length g.scopes) in_order later (suc i) t w h in
         record { there = a.0; seen = subst (λ ks. is_seen (universal_from (suc i) ks) (target_meant g t) ≡ true) (sym kinds_left) a.1 }
 
-    -- the aggregate of a universal scope sees its target
-    universal_sees : is_universal (Some s) ≡ true → AggregateSees g later (suc i) (aggregate_of g i)
-    universal_sees u = go s.kind u sees
-      where
-        go : (k : Kind) → of_kind k false true ≡ true → ScopeSees k g later (suc i) s.condition (aggregate_of g i) → AggregateSees g later (suc i) (aggregate_of g i)
-        go Exists u w = absurd cc
-        go Forall u w = w
-
-    -- so an aggregate of scope i is good
-    aggregate_good : (q : Aggregate) → (q.scope.0 ≡ i) × IsNumbered g q → IsGoodPart g i (aggregate q)
-    aggregate_good q h =
-        let n = h.1 in
-        let a = and_parts (is_universal (slice_get g.scopes q.scope.0) && is_fold q.fold) (is_target g.variables q.target) n.good in
+    -- an aggregate of the scope stands in a universal one
+    universal_here : (q : Aggregate) → (q.scope.0 ≡ i) × (is_aggregate_of g q ≡ true) → of_kind s.kind false true ≡ true
+    universal_here q h =
+        let a = and_parts (is_universal (slice_get g.scopes q.scope.0) && is_fold q.fold) (is_target g.variables q.target) h.1 in
         let b = and_parts (is_universal (slice_get g.scopes q.scope.0)) (is_fold q.fold) a.0 in
         let at : slice_get g.scopes q.scope.0 ≡ Some s = ap (slice_get g.scopes) h.0 ∙ first_left i g.scopes s later left in
-        let u : is_universal (Some s) ≡ true = subst (λ o. is_universal o ≡ true) at b.0 in
-        let first : aggregate_of g i ≡ Some n.number = ap (aggregate_of g) (sym h.0) ∙ n.first in
-        let w : AggregateSees g later (suc i) (Some n.number) = subst (λ o. AggregateSees g later (suc i) o) first (universal_sees u) in
-        (h.0, visible q.target (subst (λ o. IsVisible g later (suc i) (inner_target o)) n.found w) a.1)
+        subst (λ o. is_universal o ≡ true) at b.0
+
+    -- so the aggregates of the scope are good
+    aggregates_good : (qs : List Aggregate) → AllByRecursion (λ q. (q.scope.0 ≡ i) × (is_aggregate_of g q ≡ true)) qs → ScopeSees s.kind g later (suc i) s.condition qs → AllByRecursion (λ q. IsGoodPart g i (aggregate q)) qs
+    aggregates_good [] h w = tt
+    aggregates_good (q ∷ qs) h w = go s.kind (universal_here q h.0) w (aggregates_good qs h.1)
+      where
+        there : is_target g.variables q.target ≡ true
+        there = (and_parts (is_universal (slice_get g.scopes q.scope.0) && is_fold q.fold) (is_target g.variables q.target) h.0.1).1
+
+        go : (k : Kind) → of_kind k false true ≡ true → ScopeSees k g later (suc i) s.condition (q ∷ qs) → (ScopeSees k g later (suc i) s.condition qs → AllByRecursion (λ z. IsGoodPart g i (aggregate z)) qs) → AllByRecursion (λ z. IsGoodPart g i (aggregate z)) (q ∷ qs)
+        go Exists u w rest = absurd cc
+        go Forall u w rest = ((h.0.0, visible q.target w.0 there), rest w.1)
 
     -- and so is the scope's condition
     condition_good : is_scope g.variables s ≡ true → IsGoodCondition g i s.condition
     condition_good h = go s.kind s.condition h sees
       where
-        go : (k : Kind) (c : Option Condition) → of_kind k (is_condition g.variables c) (is_none c) ≡ true → ScopeSees k g later (suc i) c (aggregate_of g i) → IsGoodCondition g i c
+        go : (k : Kind) (c : Option Condition) → of_kind k (is_condition g.variables c) (is_none c) ≡ true → ScopeSees k g later (suc i) c (aggregates_in g i) → IsGoodCondition g i c
         go Exists None h w = tt
         go Exists (Some c) h w = visible c.target w h
         go Forall None h w = tt
@@ -148,8 +136,8 @@ module _ (g : Game) (v : IsValid g) where
     aggregates_at : AllByRecursion (IsInside g i) (map aggregate (filter (λ q. q.scope.0 == i) g.aggregates))
     aggregates_at =
         each_map aggregate (IsInside g i) (filter (λ (q : Aggregate). q.scope.0 == i) g.aggregates)
-        (each_change (λ (q : Aggregate). (q.scope.0 ≡ i) × IsNumbered g q) (λ q. IsGoodPart g i (aggregate q)) aggregate_good (filter (λ (q : Aggregate). q.scope.0 == i) g.aggregates)
-        (each_kept (λ (q : Aggregate). q.scope.0) (IsNumbered g) i g.aggregates numbered))
+        (aggregates_good (filter (λ (q : Aggregate). q.scope.0 == i) g.aggregates)
+        (each_kept (λ (q : Aggregate). q.scope.0) (λ q. is_aggregate_of g q ≡ true) i g.aggregates (each_true (is_aggregate_of g) g.aggregates v.aggregates)) sees)
 
   -- the parts from scope i on are good
   parts_good : (ss : List Scope) (i owner : ℕ) → drop i g.scopes ≡ ss → SeesRight g ss i → list_all (is_scope g.variables) ss ≡ true → AreGood g i owner (parts_from g ss i)

@@ -11,7 +11,7 @@ use Rattle.qc_model.specs.declared.problem.Fold.{Fold}
 use Rattle.qc_model.specs.declared.problem.Fold.TheVariants.{Sum, Least, Greatest}
 use Rattle.qc_model.specs.declared.problem.Condition.{Condition}
 use Rattle.qc_model.specs.Content.{Game}
-use Rattle.qc_model.specs.Signature.{sorts_of, pred_name}
+use Rattle.qc_model.specs.Signature.{arg_kinds_of, pred_name}
 use Rattle.qc_model.specs.Names.{is_name}
 use Rattle.qc_model.specs.Valid.{is_fold}
 use Rattle.qc_model.specs.Canonical.{kind_text, target_name}
@@ -146,9 +146,9 @@ part_read text g at (aggregate q) h l =
 part_read text g at (constraint c) h l =
     let there = place_after at (word (codes "constraint") ∷ blank 32 ∷ []) in
     let start = place_after there (word (pred_name c.pred) ∷ sign 40 ∷ []) in
-    let cs = between (arguments_chunks g.variables (sorts_of c.pred) c.args) in
+    let cs = between (arguments_chunks g.variables (arg_kinds_of c.pred) c.args) in
     let ds = sign 41 ∷ line_end in
-    let r = arguments_read text g.variables (sorts_of c.pred) start c.args h (lie_first text start cs ds l.1.1.1.1) in
+    let r = arguments_read text g.variables (arg_kinds_of c.pred) start c.args h (lie_first text start cs ds l.1.1.1.1) in
     record {
       got = Constraint at (word_at there (pred_name c.pred)) r.got;
       written =

@@ -15,14 +15,14 @@ use Rattle.qc_model.specs.declared.problem.Target.TheVariants.{Var as VarTarget,
 use Rattle.qc_model.specs.declared.problem.Aggregate.{Aggregate as ModelAggregate}
 use Rattle.qc_model.specs.Content.{Game}
 use Rattle.qc_model.specs.Canonical.{variable_name, aggregate_name, target_name}
-use Rattle.qc_model.specs.declared.signature.Sort.{Sort}
-use Rattle.qc_model.specs.declared.signature.Sort.TheVariants.{Integer as integer, Boolean as boolean, Integers as integers, Booleans as booleans, Numbers as numbers, Truths as truths, Members as members}
+use Rattle.qc_model.specs.declared.signature.ArgKind.{ArgKind}
+use Rattle.qc_model.specs.declared.signature.ArgKind.TheVariants.{Integer as integer, Boolean as boolean, Integers as integers, Booleans as booleans, Numbers as numbers, Truths as truths, Members as members}
 use Rattle.qc_model.specs.Valid.{is_number, is_truth, is_bits, is_integer_domain, is_variable_with, is_integer, is_boolean, is_of_sort, are_of_sorts, item_count, is_declared_by, arg_sees, argument_sees}
 use Rattle.qc_grammar.specs.declared.tree.Word.{Word}
 use Rattle.qc_grammar.specs.declared.tree.One.{One}
 use Rattle.qc_grammar.specs.declared.tree.One.TheVariants.{Name as OneName, Number as OneNumber, Truth as OneTruth}
-use Rattle.qc_grammar.specs.declared.tree.Argument.{Argument}
-use Rattle.qc_grammar.specs.declared.tree.Argument.TheVariants.{One as OneArgument, Members as MembersArgument, Array}
+use Rattle.qc_grammar.specs.declared.tree.ArgumentText.{ArgumentText}
+use Rattle.qc_grammar.specs.declared.tree.ArgumentText.TheVariants.{One as OneArgument, Members as MembersArgument, Array}
 use Rattle.qc_resolve.specs.declared.names.Named.TheVariants.{Integer, Boolean, Aggregate}
 use Rattle.qc_resolve.specs.Owned.{word_bytes}
 use Rattle.qc_resolve.specs.Names.{Declared, look_up, one_uses, argument_uses, is_unknown}
@@ -93,7 +93,7 @@ module _ (text : List ℕ) (g : Game) (ds : List Declared) (looks : Looks g ds) 
     not_later scope h = le-ltb i scope (leb-true scope i h)
 
     -- an integer argument, which may be the item of an array
-    integer_arg : (s : Sort) → ((n : ℤ) (b : One) → StandsLiteral s n b → StandsLiteral integer n b) → (a : Arg) (b : One) → StandsArg text g.variables s a b → is_integer g.variables a ≡ true → arg_sees g.variables i a ≡ true →
+    integer_arg : (s : ArgKind) → ((n : ℤ) (b : One) → StandsLiteral s n b → StandsLiteral integer n b) → (a : Arg) (b : One) → StandsArg text g.variables s a b → is_integer g.variables a ≡ true → arg_sees g.variables i a ≡ true →
         ArgFacts a b × (is_integer_one text ds b ≡ true)
     integer_arg s c (Num n) b h v w = number_arg n b (c n b h)
     integer_arg s c (Var x) (OneName u) h v w = go (slice_get g.variables x.0) refl h v w
@@ -106,7 +106,7 @@ module _ (text : List ℕ) (g : Game) (ds : List Declared) (looks : Looks g ds) 
     integer_arg s c (Var x) (OneNumber k) h v w = absurd h
     integer_arg s c (Var x) (OneTruth t) h v w = absurd h
 
-    boolean_arg : (s : Sort) → ((n : ℤ) (b : One) → StandsLiteral s n b → StandsLiteral boolean n b) → (a : Arg) (b : One) → StandsArg text g.variables s a b → is_boolean g.variables a ≡ true → arg_sees g.variables i a ≡ true →
+    boolean_arg : (s : ArgKind) → ((n : ℤ) (b : One) → StandsLiteral s n b → StandsLiteral boolean n b) → (a : Arg) (b : One) → StandsArg text g.variables s a b → is_boolean g.variables a ≡ true → arg_sees g.variables i a ≡ true →
         ArgFacts a b × (is_boolean_one text ds b ≡ true)
     boolean_arg s c (Num n) b h v w = truth_arg n b (c n b h)
     boolean_arg s c (Var x) (OneName u) h v w = go (slice_get g.variables x.0) refl h v w
@@ -137,7 +137,7 @@ module _ (text : List ℕ) (g : Game) (ds : List Declared) (looks : Looks g ds) 
       seen : AllByRecursion IsSeen (flat_map one_uses bs)
       count : length bs ≡ length ls
 
-    args_facts : (s : Sort) (p : Arg → Bool) (q : One → Bool) → ((a : Arg) (b : One) → StandsArg text g.variables s a b → p a ≡ true → arg_sees g.variables i a ≡ true → ArgFacts a b × (q b ≡ true)) →
+    args_facts : (s : ArgKind) (p : Arg → Bool) (q : One → Bool) → ((a : Arg) (b : One) → StandsArg text g.variables s a b → p a ≡ true → arg_sees g.variables i a ≡ true → ArgFacts a b × (q b ≡ true)) →
         (ls : List Arg) (bs : List One) → Along (StandsArg text g.variables s) ls bs → list_all p ls ≡ true → list_all (arg_sees g.variables i) ls ≡ true → ItemsFacts (arg_of text ds) q ls bs
     args_facts s p q each [] [] h v w = record { value = refl; fits = refl; known = tt; seen = tt; count = refl }
     args_facts s p q each (a ∷ ls) (b ∷ bs) h v w =
@@ -166,7 +166,7 @@ module _ (text : List ℕ) (g : Game) (ds : List Declared) (looks : Looks g ds) 
     truth_item n (OneNumber k) h = absurd h
     truth_item n (OneTruth t) h = (h, refl, refl)
 
-    literals_facts : (s : Sort) (q : One → Bool) → ((n : ℤ) (b : One) → StandsLiteral s n b → (literal_of b ≡ n) × (q b ≡ true) × (one_uses b ≡ [])) →
+    literals_facts : (s : ArgKind) (q : One → Bool) → ((n : ℤ) (b : One) → StandsLiteral s n b → (literal_of b ≡ n) × (q b ≡ true) × (one_uses b ≡ [])) →
         (ns : List ℤ) (bs : List One) → Along (StandsLiteral s) ns bs → ItemsFacts literal_of q ns bs
     literals_facts s q each [] [] h = record { value = refl; fits = refl; known = tt; seen = tt; count = refl }
     literals_facts s q each (n ∷ ns) (b ∷ bs) h =
@@ -183,7 +183,7 @@ module _ (text : List ℕ) (g : Game) (ds : List Declared) (looks : Looks g ds) 
     literals_facts s q each (n ∷ ns) [] h = absurd h
 
     -- an argument
-    pub record ArgumentFacts (s : Sort) (a : ModelArgument) (b : Argument) : Type 0 where
+    pub record ArgumentFacts (s : ArgKind) (a : ModelArgument) (b : ArgumentText) : Type 0 where
       pub value : argument_of text ds s b ≡ a
       pub fits : argument_fits text ds s b ≡ true
       pub known : AllByRecursion IsKnown (argument_uses b)
@@ -195,7 +195,7 @@ module _ (text : List ℕ) (g : Game) (ds : List Declared) (looks : Looks g ds) 
     few n m most at e h = cond-true (nat_le n most) None (Some at) (ap (λ k. nat_le k most) e ∙ h)
 
     -- an argument of its sort is read as it is
-    pub argument_facts : (s : Sort) (a : ModelArgument) (b : Argument) → StandsArgument text g.variables s a b → is_of_sort g.variables s a ≡ true → argument_sees g.variables i a ≡ true → ArgumentFacts s a b
+    pub argument_facts : (s : ArgKind) (a : ModelArgument) (b : ArgumentText) → StandsArgument text g.variables s a b → is_of_sort g.variables s a ≡ true → argument_sees g.variables i a ≡ true → ArgumentFacts s a b
     argument_facts integer (ModelOne a) (OneArgument b) h v w =
         let x = integer_arg integer (λ n c l. l) a b h v w in
         let f = x.0 in
@@ -233,7 +233,7 @@ module _ (text : List ℕ) (g : Game) (ds : List Declared) (looks : Looks g ds) 
     argument_facts s a b h v w = absurd (false≢true v)
 
     -- the arguments of a constraint
-    pub record ArgumentsFacts (sorts : List Sort) (args : List ModelArgument) (bs : List Argument) : Type 0 where
+    pub record ArgumentsFacts (sorts : List ArgKind) (args : List ModelArgument) (bs : List ArgumentText) : Type 0 where
       pub value : arguments_of text ds sorts bs ≡ args
       pub fits : arguments_fit text ds sorts bs ≡ true
       pub known : AllByRecursion IsKnown (flat_map argument_uses bs)
@@ -242,7 +242,7 @@ module _ (text : List ℕ) (g : Game) (ds : List Declared) (looks : Looks g ds) 
       pub count : (k : ℕ) → items_of (slice_get bs k) ≡ item_count (slice_get args k)
 
     -- so are all of a constraint
-    pub arguments_facts : (sorts : List Sort) (args : List ModelArgument) (bs : List Argument) → StandArguments text g.variables sorts args bs → are_of_sorts g.variables sorts args ≡ true → list_all (argument_sees g.variables i) args ≡ true →
+    pub arguments_facts : (sorts : List ArgKind) (args : List ModelArgument) (bs : List ArgumentText) → StandArguments text g.variables sorts args bs → are_of_sorts g.variables sorts args ≡ true → list_all (argument_sees g.variables i) args ≡ true →
         ArgumentsFacts sorts args bs
     arguments_facts [] [] [] h v w = record { value = refl; fits = refl; known = tt; seen = tt; short = refl; count = λ k. refl }
     arguments_facts (s ∷ sorts) (a ∷ args) (b ∷ bs) h v w =

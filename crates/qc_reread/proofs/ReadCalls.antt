@@ -11,15 +11,15 @@ use Rattle.qc_model.specs.declared.problem.Arg.TheVariants.{Var, Num}
 use Rattle.qc_model.specs.declared.problem.Argument.{Argument as ModelArgument}
 use Rattle.qc_model.specs.declared.problem.Argument.TheVariants.{One as ModelOne}
 use Rattle.qc_model.specs.declared.problem.Variable.{Variable as ModelVariable}
-use Rattle.qc_model.specs.declared.signature.Sort.{Sort}
-use Rattle.qc_model.specs.declared.signature.Sort.TheVariants.{Integer as integer}
-use Rattle.qc_model.specs.Signature.{sorts_of}
+use Rattle.qc_model.specs.declared.signature.ArgKind.{ArgKind}
+use Rattle.qc_model.specs.declared.signature.ArgKind.TheVariants.{Integer as integer}
+use Rattle.qc_model.specs.Signature.{arg_kinds_of}
 use Rattle.qc_model.specs.Meaning.{meaning_of}
 use Rattle.qc_model.specs.Valid.{item_count, is_literal, is_sum, have_lengths}
 use Rattle.qc_grammar.specs.declared.tree.Word.{Word}
 use Rattle.qc_grammar.specs.declared.tree.One.TheVariants.{Name as OneName, Number as OneNumber, Truth as OneTruth}
-use Rattle.qc_grammar.specs.declared.tree.Argument.{Argument}
-use Rattle.qc_grammar.specs.declared.tree.Argument.TheVariants.{One as OneArgument}
+use Rattle.qc_grammar.specs.declared.tree.ArgumentText.{ArgumentText}
+use Rattle.qc_grammar.specs.declared.tree.ArgumentText.TheVariants.{One as OneArgument}
 use Rattle.qc_resolve.specs.Names.{first_word}
 use Rattle.qc_resolve.specs.Fits.{items_of, is_number_argument, is_sum_text, lengths_fit}
 use Rattle.qc_reread.specs.Stands.{StandsArgument, StandArguments}
@@ -30,7 +30,7 @@ wordless p [] h = refl
 wordless p (w ∷ ws) h = ap (λ o. option_map (λ (u : Word). u.start) o) (cond-false (p w) (Some w) (find p ws) h.0) ∙ wordless p ws h.1
 
 module _ (text : List ℕ) (xs : List ModelVariable) where
-  literal_one : (a : ModelArgument) (b : Argument) → StandsArgument text xs integer a b → is_literal (Some a) ≡ true → is_number_argument (Some b) ≡ true
+  literal_one : (a : ModelArgument) (b : ArgumentText) → StandsArgument text xs integer a b → is_literal (Some a) ≡ true → is_number_argument (Some b) ≡ true
   literal_one (ModelOne (Num n)) (OneArgument (OneNumber k)) h l = refl
   literal_one (ModelOne (Num n)) (OneArgument (OneName w)) h l = absurd h
   literal_one (ModelOne (Num n)) (OneArgument (OneTruth t)) h l = absurd h
@@ -39,13 +39,13 @@ module _ (text : List ℕ) (xs : List ModelVariable) where
   literal_one a b h l = absurd (false≢true l)
 
   -- a number of the problem is one of the text
-  pub literal_at : (sorts : List Sort) (args : List ModelArgument) (bs : List Argument) (k : ℕ) → StandArguments text xs sorts args bs → slice_get sorts k ≡ Some integer → is_literal (slice_get args k) ≡ true → is_number_argument (slice_get bs k) ≡ true
+  pub literal_at : (sorts : List ArgKind) (args : List ModelArgument) (bs : List ArgumentText) (k : ℕ) → StandArguments text xs sorts args bs → slice_get sorts k ≡ Some integer → is_literal (slice_get args k) ≡ true → is_number_argument (slice_get bs k) ≡ true
   literal_at [] [] [] k h e l = absurd (false≢true l)
   literal_at (s ∷ sorts) (a ∷ args) (b ∷ bs) zero h e l = literal_one a b (subst (λ z. StandsArgument text xs z a b) (same_Some s integer e) h.0) l
   literal_at (s ∷ sorts) (a ∷ args) (b ∷ bs) (suc k) h e l = literal_at sorts args bs k h.1 e l
   literal_at sorts args bs k h e l = absurd h
 
-module _ (args : List ModelArgument) (bs : List Argument) (count : (k : ℕ) → items_of (slice_get bs k) ≡ item_count (slice_get args k)) where
+module _ (args : List ModelArgument) (bs : List ArgumentText) (count : (k : ℕ) → items_of (slice_get bs k) ≡ item_count (slice_get args k)) where
   sum_fits : (is_literal (slice_get args 2) ≡ true → is_number_argument (slice_get bs 2) ≡ true) → is_sum args ≡ true → is_sum_text bs ≡ true
   sum_fits l h =
       let t = and_parts (item_count (slice_get args 0) == item_count (slice_get args 1)) (is_literal (slice_get args 2)) h in
@@ -56,7 +56,7 @@ module _ (args : List ModelArgument) (bs : List Argument) (count : (k : ℕ) →
   some_fit h = ap (λ n. nat_lt 0 n) (count 1) ∙ h
 
   -- the lengths fit
-  pub lengths_are : (p : Pred) → (slice_get (sorts_of p) 2 ≡ Some integer → is_literal (slice_get args 2) ≡ true → is_number_argument (slice_get bs 2) ≡ true) → have_lengths (meaning_of p) args ≡ true → lengths_fit (meaning_of p) bs ≡ true
+  pub lengths_are : (p : Pred) → (slice_get (arg_kinds_of p) 2 ≡ Some integer → is_literal (slice_get args 2) ≡ true → is_number_argument (slice_get bs 2) ≡ true) → have_lengths (meaning_of p) args ≡ true → lengths_fit (meaning_of p) bs ≡ true
   lengths_are IntLinEq l h = sum_fits (l refl) h
   lengths_are IntLinNe l h = sum_fits (l refl) h
   lengths_are IntLinLe l h = sum_fits (l refl) h

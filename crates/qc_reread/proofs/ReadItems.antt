@@ -18,12 +18,12 @@ use Rattle.qc_model.specs.declared.problem.Aggregate.{Aggregate as ModelAggregat
 use Rattle.qc_model.specs.declared.problem.Pred.{Pred}
 use Rattle.qc_model.specs.Content.{Game, Rule}
 use Rattle.qc_model.specs.Canonical.{target_name}
-use Rattle.qc_model.specs.Signature.{sorts_of, pred_name}
+use Rattle.qc_model.specs.Signature.{arg_kinds_of, pred_name}
 use Rattle.qc_model.specs.Meaning.{meaning_of}
 use Rattle.qc_model.specs.Valid.{are_of_sorts, have_lengths, argument_sees, is_domain, is_constraint}
 use Rattle.qc_grammar.specs.declared.tree.Word.{Word}
 use Rattle.qc_grammar.specs.declared.tree.DomainText.{DomainText}
-use Rattle.qc_grammar.specs.declared.tree.Argument.{Argument}
+use Rattle.qc_grammar.specs.declared.tree.ArgumentText.{ArgumentText}
 use Rattle.qc_grammar.specs.declared.tree.FoldText.{FoldText}
 use Rattle.qc_grammar.specs.declared.tree.FoldText.TheVariants.{Sum as SumFold, Least as LeastFold, Greatest as GreatestFold}
 use Rattle.qc_grammar.specs.declared.tree.Item.{Item}
@@ -175,14 +175,14 @@ module _ (text : List ℕ) (g : Game) (ds : List Declared) (looks : Looks g ds) 
         short = refl;
       }
 
-  constraint_read : (c : Rule) (at : ℕ) (name : Word) (args : List Argument) → word_bytes text name ≡ pred_name c.pred → StandArguments text g.variables (sorts_of c.pred) c.args args → c.owner.0 ≡ i → is_constraint g.variables c ≡ true →
+  constraint_read : (c : Rule) (at : ℕ) (name : Word) (args : List ArgumentText) → word_bytes text name ≡ pred_name c.pred → StandArguments text g.variables (arg_kinds_of c.pred) c.args args → c.owner.0 ≡ i → is_constraint g.variables c ≡ true →
       IsRead text g ds i (constraint c) (Constraint at name args)
   constraint_read c at name args e s o v =
-      let t = and_parts (are_of_sorts g.variables (sorts_of c.pred) c.args && have_lengths (meaning_of c.pred) c.args) (list_all (argument_sees g.variables c.owner.0) c.args) v in
-      let u = and_parts (are_of_sorts g.variables (sorts_of c.pred) c.args) (have_lengths (meaning_of c.pred) c.args) t.0 in
-      let f = arguments_facts text g ds looks i (sorts_of c.pred) c.args args s u.0 (subst (λ n. list_all (argument_sees g.variables n) c.args ≡ true) o t.1) in
+      let t = and_parts (are_of_sorts g.variables (arg_kinds_of c.pred) c.args && have_lengths (meaning_of c.pred) c.args) (list_all (argument_sees g.variables c.owner.0) c.args) v in
+      let u = and_parts (are_of_sorts g.variables (arg_kinds_of c.pred) c.args) (have_lengths (meaning_of c.pred) c.args) t.0 in
+      let f = arguments_facts text g ds looks i (arg_kinds_of c.pred) c.args args s u.0 (subst (λ n. list_all (argument_sees g.variables n) c.args ≡ true) o t.1) in
       let p : predicate_of (word_bytes text name) ≡ Some c.pred = ap predicate_of e ∙ predicate_found c.pred in
-      let l = lengths_are c.args args f.count c.pred (λ k. literal_at text g.variables (sorts_of c.pred) c.args args 2 s k) u.1 in
+      let l = lengths_are c.args args f.count c.pred (λ k. literal_at text g.variables (arg_kinds_of c.pred) c.args args 2 s k) u.1 in
       record {
         to_scope = refl;
         to_variable = refl;
@@ -192,7 +192,7 @@ module _ (text : List ℕ) (g : Game) (ds : List Declared) (looks : Looks g ds) 
         not_strange = ap (λ z. cond (is_none z) (Some name.start) None) p;
         fits =
             ap (λ z. cond (call_fits text ds z args) None (Some name.start)) p
-            ∙ cond-true (call_fits text ds (Some c.pred) args) None (Some name.start) (and_from (arguments_fit text ds (sorts_of c.pred) args) (lengths_fit (meaning_of c.pred) args) f.fits l);
+            ∙ cond-true (call_fits text ds (Some c.pred) args) None (Some name.start) (and_from (arguments_fit text ds (arg_kinds_of c.pred) args) (lengths_fit (meaning_of c.pred) args) f.fits l);
         full = refl;
         sees = wordless (λ w. is_later i (look_up ds (word_bytes text w))) (flat_map argument_uses args) f.seen;
         short = ap (λ z. long_call z args) p ∙ f.short;

@@ -20,10 +20,10 @@ use Rattle.qc_model.specs.declared.problem.Argument.{Argument}
 use Rattle.qc_model.specs.declared.problem.Argument.TheVariants.{One, Many, Numbers, Members}
 use Rattle.qc_model.specs.declared.problem.Condition.{Condition}
 use Rattle.qc_model.specs.declared.problem.Variable.{Variable}
-use Rattle.qc_model.specs.declared.signature.Sort.{Sort}
-use Rattle.qc_model.specs.declared.signature.Sort.TheVariants.{Integer as integer, Boolean as boolean, Integers as integers, Booleans as booleans, Numbers as numbers, Truths as truths, Members as members}
+use Rattle.qc_model.specs.declared.signature.ArgKind.{ArgKind}
+use Rattle.qc_model.specs.declared.signature.ArgKind.TheVariants.{Integer as integer, Boolean as boolean, Integers as integers, Booleans as booleans, Numbers as numbers, Truths as truths, Members as members}
 use Rattle.qc_model.specs.Content.{Game}
-use Rattle.qc_model.specs.Signature.{sorts_of, pred_name}
+use Rattle.qc_model.specs.Signature.{arg_kinds_of, pred_name}
 use Rattle.qc_model.specs.Names.{is_word, is_name}
 use Rattle.qc_model.specs.Valid.{is_number, is_fold}
 use Rattle.qc_model.specs.Canonical.{kind_text, truth_text, variable_name, target_name}
@@ -125,7 +125,7 @@ truth_goes n = by (int_eq n (pos 1))
     by false = refl
 
 -- a literal
-literal_goes : (s : Sort) (n : ℤ) → fits_literal s n ≡ true → goes false (literal_chunks s n) ≡ true
+literal_goes : (s : ArgKind) (n : ℤ) → fits_literal s n ≡ true → goes false (literal_chunks s n) ≡ true
 literal_goes boolean n h = truth_goes n
 literal_goes booleans n h = truth_goes n
 literal_goes truths n h = truth_goes n
@@ -135,19 +135,19 @@ literal_goes numbers n h = figure_goes n h
 literal_goes members n h = absurd cc
 
 -- a variable's name or a literal
-arg_goes : (xs : List Variable) (s : Sort) (a : Arg) → fits_arg xs s a ≡ true → goes false (arg_chunks xs s a) ≡ true
+arg_goes : (xs : List Variable) (s : ArgKind) (a : Arg) → fits_arg xs s a ≡ true → goes false (arg_chunks xs s a) ≡ true
 arg_goes xs s (Var x) h = let name = variable_name (slice_get xs x.0) in one_goes (is_word name) (name_is_word name h)
 arg_goes xs s (Num n) h = literal_goes s n h
 
 -- an argument
-argument_goes : (xs : List Variable) (s : Sort) (a : Argument) → fits_argument xs s a ≡ true → goes false (argument_chunks xs s a) ≡ true
+argument_goes : (xs : List Variable) (s : ArgKind) (a : Argument) → fits_argument xs s a ≡ true → goes false (argument_chunks xs s a) ≡ true
 argument_goes xs s (One a) h = arg_goes xs s a h
 argument_goes xs s (Many items) h = then_goes false (between (map (arg_chunks xs s) items)) (sign 93 ∷ []) (between_go (arg_chunks xs s) (fits_arg xs s) (arg_goes xs s) items h) refl
 argument_goes xs s (Numbers ns) h = then_goes false (between (map (literal_chunks s) ns)) (sign 93 ∷ []) (between_go (literal_chunks s) (fits_literal s) (literal_goes s) ns h) refl
 argument_goes xs s (Members m) h = set_goes m h
 
 -- the arguments of a constraint, each with a comma before it ..
-more_arguments_go : (xs : List Variable) (sorts : List Sort) (args : List Argument) → fits_arguments xs sorts args ≡ true → goes true (commas (arguments_chunks xs sorts args)) ≡ true
+more_arguments_go : (xs : List Variable) (sorts : List ArgKind) (args : List Argument) → fits_arguments xs sorts args ≡ true → goes true (commas (arguments_chunks xs sorts args)) ≡ true
 more_arguments_go xs [] args h = refl
 more_arguments_go xs (s ∷ sorts) [] h = refl
 more_arguments_go xs (s ∷ sorts) (a ∷ args) h =
@@ -155,7 +155,7 @@ more_arguments_go xs (s ∷ sorts) (a ∷ args) h =
     then_goes false (argument_chunks xs s a) (commas (arguments_chunks xs sorts args)) (argument_goes xs s a k.0) (more_arguments_go xs sorts args k.1)
 
 -- .. and with commas between them
-arguments_go : (xs : List Variable) (sorts : List Sort) (args : List Argument) → fits_arguments xs sorts args ≡ true → goes false (between (arguments_chunks xs sorts args)) ≡ true
+arguments_go : (xs : List Variable) (sorts : List ArgKind) (args : List Argument) → fits_arguments xs sorts args ≡ true → goes false (between (arguments_chunks xs sorts args)) ≡ true
 arguments_go xs [] args h = refl
 arguments_go xs (s ∷ sorts) [] h = refl
 arguments_go xs (s ∷ sorts) (a ∷ args) h =
@@ -206,10 +206,10 @@ part_line g (aggregate q) h =
     }
 part_line g (constraint c) h =
     let name = pred_name c.pred in
-    let cs = between (arguments_chunks g.variables (sorts_of c.pred) c.args) in
+    let cs = between (arguments_chunks g.variables (arg_kinds_of c.pred) c.args) in
     let ds = sign 41 ∷ line_end in
     record {
-      goes_on = and_from (is_word name) (goes false (cs ++ ds)) (name_is_word name (predicate_is_name c.pred)) (then_goes false cs ds (arguments_go g.variables (sorts_of c.pred) c.args h) refl);
+      goes_on = and_from (is_word name) (goes false (cs ++ ds)) (name_is_word name (predicate_is_name c.pred)) (then_goes false cs ds (arguments_go g.variables (arg_kinds_of c.pred) c.args h) refl);
       ends_so = ends_behind false cs ds;
     }
 part_line g goal h = record { goes_on = refl; ends_so = refl }

@@ -1,9 +1,9 @@
 -- A list that is in the order of its scopes is what its scopes hold, one after another.
 use Rattle.std.proofs.Common.{◌≡◌, ◌∙◌, sym, ap, refl, ◌+◌, ◌≤◌, ◌<◌, ◌==◌, ℕ, zero, suc, Bool, true, false, cond, List, [], ◌∷◌, ◌++◌, map, filter, arith, ltb-true, leb-true, eqb-true, ne_eqb}
-use Rattle.std.specs.Prelude.{⊤, nat_lt, nat_le}
+use Rattle.std.specs.Prelude.{⊤, nat_le}
 use Rattle.std.specs.List.{list_all, AllByRecursion}
 use Rattle.std.proofs.lemmas.Bool.{and_parts, cond-false, eqb-false}
-use Rattle.qc_model.specs.Valid.{is_in_order, is_rising}
+use Rattle.qc_model.specs.Valid.{is_in_order}
 
 module _ {X : Type 0} where
   -- what a test says of a whole list it says of each element
@@ -74,18 +74,6 @@ module _ {X : Type 0} (f : X → ℕ) where
   pub ordered : (high : ℕ) (xs : List X) → is_in_order high (map f xs) ≡ true → AreOrdered high 0 xs
   ordered high [] h = tt
   ordered high (x ∷ xs) h = order_from high 0 x xs h (omega arith)
-
-  rise_from : (high low : ℕ) (x : X) (xs : List X) → is_rising (map f (x ∷ xs)) ≡ true → AllByRecursion (λ y. f y < high) (x ∷ xs) → low ≤ f x → AreOrdered high low (x ∷ xs)
-  rise_from high low x [] h b l = (l, b.0, tt)
-  rise_from high low x (y ∷ ys) h b l =
-      let t = and_parts (nat_lt (f x) (f y)) (is_rising (map f (y ∷ ys))) h in
-      let lt = ltb-true (f x) (f y) t.0 in
-      (l, b.0, rise_from high (f x) y ys t.1 b.1 (omega arith))
-
-  -- a list that rises is in order
-  pub rising_ordered : (high : ℕ) (xs : List X) → is_rising (map f xs) ≡ true → AllByRecursion (λ y. f y < high) xs → AreOrdered high 0 xs
-  rising_ordered high [] h b = tt
-  rising_ordered high (x ∷ xs) h b = rise_from high 0 x xs h b (omega arith)
 
   -- what a scope holds is of that scope, and what held of each of the list holds of it
   pub each_kept : (P : X → Type 0) (i : ℕ) (xs : List X) → AllByRecursion P xs → AllByRecursion (λ x. (f x ≡ i) × P x) (filter (λ x. f x == i) xs)

@@ -19,9 +19,9 @@ use Rattle.qc_model.specs.declared.problem.Condition.{Condition}
 use Rattle.qc_model.specs.declared.problem.Scope.{Scope}
 use Rattle.qc_model.specs.declared.problem.Variable.{Variable}
 use Rattle.qc_model.specs.Content.{Game}
-use Rattle.qc_model.specs.declared.signature.Sort.{Sort}
-use Rattle.qc_model.specs.declared.signature.Sort.TheVariants.{Integer as integer, Boolean as boolean, Integers as integers, Booleans as booleans, Numbers as numbers, Truths as truths, Members as members}
-use Rattle.qc_model.specs.Signature.{sorts_of, pred_name}
+use Rattle.qc_model.specs.declared.signature.ArgKind.{ArgKind}
+use Rattle.qc_model.specs.declared.signature.ArgKind.TheVariants.{Integer as integer, Boolean as boolean, Integers as integers, Booleans as booleans, Numbers as numbers, Truths as truths, Members as members}
+use Rattle.qc_model.specs.Signature.{arg_kinds_of, pred_name}
 use Rattle.qc_model.specs.Canonical.{with_commas, braces, range_text, domain_text, set_text, variable_name, target_name, literal_text, arg_text, argument_text, argument_texts, variable_text, fold_text, aggregate_text, sense_text, condition_text, kind_text, scope_text, text_from}
 use Rattle.qc_reread.specs.Chunks.{Chunk, word, sign, blank, chunk_text, chunks_text}
 use Rattle.qc_reread.specs.Parts.{Part, head, variable, aggregate, constraint, goal, scope_parts, parts_from, parts_of, part_text}
@@ -79,7 +79,7 @@ sets_text (SetRange low high) = ranges_text low high
 sets_text (SetListed ns) = braces_text ns
 
 -- of a literal
-literals_text : (s : Sort) (n : ℤ) → chunks_text (literal_chunks s n) ≡ literal_text s n
+literals_text : (s : ArgKind) (n : ℤ) → chunks_text (literal_chunks s n) ≡ literal_text s n
 literals_text boolean n = append-nil (literal_text boolean n)
 literals_text booleans n = append-nil (literal_text booleans n)
 literals_text truths n = append-nil (literal_text truths n)
@@ -89,19 +89,19 @@ literals_text numbers n = append-nil (signed_decimal n)
 literals_text members n = append-nil (signed_decimal n)
 
 -- of a variable or a literal
-args_text : (xs : List Variable) (s : Sort) (a : Arg) → chunks_text (arg_chunks xs s a) ≡ arg_text (literal_text s) xs a
+args_text : (xs : List Variable) (s : ArgKind) (a : Arg) → chunks_text (arg_chunks xs s a) ≡ arg_text (literal_text s) xs a
 args_text xs s (Var x) = append-nil (variable_name (slice_get xs x.0))
 args_text xs s (Num n) = literals_text s n
 
 -- of an argument
-arguments_text : (xs : List Variable) (s : Sort) (a : Argument) → chunks_text (argument_chunks xs s a) ≡ argument_text xs s a
+arguments_text : (xs : List Variable) (s : ArgKind) (a : Argument) → chunks_text (argument_chunks xs s a) ≡ argument_text xs s a
 arguments_text xs s (One a) = args_text xs s a
 arguments_text xs s (Many items) = closed_text 91 93 (between (map (arg_chunks xs s) items)) (with_commas (map (arg_text (literal_text s) xs) items)) (all_text (arg_chunks xs s) (arg_text (literal_text s) xs) (args_text xs s) items)
 arguments_text xs s (Numbers ns) = closed_text 91 93 (between (map (literal_chunks s) ns)) (with_commas (map (literal_text s) ns)) (all_text (literal_chunks s) (literal_text s) (literals_text s) ns)
 arguments_text xs s (Members m) = sets_text m
 
 -- of the arguments of a constraint
-arguments_texts : (xs : List Variable) (sorts : List Sort) (args : List Argument) → map chunks_text (arguments_chunks xs sorts args) ≡ argument_texts xs sorts args
+arguments_texts : (xs : List Variable) (sorts : List ArgKind) (args : List Argument) → map chunks_text (arguments_chunks xs sorts args) ≡ argument_texts xs sorts args
 arguments_texts xs [] args = refl
 arguments_texts xs (s ∷ sorts) [] = refl
 arguments_texts xs (s ∷ sorts) (a ∷ args) = ap (λ t. t ∷ map chunks_text (arguments_chunks xs sorts args)) (arguments_text xs s a) ∙ ap (λ ts. argument_text xs s a ∷ ts) (arguments_texts xs sorts args)
@@ -141,9 +141,9 @@ parts_text g (aggregate q) =
     ap (λ u. codes "aggregate " ++ (q.name ++ (codes " = " ++ u))) (then_text (fold_chunks q.fold (target_name g q.target)) line_end (fold_text q.fold (target_name g q.target)) (folds_text q.fold (target_name g q.target)))
     ∙ simp append_assoc
 parts_text g (constraint c) =
-    let args = arguments_chunks g.variables (sorts_of c.pred) c.args in
-    let texts = argument_texts g.variables (sorts_of c.pred) c.args in
-    ap (λ u. codes "constraint " ++ (pred_name c.pred ++ (codes "(" ++ u))) (then_text (between args) (sign 41 ∷ line_end) (with_commas texts) (between_text args ∙ ap with_commas (arguments_texts g.variables (sorts_of c.pred) c.args)))
+    let args = arguments_chunks g.variables (arg_kinds_of c.pred) c.args in
+    let texts = argument_texts g.variables (arg_kinds_of c.pred) c.args in
+    ap (λ u. codes "constraint " ++ (pred_name c.pred ++ (codes "(" ++ u))) (then_text (between args) (sign 41 ∷ line_end) (with_commas texts) (between_text args ∙ ap with_commas (arguments_texts g.variables (arg_kinds_of c.pred) c.args)))
     ∙ simp append_assoc
 parts_text g goal = refl
 

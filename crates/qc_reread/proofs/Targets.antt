@@ -1,9 +1,9 @@
 -- What conditions and folds of a valid problem name: what is there, and seen.
-use Rattle.std.proofs.Common.{◌≡◌, ◌∙◌, ap, subst, refl, ◌+◌, ◌≤◌, ◌<◌, ◌==◌, ℕ, zero, suc, Bool, true, false, cond, List, [], ◌∷◌, map, slice_get, Option, Some, None, is_some, arith, ltb-true, lt-ltb, le-ltb, ltb-false, eqb-true, eq-eqb, ne_eqb}
-use Rattle.std.specs.Prelude.{⊤, nat_lt}
+use Rattle.std.proofs.Common.{◌≡◌, subst, refl, ◌≤◌, ◌<◌, ◌==◌, ℕ, zero, suc, Bool, true, false, cond, List, [], ◌∷◌, map, slice_get, Option, Some, None, is_some, arith, ltb-true, lt-ltb, le-ltb, ltb-false}
+use Rattle.std.specs.Prelude.{nat_lt}
 use Rattle.std.specs.List.{sum_by}
 use Rattle.std.proofs.lemmas.List.Sums.{sum_by-cons}
-use Rattle.std.proofs.lemmas.Bool.{and_parts, cond-true, cond-false}
+use Rattle.std.proofs.lemmas.Bool.{cond-true, cond-false}
 use Rattle.std.proofs.lemmas.Option.{same_Some}
 use Rattle.qc_model.specs.declared.problem.Kind.{Kind}
 use Rattle.qc_model.specs.declared.problem.Kind.TheVariants.{Exists, Forall}
@@ -15,9 +15,8 @@ use Rattle.qc_model.specs.declared.problem.Domain.TheVariants.{Bits, Range, List
 use Rattle.qc_model.specs.declared.problem.Target.{Target}
 use Rattle.qc_model.specs.declared.problem.Target.TheVariants.{Var, Aggregate as Agg}
 use Rattle.qc_model.specs.Content.{Game}
-use Rattle.qc_model.specs.Demands.{aggregate_from, aggregate_of}
-use Rattle.qc_model.specs.Sees.{IsVisibleHere, IsVisible, AtUniversal}
-use Rattle.qc_model.specs.Valid.{is_variable_with, is_integer_domain, is_target, is_rising}
+use Rattle.qc_model.specs.Sees.{stands_in, IsVisibleHere, IsVisible, AtUniversal}
+use Rattle.qc_model.specs.Valid.{is_variable_with, is_integer_domain, is_target}
 use Rattle.qc_resolve.specs.declared.names.Named.{Named}
 use Rattle.qc_resolve.specs.declared.names.Named.TheVariants.{Integer, Boolean, Aggregate}
 use Rattle.qc_resolve.specs.declared.names.Meant.{Meant}
@@ -57,66 +56,6 @@ pub record IsGoodTarget (g : Game) (i : ℕ) (t : Target) : Type 0 where
   pub seen : is_seen (next_universal (kinds g) i) (target_meant g t) ≡ true
 
 -- an aggregate that the search for the aggregate of scope j finds
-record Found (b : ℕ) (ags : List ModelAggregate) (j k : ℕ) : Type 0 where
-  place : ℕ
-  number : k ≡ b + place
-  aggregate : ModelAggregate
-  found : slice_get ags place ≡ Some aggregate
-  of_scope : aggregate.scope.0 ≡ j
-
-same_number : (b k : ℕ) → b ≡ k → k ≡ b + 0
-same_number b k e = omega arith
-
-next_number : (b k p : ℕ) → k ≡ suc b + p → k ≡ b + suc p
-next_number b k p e = omega arith
-
--- what the search finds is an aggregate of that scope
-find_aggregate : (b : ℕ) (ags : List ModelAggregate) (j k : ℕ) → aggregate_from b ags j ≡ Some k → Found b ags j k
-find_aggregate b [] j k h = absurd cc
-find_aggregate b (a ∷ ags) j k h = go (a.scope.0 == j) refl h (find_aggregate (suc b) ags j k)
-  where
-    go : (c : Bool) → (a.scope.0 == j) ≡ c → cond c (Some b) (aggregate_from (suc b) ags j) ≡ Some k → (aggregate_from (suc b) ags j ≡ Some k → Found (suc b) ags j k) → Found b (a ∷ ags) j k
-    go true e h later = record { place = zero; number = same_number b k (same_Some b k h); aggregate = a; found = refl; of_scope = eqb-true (a.scope.0) j e }
-    go false e h later = let f = later h in record { place = suc f.place; number = next_number b k f.place f.number; aggregate = f.aggregate; found = f.found; of_scope = f.of_scope }
-
--- each aggregate is of a scope above that of the one before it
-abbrev AreRising : ℕ → List ModelAggregate → Type 0
-AreRising low [] = ⊤
-AreRising low (a ∷ ags) = (low ≤ a.scope.0) × AreRising (suc a.scope.0) ags
-
-rise_from : (low : ℕ) (a : ModelAggregate) (ags : List ModelAggregate) → is_rising (map (λ q. q.scope.0) (a ∷ ags)) ≡ true → low ≤ a.scope.0 → AreRising low (a ∷ ags)
-rise_from low a [] h l = (l, tt)
-rise_from low a (b ∷ ags) h l =
-    let t = and_parts (nat_lt a.scope.0 b.scope.0) (is_rising (map (λ (q : ModelAggregate). q.scope.0) (b ∷ ags))) h in
-    let lt = ltb-true (a.scope.0) (b.scope.0) t.0 in
-    (l, rise_from (suc a.scope.0) b ags t.1 (omega (arith, lt)))
-
-rises : (ags : List ModelAggregate) → is_rising (map (λ q. q.scope.0) ags) ≡ true → AreRising 0 ags
-rises [] h = tt
-rises (a ∷ ags) h = rise_from 0 a ags h (omega arith)
-
--- no aggregate from here on is of a scope below low
-above : (low : ℕ) (ags : List ModelAggregate) (k : ℕ) (q : ModelAggregate) → AreRising low ags → slice_get ags k ≡ Some q → low ≤ q.scope.0
-above low [] k q r h = absurd cc
-above low (a ∷ ags) zero q r h = subst (λ z. low ≤ z.scope.0) (same_Some a q h) r.0
-above low (a ∷ ags) (suc k) q r h = let l = r.0 in let m = above (suc a.scope.0) ags k q r.1 h in omega (arith, l, m)
-
-first_from : (b low : ℕ) (ags : List ModelAggregate) (k : ℕ) (q : ModelAggregate) → AreRising low ags → slice_get ags k ≡ Some q → aggregate_from b ags q.scope.0 ≡ Some (b + k)
-first_from b low [] k q r h = absurd cc
-first_from b low (a ∷ ags) zero q r h =
-    let same = same_Some a q h in
-    let e : b ≡ b + 0 = omega arith in
-    cond-true (a.scope.0 == q.scope.0) (Some b) (aggregate_from (suc b) ags q.scope.0) (eq-eqb (a.scope.0) (q.scope.0) (ap (λ z. z.scope.0) same)) ∙ ap Some e
-first_from b low (a ∷ ags) (suc k) q r h =
-    let m = above (suc a.scope.0) ags k q r.1 h in
-    let e : suc b + k ≡ b + suc k = omega arith in
-    cond-false (a.scope.0 == q.scope.0) (Some b) (aggregate_from (suc b) ags q.scope.0) (ne_eqb (a.scope.0) (q.scope.0) (λ e. omega (arith, e, m)))
-    ∙ first_from (suc b) (suc a.scope.0) ags k q r.1 h ∙ ap Some e
-
--- an aggregate is the one of its scope
-pub aggregate_first : (g : Game) → is_rising (map (λ q. q.scope.0) g.aggregates) ≡ true → (k : ℕ) (q : ModelAggregate) → slice_get g.aggregates k ≡ Some q → aggregate_of g q.scope.0 ≡ Some k
-aggregate_first g r k q h = let e : 0 + k ≡ k = omega arith in first_from 0 0 g.aggregates k q (rises g.aggregates r) h ∙ ap Some e
-
 module _ (j : ℕ) where
   abbrev one_before : Variable → ℕ
   one_before y = cond (nat_lt y.scope.0 j) 1 0
@@ -155,11 +94,11 @@ module _ (g : Game) (high : ℕ) (o : AreOrdered (λ (y : Variable). y.scope.0) 
       go : (s : Option Variable) → slice_get g.variables x.0 ≡ s → is_variable_with is_integer_domain s ≡ true → nat_lt (variable_scope s) j ≡ true
       go None e h = absurd cc
       go (Some y) e h = lt-ltb (y.scope.0) j (scope_before j high 0 g.variables x.0 y o v e)
-  here j (Agg q) v h =
-      let f = find_aggregate 0 g.aggregates j q.0 v in
-      let e : f.place ≡ q.0 = (let n = f.number in omega (arith, n)) in
-      let found : slice_get g.aggregates q.0 ≡ Some f.aggregate = subst (λ p. slice_get g.aggregates p ≡ Some f.aggregate) e f.found in
-      (ap (λ s. is_some s) found, ap (λ s. aggregate_scope s == j) found ∙ eq-eqb (f.aggregate.scope.0) j f.of_scope)
+  here j (Agg q) v h = go (slice_get g.aggregates q.0) v
+    where
+      go : (o : Option ModelAggregate) → stands_in j o ≡ true → (is_some o ≡ true) × ((aggregate_scope o == j) ≡ true)
+      go None e = cc
+      go (Some a) e = (refl, e)
 
   -- what is visible is there, and seen
   pub visible_good : (later : List Scope) (j : ℕ) (t : Target) → IsVisible g later j t → is_target g.variables t ≡ true → IsThere g t × (is_seen (universal_from j (map (λ s. s.kind) later)) (target_meant g t) ≡ true)

@@ -1,7 +1,7 @@
 -- The names, numbers and arguments of a valid problem are such as its text can spell.
-use Rattle.std.proofs.Common.{◌≡◌, refl, sym, ap, ◌∙◌, subst, ◌==◌, ◌+◌, ◌≤◌, ◌<◌, ◌&&◌, ◌||◌, ℕ, zero, suc, Bool, true, false, not, cond, List, [], ◌∷◌, map, filter, length, arith, Option, Some, None, eqb-true, ne_eqb, ltb-true}
-use Rattle.std.specs.Prelude.{ℤ, int_le, nat_lt, nat_le, slice_get}
-use Rattle.std.specs.List.{list_all, AllByRecursion}
+use Rattle.std.proofs.Common.{◌≡◌, refl, sym, ap, ◌∙◌, subst, ◌+◌, ◌&&◌, ◌||◌, ℕ, zero, suc, Bool, true, not, List, [], ◌∷◌, map, length, arith, Option, Some, None}
+use Rattle.std.specs.Prelude.{ℤ, int_le, nat_le, slice_get}
+use Rattle.std.specs.List.{list_all}
 use Rattle.std.proofs.lemmas.Bool.{and_parts, and_from}
 use Rattle.std.proofs.lemmas.List.Folds.{list_all-append, list_all-map}
 use Rattle.std.proofs.lemmas.Option.{same_Some}
@@ -20,14 +20,13 @@ use Rattle.qc_model.specs.declared.problem.Argument.TheVariants.{One, Many, Numb
 use Rattle.qc_model.specs.declared.problem.Scope.{Scope}
 use Rattle.qc_model.specs.declared.problem.Variable.{Variable}
 use Rattle.qc_model.specs.declared.problem.Aggregate.{Aggregate}
-use Rattle.qc_model.specs.declared.signature.Sort.{Sort}
-use Rattle.qc_model.specs.declared.signature.Sort.TheVariants.{Integer as integer, Boolean as boolean, Integers as integers, Booleans as booleans, Numbers as numbers, Truths as truths, Members as members}
+use Rattle.qc_model.specs.declared.signature.ArgKind.{ArgKind}
+use Rattle.qc_model.specs.declared.signature.ArgKind.TheVariants.{Integer as integer, Boolean as boolean, Integers as integers, Booleans as booleans, Numbers as numbers, Truths as truths, Members as members}
 use Rattle.qc_model.specs.Content.{Game}
 use Rattle.qc_model.specs.Domains.{is_none_left, is_ascending}
-use Rattle.qc_model.specs.Demands.{aggregate_from}
-use Rattle.qc_model.specs.Sees.{IsVisibleHere, IsVisible, AtUniversal}
+use Rattle.qc_model.specs.Sees.{stands_in, IsVisibleHere, IsVisible, AtUniversal}
 use Rattle.qc_model.specs.Names.{is_name}
-use Rattle.qc_model.specs.Valid.{is_number, is_truth, width_of, domain_width, is_listed, has_gap, is_range, is_domain, is_set, is_variable_with, is_bits, is_integer_domain, is_integer, is_boolean, is_of_sort, are_of_sorts, is_target, is_rising, IsValid}
+use Rattle.qc_model.specs.Valid.{is_number, is_truth, width_of, domain_width, is_listed, has_gap, is_range, is_domain, is_set, is_variable_with, is_bits, is_integer_domain, is_integer, is_boolean, is_of_sort, are_of_sorts, is_target, IsValid}
 use Rattle.qc_model.specs.Canonical.{variable_name, aggregate_name, target_name}
 use Rattle.qc_reread.proofs.Spellable.{fits_literal, fits_arg, fits_set, fits_domain, fits_argument, fits_arguments}
 
@@ -86,17 +85,17 @@ set_fits (SetListed ns) h = listed_fits ns (and_parts (is_listed ns) (is_none_le
 -- an argument of a sort fits it
 module _ (xs : List Variable) (named : list_all (λ x. is_name x.name) xs ≡ true) where
   -- integers, as one argument or in a list ..
-  integer_fits : (s : Sort) → ((n : ℤ) → is_number n ≡ true → fits_literal s n ≡ true) → (a : Arg) → is_integer xs a ≡ true → fits_arg xs s a ≡ true
+  integer_fits : (s : ArgKind) → ((n : ℤ) → is_number n ≡ true → fits_literal s n ≡ true) → (a : Arg) → is_integer xs a ≡ true → fits_arg xs s a ≡ true
   integer_fits s c (Var x) h = variable_named xs named is_integer_domain x.0 h
   integer_fits s c (Num n) h = c n h
 
   -- .. and truth values
-  boolean_fits : (s : Sort) → ((n : ℤ) → is_truth n ≡ true → fits_literal s n ≡ true) → (a : Arg) → is_boolean xs a ≡ true → fits_arg xs s a ≡ true
+  boolean_fits : (s : ArgKind) → ((n : ℤ) → is_truth n ≡ true → fits_literal s n ≡ true) → (a : Arg) → is_boolean xs a ≡ true → fits_arg xs s a ≡ true
   boolean_fits s c (Var x) h = variable_named xs named is_bits x.0 h
   boolean_fits s c (Num n) h = c n h
 
   -- an argument of its sort fits it
-  argument_fits : (s : Sort) (a : Argument) → is_of_sort xs s a ≡ true → fits_argument xs s a ≡ true
+  argument_fits : (s : ArgKind) (a : Argument) → is_of_sort xs s a ≡ true → fits_argument xs s a ≡ true
   argument_fits integer (One a) h = integer_fits integer (λ n k. k) a h
   argument_fits boolean (One a) h = boolean_fits boolean (λ n k. k) a h
   argument_fits integers (Many items) h =
@@ -109,7 +108,7 @@ module _ (xs : List Variable) (named : list_all (λ x. is_name x.name) xs ≡ tr
   argument_fits s a h = absurd cc
 
   -- arguments of their sorts fit them
-  pub arguments_fit : (sorts : List Sort) (args : List Argument) → are_of_sorts xs sorts args ≡ true → fits_arguments xs sorts args ≡ true
+  pub arguments_fit : (sorts : List ArgKind) (args : List Argument) → are_of_sorts xs sorts args ≡ true → fits_arguments xs sorts args ≡ true
   arguments_fit [] [] h = refl
   arguments_fit [] (a ∷ args) h = absurd cc
   arguments_fit (s ∷ sorts) [] h = absurd cc
@@ -133,23 +132,16 @@ first_stands all b x xs s = let e : b ≡ b + 0 = omega arith in ap (slice_get a
 pub later_stand : {A : Type 0} (all : List A) (b : ℕ) (x : A) (xs : List A) → StandFrom all b (x ∷ xs) → StandFrom all (suc b) xs
 later_stand all b x xs s k = let e : suc b + k ≡ b + suc k = omega arith in ap (slice_get all) e ∙ s (suc k)
 
--- the aggregate of a scope is one
-is_one : (all : List Aggregate) (b : ℕ) (ags : List Aggregate) (i k : ℕ) → StandFrom all b ags → aggregate_from b ags i ≡ Some k → (q : Aggregate) × (slice_get all k ≡ Some q)
-is_one all b [] i k s h = absurd cc
-is_one all b (a ∷ ags) i k s h = by (a.scope.0 == i) h (is_one all (suc b) ags i k (later_stand all b a ags s))
-  where
-    by : (t : Bool) → cond t (Some b) (aggregate_from (suc b) ags i) ≡ Some k → (aggregate_from (suc b) ags i ≡ Some k → (q : Aggregate) × (slice_get all k ≡ Some q)) → (q : Aggregate) × (slice_get all k ≡ Some q)
-    by true e later = (a, subst (λ n. slice_get all n ≡ Some a) (same_Some b k e) (first_stands all b a ags s))
-    by false e later = later e
-
 -- a target that is seen has a name
 module _ (g : Game) (v : IsValid g) where
   -- what is visible at a universal scope has a name
   here_named : (i : ℕ) (t : Target) → IsVisibleHere g i t → is_target g.variables t ≡ true → is_name (target_name g t) ≡ true
   here_named i (VarTarget x) w h = variable_named g.variables (variable_names g v) is_integer_domain x.0 h
-  here_named i (Agg q) w h =
-      let (a, e) = is_one g.aggregates 0 g.aggregates i q.0 (all_stand g.aggregates) w in
-      ap (λ o. is_name (aggregate_name o)) e ∙ passes_at (λ q. is_name q.name) g.aggregates q.0 a (aggregate_names g v) e
+  here_named i (Agg q) w h = by (slice_get g.aggregates q.0) refl w
+    where
+      by : (o : Option Aggregate) → slice_get g.aggregates q.0 ≡ o → stands_in i o ≡ true → is_name (aggregate_name o) ≡ true
+      by None e w = cc
+      by (Some a) e w = passes_at (λ q. is_name q.name) g.aggregates q.0 a (aggregate_names g v) e
 
   -- what is visible after a scope has a name
   pub target_named : (later : List Scope) (i : ℕ) (t : Target) → IsVisible g later i t → is_target g.variables t ≡ true → is_name (target_name g t) ≡ true
@@ -160,30 +152,3 @@ module _ (g : Game) (v : IsValid g) where
       by : (k : Kind) → AtUniversal k (IsVisibleHere g i t) (IsVisible g later (suc i) t) → (IsVisible g later (suc i) t → is_name (target_name g t) ≡ true) → is_name (target_name g t) ≡ true
       by Exists u more = more u
       by Forall u more = here_named i t u h
-
--- where numbers rise, none after the first is as low as it
-none_later : (low i : ℕ) (ags : List Aggregate) → is_rising (low ∷ map (λ q. q.scope.0) ags) ≡ true → i ≤ low → filter (λ q. q.scope.0 == i) ags ≡ []
-none_later low i [] h l = refl
-none_later low i (a ∷ ags) h l =
-    let k = and_parts (nat_lt low a.scope.0) (is_rising (a.scope.0 ∷ map (λ (q : Aggregate). q.scope.0) ags)) h in
-    let above : low < a.scope.0 = ltb-true low a.scope.0 k.0 in
-    let other : (a.scope.0 == i) ≡ false = ne_eqb a.scope.0 i (λ e. omega arith) in
-    rw other (none_later a.scope.0 i ags k.1 (omega arith))
-
--- numbers rise without the first too
-rising_later : (a : Aggregate) (ags : List Aggregate) → is_rising (map (λ q. q.scope.0) (a ∷ ags)) ≡ true → is_rising (map (λ q. q.scope.0) ags) ≡ true
-rising_later a [] h = refl
-rising_later a (b ∷ ags) h = (and_parts (nat_lt a.scope.0 b.scope.0) (is_rising (map (λ (q : Aggregate). q.scope.0) (b ∷ ags))) h).1
-
--- so what holds of the aggregate that is found for a scope holds of all of that scope
-pub each_of_scope : (P : Aggregate → Type 0) (all : List Aggregate) (b i : ℕ) (ags : List Aggregate) → StandFrom all b ags → is_rising (map (λ q. q.scope.0) ags) ≡ true
-    → ((k : ℕ) (q : Aggregate) → aggregate_from b ags i ≡ Some k → slice_get all k ≡ Some q → P q) → AllByRecursion P (filter (λ q. q.scope.0 == i) ags)
-each_of_scope P all b i [] s r f = tt
-each_of_scope P all b i (a ∷ ags) s r f = by (a.scope.0 == i) refl f (each_of_scope P all (suc b) i ags (later_stand all b a ags s) (rising_later a ags r))
-  where
-    by : (t : Bool) → (a.scope.0 == i) ≡ t → ((k : ℕ) (q : Aggregate) → cond t (Some b) (aggregate_from (suc b) ags i) ≡ Some k → slice_get all k ≡ Some q → P q) → (((k : ℕ) (q : Aggregate) → aggregate_from (suc b) ags i ≡ Some k → slice_get all k ≡ Some q → P q) → AllByRecursion P (filter (λ q. q.scope.0 == i) ags)) → AllByRecursion P (cond t (a ∷ filter (λ q. q.scope.0 == i) ags) (filter (λ q. q.scope.0 == i) ags))
-    by true e f later =
-        let same = eqb-true a.scope.0 i e in
-        let none : filter (λ (q : Aggregate). q.scope.0 == i) ags ≡ [] = none_later a.scope.0 i ags r (omega arith) in
-        (f b a refl (first_stands all b a ags s), subst (AllByRecursion P) (sym none) tt)
-    by false e f later = later f

@@ -1,5 +1,5 @@
 -- The parts of a valid problem can be spelled, and aggregates stand in universal scopes.
-use Rattle.std.proofs.Common.{◌≡◌, refl, sym, ap, ◌∙◌, subst, ◌==◌, ◌&&◌, ℕ, suc, Bool, true, false, cond, List, [], ◌∷◌, ◌++◌, map, filter, Option, Some, None, eqb-true, is_none}
+use Rattle.std.proofs.Common.{◌≡◌, refl, sym, ap, ◌∙◌, ◌==◌, ◌&&◌, ℕ, suc, Bool, true, false, cond, List, [], ◌∷◌, ◌++◌, map, filter, Option, Some, None, eqb-true, is_none}
 use Rattle.std.specs.Prelude.{slice_get}
 use Rattle.std.specs.List.{list_all, AllByRecursion}
 use Rattle.std.proofs.lemmas.Bool.{and_parts, and_from}
@@ -12,17 +12,15 @@ use Rattle.qc_model.specs.declared.problem.Variable.{Variable}
 use Rattle.qc_model.specs.declared.problem.Aggregate.{Aggregate}
 use Rattle.qc_model.specs.Content.{Game, Rule}
 use Rattle.qc_model.specs.Block.{of_kind}
-use Rattle.qc_model.specs.Demands.{aggregate_of}
 use Rattle.qc_model.specs.Meaning.{meaning_of}
-use Rattle.qc_model.specs.Signature.{sorts_of}
-use Rattle.qc_model.specs.Value.{inner_target}
+use Rattle.qc_model.specs.Signature.{arg_kinds_of}
 use Rattle.qc_model.specs.Names.{is_name}
-use Rattle.qc_model.specs.Sees.{IsVisible, ScopeSees, AggregateSees, SeesRight}
+use Rattle.qc_model.specs.Sees.{IsVisible, AggregatesSee, aggregates_in, ScopeSees, SeesRight}
 use Rattle.qc_model.specs.Valid.{is_domain, are_of_sorts, have_lengths, argument_sees, is_constraint, is_target, is_condition, is_scope, is_universal, is_fold, is_aggregate_of, IsValid}
 use Rattle.qc_model.specs.Canonical.{target_name}
 use Rattle.qc_reread.specs.Parts.{head, variable, aggregate, constraint, constraint_parts, scope_parts, parts_from, parts_of}
 use Rattle.qc_reread.proofs.Spellable.{fits_domain, fits_head, fits_part}
-use Rattle.qc_reread.proofs.ValidItems.{all_change, variable_names, aggregate_names, domain_fits, arguments_fit, StandFrom, all_stand, first_stands, later_stand, target_named, each_of_scope}
+use Rattle.qc_reread.proofs.ValidItems.{all_change, variable_names, aggregate_names, domain_fits, arguments_fit, StandFrom, all_stand, first_stands, later_stand, target_named}
 
 -- two tests that all pass
 all_both : {A : Type 0} (p q : A → Bool) (xs : List A) → list_all p xs ≡ true → list_all q xs ≡ true → list_all (λ x. p x && q x) xs ≡ true
@@ -90,9 +88,9 @@ module _ (g : Game) (v : IsValid g) where
   -- a valid constraint fits
   constraint_fits : (c : Rule) → is_constraint g.variables c ≡ true → fits_part g (constraint c) ≡ true
   constraint_fits c h =
-      let a = and_parts (are_of_sorts g.variables (sorts_of c.pred) c.args && have_lengths (meaning_of c.pred) c.args) (list_all (argument_sees g.variables c.owner.0) c.args) h in
-      let b = and_parts (are_of_sorts g.variables (sorts_of c.pred) c.args) (have_lengths (meaning_of c.pred) c.args) a.0 in
-      arguments_fit g.variables (variable_names g v) (sorts_of c.pred) c.args b.0
+      let a = and_parts (are_of_sorts g.variables (arg_kinds_of c.pred) c.args && have_lengths (meaning_of c.pred) c.args) (list_all (argument_sees g.variables c.owner.0) c.args) h in
+      let b = and_parts (are_of_sorts g.variables (arg_kinds_of c.pred) c.args) (have_lengths (meaning_of c.pred) c.args) a.0 in
+      arguments_fit g.variables (variable_names g v) (arg_kinds_of c.pred) c.args b.0
 
   -- so the constraints of scope i, or of the goal, fit
   constraints_fit : (i : ℕ) → list_all (fits_part g) (constraint_parts g i) ≡ true
@@ -101,7 +99,7 @@ module _ (g : Game) (v : IsValid g) where
       (all_kept (is_constraint g.variables) (λ c. c.owner.0 == i) (λ c. fits_part g (constraint c)) (λ c h t. constraint_fits c h) g.constraints v.constraints)
 
   -- the aggregates of a scope, with the scopes after it
-  module _ (s : Scope) (later : List Scope) (i : ℕ) (at : slice_get g.scopes i ≡ Some s) (sees : ScopeSees s.kind g later (suc i) s.condition (aggregate_of g i)) where
+  module _ (s : Scope) (later : List Scope) (i : ℕ) (at : slice_get g.scopes i ≡ Some s) (sees : ScopeSees s.kind g later (suc i) s.condition (aggregates_in g i)) where
     aggregate_fits : (q : Aggregate) → IsVisible g later (suc i) q.target → (is_name q.name && is_aggregate_of g q) ≡ true → fits_part g (aggregate q) ≡ true
     aggregate_fits q w h =
         let k = and_parts (is_name q.name) (is_aggregate_of g q) h in
@@ -115,22 +113,21 @@ module _ (g : Game) (v : IsValid g) where
         all_kept (λ (q : Aggregate). is_name q.name && is_aggregate_of g q) (λ q. q.scope.0 == i) (λ q. is_name q.name && is_aggregate_of g q) (λ q h t. h) g.aggregates
         (all_both (λ (q : Aggregate). is_name q.name) (is_aggregate_of g) g.aggregates (aggregate_names g v) v.aggregates)
 
-    visible_here : AggregateSees g later (suc i) (aggregate_of g i) → AllByRecursion (λ q. IsVisible g later (suc i) q.target) (of_scope g i)
-    visible_here w =
-        each_of_scope (λ q. IsVisible g later (suc i) q.target) g.aggregates 0 i g.aggregates (all_stand g.aggregates) v.aggregate_order
-        (λ k q e f. subst (λ o. IsVisible g later (suc i) (inner_target o)) f (subst (AggregateSees g later (suc i)) e w))
+    visible_here : (qs : List Aggregate) → AggregatesSee g later (suc i) qs → AllByRecursion (λ q. IsVisible g later (suc i) q.target) qs
+    visible_here [] w = tt
+    visible_here (q ∷ qs) w = (w.0, visible_here qs w.1)
 
     aggregates_fit : list_all (fits_part g) (map aggregate (of_scope g i)) ≡ true
     aggregates_fit = all_mapped (fits_part g) aggregate (of_scope g i) (by s.kind sees (universal_here i s at))
       where
-        by : (k : Kind) → ScopeSees k g later (suc i) s.condition (aggregate_of g i) → list_all (λ (q : Aggregate). of_kind k false true) (of_scope g i) ≡ true → list_all (λ q. fits_part g (aggregate q)) (of_scope g i) ≡ true
+        by : (k : Kind) → ScopeSees k g later (suc i) s.condition (aggregates_in g i) → list_all (λ (q : Aggregate). of_kind k false true) (of_scope g i) ≡ true → list_all (λ q. fits_part g (aggregate q)) (of_scope g i) ≡ true
         by Exists w u = all_change (λ (q : Aggregate). false) (λ q. fits_part g (aggregate q)) (λ q h. absurd cc) (of_scope g i) u
-        by Forall w u = all_with (λ q. IsVisible g later (suc i) q.target) (λ q. is_name q.name && is_aggregate_of g q) (λ q. fits_part g (aggregate q)) aggregate_fits (of_scope g i) (visible_here w) good_here
+        by Forall w u = all_with (λ q. IsVisible g later (suc i) q.target) (λ q. is_name q.name && is_aggregate_of g q) (λ q. fits_part g (aggregate q)) aggregate_fits (of_scope g i) (visible_here (of_scope g i) w) good_here
 
     head_fits : is_scope g.variables s ≡ true → fits_part g (head s) ≡ true
     head_fits h = by s.kind s.condition sees h
       where
-        by : (k : Kind) (c : Option Condition) → ScopeSees k g later (suc i) c (aggregate_of g i) → of_kind k (is_condition g.variables c) (is_none c) ≡ true → fits_head g k c ≡ true
+        by : (k : Kind) (c : Option Condition) → ScopeSees k g later (suc i) c (aggregates_in g i) → of_kind k (is_condition g.variables c) (is_none c) ≡ true → fits_head g k c ≡ true
         by Exists None w h = refl
         by Exists (Some c) w h = target_named g v later (suc i) c.target w h
         by Forall None w h = refl

@@ -4,11 +4,11 @@ use Rattle.qc_model.specs.Content.{Game}
 use Rattle.qc_model.specs.Valid.{IsValid}
 use Rattle.qc_tokens.specs.declared.token.Token.{Token}
 use Rattle.qc_grammar.specs.declared.tree.Item.{Item}
-use Rattle.qc_resolve.specs.declared.refusal.ItemFault.{ItemFault}
-use Rattle.qc_resolve.specs.declared.refusal.ItemFault.TheVariants.{OutOfRange}
+use Rattle.qc_resolve.specs.declared.refusal.RefusalKind.{RefusalKind}
+use Rattle.qc_resolve.specs.declared.refusal.RefusalKind.TheVariants.{OutOfRange}
 use Rattle.qc_resolve.specs.Numbers.{first_far}
 use Rattle.qc_resolve.specs.Draft.{game_of}
-use Rattle.qc_resolve.specs.Faults.{fault_at, first_fault}
+use Rattle.qc_resolve.specs.TextRefusals.{refusal_at, first_refusal}
 use Rattle.qc_reread.specs.Parts.{parts_of}
 use Rattle.qc_reread.specs.Stands.{AllStand}
 
@@ -20,10 +20,10 @@ SameGame = (text : List ℕ) (g : Game) (items : List Item) → IsValid g → Al
 abbrev pub NotRefused : Type 0
 NotRefused =
     (text : List ℕ) (g : Game) (items : List Item) (ts : List Token) → IsValid g → AllStand text g (parts_of g) items →
-    (kind : ItemFault) → kind ≢ OutOfRange → fault_at kind text ts items ≡ None
+    (kind : RefusalKind) → kind ≢ OutOfRange → refusal_at kind text ts items ≡ None
 
 -- so with tokens that have no number out of range they have no fault
-abbrev pub NoFault : Type 0
-NoFault =
+abbrev pub NoRefusal : Type 0
+NoRefusal =
     (text : List ℕ) (g : Game) (items : List Item) (ts : List Token) → IsValid g → AllStand text g (parts_of g) items →
-    first_far ts ≡ None → first_fault text ts items ≡ None
+    first_far ts ≡ None → first_refusal text ts items ≡ None

@@ -15,9 +15,9 @@ use Rattle.qc_model.specs.declared.problem.Argument.TheVariants.{One, Many, Numb
 use Rattle.qc_model.specs.declared.problem.Condition.{Condition}
 use Rattle.qc_model.specs.declared.problem.Variable.{Variable}
 use Rattle.qc_model.specs.Content.{Game}
-use Rattle.qc_model.specs.declared.signature.Sort.{Sort}
-use Rattle.qc_model.specs.declared.signature.Sort.TheVariants.{Integer as integer, Boolean as boolean, Integers as integers, Booleans as booleans, Numbers as numbers, Truths as truths, Members as members}
-use Rattle.qc_model.specs.Signature.{sorts_of, pred_name}
+use Rattle.qc_model.specs.declared.signature.ArgKind.{ArgKind}
+use Rattle.qc_model.specs.declared.signature.ArgKind.TheVariants.{Integer as integer, Boolean as boolean, Integers as integers, Booleans as booleans, Numbers as numbers, Truths as truths, Members as members}
+use Rattle.qc_model.specs.Signature.{arg_kinds_of, pred_name}
 use Rattle.qc_model.specs.Canonical.{kind_text, truth_text, variable_name, target_name}
 use Rattle.qc_reread.specs.Chunks.{Chunk, word, figure, sign, dots, blank}
 use Rattle.qc_reread.specs.Parts.{Part, head, variable, aggregate, constraint, goal, parts_of}
@@ -58,7 +58,7 @@ set_chunks (SetRange low high) = range_chunks low high
 set_chunks (SetListed ns) = braces_chunks ns
 
 -- a truth value or a number, as the sort asks
-abbrev pub literal_chunks : Sort → ℤ → List Chunk
+abbrev pub literal_chunks : ArgKind → ℤ → List Chunk
 literal_chunks boolean n = word (truth_text n) ∷ []
 literal_chunks booleans n = word (truth_text n) ∷ []
 literal_chunks truths n = word (truth_text n) ∷ []
@@ -68,18 +68,18 @@ literal_chunks numbers n = figure n ∷ []
 literal_chunks members n = figure n ∷ []
 
 -- a variable's name, or the number or truth value
-abbrev pub arg_chunks : List Variable → Sort → Arg → List Chunk
+abbrev pub arg_chunks : List Variable → ArgKind → Arg → List Chunk
 arg_chunks xs s (Var x) = word (variable_name (slice_get xs x.0)) ∷ []
 arg_chunks xs s (Num n) = literal_chunks s n
 
 -- an argument of a sort, and the arguments of some sorts
-abbrev pub argument_chunks : List Variable → Sort → Argument → List Chunk
+abbrev pub argument_chunks : List Variable → ArgKind → Argument → List Chunk
 argument_chunks xs s (One a) = arg_chunks xs s a
 argument_chunks xs s (Many items) = brackets_chunks (map (arg_chunks xs s) items)
 argument_chunks xs s (Numbers ns) = brackets_chunks (map (literal_chunks s) ns)
 argument_chunks xs s (Members m) = set_chunks m
 
-abbrev pub arguments_chunks : List Variable → List Sort → List Argument → List (List Chunk)
+abbrev pub arguments_chunks : List Variable → List ArgKind → List Argument → List (List Chunk)
 arguments_chunks xs [] args = []
 arguments_chunks xs (s ∷ sorts) [] = []
 arguments_chunks xs (s ∷ sorts) (a ∷ args) = argument_chunks xs s a ∷ arguments_chunks xs sorts args
@@ -115,7 +115,7 @@ part_chunks g (aggregate q) =
     ++ line_end
 part_chunks g (constraint c) =
     word (codes "constraint") ∷ blank 32 ∷ word (pred_name c.pred) ∷ sign 40
-    ∷ between (arguments_chunks g.variables (sorts_of c.pred) c.args) ++ sign 41 ∷ line_end
+    ∷ between (arguments_chunks g.variables (arg_kinds_of c.pred) c.args) ++ sign 41 ∷ line_end
 part_chunks g goal = word (codes "goal") ∷ line_end
 
 -- the parts of a problem, and its end

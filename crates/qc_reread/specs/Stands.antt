@@ -15,9 +15,9 @@ use Rattle.qc_model.specs.declared.problem.Argument.TheVariants.{One as ModelOne
 use Rattle.qc_model.specs.declared.problem.Condition.{Condition}
 use Rattle.qc_model.specs.declared.problem.Variable.{Variable as ModelVariable}
 use Rattle.qc_model.specs.Content.{Game}
-use Rattle.qc_model.specs.declared.signature.Sort.{Sort}
-use Rattle.qc_model.specs.declared.signature.Sort.TheVariants.{Integer as integer, Boolean as boolean, Integers as integers, Booleans as booleans, Numbers as numbers, Truths as truths}
-use Rattle.qc_model.specs.Signature.{sorts_of, pred_name}
+use Rattle.qc_model.specs.declared.signature.ArgKind.{ArgKind}
+use Rattle.qc_model.specs.declared.signature.ArgKind.TheVariants.{Integer as integer, Boolean as boolean, Integers as integers, Booleans as booleans, Numbers as numbers, Truths as truths}
+use Rattle.qc_model.specs.Signature.{arg_kinds_of, pred_name}
 use Rattle.qc_model.specs.Canonical.{variable_name, target_name}
 use Rattle.qc_grammar.specs.declared.tree.One.{One}
 use Rattle.qc_grammar.specs.declared.tree.One.TheVariants.{Name as OneName, Number as OneNumber, Truth as OneTruth}
@@ -25,8 +25,8 @@ use Rattle.qc_grammar.specs.declared.tree.Members.{Members}
 use Rattle.qc_grammar.specs.declared.tree.Members.TheVariants.{Range, Braces}
 use Rattle.qc_grammar.specs.declared.tree.DomainText.{DomainText}
 use Rattle.qc_grammar.specs.declared.tree.DomainText.TheVariants.{Bits as BitsDomain, Members as MembersDomain}
-use Rattle.qc_grammar.specs.declared.tree.Argument.{Argument}
-use Rattle.qc_grammar.specs.declared.tree.Argument.TheVariants.{One as OneArgument, Members as MembersArgument, Array}
+use Rattle.qc_grammar.specs.declared.tree.ArgumentText.{ArgumentText}
+use Rattle.qc_grammar.specs.declared.tree.ArgumentText.TheVariants.{One as OneArgument, Members as MembersArgument, Array}
 use Rattle.qc_grammar.specs.declared.tree.ConditionText.{ConditionText}
 use Rattle.qc_grammar.specs.declared.tree.FoldText.{FoldText}
 use Rattle.qc_grammar.specs.declared.tree.FoldText.TheVariants.{Sum as SumFold, Least as LeastFold, Greatest as GreatestFold}
@@ -45,7 +45,7 @@ Along R (x ∷ xs) [] = ⊥
 Along R (x ∷ xs) (y ∷ ys) = R x y × Along R xs ys
 
 -- a literal is a truth value or a number, as its sort asks
-abbrev pub StandsLiteral : Sort → ℤ → One → Type 0
+abbrev pub StandsLiteral : ArgKind → ℤ → One → Type 0
 StandsLiteral boolean n (OneTruth b) = truth_number b ≡ n
 StandsLiteral booleans n (OneTruth b) = truth_number b ≡ n
 StandsLiteral truths n (OneTruth b) = truth_number b ≡ n
@@ -54,7 +54,7 @@ StandsLiteral integers n (OneNumber k) = k.value ≡ n
 StandsLiteral numbers n (OneNumber k) = k.value ≡ n
 StandsLiteral s n a = ⊥
 
-abbrev pub StandsArg : List ℕ → List ModelVariable → Sort → Arg → One → Type 0
+abbrev pub StandsArg : List ℕ → List ModelVariable → ArgKind → Arg → One → Type 0
 StandsArg text xs s (Var x) (OneName w) = word_bytes text w ≡ variable_name (slice_get xs x.0)
 StandsArg text xs s (Var x) (OneNumber n) = ⊥
 StandsArg text xs s (Var x) (OneTruth b) = ⊥
@@ -66,14 +66,14 @@ StandsSet (RangeSet low high) (Braces at ns) = ⊥
 StandsSet (ListedSet ms) (Range a b) = ⊥
 StandsSet (ListedSet ms) (Braces at ns) = number_values ns ≡ ms
 
-abbrev pub StandsArgument : List ℕ → List ModelVariable → Sort → ModelArgument → Argument → Type 0
+abbrev pub StandsArgument : List ℕ → List ModelVariable → ArgKind → ModelArgument → ArgumentText → Type 0
 StandsArgument text xs s (ModelOne a) (OneArgument b) = StandsArg text xs s a b
 StandsArgument text xs s (Many items) (Array at ones) = Along (StandsArg text xs s) items ones
 StandsArgument text xs s (Numbers ns) (Array at ones) = Along (StandsLiteral s) ns ones
 StandsArgument text xs s (ModelMembers m) (MembersArgument n) = StandsSet m n
 StandsArgument text xs s a b = ⊥
 
-abbrev pub StandArguments : List ℕ → List ModelVariable → List Sort → List ModelArgument → List Argument → Type 0
+abbrev pub StandArguments : List ℕ → List ModelVariable → List ArgKind → List ModelArgument → List ArgumentText → Type 0
 StandArguments text xs [] [] [] = ⊤
 StandArguments text xs (s ∷ sorts) (a ∷ args) (b ∷ bs) = StandsArgument text xs s a b × StandArguments text xs sorts args bs
 StandArguments text xs sorts args bs = ⊥
@@ -107,7 +107,7 @@ Stands text g (variable x) (Variable at domain name) = (word_bytes text name ≡
 Stands text g (aggregate q) (AggregateItem at name fold target) =
     (word_bytes text name ≡ q.name) × StandsFold q.fold fold × (word_bytes text target ≡ target_name g q.target)
 Stands text g (constraint c) (Constraint at name args) =
-    (word_bytes text name ≡ pred_name c.pred) × StandArguments text g.variables (sorts_of c.pred) c.args args
+    (word_bytes text name ≡ pred_name c.pred) × StandArguments text g.variables (arg_kinds_of c.pred) c.args args
 Stands text g goal GoalItem = ⊤
 Stands text g part item = ⊥
 

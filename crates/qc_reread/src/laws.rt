@@ -2,7 +2,7 @@
 
 ghost use Rattle.qc_reread.specs.Again.{IsReadAgain};
 ghost use Rattle.qc_reread.specs.Cut.{ChunksAreCut};
-ghost use Rattle.qc_reread.specs.GameLaws.{SameGame, NotRefused, NoFault};
+ghost use Rattle.qc_reread.specs.GameLaws.{SameGame, NotRefused, NoRefusal};
 
 /// The canonical text of a problem is read as that problem, and so as no other and without a refusal.
 pub fn printed_text_is_read_again()
@@ -25,5 +25,5 @@ pub fn items_make_the_problem()
 /// scope sees what it names. Whether a number is out of range is for the tokens to tell.
 pub fn items_are_not_refused()
     ensures each { NotRefused }
-    ensures first { NoFault }
+    ensures first { NoRefusal }
 {}

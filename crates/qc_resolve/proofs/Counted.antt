@@ -1,6 +1,6 @@
 -- How much the items of a text have, where nothing is in excess.
-use Rattle.std.proofs.Common.{◌≡◌, refl, sym, subst, ◌<◌, ◌≤◌, ◌+◌, ℕ, suc, Bool, true, false, cond, List, [], ◌∷◌, find, Option, None, Some, arith}
-use Rattle.std.specs.Prelude.{nat_lt, ◌==◌}
+use Rattle.std.proofs.Common.{◌≡◌, refl, sym, ap, subst, length, filter_map, ◌<◌, ◌≤◌, ◌+◌, ℕ, suc, Bool, true, false, cond, List, [], ◌∷◌, find, Option, None, Some, arith}
+use Rattle.std.specs.Prelude.{nat_lt}
 use Rattle.std.specs.Option.{option_map}
 use Rattle.std.specs.Str.{bytes_eq}
 use Rattle.std.proofs.lemmas.Bool.Decides.{nat_tests}
@@ -14,7 +14,7 @@ use Rattle.qc_resolve.specs.declared.names.Meant.{Meant}
 use Rattle.qc_resolve.specs.Owned.{owned_from}
 use Rattle.qc_resolve.specs.Names.{Declared, declared, declared_from, declared_as, variable_named, look_up}
 use Rattle.qc_resolve.specs.Excess.{first_excess, or_else, past}
-use Rattle.qc_resolve.specs.Hidden.{first_second}
+use Rattle.qc_resolve.specs.Draft.{scope_of, game_of}
 use Rattle.qc_resolve.specs.Makeable.{IsMakeable}
 
 -- how many scopes, variables and aggregates there are
@@ -56,67 +56,44 @@ not_past most n at e = go (nat_lt n most) refl e
     go true h k = grind (arith, nat_tests)
     go false h k = absurd cc
 
-few_scopes : (text : List ℕ) (s v c : ℕ) (items : List Item) → s ≤ 64 → first_excess text s v c items ≡ None → s + scope_count items ≤ 64
-few_scopes text s v c [] le e = omega arith
-few_scopes text s v c (ExistsItem at condition ∷ is) le e =
-    let t = neither (past 64 s at) (first_excess text (suc s) v c is) e in
-    let lt = not_past 64 s at t.0 in
-    let h : suc s + scope_count is ≤ 64 = few_scopes text (suc s) v c is (omega arith) t.1 in
+few_scopes : (text : List ℕ) (s v q c : ℕ) (items : List Item) → s ≤ 64 → first_excess text s v q c items ≡ None → s + scope_count items ≤ 64
+few_scopes text s v q c [] le e = omega arith
+few_scopes text s v q c (ExistsItem at condition ∷ is) le e =
+    let lt = not_past 64 s at (neither (past 64 s at) _ e).0 in
+    let h : suc s + scope_count is ≤ 64 = few_scopes text (suc s) v q c is (omega arith) (neither (past 64 s at) _ e).1 in
     omega arith
-few_scopes text s v c (ForallItem at ∷ is) le e =
-    let t = neither (past 64 s at) (first_excess text (suc s) v c is) e in
-    let lt = not_past 64 s at t.0 in
-    let h : suc s + scope_count is ≤ 64 = few_scopes text (suc s) v c is (omega arith) t.1 in
+few_scopes text s v q c (ForallItem at ∷ is) le e =
+    let lt = not_past 64 s at (neither (past 64 s at) _ e).0 in
+    let h : suc s + scope_count is ≤ 64 = few_scopes text (suc s) v q c is (omega arith) (neither (past 64 s at) _ e).1 in
     omega arith
-few_scopes text s v c (GoalItem ∷ is) le e = few_scopes text s v c is le e
-few_scopes text s v c (Variable at domain name ∷ is) le e =
-    few_scopes text s (suc v) c is le (neither _ (first_excess text s (suc v) c is) (neither (past 500 v at) _ e).1).1
-few_scopes text s v c (AggregateItem at name fold target ∷ is) le e = few_scopes text s v c is le e
-few_scopes text s v c (Constraint at name args ∷ is) le e =
-    few_scopes text s v (suc c) is le (neither _ (first_excess text s v (suc c) is) (neither (past 20000 c at) _ e).1).1
+few_scopes text s v q c (GoalItem ∷ is) le e = few_scopes text s v q c is le e
+few_scopes text s v q c (Variable at domain name ∷ is) le e = few_scopes text s (suc v) q c is le (neither _ (first_excess text s (suc v) q c is) (neither (past 500 v at) _ e).1).1
+few_scopes text s v q c (AggregateItem at name fold target ∷ is) le e = few_scopes text s v (suc q) c is le (neither (past 255 q at) _ e).1
+few_scopes text s v q c (Constraint at name args ∷ is) le e = few_scopes text s v q (suc c) is le (neither _ (first_excess text s v q (suc c) is) (neither (past 20000 c at) _ e).1).1
 
-few_variables : (text : List ℕ) (s v c : ℕ) (items : List Item) → v ≤ 500 → first_excess text s v c items ≡ None → v + variable_count items ≤ 500
-few_variables text s v c [] le e = omega arith
-few_variables text s v c (ExistsItem at condition ∷ is) le e = few_variables text (suc s) v c is le (neither (past 64 s at) (first_excess text (suc s) v c is) e).1
-few_variables text s v c (ForallItem at ∷ is) le e = few_variables text (suc s) v c is le (neither (past 64 s at) (first_excess text (suc s) v c is) e).1
-few_variables text s v c (GoalItem ∷ is) le e = few_variables text s v c is le e
-few_variables text s v c (Variable at domain name ∷ is) le e =
-    let t = neither (past 500 v at) _ e in
-    let lt = not_past 500 v at t.0 in
-    let h : suc v + variable_count is ≤ 500 = few_variables text s (suc v) c is (omega arith) (neither _ (first_excess text s (suc v) c is) t.1).1 in
+few_variables : (text : List ℕ) (s v q c : ℕ) (items : List Item) → v ≤ 500 → first_excess text s v q c items ≡ None → v + variable_count items ≤ 500
+few_variables text s v q c [] le e = omega arith
+few_variables text s v q c (ExistsItem at condition ∷ is) le e = few_variables text (suc s) v q c is le (neither (past 64 s at) _ e).1
+few_variables text s v q c (ForallItem at ∷ is) le e = few_variables text (suc s) v q c is le (neither (past 64 s at) _ e).1
+few_variables text s v q c (GoalItem ∷ is) le e = few_variables text s v q c is le e
+few_variables text s v q c (Variable at domain name ∷ is) le e =
+    let lt = not_past 500 v at (neither (past 500 v at) _ e).0 in
+    let h : suc v + variable_count is ≤ 500 = few_variables text s (suc v) q c is (omega arith) (neither _ (first_excess text s (suc v) q c is) (neither (past 500 v at) _ e).1).1 in
     omega arith
-few_variables text s v c (AggregateItem at name fold target ∷ is) le e = few_variables text s v c is le e
-few_variables text s v c (Constraint at name args ∷ is) le e =
-    few_variables text s v (suc c) is le (neither _ (first_excess text s v (suc c) is) (neither (past 20000 c at) _ e).1).1
+few_variables text s v q c (AggregateItem at name fold target ∷ is) le e = few_variables text s v (suc q) c is le (neither (past 255 q at) _ e).1
+few_variables text s v q c (Constraint at name args ∷ is) le e = few_variables text s v q (suc c) is le (neither _ (first_excess text s v q (suc c) is) (neither (past 20000 c at) _ e).1).1
 
--- after an aggregate of scope last, each aggregate is of a later scope
-few_after : (last n owner : ℕ) (items : List Item) → last ≤ owner → owner ≤ n → first_second (Some last) (owned_from n owner items) ≡ None → last + aggregate_count items ≤ n + scope_count items
-few_after last n owner [] le within e = omega arith
-few_after last n owner (ExistsItem at condition ∷ is) le within e =
-    let h : last + aggregate_count is ≤ suc n + scope_count is = few_after last (suc n) n is (omega arith) (omega arith) e in omega arith
-few_after last n owner (ForallItem at ∷ is) le within e =
-    let h : last + aggregate_count is ≤ suc n + scope_count is = few_after last (suc n) n is (omega arith) (omega arith) e in omega arith
-few_after last n owner (GoalItem ∷ is) le within e = few_after last n n is (omega arith) (omega arith) e
-few_after last n owner (Variable at domain name ∷ is) le within e = few_after last n owner is le within e
-few_after last n owner (AggregateItem at name fold target ∷ is) le within e = go (owner == last) refl e (few_after owner n owner is (omega arith) within)
-  where
-    go : (b : Bool) → (owner == last) ≡ b → cond b (Some at) (first_second (Some owner) (owned_from n owner is)) ≡ None →
-        (first_second (Some owner) (owned_from n owner is) ≡ None → owner + aggregate_count is ≤ n + scope_count is) → last + suc (aggregate_count is) ≤ n + scope_count is
-    go true h k next = absurd cc
-    go false h k next = let m : owner + aggregate_count is ≤ n + scope_count is = next k in let apart : last < owner = grind (arith, nat_tests) in omega arith
-few_after last n owner (Constraint at name args ∷ is) le within e = few_after last n owner is le within e
-
-few_aggregates : (n owner : ℕ) (items : List Item) → owner ≤ n → first_second None (owned_from n owner items) ≡ None → aggregate_count items ≤ n + scope_count items + 1
-few_aggregates n owner [] within e = omega arith
-few_aggregates n owner (ExistsItem at condition ∷ is) within e =
-    let h : aggregate_count is ≤ suc n + scope_count is + 1 = few_aggregates (suc n) n is (omega arith) e in omega arith
-few_aggregates n owner (ForallItem at ∷ is) within e =
-    let h : aggregate_count is ≤ suc n + scope_count is + 1 = few_aggregates (suc n) n is (omega arith) e in omega arith
-few_aggregates n owner (GoalItem ∷ is) within e = few_aggregates n n is (omega arith) e
-few_aggregates n owner (Variable at domain name ∷ is) within e = few_aggregates n owner is within e
-few_aggregates n owner (AggregateItem at name fold target ∷ is) within e =
-    let h : owner + aggregate_count is ≤ n + scope_count is = few_after owner n owner is (omega arith) within e in omega arith
-few_aggregates n owner (Constraint at name args ∷ is) within e = few_aggregates n owner is within e
+few_aggregates : (text : List ℕ) (s v q c : ℕ) (items : List Item) → q ≤ 255 → first_excess text s v q c items ≡ None → q + aggregate_count items ≤ 255
+few_aggregates text s v q c [] le e = omega arith
+few_aggregates text s v q c (ExistsItem at condition ∷ is) le e = few_aggregates text (suc s) v q c is le (neither (past 64 s at) _ e).1
+few_aggregates text s v q c (ForallItem at ∷ is) le e = few_aggregates text (suc s) v q c is le (neither (past 64 s at) _ e).1
+few_aggregates text s v q c (GoalItem ∷ is) le e = few_aggregates text s v q c is le e
+few_aggregates text s v q c (Variable at domain name ∷ is) le e = few_aggregates text s (suc v) q c is le (neither _ (first_excess text s (suc v) q c is) (neither (past 500 v at) _ e).1).1
+few_aggregates text s v q c (AggregateItem at name fold target ∷ is) le e =
+    let lt = not_past 255 q at (neither (past 255 q at) _ e).0 in
+    let h : suc q + aggregate_count is ≤ 255 = few_aggregates text s v (suc q) c is (omega arith) (neither (past 255 q at) _ e).1 in
+    omega arith
+few_aggregates text s v q c (Constraint at name args ∷ is) le e = few_aggregates text s v q (suc c) is le (neither _ (first_excess text s v q (suc c) is) (neither (past 20000 c at) _ e).1).1
 
 -- a variable's number is below v, an aggregate's below q
 abbrev pub IsBelow : ℕ → ℕ → Named → Type 0
@@ -153,20 +130,31 @@ found_below text name v q xs qs n owner (AggregateItem at w fold target ∷ is) 
 found_below text name v q xs qs n owner (Constraint at w args ∷ is) m lv lq e = found_below text name v q xs qs n owner is m lv lq e
 
 -- the numbers that names stand for fit their identifiers
-pub meant_below : (text : List ℕ) (items : List Item) → IsMakeable text items → (name : List ℕ) (m : Meant) → Some m ≡ look_up (declared text items) name → IsBelow 500 66 m.named
+pub meant_below : (text : List ℕ) (items : List Item) → IsMakeable text items → (name : List ℕ) (m : Meant) → Some m ≡ look_up (declared text items) name → IsBelow 500 255 m.named
 meant_below text items h name m e =
-    let few : 0 + scope_count items ≤ 64 = few_scopes text 0 0 0 items (omega arith) h.limits in
-    let aggregates : aggregate_count items ≤ 0 + scope_count items + 1 = few_aggregates 0 0 items (omega arith) h.aggregates in
-    found_below text name 500 66 0 0 0 0 items m (few_variables text 0 0 0 items (omega arith) h.limits) (omega arith) (sym e)
+    found_below text name 500 255 0 0 0 0 items m (few_variables text 0 0 0 0 items (omega arith) h.limits) (few_aggregates text 0 0 0 0 items (omega arith) h.limits) (sym e)
 
 pub integer_below : (text : List ℕ) (items : List Item) → IsMakeable text items → (name : List ℕ) (m : Meant) (k : ℕ) → Some m ≡ look_up (declared text items) name → m.named ≡ Integer k → k < 500
-integer_below text items h name m k e is = subst (IsBelow 500 66) is (meant_below text items h name m e)
+integer_below text items h name m k e is = subst (IsBelow 500 255) is (meant_below text items h name m e)
 
 pub boolean_below : (text : List ℕ) (items : List Item) → IsMakeable text items → (name : List ℕ) (m : Meant) (k : ℕ) → Some m ≡ look_up (declared text items) name → m.named ≡ Boolean k → k < 500
-boolean_below text items h name m k e is = subst (IsBelow 500 66) is (meant_below text items h name m e)
+boolean_below text items h name m k e is = subst (IsBelow 500 255) is (meant_below text items h name m e)
 
-pub aggregate_below : (text : List ℕ) (items : List Item) → IsMakeable text items → (name : List ℕ) (m : Meant) (k : ℕ) → Some m ≡ look_up (declared text items) name → m.named ≡ Aggregate k → k < 66
-aggregate_below text items h name m k e is = subst (IsBelow 500 66) is (meant_below text items h name m e)
+pub aggregate_below : (text : List ℕ) (items : List Item) → IsMakeable text items → (name : List ℕ) (m : Meant) (k : ℕ) → Some m ≡ look_up (declared text items) name → m.named ≡ Aggregate k → k < 255
+aggregate_below text items h name m k e is = subst (IsBelow 500 255) is (meant_below text items h name m e)
 
 pub scopes_few : (text : List ℕ) (items : List Item) → IsMakeable text items → 0 + scope_count items ≤ 64
-scopes_few text items h = few_scopes text 0 0 0 items (omega arith) h.limits
+scopes_few text items h = few_scopes text 0 0 0 0 items (omega arith) h.limits
+
+-- each head makes a scope
+made_scopes : (text : List ℕ) (ds : List Declared) (n owner : ℕ) (items : List Item) → length (filter_map (scope_of text ds) (owned_from n owner items)) ≡ scope_count items
+made_scopes text ds n owner [] = refl
+made_scopes text ds n owner (ExistsItem at condition ∷ is) = ap suc (made_scopes text ds (suc n) n is)
+made_scopes text ds n owner (ForallItem at ∷ is) = ap suc (made_scopes text ds (suc n) n is)
+made_scopes text ds n owner (GoalItem ∷ is) = made_scopes text ds n n is
+made_scopes text ds n owner (Variable at domain name ∷ is) = made_scopes text ds n owner is
+made_scopes text ds n owner (AggregateItem at name fold target ∷ is) = made_scopes text ds n owner is
+made_scopes text ds n owner (Constraint at name args ∷ is) = made_scopes text ds n owner is
+
+pub made_few : (text : List ℕ) (items : List Item) → IsMakeable text items → length (game_of text items).scopes ≤ 64
+made_few text items h = let few = scopes_few text items h in let made = made_scopes text (declared text items) 0 0 items in omega (arith, few, made)

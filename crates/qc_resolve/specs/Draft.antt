@@ -22,9 +22,9 @@ use Rattle.qc_model.specs.declared.problem.Pred.{Pred}
 use Rattle.qc_model.specs.Content.{Game, Rule}
 use Rattle.qc_model.specs.Domains.{least_value, greatest_value}
 use Rattle.qc_model.specs.Valid.{has_gap}
-use Rattle.qc_model.specs.declared.signature.Sort.{Sort}
-use Rattle.qc_model.specs.declared.signature.Sort.TheVariants.{Numbers as numbers, Truths as truths}
-use Rattle.qc_model.specs.Signature.{sorts_of}
+use Rattle.qc_model.specs.declared.signature.ArgKind.{ArgKind}
+use Rattle.qc_model.specs.declared.signature.ArgKind.TheVariants.{Numbers as numbers, Truths as truths}
+use Rattle.qc_model.specs.Signature.{arg_kinds_of}
 use Rattle.qc_grammar.specs.declared.tree.Word.{Word}
 use Rattle.qc_grammar.specs.declared.tree.One.{One}
 use Rattle.qc_grammar.specs.declared.tree.One.TheVariants.{Name as OneName, Number as OneNumber, Truth as OneTruth}
@@ -32,8 +32,8 @@ use Rattle.qc_grammar.specs.declared.tree.Members.{Members}
 use Rattle.qc_grammar.specs.declared.tree.Members.TheVariants.{Range, Braces}
 use Rattle.qc_grammar.specs.declared.tree.DomainText.{DomainText}
 use Rattle.qc_grammar.specs.declared.tree.DomainText.TheVariants.{Bits as BitsDomain, Members as MembersDomain}
-use Rattle.qc_grammar.specs.declared.tree.Argument.{Argument}
-use Rattle.qc_grammar.specs.declared.tree.Argument.TheVariants.{One as OneArgument, Members as MembersArgument, Array}
+use Rattle.qc_grammar.specs.declared.tree.ArgumentText.{ArgumentText}
+use Rattle.qc_grammar.specs.declared.tree.ArgumentText.TheVariants.{One as OneArgument, Members as MembersArgument, Array}
 use Rattle.qc_grammar.specs.declared.tree.ConditionText.{ConditionText}
 use Rattle.qc_grammar.specs.declared.tree.FoldText.{FoldText}
 use Rattle.qc_grammar.specs.declared.tree.FoldText.TheVariants.{Sum as SumFold, Least as LeastFold, Greatest as GreatestFold}
@@ -99,17 +99,17 @@ literal_of (OneNumber n) = n.value
 literal_of (OneTruth b) = truth_number b
 
 -- an array of a sort that may hold variables, or of numbers alone
-abbrev pub array_of : List ℕ → List Declared → Sort → List One → ModelArgument
+abbrev pub array_of : List ℕ → List Declared → ArgKind → List One → ModelArgument
 array_of text ds numbers items = Numbers (map literal_of items)
 array_of text ds truths items = Numbers (map literal_of items)
 array_of text ds _ items = Many (map (arg_of text ds) items)
 
-abbrev pub argument_of : List ℕ → List Declared → Sort → Argument → ModelArgument
+abbrev pub argument_of : List ℕ → List Declared → ArgKind → ArgumentText → ModelArgument
 argument_of text ds s (OneArgument a) = ModelOne (arg_of text ds a)
 argument_of text ds s (MembersArgument m) = ModelMembers (set_of m)
 argument_of text ds s (Array at items) = array_of text ds s items
 
-abbrev pub arguments_of : List ℕ → List Declared → List Sort → List Argument → List ModelArgument
+abbrev pub arguments_of : List ℕ → List Declared → List ArgKind → List ArgumentText → List ModelArgument
 arguments_of text ds [] args = []
 arguments_of text ds (s ∷ sorts) [] = []
 arguments_of text ds (s ∷ sorts) (a ∷ args) = argument_of text ds s a ∷ arguments_of text ds sorts args
@@ -165,9 +165,9 @@ aggregate_of text ds o = elim o.item [
   | Constraint at name args ↦ None
 ]
 
-abbrev pub rule_of : List ℕ → List Declared → ℕ → Option Pred → List Argument → Option Rule
+abbrev pub rule_of : List ℕ → List Declared → ℕ → Option Pred → List ArgumentText → Option Rule
 rule_of text ds owner None args = None
-rule_of text ds owner (Some p) args = Some (record { owner = record { 0 = owner }; pred = p; args = arguments_of text ds (sorts_of p) args })
+rule_of text ds owner (Some p) args = Some (record { owner = record { 0 = owner }; pred = p; args = arguments_of text ds (arg_kinds_of p) args })
 
 abbrev pub constraint_of : List ℕ → List Declared → Owned → Option Rule
 constraint_of text ds o = elim o.item [

@@ -4,15 +4,15 @@ use Rattle.std.specs.List.{list_all}
 use Rattle.std.specs.Str.{bytes_eq}
 use Rattle.qc_model.specs.declared.problem.Pred.{Pred}
 use Rattle.qc_model.specs.declared.problem.Pred.TheVariants.{IntEq, IntNe, IntLe, IntLt, IntLinEq, IntLinNe, IntLinLe, IntPlus, IntTimes, IntAbs, IntMin, IntMax, IntDiv, IntMod, BoolEq, Bool2int, BoolNot, BoolLe, BoolLt, ArrayIntElement, ArrayBoolElement, ArrayVarIntElement, ArrayVarBoolElement, ArrayIntMinimum, ArrayIntMaximum, SetIn, BoolAnd, BoolOr, BoolXor, ArrayBoolAnd, ArrayBoolOr, ArrayBoolXor, BoolClause, AllDifferentInt, TableInt, IntEqReif, IntNeReif, IntLeReif, IntLtReif, IntLinEqReif, IntLinNeReif, IntLinLeReif, SetInReif, BoolEqReif, BoolLeReif, BoolLtReif, BoolClauseReif}
-use Rattle.qc_model.specs.declared.signature.Sort.{Sort}
-use Rattle.qc_model.specs.declared.signature.Sort.TheVariants.{Integer as integer, Boolean as boolean, Integers as integers, Booleans as booleans, Numbers as numbers, Truths as truths, Members as members}
-use Rattle.qc_model.specs.Signature.{sorts_of, pred_name}
+use Rattle.qc_model.specs.declared.signature.ArgKind.{ArgKind}
+use Rattle.qc_model.specs.declared.signature.ArgKind.TheVariants.{Integer as integer, Boolean as boolean, Integers as integers, Booleans as booleans, Numbers as numbers, Truths as truths, Members as members}
+use Rattle.qc_model.specs.Signature.{arg_kinds_of, pred_name}
 use Rattle.qc_model.specs.Meaning.{Meaning, sum_equal, sum_different, sum_at_most, minimum, maximum, table, reified, meaning_of}
 use Rattle.qc_grammar.specs.declared.tree.Word.{Word}
 use Rattle.qc_grammar.specs.declared.tree.One.{One}
 use Rattle.qc_grammar.specs.declared.tree.One.TheVariants.{Name as OneName, Number as OneNumber, Truth as OneTruth}
-use Rattle.qc_grammar.specs.declared.tree.Argument.{Argument}
-use Rattle.qc_grammar.specs.declared.tree.Argument.TheVariants.{One as OneArgument, Members as MembersArgument, Array}
+use Rattle.qc_grammar.specs.declared.tree.ArgumentText.{ArgumentText}
+use Rattle.qc_grammar.specs.declared.tree.ArgumentText.TheVariants.{One as OneArgument, Members as MembersArgument, Array}
 use Rattle.qc_grammar.specs.declared.tree.ConditionText.{ConditionText}
 use Rattle.qc_grammar.specs.declared.tree.Item.{Item}
 use Rattle.qc_grammar.specs.declared.tree.Item.TheVariants.{Exists as ExistsItem, Forall as ForallItem, Goal as GoalItem, Variable, Aggregate as AggregateItem, Constraint}
@@ -82,7 +82,7 @@ is_truth_one (OneNumber n) = false
 is_truth_one (OneTruth b) = true
 
 -- an argument of this sort
-abbrev pub argument_fits : List ℕ → List Declared → Sort → Argument → Bool
+abbrev pub argument_fits : List ℕ → List Declared → ArgKind → ArgumentText → Bool
 argument_fits text ds integer (OneArgument a) = is_integer_one text ds a
 argument_fits text ds boolean (OneArgument a) = is_boolean_one text ds a
 argument_fits text ds integers (Array at items) = list_all (is_integer_one text ds) items
@@ -93,29 +93,29 @@ argument_fits text ds members (MembersArgument m) = true
 argument_fits text ds _ _ = false
 
 -- as many arguments as sorts, each of its own
-abbrev pub arguments_fit : List ℕ → List Declared → List Sort → List Argument → Bool
+abbrev pub arguments_fit : List ℕ → List Declared → List ArgKind → List ArgumentText → Bool
 arguments_fit text ds [] [] = true
 arguments_fit text ds [] (a ∷ args) = false
 arguments_fit text ds (s ∷ sorts) [] = false
 arguments_fit text ds (s ∷ sorts) (a ∷ args) = argument_fits text ds s a && arguments_fit text ds sorts args
 
 -- how many items the argument at a place has
-abbrev pub items_of : Option Argument → ℕ
+abbrev pub items_of : Option ArgumentText → ℕ
 items_of None = 0
 items_of (Some (OneArgument a)) = 1
 items_of (Some (MembersArgument m)) = 0
 items_of (Some (Array at items)) = length items
 
-abbrev pub is_number_argument : Option Argument → Bool
+abbrev pub is_number_argument : Option ArgumentText → Bool
 is_number_argument (Some (OneArgument (OneNumber n))) = true
 is_number_argument _ = false
 
 -- as many coefficients as items, and a number
-abbrev pub is_sum_text : List Argument → Bool
+abbrev pub is_sum_text : List ArgumentText → Bool
 is_sum_text args = items_of (slice_get args 0) == items_of (slice_get args 1) && is_number_argument (slice_get args 2)
 
 -- the lengths that the meaning asks for
-abbrev pub lengths_fit : Meaning → List Argument → Bool
+abbrev pub lengths_fit : Meaning → List ArgumentText → Bool
 lengths_fit sum_equal args = is_sum_text args
 lengths_fit sum_different args = is_sum_text args
 lengths_fit sum_at_most args = is_sum_text args
@@ -126,9 +126,9 @@ lengths_fit table args =
 lengths_fit (reified m) args = lengths_fit m args
 lengths_fit _ args = true
 
-abbrev pub call_fits : List ℕ → List Declared → Option Pred → List Argument → Bool
+abbrev pub call_fits : List ℕ → List Declared → Option Pred → List ArgumentText → Bool
 call_fits text ds None args = false
-call_fits text ds (Some p) args = arguments_fit text ds (sorts_of p) args && lengths_fit (meaning_of p) args
+call_fits text ds (Some p) args = arguments_fit text ds (arg_kinds_of p) args && lengths_fit (meaning_of p) args
 
 -- the place of a target that is a Boolean variable
 abbrev pub wrong_target : List ℕ → List Declared → Word → Option ℕ

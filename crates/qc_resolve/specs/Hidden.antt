@@ -66,19 +66,3 @@ hidden_in text ds kinds o = elim o.item [
 
 abbrev pub first_hidden : List ℕ → List Declared → List Kind → List Owned → Option ℕ
 first_hidden text ds kinds os = first_place (hidden_in text ds kinds) os
-
-abbrev pub is_scope_of : ℕ → Option ℕ → Bool
-is_scope_of i None = false
-is_scope_of i (Some j) = i == j
-
--- the place of the first aggregate whose scope has one before it; last is the scope of the last aggregate before these items
-abbrev pub first_second : Option ℕ → List Owned → Option ℕ
-first_second last [] = None
-first_second last (o ∷ os) = elim o.item [
-  | ExistsItem at condition ↦ first_second last os
-  | ForallItem at ↦ first_second last os
-  | GoalItem ↦ first_second last os
-  | Variable at domain name ↦ first_second last os
-  | AggregateItem at name fold target ↦ cond (is_scope_of o.owner last) (Some at) (first_second (Some o.owner) os)
-  | Constraint at name args ↦ first_second last os
-]

@@ -7,6 +7,8 @@ pub mod Numbers
 pub mod Excess
 pub mod Hidden
 pub mod Draft
-pub mod Faults
+pub mod Bottlenecks
+pub mod TextRefusals
 pub mod Makeable
 pub mod Refusals
+pub mod Rules

@@ -4,10 +4,9 @@ use Rattle.std.specs.List.{list_all}
 use Rattle.qc_model.specs.Names.{is_word}
 use Rattle.qc_grammar.specs.declared.tree.Item.{Item}
 use Rattle.qc_grammar.specs.declared.tree.Item.TheVariants.{Exists as ExistsItem, Forall as ForallItem, Goal as GoalItem, Variable, Aggregate as AggregateItem, Constraint}
-use Rattle.qc_resolve.specs.Owned.{owned, word_bytes}
+use Rattle.qc_resolve.specs.Owned.{word_bytes}
 use Rattle.qc_resolve.specs.Names.{declared}
 use Rattle.qc_resolve.specs.Excess.{first_excess}
-use Rattle.qc_resolve.specs.Hidden.{first_second}
 
 -- the name that an item declares is a word
 abbrev pub declares_word : List ℕ → Item → Bool
@@ -19,8 +18,7 @@ declares_word text GoalItem = true
 declares_word text (Constraint at name args) = true
 
 pub record IsMakeable (text : List ℕ) (items : List Item) : Type 0 where
-  -- nothing is in excess, and no scope has two aggregates, so each number fits its identifier
-  pub limits : first_excess text 0 0 0 items ≡ None
-  pub aggregates : first_second None (owned items) ≡ None
+  -- nothing is in excess, so each number fits its identifier
+  pub limits : first_excess text 0 0 0 0 items ≡ None
   -- each name is a word, which is text
   pub names : IsTrue (list_all (λ d. is_word d.name) (declared text items))

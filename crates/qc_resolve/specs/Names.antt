@@ -8,8 +8,8 @@ use Rattle.qc_grammar.specs.declared.tree.One.{One}
 use Rattle.qc_grammar.specs.declared.tree.One.TheVariants.{Name as OneName, Number as OneNumber, Truth as OneTruth}
 use Rattle.qc_grammar.specs.declared.tree.DomainText.{DomainText}
 use Rattle.qc_grammar.specs.declared.tree.DomainText.TheVariants.{Bits as BitsDomain, Members as MembersDomain}
-use Rattle.qc_grammar.specs.declared.tree.Argument.{Argument}
-use Rattle.qc_grammar.specs.declared.tree.Argument.TheVariants.{One as OneArgument, Members as MembersArgument, Array}
+use Rattle.qc_grammar.specs.declared.tree.ArgumentText.{ArgumentText}
+use Rattle.qc_grammar.specs.declared.tree.ArgumentText.TheVariants.{One as OneArgument, Members as MembersArgument, Array}
 use Rattle.qc_grammar.specs.declared.tree.ConditionText.{ConditionText}
 use Rattle.qc_grammar.specs.declared.tree.Item.{Item}
 use Rattle.qc_grammar.specs.declared.tree.Item.TheVariants.{Exists as ExistsItem, Forall as ForallItem, Goal as GoalItem, Variable, Aggregate as AggregateItem, Constraint}
@@ -61,7 +61,7 @@ one_uses (OneName w) = w ∷ []
 one_uses (OneNumber n) = []
 one_uses (OneTruth b) = []
 
-abbrev pub argument_uses : Argument → List Word
+abbrev pub argument_uses : ArgumentText → List Word
 argument_uses (OneArgument a) = one_uses a
 argument_uses (MembersArgument m) = []
 argument_uses (Array at items) = flat_map one_uses items

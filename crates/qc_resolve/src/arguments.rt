@@ -7,8 +7,8 @@ ghost use Rattle.qc_resolve.specs.Makeable.{IsMakeable};
 
 use crate::domains::set_of;
 use crate::names::{Named, Names};
-use qc_grammar::{Argument as ArgumentText, One, Word};
-use qc_model::{Arg, Args, Argument, Numbers, Sort, VarId};
+use qc_grammar::{ArgumentText, One, Word};
+use qc_model::{Arg, ArgKind, Args, Argument, Numbers, VarId};
 use std::alloc::{AllocError, Global};
 
 /// The variable of this name; no aggregate fits an argument.
@@ -70,22 +70,29 @@ fn args_of(alloc: Global, names: &Names, ones: &[One]) -> Result<Args, AllocErro
     Ok(args)
 }
 
-fn array_of(alloc: Global, names: &Names, sort: Sort, ones: &[One]) -> Result<Argument, AllocError>
+fn array_of(
+    alloc: Global,
+    names: &Names,
+    sort: ArgKind,
+    ones: &[One],
+) -> Result<Argument, AllocError>
     requires { IsMakeable names.now.text.now names.now.items.now }
     ensures { IfOk result (λ argument. argument ≡ array_of_ones names.now.text.now (declared names.now.text.now names.now.items.now) sort ones.now) }
 {
     match sort {
-        Sort::Numbers | Sort::Truths => Ok(Argument::Numbers(literals_of(alloc, ones)?)),
-        Sort::Integer | Sort::Boolean | Sort::Integers | Sort::Booleans | Sort::Members => {
-            Ok(Argument::Many(args_of(alloc, names, ones)?))
-        }
+        ArgKind::Numbers | ArgKind::Truths => Ok(Argument::Numbers(literals_of(alloc, ones)?)),
+        ArgKind::Integer
+        | ArgKind::Boolean
+        | ArgKind::Integers
+        | ArgKind::Booleans
+        | ArgKind::Members => { Ok(Argument::Many(args_of(alloc, names, ones)?)) }
     }
 }
 
 fn argument_of(
     alloc: Global,
     names: &Names,
-    sort: Sort,
+    sort: ArgKind,
     argument: &ArgumentText,
 ) -> Result<Argument, AllocError>
     requires { IsMakeable names.now.text.now names.now.items.now }
@@ -102,7 +109,7 @@ fn argument_of(
 pub(crate) fn arguments_of(
     alloc: Global,
     names: &Names,
-    sorts: &[Sort],
+    sorts: &[ArgKind],
     arguments: &[ArgumentText],
 ) -> Result<Vec<Argument>, AllocError>
     requires { IsMakeable names.now.text.now names.now.items.now }

@@ -1,5 +1,5 @@
 //! The problem that the items of a text make.
-ghost use Rattle.std.specs.Prelude.{◌≡◌, ◌≤◌, IfOk, IsTrue, filter_map};
+ghost use Rattle.std.specs.Prelude.{◌≡◌, ◌≤◌, length, IfOk, IsTrue, filter_map};
 ghost use Rattle.qc_model.specs.Names.{is_word};
 ghost use Rattle.qc_resolve.specs.Owned.{owned, word_bytes};
 ghost use Rattle.qc_resolve.specs.Names.{declared};
@@ -15,7 +15,7 @@ use crate::predicates::predicate_of;
 use qc_grammar::{ConditionText, FoldText, Item, Word};
 use qc_model::{
     AggId, Aggregate, Condition, Constraint, Draft, Fold, Kind, Name, Scope, ScopeId, Target,
-    VarId, Variable, sorts_of,
+    VarId, Variable, arg_kinds_of,
 };
 use std::alloc::{AllocError, Global};
 use std::str;
@@ -160,7 +160,7 @@ fn constraint_of(
         Some(pred) => Ok(Some(Constraint {
             owner: ScopeId(owner as u8),
             pred,
-            args: arguments_of(alloc, names, sorts_of(pred), args.items())?,
+            args: arguments_of(alloc, names, arg_kinds_of(pred), args.items())?,
         })),
         None => Ok(None),
     }
@@ -226,11 +226,11 @@ fn constraints_of(alloc: Global, names: &Names) -> Result<Vec<Constraint>, Alloc
     Ok(constraints)
 }
 
-/// The problem that the items make, where nothing in them is in excess and no scope has two
-/// aggregates.
+/// The problem that the items make, where nothing in them is in excess.
 pub(crate) fn make_draft(alloc: Global, names: &Names) -> Result<Draft, AllocError>
     requires { IsMakeable names.now.text.now names.now.items.now }
-    ensures { IfOk result (λ draft. draft ≡ game_of names.now.text.now names.now.items.now) }
+    ensures made { IfOk result (λ draft. draft ≡ game_of names.now.text.now names.now.items.now) }
+    ensures few { IfOk result (λ draft. length draft.scopes ≤ 64) }
 {
     Ok(Draft {
         scopes: scopes_of(alloc, names)?,

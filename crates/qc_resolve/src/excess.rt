@@ -1,11 +1,11 @@
 //! Where a text has more of something than a problem may have.
 ghost use Rattle.std.specs.Prelude.{◌≡◌};
-ghost use Rattle.qc_resolve.specs.Excess.{long_braces as long_braces_of, long_domain as long_domain_of, most_items as most_items_of, long_argument as long_argument_of, first_long as first_long_of, long_call as long_call_of, first_excess as first_excess_of};
+ghost use Rattle.qc_resolve.specs.Excess.{long_braces as long_braces_of, long_domain as long_domain_of, long_argument as long_argument_of, first_long as first_long_of, long_call as long_call_of, first_excess as first_excess_of};
 
 use crate::bytes::bytes_of;
 use crate::predicates::predicate_of;
-use qc_grammar::{Argument, DomainText, Item, Members};
-use qc_model::{Pred, Sort, limits, sorts_of};
+use qc_grammar::{ArgumentText, DomainText, Item, Members};
+use qc_model::{ArgKind, Pred, arg_kinds_of, limits, most_items};
 
 /// The place of braces with more than 100,000 items, as they are written.
 fn long_braces(members: &Members) -> Option<u32>
@@ -32,25 +32,13 @@ fn long_domain(domain: &DomainText) -> Option<u32>
     }
 }
 
-/// How many items an array of this sort may have.
-fn most_items(sort: Sort) -> usize
-    ensures { result ≡ most_items_of sort }
-{
-    match sort {
-        Sort::Integers | Sort::Booleans => limits::ITEMS,
-        Sort::Integer | Sort::Boolean | Sort::Numbers | Sort::Truths | Sort::Members => {
-            limits::NUMBERS
-        }
-    }
-}
-
-fn long_argument(sort: Sort, argument: &Argument) -> Option<u32>
+fn long_argument(sort: ArgKind, argument: &ArgumentText) -> Option<u32>
     ensures { result ≡ long_argument_of sort argument.now }
 {
     match argument {
-        Argument::One(_) => None,
-        Argument::Members(members) => long_braces(members),
-        Argument::Array { at, items } => {
+        ArgumentText::One(_) => None,
+        ArgumentText::Members(members) => long_braces(members),
+        ArgumentText::Array { at, items } => {
             if items.items().len() <= most_items(sort) {
                 None
             } else {
@@ -60,7 +48,7 @@ fn long_argument(sort: Sort, argument: &Argument) -> Option<u32>
     }
 }
 
-fn first_long(sorts: &[Sort], args: &[Argument]) -> Option<u32>
+fn first_long(sorts: &[ArgKind], args: &[ArgumentText]) -> Option<u32>
     ensures { result ≡ first_long_of sorts.now args.now }
 {
     let (Some((sort, sorts)), Some((argument, args))) = (sorts.split_first(), args.split_first())
@@ -74,22 +62,23 @@ fn first_long(sorts: &[Sort], args: &[Argument]) -> Option<u32>
 }
 
 /// The place of the first array or braces of a constraint with too many items.
-fn long_call(pred: Option<Pred>, args: &[Argument]) -> Option<u32>
+fn long_call(pred: Option<Pred>, args: &[ArgumentText]) -> Option<u32>
     ensures { result ≡ long_call_of pred args.now }
 {
     match pred {
-        Some(pred) => first_long(sorts_of(pred), args),
+        Some(pred) => first_long(arg_kinds_of(pred), args),
         None => None,
     }
 }
 
-/// The place of the first scope, variable or constraint after as many as there may be, or of the first
+/// The place of the first scope, variable, aggregate or constraint after as many as there may be, or of the first
 /// array or braces with too many items, whichever comes first.
 pub(crate) fn first_excess(text: &[u8], items: &[Item]) -> Option<u32>
-    ensures { result ≡ first_excess_of text.now 0 0 0 items.now }
+    ensures { result ≡ first_excess_of text.now 0 0 0 0 items.now }
 {
     let mut scopes = 0;
     let mut variables = 0;
+    let mut aggregates = 0;
     let mut constraints = 0;
     for item in items {
         match item {
@@ -117,7 +106,13 @@ pub(crate) fn first_excess(text: &[u8], items: &[Item]) -> Option<u32>
                 }
                 constraints += 1;
             }
-            Item::Goal | Item::Aggregate { .. } => {}
+            Item::Aggregate { at, .. } => {
+                if aggregates >= limits::AGGREGATES {
+                    return Some(*at);
+                }
+                aggregates += 1;
+            }
+            Item::Goal => {}
         }
     }
     None

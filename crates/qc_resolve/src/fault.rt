@@ -7,7 +7,7 @@ use thiserror::Error;
 
 /// Why there are no names of a text.
 #[derive(Clone, Copy, Debug, PartialEq, Eq, Error)]
-pub enum NamesFault {
+pub(crate) enum NamesFault {
     /// The name at this place was declared before.
     #[error("name declared twice at {at}")]
     Repeated { at: u32 },

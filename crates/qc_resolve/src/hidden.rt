@@ -1,12 +1,13 @@
 //! Names that a condition, a fold or a constraint doesn't see from where it stands.
-ghost use Rattle.std.specs.Prelude.{◌≡◌, ◌+◌, ◌<◌, ◌^◌, [], ◌∷◌, IfOk, flat_map};
+ghost use Rattle.std.specs.Prelude.{◌≡◌, ◌+◌, ◌<◌, ◌^◌, IfOk};
 ghost use Rattle.qc_resolve.specs.Owned.{owned, kind_of as kind_of_item, kinds_of as kinds_of_items};
-ghost use Rattle.qc_resolve.specs.Names.{argument_uses, declared, first_word, one_uses};
-ghost use Rattle.qc_resolve.specs.Hidden.{next_universal as next_universal_of, is_seen as is_seen_of, hidden_target as hidden_target_of, hidden_condition as hidden_condition_of, is_later_word, hidden_in as hidden_in_item, first_hidden as first_hidden_of};
+ghost use Rattle.qc_resolve.specs.Names.{declared};
+ghost use Rattle.qc_resolve.specs.Hidden.{next_universal as next_universal_of, is_seen as is_seen_of, hidden_target as hidden_target_of, hidden_condition as hidden_condition_of, hidden_in as hidden_in_item, first_hidden as first_hidden_of};
 
 use crate::counts::Counts;
 use crate::names::{Meant, Named, Names};
-use qc_grammar::{Argument, ConditionText, Item, One, Word};
+use crate::walk::{Rule, broken_in_arguments};
+use qc_grammar::{ConditionText, Item, Word};
 use qc_model::Kind;
 use std::alloc::{AllocError, Global};
 
@@ -91,64 +92,6 @@ fn hidden_condition(
     }
 }
 
-/// The place of a name that a later scope declares.
-fn later_word(names: &Names, scope: usize, word: Word) -> Option<u32>
-    ensures { result ≡ first_word (is_later_word names.now.text.now (declared names.now.text.now names.now.items.now) scope) (word ∷ []) }
-{
-    match names.look_up(word) {
-        Some(meant) => {
-            if scope < meant.scope {
-                Some(word.start)
-            } else {
-                None
-            }
-        }
-        None => None,
-    }
-}
-
-fn later_in_one(names: &Names, scope: usize, one: &One) -> Option<u32>
-    ensures { result ≡ first_word (is_later_word names.now.text.now (declared names.now.text.now names.now.items.now) scope) (one_uses one.now) }
-{
-    match one {
-        One::Name(word) => later_word(names, scope, *word),
-        One::Number(_) => None,
-        One::Truth(_) => None,
-    }
-}
-
-fn later_in_ones(names: &Names, scope: usize, ones: &[One]) -> Option<u32>
-    ensures { result ≡ first_word (is_later_word names.now.text.now (declared names.now.text.now names.now.items.now) scope) (flat_map one_uses ones.now) }
-{
-    for one in ones {
-        if let Some(at) = later_in_one(names, scope, one) {
-            return Some(at);
-        }
-    }
-    None
-}
-
-fn later_in_argument(names: &Names, scope: usize, argument: &Argument) -> Option<u32>
-    ensures { result ≡ first_word (is_later_word names.now.text.now (declared names.now.text.now names.now.items.now) scope) (argument_uses argument.now) }
-{
-    match argument {
-        Argument::One(one) => later_in_one(names, scope, one),
-        Argument::Members(_) => None,
-        Argument::Array { items, .. } => later_in_ones(names, scope, items.items()),
-    }
-}
-
-fn later_in_arguments(names: &Names, scope: usize, arguments: &[Argument]) -> Option<u32>
-    ensures { result ≡ first_word (is_later_word names.now.text.now (declared names.now.text.now names.now.items.now) scope) (flat_map argument_uses arguments.now) }
-{
-    for argument in arguments {
-        if let Some(at) = later_in_argument(names, scope, argument) {
-            return Some(at);
-        }
-    }
-    None
-}
-
 /// The place of the first name of an item that it doesn't see.
 fn hidden_in(names: &Names, kinds: &[Kind], scope: usize, item: &Item) -> Option<u32>
     requires { scope + 1 < 2 ^ 64 }
@@ -157,7 +100,11 @@ fn hidden_in(names: &Names, kinds: &[Kind], scope: usize, item: &Item) -> Option
     match item {
         Item::Exists { condition, .. } => hidden_condition(names, kinds, scope, condition),
         Item::Aggregate { target, .. } => hidden_target(names, kinds, scope, *target),
-        Item::Constraint { args, .. } => later_in_arguments(names, scope, args.items()),
+        Item::Constraint { args, .. } => broken_in_arguments(
+            names,
+            Rule::Visible { scope },
+            args.items(),
+        ),
         Item::Forall { .. } => None,
         Item::Goal => None,
         Item::Variable { .. } => None,

@@ -3,38 +3,38 @@ ghost use Rattle.std.specs.Prelude.{◌≡◌, slice_get};
 ghost use Rattle.qc_model.specs.Meaning.{meaning_of};
 ghost use Rattle.qc_resolve.specs.Fits.{is_number_argument, is_sum_text as is_sum_text_of, items_of, lengths_fit as lengths_fit_of};
 
-use qc_grammar::{Argument, One};
+use qc_grammar::{ArgumentText, One};
 use qc_model::Pred;
 
-fn item_count(args: &[Argument], place: usize) -> usize
+fn item_count(args: &[ArgumentText], place: usize) -> usize
     ensures { result ≡ items_of (slice_get args.now place) }
 {
     match args.get(place) {
-        Some(Argument::One(_)) => 1,
-        Some(Argument::Array { items, .. }) => items.items().len(),
-        Some(Argument::Members(_)) => 0,
+        Some(ArgumentText::One(_)) => 1,
+        Some(ArgumentText::Array { items, .. }) => items.items().len(),
+        Some(ArgumentText::Members(_)) => 0,
         None => 0,
     }
 }
 
-fn is_number(args: &[Argument], place: usize) -> bool
+fn is_number(args: &[ArgumentText], place: usize) -> bool
     ensures { result ≡ is_number_argument (slice_get args.now place) }
 {
     match args.get(place) {
-        Some(Argument::One(One::Number(_))) => true,
+        Some(ArgumentText::One(One::Number(_))) => true,
         _ => false,
     }
 }
 
 /// Whether there are as many factors as items, and the sum is compared with a number.
-fn is_sum_text(args: &[Argument]) -> bool
+fn is_sum_text(args: &[ArgumentText]) -> bool
     ensures { result ≡ is_sum_text_of args.now }
 {
     item_count(args, 0) == item_count(args, 1) && is_number(args, 2)
 }
 
 /// Whether the arrays have the lengths that the predicate asks for.
-pub(crate) fn lengths_fit(pred: Pred, args: &[Argument]) -> bool
+pub(crate) fn lengths_fit(pred: Pred, args: &[ArgumentText]) -> bool
     ensures { result ≡ lengths_fit_of (meaning_of pred) args.now }
 {
     match pred {

@@ -2,24 +2,27 @@
 #![tactic(auto)]
 
 mod arguments;
+mod bottlenecks;
 mod bytes;
 mod counts;
 mod domains;
 mod draft;
+mod empty;
 mod excess;
+mod far;
 mod fault;
-mod fits;
 mod hidden;
 mod lengths;
+mod misfit;
 mod names;
-mod numbers;
 mod passes;
 mod predicates;
 mod refusal;
-mod seconds;
+mod strange;
 mod unknown;
+mod walk;
+mod wide;
 
-pub use fault::NamesFault;
-pub use names::{Meant, Named, Names};
+pub use names::{Meant, Named};
 pub use passes::resolve;
-pub use refusal::{ItemFault, ItemRefusal};
+pub use refusal::{ItemFault, RefusalKind};

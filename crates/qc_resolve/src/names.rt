@@ -30,7 +30,7 @@ pub struct Meant {
 
 /// A text with its items, and a table of the names that they declare.
 #[derive(Drop)]
-pub struct Names<'t> {
+pub(crate) struct Names<'t> {
     pub text: &'t [u8],
     pub items: &'t [Item],
     table: IndexMap<&'t [u8], Meant>,
@@ -40,7 +40,11 @@ pub struct Names<'t> {
 
 impl<'t> Names<'t> {
     /// The names of the items of a text, or the place of the first that is declared twice.
-    pub fn new(alloc: Global, text: &'t [u8], items: &'t [Item]) -> Result<Names<'t>, NamesFault>
+    pub(crate) fn new(
+        alloc: Global,
+        text: &'t [u8],
+        items: &'t [Item],
+    ) -> Result<Names<'t>, NamesFault>
         ensures text_kept { IfOk result (λ names. names.text.now ≡ text.now) }
         ensures items_kept { IfOk result (λ names. names.items.now ≡ items.now) }
         ensures distinct { OnOk result (first_repeated [] (declared text.now items.now) ≡ None) }

@@ -1,13 +1,13 @@
 //! Why a text is no problem.
 ghost use Rattle.std.specs.Prelude.{◌≡◌};
-ghost use Rattle.qc_resolve.specs.declared.refusal.ItemRefusal.TheVariants.{Memory};
+ghost use Rattle.qc_resolve.specs.declared.refusal.ItemFault.TheVariants.{Memory};
 
 use std::alloc::AllocError;
 use thiserror::Error;
 
 /// What the items of a text can be refused for, in the order in which they are looked for.
 #[derive(Clone, Copy, Debug, PartialEq, Eq)]
-pub enum ItemFault {
+pub enum RefusalKind {
     DuplicateName,
     UnknownName,
     UnknownPredicate,
@@ -17,24 +17,24 @@ pub enum ItemFault {
     TooWide,
     TooMany,
     NotVisible,
-    BadAggregate,
+    BottleneckFirst,
 }
 
 /// Why no problem is made of a text.
 #[derive(Clone, Copy, Debug, PartialEq, Eq, Error)]
-pub enum ItemRefusal {
+pub enum ItemFault {
     /// The text is refused for this, at this place.
     #[error("{kind:?} at {at}")]
-    Refused { kind: ItemFault, at: u32 },
+    Refused { kind: RefusalKind, at: u32 },
     /// Memory was refused.
     #[error("memory")]
     Memory(AllocError),
 }
 
-impl From<AllocError> for ItemRefusal {
+impl From<AllocError> for ItemFault {
     ghost from_gives = { λ e f. f ≡ Memory e };
 
-    fn from(error: AllocError) -> ItemRefusal {
-        ItemRefusal::Memory(error)
+    fn from(error: AllocError) -> ItemFault {
+        ItemFault::Memory(error)
     }
 }

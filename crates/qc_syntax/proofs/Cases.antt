@@ -12,7 +12,7 @@ use Rattle.qc_grammar.specs.declared.lexeme.Lexeme.TheVariants.{Goal, Solve, Sem
 use Rattle.qc_grammar.specs.declared.tree.One.TheVariants.{Name as OneName, Number as OneNumber}
 use Rattle.qc_grammar.specs.declared.tree.Members.TheVariants.{Braces}
 use Rattle.qc_grammar.specs.declared.tree.DomainText.TheVariants.{Members as MembersDomain}
-use Rattle.qc_grammar.specs.declared.tree.Argument.TheVariants.{One as OneArgument}
+use Rattle.qc_grammar.specs.declared.tree.ArgumentText.TheVariants.{One as OneArgument}
 use Rattle.qc_grammar.specs.declared.tree.Item.{Item}
 use Rattle.qc_grammar.specs.declared.tree.Item.TheVariants.{Exists as ExistsItem, Goal as GoalItem, Variable, Constraint}
 use Rattle.qc_grammar.specs.Grammar.{item_lexemes, IsProblem, Begins}

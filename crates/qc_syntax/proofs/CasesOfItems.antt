@@ -1,18 +1,19 @@
 -- Worked cases of reading: a text that is written as a problem is, and is refused for what its items say.
-use Rattle.std.proofs.Common.{refl, ℕ, zero, suc, ◌+◌, List, [], ◌∷◌, ◌++◌, None, Some, codes, pos}
+use Rattle.std.proofs.Common.{refl, ℕ, zero, suc, ◌+◌, List, [], ◌∷◌, ◌++◌, None, Some, codes, pos, negsuc}
 use Rattle.std.specs.List.{repeat}
 use Rattle.qc_model.specs.declared.problem.Sense.TheVariants.{Min}
 use Rattle.qc_grammar.specs.declared.tree.One.TheVariants.{Name as OneName, Number as OneNumber}
 use Rattle.qc_grammar.specs.declared.tree.Members.TheVariants.{Range}
 use Rattle.qc_grammar.specs.declared.tree.DomainText.TheVariants.{Members as MembersDomain}
-use Rattle.qc_grammar.specs.declared.tree.Argument.TheVariants.{One as OneArgument}
-use Rattle.qc_grammar.specs.declared.tree.FoldText.TheVariants.{Sum as SumFold}
+use Rattle.qc_grammar.specs.declared.tree.ArgumentText.TheVariants.{One as OneArgument, Array}
+use Rattle.qc_grammar.specs.declared.tree.FoldText.TheVariants.{Sum as SumFold, Greatest as GreatestFold}
 use Rattle.qc_grammar.specs.declared.tree.Item.{Item}
 use Rattle.qc_grammar.specs.declared.tree.Item.TheVariants.{Exists as ExistsItem, Forall as ForallItem, Goal as GoalItem, Variable, Aggregate as AggregateItem, Constraint}
-use Rattle.qc_resolve.specs.declared.refusal.ItemFault.TheVariants.{DuplicateName as NameRepeated, UnknownName as NameUnknown, UnknownPredicate as PredicateUnknown, WrongArguments as ArgumentsWrong, OutOfRange as NumberFar, EmptyDomain as DomainEmpty, TooWide as DomainWide, TooMany as Excess, NotVisible as Hidden, BadAggregate as SecondAggregate}
-use Rattle.qc_syntax.specs.declared.fault.Refused13.TheVariants.{DuplicateName, UnknownName, UnknownPredicate, WrongArguments, OutOfRange, EmptyDomain, TooWide, TooMany, NotVisible, BadAggregate}
-use Rattle.qc_syntax.specs.Reads.{Refuses}
-use Rattle.qc_syntax.proofs.CaseWords.{reading, word, figure, faulty}
+use Rattle.qc_resolve.specs.declared.refusal.RefusalKind.TheVariants.{DuplicateName as NameRepeated, UnknownName as NameUnknown, UnknownPredicate as PredicateUnknown, WrongArguments as ArgumentsWrong, OutOfRange as NumberFar, EmptyDomain as DomainEmpty, TooWide as DomainWide, TooMany as Excess, NotVisible as Hidden, BottleneckFirst as Followed}
+use Rattle.qc_syntax.specs.declared.fault.Refused13.TheVariants.{DuplicateName, UnknownName, UnknownPredicate, WrongArguments, OutOfRange, EmptyDomain, TooWide, TooMany, NotVisible, BottleneckFirst}
+use Rattle.qc_resolve.specs.Draft.{game_of}
+use Rattle.qc_syntax.specs.Reads.{Reads, Refuses}
+use Rattle.qc_syntax.proofs.CaseWords.{reading, word, figure, faulty, read}
 
 abbrev twice : List ℕ
 twice = codes "exists; var 0..1: x; var 0..1: x; goal; solve;"
@@ -138,6 +139,35 @@ past_the_next : Refuses skipped NotVisible 16
 unfolding reading
 past_the_next = faulty skipped skipped_items Hidden 16 refl refl (record { arranged = refl; written = refl }) refl
 
+-- a sum is asked for after the greatest: the nearer condition is asked for first
+abbrev greatest_first : List ℕ
+greatest_first = codes "exists minimize s; exists minimize m; forall; var 1..2: t; aggregate s = sum(z); aggregate m = greatest(w) else 0; exists; var 0..3: z; var 0..3: w; constraint int_lin_le([1,-1,-1],[t,z,w],0); goal; solve;"
+
+abbrev greatest_first_items : List Item
+greatest_first_items =
+    ExistsItem 0 (Some (record { sense = Min; target = word 16 17 })) ∷
+    ExistsItem 19 (Some (record { sense = Min; target = word 35 36 })) ∷
+    ForallItem 38 ∷
+    Variable 46 (MembersDomain (Range (figure 50 (pos 1)) (figure 53 (pos 2)))) (word 56 57) ∷
+    AggregateItem 59 (word 69 70) SumFold (word 77 78) ∷
+    AggregateItem 81 (word 91 92) (GreatestFold (figure 112 (pos 0))) (word 104 105) ∷
+    ExistsItem 115 None ∷
+    Variable 123 (MembersDomain (Range (figure 127 (pos 0)) (figure 130 (pos 3)))) (word 133 134) ∷
+    Variable 136 (MembersDomain (Range (figure 140 (pos 0)) (figure 143 (pos 3)))) (word 146 147) ∷
+    Constraint 149 (word 160 170) (
+    Array 171 (OneNumber (figure 172 (pos 1)) ∷ OneNumber (figure 174 (negsuc 0)) ∷ OneNumber (figure 177 (negsuc 0)) ∷ []) ∷
+    Array 181 (OneName (word 182 183) ∷ OneName (word 184 185) ∷ OneName (word 186 187) ∷ []) ∷
+    OneArgument (OneNumber (figure 189 (pos 0))) ∷
+    []
+    ) ∷
+    GoalItem ∷
+    []
+
+-- so the greatest is refused where it begins
+greatest_before_sum : Refuses greatest_first BottleneckFirst 81
+unfolding reading
+greatest_before_sum = faulty greatest_first greatest_first_items Followed 81 refl refl (record { arranged = refl; written = refl }) refl
+
 abbrev second : List ℕ
 second = codes "forall; var 0..1: t; aggregate f = sum(t); aggregate g = sum(t); goal; solve;"
 
@@ -150,7 +180,7 @@ second_items =
     GoalItem ∷
     []
 
--- a second aggregate of a scope is refused where it begins
-second_aggregate : Refuses second BadAggregate 43
+-- a scope may have a second aggregate
+second_aggregate : Reads second (game_of second second_items)
 unfolding reading
-second_aggregate = faulty second second_items SecondAggregate 43 refl refl (record { arranged = refl; written = refl }) refl
+second_aggregate = read second second_items (game_of second second_items) refl refl (record { arranged = refl; written = refl }) refl refl

@@ -1,4 +1,5 @@
 pub mod OneThing
+pub mod EachText
 pub mod Words
 pub mod CaseWords
 pub mod Cases

@@ -6,12 +6,12 @@ use Rattle.qc_grammar.specs.declared.tree.Item.{Item}
 use Rattle.qc_grammar.specs.Lexemes.{lexemes_of, StopsAt}
 use Rattle.qc_grammar.proofs.Problems.{one_problem}
 use Rattle.qc_grammar.proofs.Stops.{problem_stops_nowhere, one_stop}
-use Rattle.qc_resolve.specs.declared.refusal.ItemFault.{ItemFault}
+use Rattle.qc_resolve.specs.declared.refusal.RefusalKind.{RefusalKind}
 use Rattle.qc_resolve.specs.Draft.{game_of}
-use Rattle.qc_resolve.specs.Faults.{Fault, first_fault}
+use Rattle.qc_resolve.specs.TextRefusals.{Refusal, first_refusal}
 use Rattle.qc_syntax.specs.declared.fault.Refused13.{Refused13}
-use Rattle.qc_syntax.specs.declared.fault.Refused13.TheVariants.{BadByte, BadNumber, Syntax, DuplicateName, UnknownName, UnknownPredicate, WrongArguments, OutOfRange, EmptyDomain, TooWide, TooMany, NotVisible, BadAggregate}
-use Rattle.qc_syntax.specs.Reads.{IsClean, HasItems, Reads, HasFault, Refuses, kind_of}
+use Rattle.qc_syntax.specs.declared.fault.Refused13.TheVariants.{BadByte, BadNumber, Syntax, DuplicateName, UnknownName, UnknownPredicate, WrongArguments, OutOfRange, EmptyDomain, TooWide, TooMany, NotVisible, BottleneckFirst}
+use Rattle.qc_syntax.specs.Reads.{IsClean, HasItems, Reads, MeetsFirst, Refuses, kind_of}
 
 -- nothing is no value
 some_is_not_none : {A : Type 0} (a : Option A) (x : A) → a ≡ None → a ≡ Some x → ⊥
@@ -28,32 +28,32 @@ pub reads_one : (text : List ℕ) (g h : Game) → Reads text g → Reads text h
 reads_one text g h p q = p.game ∙ ap (game_of text) (items_are_one text p.items q.items p.written q.written) ∙ sym q.game
 
 -- a text without a fault has none
-faultless : (text : List ℕ) (g : Game) (kind : Refused13) (at : ℕ) → Reads text g → HasFault text kind at → ⊥
-faultless text g kind at p q =
-    some_is_not_none (first_fault text (tokens_of text) q.items) (record { kind = q.fault; at = at })
-    (subst (λ (is : List Item). first_fault text (tokens_of text) is ≡ None) (items_are_one text p.items q.items p.written q.written) p.faultless) q.first
+unrefused : (text : List ℕ) (g : Game) (kind : Refused13) (at : ℕ) → Reads text g → MeetsFirst text kind at → ⊥
+unrefused text g kind at p q =
+    some_is_not_none (first_refusal text (tokens_of text) q.items) (record { kind = q.fault; at = at })
+    (subst (λ (is : List Item). first_refusal text (tokens_of text) is ≡ None) (items_are_one text p.items q.items p.written q.written) p.unrefused) q.first
 
-pub reads_or_refuses : (text : List ℕ) (g : Game) (kind : Refused13) (at : ℕ) → Reads text g → Refuses text kind at → ⊥
-reads_or_refuses text g BadByte at p q = some_is_not_none (first_bad_byte text) at p.written.clean.bytes q
-reads_or_refuses text g BadNumber at p q = some_is_not_none (first_bad_number text) at p.written.clean.numbers q.1
-reads_or_refuses text g Syntax at p q = problem_stops_nowhere text (tokens_of text) at p.items p.written.problem q.1
-reads_or_refuses text g DuplicateName at p q = faultless text g DuplicateName at p q
-reads_or_refuses text g UnknownName at p q = faultless text g UnknownName at p q
-reads_or_refuses text g UnknownPredicate at p q = faultless text g UnknownPredicate at p q
-reads_or_refuses text g WrongArguments at p q = faultless text g WrongArguments at p q
-reads_or_refuses text g OutOfRange at p q = faultless text g OutOfRange at p q
-reads_or_refuses text g EmptyDomain at p q = faultless text g EmptyDomain at p q
-reads_or_refuses text g TooWide at p q = faultless text g TooWide at p q
-reads_or_refuses text g TooMany at p q = faultless text g TooMany at p q
-reads_or_refuses text g NotVisible at p q = faultless text g NotVisible at p q
-reads_or_refuses text g BadAggregate at p q = faultless text g BadAggregate at p q
+pub never_both : (text : List ℕ) (g : Game) (kind : Refused13) (at : ℕ) → Reads text g → Refuses text kind at → ⊥
+never_both text g BadByte at p q = some_is_not_none (first_bad_byte text) at p.written.clean.bytes q
+never_both text g BadNumber at p q = some_is_not_none (first_bad_number text) at p.written.clean.numbers q.1
+never_both text g Syntax at p q = problem_stops_nowhere text (tokens_of text) at p.items p.written.problem q.1
+never_both text g DuplicateName at p q = unrefused text g DuplicateName at p q
+never_both text g UnknownName at p q = unrefused text g UnknownName at p q
+never_both text g UnknownPredicate at p q = unrefused text g UnknownPredicate at p q
+never_both text g WrongArguments at p q = unrefused text g WrongArguments at p q
+never_both text g OutOfRange at p q = unrefused text g OutOfRange at p q
+never_both text g EmptyDomain at p q = unrefused text g EmptyDomain at p q
+never_both text g TooWide at p q = unrefused text g TooWide at p q
+never_both text g TooMany at p q = unrefused text g TooMany at p q
+never_both text g NotVisible at p q = unrefused text g NotVisible at p q
+never_both text g BottleneckFirst at p q = unrefused text g BottleneckFirst at p q
 
 -- How far reading came: to a bad byte, to a bad number, to a token that can't stand there, or to a fault of the items.
 data Met (text : List ℕ) (kind : Refused13) (at : ℕ) : Type 0 where
   at_byte : kind ≡ BadByte → first_bad_byte text ≡ Some at → Met text kind at
   at_number : kind ≡ BadNumber → first_bad_byte text ≡ None → first_bad_number text ≡ Some at → Met text kind at
   at_token : kind ≡ Syntax → IsClean text → StopsAt text (tokens_of text) at → Met text kind at
-  at_items : HasFault text kind at → Met text kind at
+  at_items : MeetsFirst text kind at → Met text kind at
 
 met : (text : List ℕ) (kind : Refused13) (at : ℕ) → Refuses text kind at → Met text kind at
 met text BadByte at q = at_byte refl q
@@ -68,24 +68,24 @@ met text EmptyDomain at q = at_items q
 met text TooWide at q = at_items q
 met text TooMany at q = at_items q
 met text NotVisible at q = at_items q
-met text BadAggregate at q = at_items q
+met text BottleneckFirst at q = at_items q
 
 only : {A : Type 0} (x y : A) → Some x ≡ Some y → x ≡ y
 only x y p = cc
 
-abbrev fault_at : ItemFault → ℕ → Fault
-fault_at kind at = record { kind = kind; at = at }
+abbrev refusal_at : RefusalKind → ℕ → Refusal
+refusal_at kind at = record { kind = kind; at = at }
 
 -- a fault of the items is of one kind, at one place
-same_fault : (text : List ℕ) (kind other : Refused13) (at place : ℕ) (p : HasFault text kind at) (q : HasFault text other place) →
-    Some (fault_at p.fault at) ≡ Some (fault_at q.fault place)
+same_fault : (text : List ℕ) (kind other : Refused13) (at place : ℕ) (p : MeetsFirst text kind at) (q : MeetsFirst text other place) →
+    Some (refusal_at p.fault at) ≡ Some (refusal_at q.fault place)
 same_fault text kind other at place p q =
-    sym p.first ∙ (ap (first_fault text (tokens_of text)) (items_are_one text p.items q.items p.written q.written) ∙ q.first)
+    sym p.first ∙ (ap (first_refusal text (tokens_of text)) (items_are_one text p.items q.items p.written q.written) ∙ q.first)
 
-one_fault : (text : List ℕ) (kind other : Refused13) (at place : ℕ) → HasFault text kind at → HasFault text other place → (kind ≡ other) × (at ≡ place)
+one_fault : (text : List ℕ) (kind other : Refused13) (at place : ℕ) → MeetsFirst text kind at → MeetsFirst text other place → (kind ≡ other) × (at ≡ place)
 one_fault text kind other at place p q =
-    let same = only (fault_at p.fault at) (fault_at q.fault place) (same_fault text kind other at place p q) in
-    (p.same ∙ (ap (λ (f : Fault). kind_of f.kind) same ∙ sym q.same), ap (λ (f : Fault). f.at) same)
+    let same = only (refusal_at p.fault at) (refusal_at q.fault place) (same_fault text kind other at place p q) in
+    (p.same ∙ (ap (λ (f : Refusal). kind_of f.kind) same ∙ sym q.same), ap (λ (f : Refusal). f.at) same)
 
 -- two ways in which a text is refused are one
 one_of_two : (text : List ℕ) (kind other : Refused13) (at place : ℕ) → Met text kind at → Met text other place → (kind ≡ other) × (at ≡ place)

@@ -4,8 +4,8 @@ use Rattle.qc_tokens.specs.declared.fault.TokenError.{TokenError}
 use Rattle.qc_tokens.specs.declared.fault.TokenError.TheVariants.{BadByte as ByteFault, BadNumber as NumberFault, Memory as TokenMemory}
 use Rattle.qc_grammar.specs.declared.fault.GrammarFault.{GrammarFault}
 use Rattle.qc_grammar.specs.declared.fault.GrammarFault.TheVariants.{Syntax as GrammarSyntax, Memory as GrammarMemory}
-use Rattle.qc_resolve.specs.declared.refusal.ItemRefusal.{ItemRefusal}
-use Rattle.qc_resolve.specs.declared.refusal.ItemRefusal.TheVariants.{Refused as ItemsRefused, Memory as ItemsMemory}
+use Rattle.qc_resolve.specs.declared.refusal.ItemFault.{ItemFault}
+use Rattle.qc_resolve.specs.declared.refusal.ItemFault.TheVariants.{Refused as ItemsRefused, Memory as ItemsMemory}
 use Rattle.qc_syntax.specs.declared.fault.Refused13.{Refused13}
 use Rattle.qc_syntax.specs.declared.fault.Refused13.TheVariants.{BadByte, BadNumber, Syntax}
 use Rattle.qc_syntax.specs.declared.fault.ReadFault.{ReadFault}
@@ -24,6 +24,6 @@ abbrev pub of_grammar : GrammarFault → ReadFault
 of_grammar (GrammarSyntax at) = refusal Syntax at
 of_grammar (GrammarMemory e) = Memory e
 
-abbrev pub of_items : ItemRefusal → ReadFault
+abbrev pub of_items : ItemFault → ReadFault
 of_items (ItemsRefused kind at) = refusal (kind_of kind) at
 of_items (ItemsMemory e) = Memory e

@@ -4,7 +4,7 @@ ghost use Rattle.qc_syntax.specs.Reads.{kind_of as kind_of_fault};
 ghost use Rattle.qc_syntax.specs.Faults.{refusal, of_tokens, of_grammar, of_items};
 
 use qc_grammar::GrammarFault;
-use qc_resolve::{ItemFault, ItemRefusal};
+use qc_resolve::{ItemFault, RefusalKind};
 use qc_tokens::TokenError;
 use std::alloc::AllocError;
 use thiserror::Error;
@@ -33,12 +33,12 @@ pub enum Refused13 {
     EmptyDomain,
     /// A domain, or all domains up to one, too wide.
     TooWide,
-    /// Too many scopes, variables, constraints, or items of an array or of braces.
+    /// Too many scopes, variables, aggregates, constraints, or items of an array or of braces.
     TooMany,
     /// A name that can't be seen from where it is used.
     NotVisible,
-    /// A second aggregate in a scope.
-    BadAggregate,
+    /// An aggregate by least or greatest that the list of a universal scope names before a different one.
+    BottleneckFirst,
 }
 
 /// A kind with its place, an offset of bytes counted from 0.
@@ -82,13 +82,13 @@ impl From<GrammarFault> for ReadFault {
     }
 }
 
-impl From<ItemRefusal> for ReadFault {
+impl From<ItemFault> for ReadFault {
     ghost from_gives = { λ e f. f ≡ of_items e };
 
-    fn from(error: ItemRefusal) -> ReadFault {
+    fn from(error: ItemFault) -> ReadFault {
         match error {
-            ItemRefusal::Refused { kind, at } => refused(kind_of(kind), at),
-            ItemRefusal::Memory(error) => ReadFault::Memory(error),
+            ItemFault::Refused { kind, at } => refused(kind_of(kind), at),
+            ItemFault::Memory(error) => ReadFault::Memory(error),
         }
     }
 }
@@ -100,19 +100,19 @@ fn refused(kind: Refused13, at: u32) -> ReadFault
 }
 
 // The kind of refusal for a fault of the items.
-fn kind_of(fault: ItemFault) -> Refused13
+fn kind_of(fault: RefusalKind) -> Refused13
     ensures { result ≡ kind_of_fault fault }
 {
     match fault {
-        ItemFault::DuplicateName => Refused13::DuplicateName,
-        ItemFault::UnknownName => Refused13::UnknownName,
-        ItemFault::UnknownPredicate => Refused13::UnknownPredicate,
-        ItemFault::WrongArguments => Refused13::WrongArguments,
-        ItemFault::OutOfRange => Refused13::OutOfRange,
-        ItemFault::EmptyDomain => Refused13::EmptyDomain,
-        ItemFault::TooWide => Refused13::TooWide,
-        ItemFault::TooMany => Refused13::TooMany,
-        ItemFault::NotVisible => Refused13::NotVisible,
-        ItemFault::BadAggregate => Refused13::BadAggregate,
+        RefusalKind::DuplicateName => Refused13::DuplicateName,
+        RefusalKind::UnknownName => Refused13::UnknownName,
+        RefusalKind::UnknownPredicate => Refused13::UnknownPredicate,
+        RefusalKind::WrongArguments => Refused13::WrongArguments,
+        RefusalKind::OutOfRange => Refused13::OutOfRange,
+        RefusalKind::EmptyDomain => Refused13::EmptyDomain,
+        RefusalKind::TooWide => Refused13::TooWide,
+        RefusalKind::TooMany => Refused13::TooMany,
+        RefusalKind::NotVisible => Refused13::NotVisible,
+        RefusalKind::BottleneckFirst => Refused13::BottleneckFirst,
     }
 }

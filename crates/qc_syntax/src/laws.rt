@@ -1,10 +1,13 @@
 //! The laws of reading, the contract of a function that does nothing.
 
-ghost use Rattle.qc_syntax.specs.Laws.{ReadsOne, ReadsOrRefuses, RefusesOne};
+ghost use Rattle.qc_syntax.specs.Laws.{NeverBoth, ReadsOne, ReadsOrRefuses, ReadsValid, RefusesOne};
 
-/// A text says one thing: it is that of one problem, or it is refused for one kind at one place.
+/// Any bytes say one thing: they are the text of one problem, which is valid, or they are refused for
+/// one kind at one place.
 pub fn texts_say_one_thing()
-    ensures problem { ReadsOne }
     ensures either { ReadsOrRefuses }
+    ensures not_both { NeverBoth }
+    ensures problem { ReadsOne }
     ensures refusal { RefusesOne }
+    ensures valid { ReadsValid }
 {}

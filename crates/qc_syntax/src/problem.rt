@@ -9,7 +9,7 @@ use qc_grammar::{Item, read_items};
 use qc_model::{Problem, build};
 use qc_resolve::resolve;
 use qc_tokens::{Token, tokens};
-use qc_valid::{names_are_names, no_fault_is_valid};
+use qc_valid::{names_are_names, unrefused_is_valid};
 use std::alloc::Global;
 
 /// The problem that a text says, or the first kind of refusal that it meets, with its place.
@@ -36,7 +36,7 @@ fn make(alloc: Global, text: &[u8], tokens: &[Token], items: &[Item]) -> Result<
     ensures refuses { IfErr result (λ e. Explains text.now e) }
 {
     names_are_names();
-    no_fault_is_valid();
+    unrefused_is_valid();
     let draft = resolve(alloc, text, tokens, items)?;
     Ok(build(draft).unwrap())
 }

@@ -8,16 +8,16 @@ use Rattle.qc_model.specs.declared.problem.Domain.{Domain}
 use Rattle.qc_model.specs.declared.problem.Pred.{Pred}
 use Rattle.qc_model.specs.declared.problem.Variable.{Variable as ModelVariable}
 use Rattle.qc_model.specs.declared.problem.Aggregate.{Aggregate as ModelAggregate}
-use Rattle.qc_model.specs.declared.signature.Sort.{Sort}
-use Rattle.qc_model.specs.declared.signature.Sort.TheVariants.{Integer as integer, Boolean as boolean, Integers as integers, Booleans as booleans, Numbers as numbers, Truths as truths, Members as members}
-use Rattle.qc_model.specs.Signature.{sorts_of}
+use Rattle.qc_model.specs.declared.signature.ArgKind.{ArgKind}
+use Rattle.qc_model.specs.declared.signature.ArgKind.TheVariants.{Integer as integer, Boolean as boolean, Integers as integers, Booleans as booleans, Numbers as numbers, Truths as truths, Members as members}
+use Rattle.qc_model.specs.Signature.{arg_kinds_of}
 use Rattle.qc_model.specs.Meaning.{Meaning, sum_equal, sum_different, sum_at_most, minimum, maximum, table, reified, meaning_of}
 use Rattle.qc_model.specs.Valid.{is_number, is_truth, is_bits, is_integer_domain, is_integer, is_boolean, is_of_sort, are_of_sorts, item_count, is_literal, is_sum, have_lengths, is_declared_by, arg_sees, argument_sees, is_constraint}
 use Rattle.qc_grammar.specs.declared.tree.Word.{Word}
 use Rattle.qc_grammar.specs.declared.tree.One.{One}
 use Rattle.qc_grammar.specs.declared.tree.One.TheVariants.{Name as OneName, Number as OneNumber, Truth as OneTruth}
-use Rattle.qc_grammar.specs.declared.tree.Argument.{Argument}
-use Rattle.qc_grammar.specs.declared.tree.Argument.TheVariants.{One as OneArgument, Members as MembersArgument, Array}
+use Rattle.qc_grammar.specs.declared.tree.ArgumentText.{ArgumentText}
+use Rattle.qc_grammar.specs.declared.tree.ArgumentText.TheVariants.{One as OneArgument, Members as MembersArgument, Array}
 use Rattle.qc_grammar.specs.declared.tree.Item.{Item}
 use Rattle.qc_grammar.specs.declared.tree.Item.TheVariants.{Exists as ExistsItem, Forall as ForallItem, Goal as GoalItem, Variable, Aggregate as AggregateItem, Constraint as ConstraintItem}
 use Rattle.qc_resolve.specs.declared.names.Named.{Named}
@@ -116,7 +116,7 @@ module _ (text : List ℕ) (items : List Item) where
       and_from (is_boolean variables (arg_of text names a)) (list_all (is_boolean variables) (map (arg_of text names) os)) (boolean_is a t.0) (booleans_are os t.1)
 
   -- an argument that fits is of its sort
-  argument_is : (s : Sort) (a : Argument) → argument_fits text names s a ≡ true → argument_passes is_number a ≡ true → long_argument s a ≡ None → is_of_sort variables s (argument_of text names s a) ≡ true
+  argument_is : (s : ArgKind) (a : ArgumentText) → argument_fits text names s a ≡ true → argument_passes is_number a ≡ true → long_argument s a ≡ None → is_of_sort variables s (argument_of text names s a) ≡ true
   argument_is integer (OneArgument a) h n l = integer_is a h n
   argument_is integer (MembersArgument m) h n l = absurd cc
   argument_is integer (Array at os) h n l = absurd cc
@@ -140,7 +140,7 @@ module _ (text : List ℕ) (items : List Item) where
   argument_is members (Array at os) h n l = absurd cc
 
   -- arguments that fit are of the sorts
-  arguments_are : (sorts : List Sort) (xs : List Argument) → arguments_fit text names sorts xs ≡ true → list_all (argument_passes is_number) xs ≡ true → first_long sorts xs ≡ None →
+  arguments_are : (sorts : List ArgKind) (xs : List ArgumentText) → arguments_fit text names sorts xs ≡ true → list_all (argument_passes is_number) xs ≡ true → first_long sorts xs ≡ None →
       are_of_sorts variables sorts (arguments_of text names sorts xs) ≡ true
   arguments_are [] [] h n l = refl
   arguments_are [] (a ∷ xs) h n l = absurd cc
@@ -152,7 +152,7 @@ module _ (text : List ℕ) (items : List Item) where
       and_from (is_of_sort variables s (argument_of text names s a)) (are_of_sorts variables sorts (arguments_of text names sorts xs)) (argument_is s a t.0 u.0 v.0) (arguments_are sorts xs t.1 u.1 v.1)
 
   -- an argument has as many items xs the text says
-  count_is : (s : Sort) (a : Argument) → item_count (Some (argument_of text names s a)) ≡ items_of (Some a)
+  count_is : (s : ArgKind) (a : ArgumentText) → item_count (Some (argument_of text names s a)) ≡ items_of (Some a)
   count_is s (OneArgument a) = refl
   count_is s (MembersArgument m) = refl
   count_is integer (Array at os) = length-map os (arg_of text names)
@@ -164,14 +164,14 @@ module _ (text : List ℕ) (items : List Item) where
   count_is members (Array at os) = length-map os (arg_of text names)
 
   -- the same at each place
-  counts_are : (sorts : List Sort) (xs : List Argument) (k : ℕ) → arguments_fit text names sorts xs ≡ true → item_count (slice_get (arguments_of text names sorts xs) k) ≡ items_of (slice_get xs k)
+  counts_are : (sorts : List ArgKind) (xs : List ArgumentText) (k : ℕ) → arguments_fit text names sorts xs ≡ true → item_count (slice_get (arguments_of text names sorts xs) k) ≡ items_of (slice_get xs k)
   counts_are [] [] k h = refl
   counts_are [] (a ∷ xs) k h = absurd cc
   counts_are (s ∷ sorts) [] k h = absurd cc
   counts_are (s ∷ sorts) (a ∷ xs) zero h = count_is s a
   counts_are (s ∷ sorts) (a ∷ xs) (suc k) h = counts_are sorts xs k (and_parts (argument_fits text names s a) (arguments_fit text names sorts xs) h).1
 
-  literal_is : (s : Sort) (a : Argument) → is_number_argument (Some a) ≡ true → is_literal (Some (argument_of text names s a)) ≡ true
+  literal_is : (s : ArgKind) (a : ArgumentText) → is_number_argument (Some a) ≡ true → is_literal (Some (argument_of text names s a)) ≡ true
   literal_is s (OneArgument (OneName w)) h = absurd cc
   literal_is s (OneArgument (OneNumber n)) h = refl
   literal_is s (OneArgument (OneTruth b)) h = absurd cc
@@ -179,7 +179,7 @@ module _ (text : List ℕ) (items : List Item) where
   literal_is s (Array at os) h = absurd cc
 
   -- a number in the text is one in the problem
-  literal_at : (sorts : List Sort) (xs : List Argument) (k : ℕ) → arguments_fit text names sorts xs ≡ true → is_number_argument (slice_get xs k) ≡ true → is_literal (slice_get (arguments_of text names sorts xs) k) ≡ true
+  literal_at : (sorts : List ArgKind) (xs : List ArgumentText) (k : ℕ) → arguments_fit text names sorts xs ≡ true → is_number_argument (slice_get xs k) ≡ true → is_literal (slice_get (arguments_of text names sorts xs) k) ≡ true
   literal_at [] [] k h n = absurd cc
   literal_at [] (a ∷ xs) k h n = absurd cc
   literal_at (s ∷ sorts) [] k h n = absurd cc
@@ -187,7 +187,7 @@ module _ (text : List ℕ) (items : List Item) where
   literal_at (s ∷ sorts) (a ∷ xs) (suc k) h n = literal_at sorts xs k (and_parts (argument_fits text names s a) (arguments_fit text names sorts xs) h).1 n
 
   -- the lengths are those that the meaning asks for
-  lengths_are : (m : Meaning) (sorts : List Sort) (xs : List Argument) → arguments_fit text names sorts xs ≡ true → lengths_fit m xs ≡ true → have_lengths m (arguments_of text names sorts xs) ≡ true
+  lengths_are : (m : Meaning) (sorts : List ArgKind) (xs : List ArgumentText) → arguments_fit text names sorts xs ≡ true → lengths_fit m xs ≡ true → have_lengths m (arguments_of text names sorts xs) ≡ true
   lengths_are m sorts xs h l = go m l
     where
       sum : is_sum_text xs ≡ true → is_sum (arguments_of text names sorts xs) ≡ true
@@ -238,7 +238,7 @@ module _ (text : List ℕ) (items : List Item) where
     ones_see [] h = refl
     ones_see (a ∷ os) h = and_from (arg_sees variables i (arg_of text names a)) (list_all (arg_sees variables i) (map (arg_of text names) os)) (one_sees a h.0) (ones_see os h.1)
 
-    argument_sees_right : (s : Sort) (a : Argument) → AllByRecursion (λ w. is_later_word w ≡ false) (argument_uses a) → argument_sees variables i (argument_of text names s a) ≡ true
+    argument_sees_right : (s : ArgKind) (a : ArgumentText) → AllByRecursion (λ w. is_later_word w ≡ false) (argument_uses a) → argument_sees variables i (argument_of text names s a) ≡ true
     argument_sees_right s (OneArgument a) h = one_sees a h
     argument_sees_right s (MembersArgument m) h = refl
     argument_sees_right integer (Array at os) h = ones_see os (each_flat (λ w. is_later_word w ≡ false) one_uses os h)
@@ -250,7 +250,7 @@ module _ (text : List ℕ) (items : List Item) where
     argument_sees_right members (Array at os) h = ones_see os (each_flat (λ w. is_later_word w ≡ false) one_uses os h)
 
     -- arguments that name nothing of a later scope
-    arguments_see : (sorts : List Sort) (xs : List Argument) → AllByRecursion (λ a. AllByRecursion (λ w. is_later_word w ≡ false) (argument_uses a)) xs →
+    arguments_see : (sorts : List ArgKind) (xs : List ArgumentText) → AllByRecursion (λ a. AllByRecursion (λ w. is_later_word w ≡ false) (argument_uses a)) xs →
         list_all (argument_sees variables i) (arguments_of text names sorts xs) ≡ true
     arguments_see [] xs h = refl
     arguments_see (s ∷ sorts) [] h = refl
@@ -258,15 +258,15 @@ module _ (text : List ℕ) (items : List Item) where
         and_from (argument_sees variables i (argument_of text names s a)) (list_all (argument_sees variables i) (arguments_of text names sorts xs)) (argument_sees_right s a h.0) (arguments_see sorts xs h.1)
 
   -- the constraint of a call that fits
-  rule_is : (owner : ℕ) (p : Option Pred) (xs : List Argument) → call_fits text names p xs ≡ true → list_all (argument_passes is_number) xs ≡ true → long_call p xs ≡ None →
+  rule_is : (owner : ℕ) (p : Option Pred) (xs : List ArgumentText) → call_fits text names p xs ≡ true → list_all (argument_passes is_number) xs ≡ true → long_call p xs ≡ None →
       AllByRecursion (λ a. AllByRecursion (λ w. is_later owner (look_up names (word_bytes text w)) ≡ false) (argument_uses a)) xs → passes (is_constraint variables) (rule_of text names owner p xs) ≡ true
   rule_is owner None xs h n l s = refl
   rule_is owner (Some p) xs h n l s =
-      let t = and_parts (arguments_fit text names (sorts_of p) xs) (lengths_fit (meaning_of p) xs) h in
-      let new = arguments_of text names (sorts_of p) xs in
-      and_from (are_of_sorts variables (sorts_of p) new && have_lengths (meaning_of p) new) (list_all (argument_sees variables owner) new)
-      (and_from (are_of_sorts variables (sorts_of p) new) (have_lengths (meaning_of p) new) (arguments_are (sorts_of p) xs t.0 n l) (lengths_are (meaning_of p) (sorts_of p) xs t.0 t.1))
-      (arguments_see owner (sorts_of p) xs s)
+      let t = and_parts (arguments_fit text names (arg_kinds_of p) xs) (lengths_fit (meaning_of p) xs) h in
+      let new = arguments_of text names (arg_kinds_of p) xs in
+      and_from (are_of_sorts variables (arg_kinds_of p) new && have_lengths (meaning_of p) new) (list_all (argument_sees variables owner) new)
+      (and_from (are_of_sorts variables (arg_kinds_of p) new) (have_lengths (meaning_of p) new) (arguments_are (arg_kinds_of p) xs t.0 n l) (lengths_are (meaning_of p) (arg_kinds_of p) xs t.0 t.1))
+      (arguments_see owner (arg_kinds_of p) xs s)
 
   -- the constraint of a sound item that sees its names
   pub item_constraint : (o : Owned) → IsSound text names o.item → hidden_in text names (kinds_of items) o ≡ None → passes (is_constraint variables) (constraint_of text names o) ≡ true

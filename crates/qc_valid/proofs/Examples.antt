@@ -12,13 +12,13 @@ use Rattle.qc_grammar.specs.Grammar.{IsProblem}
 use Rattle.qc_grammar.specs.declared.tree.One.TheVariants.{Name as OneName}
 use Rattle.qc_grammar.specs.declared.tree.Members.TheVariants.{Range, Braces}
 use Rattle.qc_grammar.specs.declared.tree.DomainText.TheVariants.{Members as MembersDomain}
-use Rattle.qc_grammar.specs.declared.tree.Argument.TheVariants.{One as OneArgument, Members as MembersArgument}
+use Rattle.qc_grammar.specs.declared.tree.ArgumentText.TheVariants.{One as OneArgument, Members as MembersArgument}
 use Rattle.qc_grammar.specs.declared.tree.FoldText.TheVariants.{Sum as SumFold}
 use Rattle.qc_grammar.specs.declared.tree.Item.{Item}
 use Rattle.qc_grammar.specs.declared.tree.Item.TheVariants.{Exists as ExistsItem, Forall as ForallItem, Goal as GoalItem, Variable, Aggregate as AggregateItem, Constraint as ConstraintItem}
 use Rattle.qc_resolve.specs.Fits.{predicate_of}
 use Rattle.qc_resolve.specs.Draft.{game_of}
-use Rattle.qc_resolve.specs.Faults.{first_fault}
+use Rattle.qc_resolve.specs.TextRefusals.{first_refusal}
 use Rattle.qc_valid.specs.Laws.{IsWritten}
 use Rattle.qc_valid.proofs.Each.{all_from}
 use Rattle.qc_valid.proofs.Validity.{valid}
@@ -259,7 +259,7 @@ are_tokens = (
 written : IsWritten text tokens items
 written = record { problem = problem; tokens = all_from (λ t. IsTokenOf text t) tokens are_tokens }
 
-no_fault : first_fault text tokens items ≡ None
+no_fault : first_refusal text tokens items ≡ None
 unfolding predicate_of
 no_fault = refl
 

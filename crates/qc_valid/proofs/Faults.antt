@@ -10,45 +10,45 @@ use Rattle.qc_tokens.specs.declared.token.Sort.TheVariants.{Word as WordSort, Nu
 use Rattle.qc_grammar.specs.declared.tree.Word.{Word}
 use Rattle.qc_grammar.specs.declared.tree.Item.{Item}
 use Rattle.qc_grammar.specs.declared.tree.Item.TheVariants.{Exists as ExistsItem, Forall as ForallItem, Goal as GoalItem, Variable, Aggregate as AggregateItem, Constraint as ConstraintItem}
-use Rattle.qc_resolve.specs.declared.refusal.ItemFault.{ItemFault}
-use Rattle.qc_resolve.specs.declared.refusal.ItemFault.TheVariants.{DuplicateName, UnknownName, UnknownPredicate, WrongArguments, OutOfRange, EmptyDomain, TooWide, TooMany, NotVisible, BadAggregate}
+use Rattle.qc_resolve.specs.declared.refusal.RefusalKind.{RefusalKind}
+use Rattle.qc_resolve.specs.declared.refusal.RefusalKind.TheVariants.{DuplicateName, UnknownName, UnknownPredicate, WrongArguments, OutOfRange, EmptyDomain, TooWide, TooMany, NotVisible, BottleneckFirst}
 use Rattle.qc_resolve.specs.Owned.{owned_from, word_bytes}
 use Rattle.qc_resolve.specs.Names.{Declared, item_uses, first_word, is_unknown}
 use Rattle.qc_resolve.specs.Fits.{first_place, misfit, predicate_of}
 use Rattle.qc_resolve.specs.Numbers.{far_number, empty_domain, width_text, first_wide, domain_at}
 use Rattle.qc_resolve.specs.Excess.{or_else, past, long_domain, long_call, first_excess}
-use Rattle.qc_resolve.specs.Faults.{Fault, fault_at, first_fault_of, fault_order, first_fault}
+use Rattle.qc_resolve.specs.TextRefusals.{Refusal, refusal_at, first_refusal_of, refusal_order, first_refusal}
 use Rattle.qc_valid.proofs.Each.{passed}
 use Rattle.qc_valid.proofs.Written.{Passes}
 use Rattle.qc_valid.proofs.Parts.{item_passes, is_named}
 
 -- no fault at all is not this one, and no later one
-no_fault : (k : ItemFault) (o : Option ℕ) (later : Option Fault) → (elim o as (λ _. Option Fault) [ None ↦ later | Some at ↦ Some (record { kind = k; at = at }) ]) ≡ None → (o ≡ None) × (later ≡ None)
+no_fault : (k : RefusalKind) (o : Option ℕ) (later : Option Refusal) → (elim o as (λ _. Option Refusal) [ None ↦ later | Some at ↦ Some (record { kind = k; at = at }) ]) ≡ None → (o ≡ None) × (later ≡ None)
 no_fault k None later h = (refl, h)
 no_fault k (Some at) later h = absurd cc
 
-each_none : (text : List ℕ) (ts : List Token) (items : List Item) (ks : List ItemFault) → first_fault_of ks text ts items ≡ None → AllByRecursion (λ k. fault_at k text ts items ≡ None) ks
+each_none : (text : List ℕ) (ts : List Token) (items : List Item) (ks : List RefusalKind) → first_refusal_of ks text ts items ≡ None → AllByRecursion (λ k. refusal_at k text ts items ≡ None) ks
 each_none text ts items [] h = tt
-each_none text ts items (k ∷ ks) h = let t = no_fault k (fault_at k text ts items) (first_fault_of ks text ts items) h in (t.0, each_none text ts items ks t.1)
+each_none text ts items (k ∷ ks) h = let t = no_fault k (refusal_at k text ts items) (first_refusal_of ks text ts items) h in (t.0, each_none text ts items ks t.1)
 
 -- none of the faults is met
-pub record NoFault (text : List ℕ) (ts : List Token) (items : List Item) : Type 0 where
-  pub names : fault_at DuplicateName text ts items ≡ None
-  pub known : fault_at UnknownName text ts items ≡ None
-  pub predicates : fault_at UnknownPredicate text ts items ≡ None
-  pub arguments : fault_at WrongArguments text ts items ≡ None
-  pub numbers : fault_at OutOfRange text ts items ≡ None
-  pub domains : fault_at EmptyDomain text ts items ≡ None
-  pub widths : fault_at TooWide text ts items ≡ None
-  pub counts : fault_at TooMany text ts items ≡ None
-  pub sight : fault_at NotVisible text ts items ≡ None
-  pub aggregates : fault_at BadAggregate text ts items ≡ None
+pub record NoRefusal (text : List ℕ) (ts : List Token) (items : List Item) : Type 0 where
+  pub names : refusal_at DuplicateName text ts items ≡ None
+  pub known : refusal_at UnknownName text ts items ≡ None
+  pub predicates : refusal_at UnknownPredicate text ts items ≡ None
+  pub arguments : refusal_at WrongArguments text ts items ≡ None
+  pub numbers : refusal_at OutOfRange text ts items ≡ None
+  pub domains : refusal_at EmptyDomain text ts items ≡ None
+  pub widths : refusal_at TooWide text ts items ≡ None
+  pub counts : refusal_at TooMany text ts items ≡ None
+  pub sight : refusal_at NotVisible text ts items ≡ None
+  pub bottlenecks : refusal_at BottleneckFirst text ts items ≡ None
 
 -- no fault at all is none of the ten
-pub no_faults : (text : List ℕ) (ts : List Token) (items : List Item) → first_fault text ts items ≡ None → NoFault text ts items
+pub no_faults : (text : List ℕ) (ts : List Token) (items : List Item) → first_refusal text ts items ≡ None → NoRefusal text ts items
 no_faults text ts items h =
-    let t = each_none text ts items fault_order h in
-    record { names = t.0; known = t.1.0; predicates = t.1.1.0; arguments = t.1.1.1.0; numbers = t.1.1.1.1.0; domains = t.1.1.1.1.1.0; widths = t.1.1.1.1.1.1.0; counts = t.1.1.1.1.1.1.1.0; sight = t.1.1.1.1.1.1.1.1.0; aggregates = t.1.1.1.1.1.1.1.1.1.0 }
+    let t = each_none text ts items refusal_order h in
+    record { names = t.0; known = t.1.0; predicates = t.1.1.0; arguments = t.1.1.1.0; numbers = t.1.1.1.1.0; domains = t.1.1.1.1.1.0; widths = t.1.1.1.1.1.1.0; counts = t.1.1.1.1.1.1.1.0; sight = t.1.1.1.1.1.1.1.1.0; bottlenecks = t.1.1.1.1.1.1.1.1.1.0 }
 
 no_place : (o later : Option ℕ) → (elim o as (λ _. Option ℕ) [ None ↦ later | Some at ↦ Some at ]) ≡ None → (o ≡ None) × (later ≡ None)
 no_place None later h = (refl, h)
@@ -133,16 +133,16 @@ neither_place None later h = (refl, h)
 neither_place (Some at) later h = absurd cc
 
 -- no item is too long
-pub each_short : (text : List ℕ) (s v c : ℕ) (items : List Item) → first_excess text s v c items ≡ None → AllByRecursion (λ i. long_item text i ≡ None) items
-each_short text s v c [] h = tt
-each_short text s v c (ExistsItem at condition ∷ is) h = (refl, each_short text (suc s) v c is (neither_place (past 64 s at) _ h).1)
-each_short text s v c (ForallItem at ∷ is) h = (refl, each_short text (suc s) v c is (neither_place (past 64 s at) _ h).1)
-each_short text s v c (GoalItem ∷ is) h = (refl, each_short text s v c is h)
-each_short text s v c (Variable at domain name ∷ is) h =
-    let t = neither_place (long_domain domain) _ (neither_place (past 500 v at) _ h).1 in (t.0, each_short text s (suc v) c is t.1)
-each_short text s v c (AggregateItem at name fold target ∷ is) h = (refl, each_short text s v c is h)
-each_short text s v c (ConstraintItem at name args ∷ is) h =
-    let t = neither_place (long_call (predicate_of (word_bytes text name)) args) _ (neither_place (past 20000 c at) _ h).1 in (t.0, each_short text s v (suc c) is t.1)
+pub each_short : (text : List ℕ) (s v q c : ℕ) (items : List Item) → first_excess text s v q c items ≡ None → AllByRecursion (λ i. long_item text i ≡ None) items
+each_short text s v q c [] h = tt
+each_short text s v q c (ExistsItem at condition ∷ is) h = (refl, each_short text (suc s) v q c is (neither_place (past 64 s at) _ h).1)
+each_short text s v q c (ForallItem at ∷ is) h = (refl, each_short text (suc s) v q c is (neither_place (past 64 s at) _ h).1)
+each_short text s v q c (GoalItem ∷ is) h = (refl, each_short text s v q c is h)
+each_short text s v q c (Variable at domain name ∷ is) h =
+    let t = neither_place (long_domain domain) _ (neither_place (past 500 v at) _ h).1 in (t.0, each_short text s (suc v) q c is t.1)
+each_short text s v q c (AggregateItem at name fold target ∷ is) h = (refl, each_short text s v (suc q) c is (neither_place (past 255 q at) _ h).1)
+each_short text s v q c (ConstraintItem at name args ∷ is) h =
+    let t = neither_place (long_call (predicate_of (word_bytes text name)) args) _ (neither_place (past 20000 c at) _ h).1 in (t.0, each_short text s v q (suc c) is t.1)
 
 -- what an item by itself is free of
 pub record IsSound (text : List ℕ) (ds : List Declared) (i : Item) : Type 0 where

@@ -15,8 +15,8 @@ use Rattle.qc_grammar.specs.declared.tree.Members.{Members}
 use Rattle.qc_grammar.specs.declared.tree.Members.TheVariants.{Range, Braces}
 use Rattle.qc_grammar.specs.declared.tree.DomainText.{DomainText}
 use Rattle.qc_grammar.specs.declared.tree.DomainText.TheVariants.{Bits as BitsDomain, Members as MembersDomain}
-use Rattle.qc_grammar.specs.declared.tree.Argument.{Argument}
-use Rattle.qc_grammar.specs.declared.tree.Argument.TheVariants.{One as OneArgument, Members as MembersArgument, Array}
+use Rattle.qc_grammar.specs.declared.tree.ArgumentText.{ArgumentText}
+use Rattle.qc_grammar.specs.declared.tree.ArgumentText.TheVariants.{One as OneArgument, Members as MembersArgument, Array}
 use Rattle.qc_grammar.specs.declared.tree.FoldText.{FoldText}
 use Rattle.qc_grammar.specs.declared.tree.FoldText.TheVariants.{Sum as SumFold, Least as LeastFold, Greatest as GreatestFold}
 use Rattle.qc_grammar.specs.declared.tree.Item.{Item}
@@ -48,7 +48,7 @@ module _ (q : ℤ → Bool) where
   one_passes (OneTruth b) = true
 
   -- the numbers of an argument pass
-  abbrev pub argument_passes : Argument → Bool
+  abbrev pub argument_passes : ArgumentText → Bool
   argument_passes (OneArgument a) = one_passes a
   argument_passes (MembersArgument m) = members_pass m
   argument_passes (Array at items) = list_all one_passes items
@@ -108,7 +108,7 @@ module _ (q : ℤ → Bool) (text : List ℕ) where
   domain_good (BitsDomain at) h = refl
   domain_good (MembersDomain m) h = members_good m h
 
-  argument_good : (a : Argument) → list_all good (argument_lexemes a) ≡ true → argument_passes q a ≡ true
+  argument_good : (a : ArgumentText) → list_all good (argument_lexemes a) ≡ true → argument_passes q a ≡ true
   argument_good (OneArgument a) h = one_good a h
   argument_good (MembersArgument m) h = members_good m h
   argument_good (Array at items) h = between_pass one_lexemes (one_passes q) one_good items (all_append good (between_commas one_lexemes items) (BracketClose ∷ []) h).0

@@ -1,8 +1,8 @@
 -- Conditions and folds of a text that meets no refusal see their targets.
-use Rattle.std.proofs.Common.{◌≡◌, ◌∙◌, sym, ap, subst, refl, ◌+◌, ◌≤◌, ◌<◌, ◌==◌, ℕ, zero, suc, Bool, true, false, cond, List, [], ◌∷◌, map, length, drop, filter_map, Option, Some, None, slice_get, is_none, arith, ltb-true, lt-ltb, leb-true, eq-eqb, length-drop}
+use Rattle.std.proofs.Common.{◌≡◌, ◌∙◌, sym, ap, subst, refl, ◌+◌, ◌≤◌, ◌<◌, ◌==◌, ℕ, zero, suc, Bool, true, false, cond, List, [], ◌∷◌, map, filter, length, drop, filter_map, Option, Some, None, slice_get, is_none, arith, ltb-true, lt-ltb, leb-true, eq-eqb, length-drop}
 use Rattle.std.specs.Prelude.{⊤, nat_le, nat_lt, count_by}
 use Rattle.std.specs.List.{AllByRecursion, cons_option}
-use Rattle.std.proofs.lemmas.Bool.{eqb-true, ne_eqb, and_parts}
+use Rattle.std.proofs.lemmas.Bool.{eqb-true, and_parts}
 use Rattle.std.proofs.lemmas.Option.{same_Some}
 use Rattle.std.proofs.lemmas.List.{drop-map}
 use Rattle.std.proofs.lemmas.List.Sums.{sum_by-cons}
@@ -14,10 +14,8 @@ use Rattle.qc_model.specs.declared.problem.Variable.{Variable as ModelVariable}
 use Rattle.qc_model.specs.declared.problem.Aggregate.{Aggregate as ModelAggregate}
 use Rattle.qc_model.specs.Content.{Game}
 use Rattle.qc_model.specs.Game.{before}
-use Rattle.qc_model.specs.Value.{inner_target}
-use Rattle.qc_model.specs.Demands.{aggregate_from, aggregate_of as aggregate_at}
-use Rattle.qc_model.specs.Valid.{is_in_order, is_rising, is_integer_domain, is_bits}
-use Rattle.qc_model.specs.Sees.{IsVisibleHere, IsVisibleAtEnd, AtUniversal, IsVisible, ConditionSees, AggregateSees, ScopeSees, SeesRight}
+use Rattle.qc_model.specs.Valid.{is_in_order, is_integer_domain, is_bits}
+use Rattle.qc_model.specs.Sees.{stands_in, IsVisibleHere, IsVisibleAtEnd, AtUniversal, IsVisible, ConditionSees, AggregatesSee, aggregates_in, ScopeSees, SeesRight}
 use Rattle.qc_grammar.specs.declared.tree.Word.{Word}
 use Rattle.qc_grammar.specs.declared.tree.ConditionText.{ConditionText}
 use Rattle.qc_grammar.specs.declared.tree.Item.{Item}
@@ -67,59 +65,8 @@ module _ {X : Type 0} (f : X → ℕ) where
       let later = place_below n i ys k x (rest_in_order n (f y) ys h) e l in
       omega (arith, count, first, later)
 
-  -- rising, each is above the first
-  over_first : (k : ℕ) (xs : List X) (j : ℕ) (x : X) → is_rising (k ∷ map f xs) ≡ true → slice_get xs j ≡ Some x → k < f x
-  over_first k [] j x h e = absurd cc
-  over_first k (y ∷ ys) zero x h e =
-      let t = and_parts (nat_lt k (f y)) (is_rising (f y ∷ map f ys)) h in
-      subst (λ z. k < f z) (same_Some y x e) (ltb-true k (f y) t.0)
-  over_first k (y ∷ ys) (suc j) x h e =
-      let t = and_parts (nat_lt k (f y)) (is_rising (f y ∷ map f ys)) h in
-      let low = ltb-true k (f y) t.0 in
-      let high = over_first (f y) ys j x t.1 e in
-      omega arith
-
-  rest_rising : (k : ℕ) (xs : List X) → is_rising (k ∷ map f xs) ≡ true → is_rising (map f xs) ≡ true
-  rest_rising k [] h = refl
-  rest_rising k (y ∷ ys) h = (and_parts (nat_lt k (f y)) (is_rising (f y ∷ map f ys)) h).1
-
 next_place : (base j : ℕ) → suc base + j ≡ base + suc j
 next_place base j = omega arith
-
--- the aggregate of a scope is found at its place
-aggregate_found : (ags : List ModelAggregate) (base j i : ℕ) (a : ModelAggregate) → is_rising (map (λ q. q.scope.0) ags) ≡ true → slice_get ags j ≡ Some a → a.scope.0 ≡ i →
-    aggregate_from base ags i ≡ Some (base + j)
-aggregate_found [] base j i a h e s = absurd cc
-aggregate_found (b ∷ ags) base zero i a h e s =
-    let same : b.scope.0 ≡ i = ap (λ (q : ModelAggregate). q.scope.0) (same_Some b a e) ∙ s in
-    ap (λ c. cond c (Some base) (aggregate_from (suc base) ags i)) (eq-eqb b.scope.0 i same) ∙ ap Some (here base)
-  where
-    here : (base : ℕ) → base ≡ base + 0
-    here base = omega arith
-aggregate_found (b ∷ ags) base (suc j) i a h e s =
-    let over = over_first (λ (q : ModelAggregate). q.scope.0) b.scope.0 ags j a h e in
-    let other : b.scope.0 ≡ i → ⊥ = λ p. omega arith in
-    ap (λ c. cond c (Some base) (aggregate_from (suc base) ags i)) (ne_eqb b.scope.0 i other)
-    ∙ aggregate_found ags (suc base) j i a (rest_rising (λ (q : ModelAggregate). q.scope.0) b.scope.0 ags h) e s ∙ ap Some (next_place base j)
-
--- what is found for a scope is an aggregate of that scope
-record FoundFor (ags : List ModelAggregate) (base q i : ℕ) : Type 0 where
-  place : ℕ
-  number : q ≡ base + place
-  aggregate : ModelAggregate
-  found : slice_get ags place ≡ Some aggregate
-  of_scope : aggregate.scope.0 ≡ i
-
-found_for : (ags : List ModelAggregate) (base q i : ℕ) → aggregate_from base ags i ≡ Some q → FoundFor ags base q i
-found_for [] base q i h = absurd cc
-found_for (b ∷ ags) base q i h = go (b.scope.0 == i) refl h (found_for ags (suc base) q i)
-  where
-    go : (c : Bool) → (b.scope.0 == i) ≡ c → cond c (Some base) (aggregate_from (suc base) ags i) ≡ Some q → (aggregate_from (suc base) ags i ≡ Some q → FoundFor ags (suc base) q i) → FoundFor (b ∷ ags) base q i
-    go true e h later = let s = same_Some base q h in record { place = zero; number = omega (arith, s); aggregate = b; found = refl; of_scope = eqb-true b.scope.0 i e }
-    go false e h later =
-        let r = later h in
-        let n = r.number in
-        record { place = suc r.place; number = omega (arith, n); aggregate = r.aggregate; found = r.found; of_scope = r.of_scope }
 
 module _ (g : Game) (t : Target) where
   -- what the next universal scope sees, or the end where there is none, is visible
@@ -155,25 +102,15 @@ ConditionsSee g i [] = ⊤
 ConditionsSee g i (s ∷ later) = ConditionSees g (drop (suc i) g.scopes) (suc i) s.condition × ConditionsSee g (suc i) later
 
 module _ (g : Game) (fold_sees : AllByRecursion (λ a. SeesFrom g a.scope.0 a.target) g.aggregates) where
-  each_at : (ags : List ModelAggregate) (k : ℕ) (a : ModelAggregate) → AllByRecursion (λ b. SeesFrom g b.scope.0 b.target) ags → slice_get ags k ≡ Some a → SeesFrom g a.scope.0 a.target
-  each_at [] k a h e = absurd cc
-  each_at (b ∷ ags) zero a h e = subst (λ c. SeesFrom g c.scope.0 c.target) (same_Some b a e) h.0
-  each_at (b ∷ ags) (suc k) a h e = each_at ags k a h.1 e
-
-  from_start : (j q : ℕ) → q ≡ 0 + j → j ≡ q
-  from_start j q e = omega arith
-
-  -- the aggregate of scope i sees its target
-  aggregate_sees : (i : ℕ) → AggregateSees g (drop (suc i) g.scopes) (suc i) (aggregate_at g i)
-  aggregate_sees i = go (aggregate_at g i) refl
+  -- the aggregates of scope i see their targets
+  those_see : (i : ℕ) (ags : List ModelAggregate) → AllByRecursion (λ a. SeesFrom g a.scope.0 a.target) ags → AggregatesSee g (drop (suc i) g.scopes) (suc i) (filter (λ q. q.scope.0 == i) ags)
+  those_see i [] h = tt
+  those_see i (a ∷ ags) h = go (a.scope.0 == i) refl (those_see i ags h.1)
     where
-      go : (o : Option ℕ) → aggregate_at g i ≡ o → AggregateSees g (drop (suc i) g.scopes) (suc i) o
-      go None e = tt
-      go (Some q) e =
-          let r = found_for g.aggregates 0 q i e in
-          let at : slice_get g.aggregates q ≡ Some r.aggregate = subst (λ j. slice_get g.aggregates j ≡ Some r.aggregate) (from_start r.place q r.number) r.found in
-          let sees : SeesFrom g i r.aggregate.target = subst (λ j. SeesFrom g j r.aggregate.target) r.of_scope (each_at g.aggregates r.place r.aggregate fold_sees r.found) in
-          subst (λ o. IsVisible g (drop (suc i) g.scopes) (suc i) (inner_target o)) (sym at) sees
+      go : (b : Bool) → (a.scope.0 == i) ≡ b → AggregatesSee g (drop (suc i) g.scopes) (suc i) (filter (λ q. q.scope.0 == i) ags) →
+          AggregatesSee g (drop (suc i) g.scopes) (suc i) (cond b (a ∷ filter (λ q. q.scope.0 == i) ags) (filter (λ q. q.scope.0 == i) ags))
+      go true e later = (subst (λ j. SeesFrom g j a.target) (eqb-true a.scope.0 i e) h.0, later)
+      go false e later = later
 
   -- where each condition and each aggregate sees its target, the scopes see right
   pub all_see : (later : List Scope) (i : ℕ) → drop i g.scopes ≡ later → ConditionsSee g i later → SeesRight g later i
@@ -182,12 +119,12 @@ module _ (g : Game) (fold_sees : AllByRecursion (λ a. SeesFrom g a.scope.0 a.ta
       let next = drop_next g.scopes i s later e in
       (go s.kind next, all_see later (suc i) next h.1)
     where
-      go : (k : Kind) → drop (suc i) g.scopes ≡ later → ScopeSees k g later (suc i) s.condition (aggregate_at g i)
+      go : (k : Kind) → drop (suc i) g.scopes ≡ later → ScopeSees k g later (suc i) s.condition (aggregates_in g i)
       go Exists next = subst (λ l. ConditionSees g l (suc i) s.condition) next h.0
-      go Forall next = subst (λ l. AggregateSees g l (suc i) (aggregate_at g i)) next (aggregate_sees i)
+      go Forall next = subst (λ l. AggregatesSee g l (suc i) (aggregates_in g i)) next (those_see i g.aggregates fold_sees)
 
 module _ (text : List ℕ) (items : List Item) (order : is_in_order (length (game_of text items).scopes) (map (λ x. x.scope.0) (game_of text items).variables) ≡ true)
-    (rising : is_rising (map (λ q. q.scope.0) (game_of text items).aggregates) ≡ true) (kinds : map (λ s. s.kind) (game_of text items).scopes ≡ kinds_of items) where
+    (kinds : map (λ s. s.kind) (game_of text items).scopes ≡ kinds_of items) where
   abbrev game : Game
   game = game_of text items
 
@@ -226,10 +163,7 @@ module _ (text : List ℕ) (items : List Item) (order : is_in_order (length (gam
   here_seen (Integer k) scope u h s = variable_before k scope u is_integer_domain h (ltb-true scope u s)
   here_seen (Boolean k) scope u h s = variable_before k scope u is_bits h (ltb-true scope u s)
   here_seen (Aggregate q) scope u h s =
-      aggregate_found game.aggregates 0 q u h.aggregate rising h.found (h.of_scope ∙ eqb-true scope u s) ∙ ap Some (start q)
-    where
-      start : (q : ℕ) → 0 + q ≡ q
-      start q = omega arith
+      ap (stands_in u) h.found ∙ eq-eqb h.aggregate.scope.0 u (h.of_scope ∙ eqb-true scope u s)
 
   -- what is seen where no universal scope follows
   end_seen : (named : Named) (scope end : ℕ) → IsKnown game.variables game.aggregates named scope → is_seen None (record { named = named; scope = scope }) ≡ true → length game.scopes ≤ end →

@@ -8,6 +8,10 @@ use Rattle.qc_model.specs.declared.problem.Kind.{Kind}
 use Rattle.qc_model.specs.declared.problem.Pred.{Pred}
 use Rattle.qc_model.specs.declared.problem.Variable.{Variable as ModelVariable}
 use Rattle.qc_model.specs.declared.problem.Aggregate.{Aggregate as ModelAggregate}
+use Rattle.std.specs.Option.{option_map}
+use Rattle.qc_model.specs.declared.problem.Kind.TheVariants.{Forall}
+use Rattle.qc_model.specs.Bottlenecks.{first_bottleneck}
+use Rattle.qc_model.proofs.Bottlenecks.{all_last}
 use Rattle.qc_model.specs.Names.{is_name}
 use Rattle.qc_model.specs.Valid.{is_number, is_domain, is_scope, is_aggregate_of, is_constraint, declared_names, IsValid}
 use Rattle.qc_tokens.specs.declared.token.Token.{Token}
@@ -19,14 +23,16 @@ use Rattle.qc_resolve.specs.Names.{Declared, declared, item_uses, is_unknown}
 use Rattle.qc_resolve.specs.Fits.{predicate_of, misfit}
 use Rattle.qc_resolve.specs.Numbers.{far_number, empty_domain}
 use Rattle.qc_resolve.specs.Hidden.{hidden_in}
-use Rattle.qc_resolve.specs.Faults.{first_fault}
+use Rattle.qc_resolve.specs.Bottlenecks.{aggregate_at}
+use Rattle.qc_resolve.specs.TextRefusals.{first_refusal}
 use Rattle.qc_resolve.specs.Draft.{scope_of, variable_of, aggregate_of, rule_of, constraint_of, game_of}
 use Rattle.qc_valid.specs.Laws.{IsWritten}
+use Rattle.std.proofs.lemmas.Option.{slice_get_within}
 use Rattle.qc_valid.proofs.Each.{passes, all_made}
 use Rattle.qc_valid.proofs.Parts.{is_named, item_passes, written_items}
 use Rattle.qc_valid.proofs.Faults.{no_faults, each_placeless, each_flat, each_wordless, near_tokens, each_narrow, each_short, IsSound, each_sound}
 use Rattle.qc_valid.proofs.Placed.{IsPlaced, problem_placed, scope_kinds}
-use Rattle.qc_valid.proofs.Orders.{AreRising, owners_rise, MadeAt, made_in_order, aggregates_rise}
+use Rattle.qc_valid.proofs.Orders.{AreRising, owners_rise, MadeAt, made_in_order}
 use Rattle.qc_valid.proofs.Counts.{few_from}
 use Rattle.qc_valid.proofs.Differ.{all_differ}
 use Rattle.qc_valid.proofs.Domains.{item_domain, widths_from}
@@ -49,6 +55,16 @@ variable_made text kinds n e owner GoalItem p = tt
 variable_made text kinds n e owner (Variable at domain name) p = (refl, omega arith)
 variable_made text kinds n e owner (AggregateItem at name fold target) p = tt
 variable_made text kinds n e owner (ConstraintItem at name args) p = tt
+
+-- an aggregate has its item's scope, below n
+aggregate_made : (text : List ℕ) (ds : List Declared) (kinds : List Kind) (n : ℕ) → n ≡ length kinds → (owner : ℕ) (i : Item) → IsPlaced kinds owner i →
+    MadeAt (aggregate_of text ds) (λ q. q.scope.0) n owner (aggregate_of text ds (record { owner = owner; item = i }))
+aggregate_made text ds kinds n e owner (ExistsItem at condition) p = tt
+aggregate_made text ds kinds n e owner (ForallItem at) p = tt
+aggregate_made text ds kinds n e owner GoalItem p = tt
+aggregate_made text ds kinds n e owner (Variable at domain name) p = tt
+aggregate_made text ds kinds n e owner (AggregateItem at name fold target) p = (refl, let h = slice_get_within kinds owner Forall p in omega (arith, h))
+aggregate_made text ds kinds n e owner (ConstraintItem at name args) p = tt
 
 -- a constraint has its item's scope, or the goal
 constraint_made : (text : List ℕ) (ds : List Declared) (kinds : List Kind) (n : ℕ) → n ≡ length kinds → (owner : ℕ) (i : Item) → IsPlaced kinds owner i →
@@ -87,8 +103,12 @@ named_owned : (text : List ℕ) (items : List Item) (n owner : ℕ) → AllByRec
 named_owned text [] n owner h = tt
 named_owned text (i ∷ is) n owner h = (h.0.0, named_owned text is _ _ h.1)
 
+none_placed : (f : ℕ → ℕ) (o : Option ℕ) → option_map f o ≡ None → o ≡ None
+none_placed f None e = refl
+none_placed f (Some n) e = cc
+
 -- items that meet no refusal make a valid problem
-pub valid : (text : List ℕ) (ts : List Token) (items : List Item) → IsWritten text ts items → first_fault text ts items ≡ None → IsValid (game_of text items)
+pub valid : (text : List ℕ) (ts : List Token) (items : List Item) → IsWritten text ts items → first_refusal text ts items ≡ None → IsValid (game_of text items)
 valid text ts items w none =
     let ds = declared text items in
     let os = owned items in
@@ -96,28 +116,30 @@ valid text ts items w none =
     let parts = written_items is_number text ts items w (near_tokens text ts (each_placeless far_number ts f.numbers)) in
     let sound : AllByRecursion (λ o. IsSound text ds o.item) os =
     each_sound text ds items parts (each_flat (λ u. is_unknown text ds u ≡ false) item_uses items (each_wordless (is_unknown text ds) (flat_map item_uses items) f.known))
-    (each_placeless (misfit text ds) items f.arguments) (each_placeless empty_domain items f.domains) (each_narrow 0 items f.widths) (each_short text 0 0 0 items f.counts) 0 0 in
+    (each_placeless (misfit text ds) items f.arguments) (each_placeless empty_domain items f.domains) (each_narrow 0 items f.widths) (each_short text 0 0 0 0 items f.counts) 0 0 in
     let placed : AllByRecursion (λ o. IsPlaced (kinds_of items) o.owner o.item) os = problem_placed items (lexemes_of text ts) w.problem in
     let seen : AllByRecursion (λ o. hidden_in text ds (kinds_of items) o ≡ None) os = each_placeless (hidden_in text ds (kinds_of items)) os f.sight in
     let rise : AreRising 0 os = owners_rise items 0 0 0 (omega arith) (omega arith) in
     let kinds = scope_kinds text ds items 0 0 in
-    let few = few_from text ds items 0 0 0 0 0 f.counts (omega arith) (omega arith) (omega arith) in
+    let few = few_from text ds items 0 0 0 0 0 0 f.counts (omega arith) (omega arith) (omega arith) (omega arith) in
     let few_scopes = few.0 in
     let few_variables = few.1 in
-    let few_constraints = few.2 in
+    let few_aggregates = few.2 in
+    let few_constraints = few.3 in
     let as_many : length (game_of text items).scopes ≡ length (kinds_of items) = sym (length-map (game_of text items).scopes (λ s. s.kind)) ∙ ap length kinds in
     let order = made_in_order (variable_of text) (λ x. x.scope.0) (length (game_of text items).scopes) (λ o. IsPlaced (kinds_of items) o.owner o.item)
     (λ o p. variable_made text (kinds_of items) (length (game_of text items).scopes) as_many o.owner o.item p) os 0 rise placed in
-    let rising = aggregates_rise text ds items rise f.aggregates in
     let named = named_owned text items 0 0 parts in
     record {
       few_scopes = omega (arith, few_scopes);
       few_variables = omega (arith, few_variables);
+      few_aggregates = omega (arith, few_aggregates);
       few_constraints = omega (arith, few_constraints);
       variable_order = order;
       constraint_order = made_in_order (constraint_of text ds) (λ c. c.owner.0) (length (game_of text items).scopes + 1) (λ o. IsPlaced (kinds_of items) o.owner o.item)
           (λ o p. constraint_made text ds (kinds_of items) (length (game_of text items).scopes) as_many o.owner o.item p) os 0 rise placed;
-      aggregate_order = rising;
+      aggregate_order = made_in_order (aggregate_of text ds) (λ q. q.scope.0) (length (game_of text items).scopes) (λ o. IsPlaced (kinds_of items) o.owner o.item)
+          (λ o p. aggregate_made text ds (kinds_of items) (length (game_of text items).scopes) as_many o.owner o.item p) os 0 rise placed;
       names = names_are named;
       distinct_names = all_differ text ds items f.names;
       domains = all_made (variable_of text) (λ x. is_domain x.domain) (λ o. IsSound text ds o.item) (item_domain text ds) os sound;
@@ -129,7 +151,8 @@ valid text ts items w none =
       constraints = all_made (constraint_of text ds) (is_constraint (game_of text items).variables) (λ o. IsSound text ds o.item × (hidden_in text ds (kinds_of items) o ≡ None))
           (λ o h. item_constraint text items o h.0 h.1) os
           (each_both (λ o. IsSound text ds o.item) (λ o. hidden_in text ds (kinds_of items) o ≡ None) os sound seen);
-      sees = sees_right text items order rising kinds sound seen;
+      sees = sees_right text items order kinds sound seen;
+      bottlenecks = all_last (game_of text items) (game_of text items).scopes [] (none_placed (aggregate_at items) (first_bottleneck (game_of text items) (game_of text items).scopes []) f.bottlenecks);
     }
   where
     names_are : AllByRecursion (λ o. is_named text o.item ≡ true) (owned items) → list_all is_name (declared_names (game_of text items)) ≡ true

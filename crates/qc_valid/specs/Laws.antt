@@ -10,7 +10,7 @@ use Rattle.qc_grammar.specs.Grammar.{IsProblem}
 use Rattle.qc_grammar.specs.Lexemes.{lexemes_of}
 use Rattle.qc_resolve.specs.Names.{declared}
 use Rattle.qc_resolve.specs.Draft.{game_of}
-use Rattle.qc_resolve.specs.Faults.{first_fault}
+use Rattle.qc_resolve.specs.TextRefusals.{first_refusal}
 
 -- the items are a problem that is written in these tokens of the text
 pub record IsWritten (text : List ℕ) (ts : List Token) (items : List Item) : Type 0 where
@@ -23,6 +23,6 @@ NamesAreNames = (text : List ℕ) (ts : List Token) (items : List Item) → IsWr
     IsTrue (list_all is_name (map (λ d. d.name) (declared text items)))
 
 -- items that meet no refusal make a valid problem
-abbrev pub NoFaultIsValid : Type 0
-NoFaultIsValid = (text : List ℕ) (ts : List Token) (items : List Item) → IsWritten text ts items →
-    first_fault text ts items ≡ None → IsValid (game_of text items)
+abbrev pub UnrefusedIsValid : Type 0
+UnrefusedIsValid = (text : List ℕ) (ts : List Token) (items : List Item) → IsWritten text ts items →
+    first_refusal text ts items ≡ None → IsValid (game_of text items)

@@ -1,6 +1,6 @@
 //! The laws, each the contract of a function that does nothing.
 
-ghost use Rattle.qc_valid.specs.Laws.{NamesAreNames, NoFaultIsValid};
+ghost use Rattle.qc_valid.specs.Laws.{NamesAreNames, UnrefusedIsValid};
 
 /// A name that a text declares is a word of letters, digits and underscores, and no word of the
 /// language.
@@ -9,6 +9,6 @@ pub fn names_are_names()
 {}
 
 /// The items of a text that meet no refusal make a valid problem: `build` takes it.
-pub fn no_fault_is_valid()
-    ensures { NoFaultIsValid }
+pub fn unrefused_is_valid()
+    ensures { UnrefusedIsValid }
 {}

@@ -6,4 +6,4 @@
 
 mod laws;
 
-pub use laws::{names_are_names, no_fault_is_valid};
+pub use laws::{names_are_names, unrefused_is_valid};

@@ -1,16 +1,16 @@
 use Rattle.std.proofs.Common.{◌≡◌, ◌∙◌, refl, sym, ap, ◌++◌, List, [], ◌∷◌, ℕ, length, arith, inl, inr}
 use Rattle.std.proofs.lemmas.List.{append-nil}
-use Rattle.qc_model.specs.declared.signature.Sort.{Sort}
-use Rattle.qc_grammar.specs.declared.tree.Argument.{Argument}
+use Rattle.qc_model.specs.declared.signature.ArgKind.{ArgKind}
+use Rattle.qc_grammar.specs.declared.tree.ArgumentText.{ArgumentText}
 use Rattle.qc_resolve.specs.Names.{Declared, declared}
 use Rattle.qc_resolve.specs.Draft.{arguments_of}
 use Rattle.qc_resolve.proofs.arguments.arguments_of.Goals as goal
 
-no_sorts : (text : List ℕ) (ds : List Declared) (sorts : List Sort) (args : List Argument) → length sorts ≡ 0 → arguments_of text ds sorts args ≡ []
+no_sorts : (text : List ℕ) (ds : List Declared) (sorts : List ArgKind) (args : List ArgumentText) → length sorts ≡ 0 → arguments_of text ds sorts args ≡ []
 no_sorts text ds [] args e = refl
 no_sorts text ds (s ∷ sorts) args e = absurd (omega arith)
 
-no_args : (text : List ℕ) (ds : List Declared) (sorts : List Sort) (args : List Argument) → length args ≡ 0 → arguments_of text ds sorts args ≡ []
+no_args : (text : List ℕ) (ds : List Declared) (sorts : List ArgKind) (args : List ArgumentText) → length args ≡ 0 → arguments_of text ds sorts args ≡ []
 no_args text ds [] args e = refl
 no_args text ds (s ∷ sorts) [] e = refl
 no_args text ds (s ∷ sorts) (a ∷ args) e = absurd (omega arith)
