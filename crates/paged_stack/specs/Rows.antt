@@ -4,6 +4,7 @@ use Rattle.std.specs.Mem.{type_size}
 use base.Fraction.{full_share}
 use base.Fml.{Lft, Fml, ffalse, fsep, flt}
 use mir.Syntax.{Ty, ty_array}
+use mir.Raw.{raw}
 use denote.RattleType.{RattleType}
 use denote.Memory.{lone}
 use denote.RawPtr.{Ptr, lies_at, room_for, in_block, ◌+ₚ◌}
@@ -12,7 +13,7 @@ use denote.Struct.Lending.{lent_at}
 
 -- n items, as one type
 abbrev pub items_type : RattleType → ℕ → Ty
-items_type R n = ty_array (lone R.mir) n
+items_type R n = ty_array (raw (lone R.mir)) n
 
 -- the bytes that the items of a page take
 abbrev pub row_bytes : RattleType → ℕ

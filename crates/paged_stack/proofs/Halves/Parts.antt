@@ -8,6 +8,7 @@ use base.Fml.{Fml, fsep, fwand, froom}
 use prog.Memory.{align}
 use prog.Align.{align_w, align-bytes, Dv, →dv, dv_self}
 use mir.Raw.{raw as bare}
+use prog.RawLaws.{size-raw}
 use denote.RattleType.{RattleType}
 use denote.Memory.{lone}
 use Rattle.std.specs.Align.{type_align}
@@ -16,7 +17,7 @@ use types.Kit.{‵, ◌⊛◌, ◌$◌, ◌∵◌, !, qed, by, move, keep, use1,
 use denote.RawPtr.{Ptr, block_ptr, room_for}
 use denote.RawPtr.Room.{room_cut, room_glue, past}
 use Rattle.std.specs.Mem.{type_size}
-use Rattle.paged_stack.proofs.Memory.El.{El, R}
+use Rattle.paged_stack.proofs.Memory.El.{El, R, τ as item}
 use Rattle.paged_stack.specs.Rows.{items_type, row_bytes}
 use Rattle.paged_stack.specs.Blocks.{IsCapacity, IsParted, units, words, block_type, block_owns, deed_owns}
 
@@ -67,7 +68,7 @@ module _ (E : El) {M : Type 1} {𝓤 : Ura M} (𝓛 : Logic 𝓤) (t : Ty → Pt
   comes_apart fits =
       qed 𝓛 (‵ (froom (block_type c) b o) ∷ ‵ (t (block_type c) (block_ptr b o)) ∷ []) ∵ rewrite ! 0 (λ (k : ℕ). ‵ (froom (units k) b o)) (sum E) refl $
       use1 𝓛 (‵ (froom (units (c / 16)) b o) ⊛ ‵ (froom (units 2) b (past (ty_int w128) (c / 16) o))) (room_cut 𝓛 (ty_int w128) (c / 16) 2 b o) $ split ! $
-      use1 𝓛 (‵ (froom items b o) ⊛ ‵ (fwand (froom items b o) (froom (units (c / 16)) b o))) (𝓛.laws.room_as (units (c / 16)) items b o (sym (whole E)) (align_divides items)) $ split ! $
+      use1 𝓛 (‵ (froom items b o) ⊛ ‵ (fwand (froom items b o) (froom (units (c / 16)) b o))) (𝓛.laws.room_as (units (c / 16)) items b o (ap (λ (k : ℕ). 1024 * k) (size-raw (item E)) ∙ sym (whole E)) (align_divides items)) $ split ! $
       move ! (2 ∷ []) $ rewrite ! 0 (λ (d : ℕ). ‵ (froom (units 2) b d)) (far E o) refl $
       use1 𝓛 (‵ (froom (words 4) b (o + c)) ⊛ ‵ (fwand (froom (words 4) b (o + c)) (froom (units 2) b (o + c)))) (𝓛.laws.room_as (units 2) (words 4) b (o + c) refl tt) $ split ! $
       -- [the words; their way back; the items; theirs; the token]

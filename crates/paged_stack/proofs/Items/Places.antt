@@ -13,6 +13,9 @@ use types.Logic.{Logic, sem}
 use types.Kit.{‵, ◌⊛◌, ◌$◌, ◌∵◌, !, qed, by, move, use1, use2, split, rewrite, fsplit, frame, done}
 use denote.Memory.{part_at}
 use denote.RawPtr.{block_ptr}
+use mir.Raw.{raw as bare}
+use prog.RawLaws.{size-raw}
+use prog.Memory.{size}
 use denote.Index.{place, place_is}
 use Rattle.std.specs.Mem.{type_size}
 use Rattle.std.proofs.BoxSteps.Steps.{el_room}
@@ -58,13 +61,17 @@ module _ (E : El) {M : Type 1} {𝓤 : Ura M} (𝓛 : Logic 𝓤) (b : ℕ) wher
   to_room o n [] le = id⊢ 𝓤 _
   to_room o zero (x ∷ xs) le = absurd (not-suc-le-zero le)
   to_room o (suc n) (x ∷ xs) le = qed 𝓛 (‵ (one x o) ∷ ‵ (all (o + s) n xs) ∷ []) ∵
-      use1 𝓛 (‵ (froom (τ E) b o)) (el_room (boxed E) 𝓛 x b o) $ move ! (1 ∷ []) $
-      use1 𝓛 (‵ (froom (items_type (R E) n) b (o + s))) (to_room (o + s) n xs (le_of_suc-le-suc le)) $ move ! (1 ∷ []) $ by ! (𝓛.laws.room_cons (τ E) n b o)
+      use1 𝓛 (‵ (froom (τ E) b o)) (el_room (boxed E) 𝓛 x b o) $ use1 𝓛 (‵ (froom (bare (τ E)) b o)) (𝓛.laws.room-raw (τ E) b o) $ move ! (1 ∷ []) $
+      use1 𝓛 (‵ (froom (items_type (R E) n) b (o + s))) (to_room (o + s) n xs (le_of_suc-le-suc le)) $
+      rewrite ! 0 (λ (k : ℕ). ‵ (froom (items_type (R E) n) b (o + k))) (sym (size-raw (τ E))) refl $ move ! (1 ∷ []) $ by ! (𝓛.laws.room_cons (bare (τ E)) n b o)
 
   takes : (o n : ℕ) (xs : List (X E)) (i : ℕ) → length xs ≤ n → i ≤ length xs → i < n → ⟦ all o n xs ⟧ ⊢ H.room (τ E) b (place s o i) ∗ ⟦ besides E b o n xs i ⟧
   takes o zero xs i le at lt = absurd (not-suc-le-zero lt)
   takes o (suc n) xs zero le at lt = qed 𝓛 (‵ (all o (suc n) xs) ∷ []) ∵
-      use1 𝓛 (‵ (froom (items_type (R E) (suc n)) b o)) (to_room o (suc n) xs le) $ by ! (𝓛.laws.room_uncons (τ E) n b o)
+      use1 𝓛 (‵ (froom (items_type (R E) (suc n)) b o)) (to_room o (suc n) xs le) $
+      use1 𝓛 (‵ (froom (bare (τ E)) b o) ⊛ ‵ (froom (items_type (R E) n) b (o + size (bare (τ E))))) (𝓛.laws.room_uncons (bare (τ E)) n b o) $ split ! $
+      use1 𝓛 (‵ (froom (τ E) b o)) (𝓛.laws.raw-room (τ E) b o) $ move ! (1 ∷ []) $
+      rewrite ! 0 (λ (k : ℕ). ‵ (froom (items_type (R E) n) b (o + k))) (size-raw (τ E)) refl $ move ! (1 ∷ 0 ∷ []) $ done !
   takes o (suc n) [] (suc i) le at lt = absurd (not-suc-le-zero at)
   takes o (suc n) (x ∷ xs) (suc i) le at lt = qed 𝓛 (‵ (one x o) ∷ ‵ (all (o + s) n xs) ∷ []) ∵ move ! (1 ∷ []) $
       use1 𝓛 (‵ (froom (τ E) b (place s (o + s) i)) ⊛ ‵ (besides E b (o + s) n xs i)) (takes (o + s) n xs i (le_of_suc-le-suc le) (le_of_suc-le-suc at) (le_of_suc-le-suc lt)) $ split ! $ frame ! $ move ! (1 ∷ 0 ∷ []) $ done !

@@ -1,0 +1,106 @@
+-- The next value that is left, up or down.
+use Rattle.std.proofs.Common.{◌≡◌, ℕ, zero, suc, ◌+◌, ◌-◌, ◌*◌, ◌<◌, ◌≤◌, Bool, true, false, ◌&&◌, cond, length, get_or, filter, refl, sym, ap, ◌∙◌, arith, ℤ, [], ◌∷◌, ◌++◌, None, Some}
+use Rattle.std.specs.Prelude.{pos, ◌+ℤ◌, int_le, nat_le, nat_lt}
+use Rattle.std.proofs.lemmas.Bool.Decides.{nat_tests}
+use Rattle.std.proofs.lemmas.List.Elements.{filter-append}
+use Rattle.qc_model.specs.Domains.{Values, values_left, greatest_value}
+use Rattle.fd_store.specs.declared.table.Cell.{Cell}
+use Rattle.fd_store.specs.declared.table.Table.{Table}
+use Rattle.fd_store.specs.Held.{values_from, values_up_to, least_of, greatest_of}
+use Rattle.fd_store.specs.Places.{is_set, is_kept, is_inside, values_below}
+use Rattle.fd_store.specs.Sound.{IsCell}
+use Rattle.fd_store.specs.Takes.{box_in}
+use Rattle.fd_store.proofs.Values.{HasLeast, values_none, length-values, least_of as least_at, greatest_of as greatest_at}
+use Rattle.fd_store.proofs.Cells.{values_at}
+use Rattle.fd_store.proofs.Counts.{count_some}
+
+-- the values that pass one more test
+values_filter : (f : ℕ → Bool) (p : ℤ → Bool) (v : ℤ) (n : ℕ) → filter p (values_below f v n) ≡ values_below (λ k. f k && p (v +ℤ pos k)) v n
+values_filter f p v zero = refl
+values_filter f p v (suc n) =
+    filter-append p (values_below f v n) (cond (f n) ((v +ℤ pos n) ∷ []) [])
+    ∙ (ap (λ us. us ++ filter p (cond (f n) ((v +ℤ pos n) ∷ []) [])) (values_filter f p v n)
+    ∙ ap (λ us. values_below (λ k. f k && p (v +ℤ pos k)) v n ++ us) (step (f n)))
+  where
+    step : (b : Bool) → filter p (cond b ((v +ℤ pos n) ∷ []) []) ≡ cond (b && p (v +ℤ pos n)) ((v +ℤ pos n) ∷ []) []
+    step true = refl
+    step false = refl
+
+some_least : (vs : Values) (m : ℤ) → HasLeast vs m → Some m ≡ least_of vs
+some_least [] m h = absurd (omega (arith, h.some))
+some_least (v ∷ vs) m h = ap Some (sym h.least)
+
+some_greatest : (vs : Values) (m : ℤ) → 0 < length vs → greatest_value vs ≡ m → Some m ≡ greatest_of vs
+some_greatest [] m h e = absurd (omega arith)
+some_greatest (v ∷ vs) m h e = ap Some (sym e)
+
+-- a place that the code found: the first from a on, or the last below e
+kept_true : (s p : Bool) (first end k : ℕ) → first ≤ k → k < end → s ≡ true → p ≡ true → ((is_inside first end k && s) && p) ≡ true
+kept_true s p first end k h l e q = grind (arith, nat_tests)
+
+before_next : (s p : Bool) (first end a k next : ℕ) → (first ≤ k → k < end → nat_le a k ≡ p) → (a ≤ k → k < next → s ≡ false) → k < next → ((is_inside first end k && s) && p) ≡ false
+before_next s p first end a k next f g h = grind (arith, nat_tests)
+
+after_prev : (s p : Bool) (first end e k last : ℕ) → (first ≤ k → k < end → nat_lt k e ≡ p) → (last < k → k < e → s ≡ false) → last < k → ((is_inside first end k && s) && p) ≡ false
+after_prev s p first end e k last f g h = grind (arith, nat_tests)
+
+none_next : (s p : Bool) (first end a k : ℕ) → end ≤ a → (first ≤ k → k < end → nat_le a k ≡ p) → ((is_inside first end k && s) && p) ≡ false
+none_next s p first end a k h f = grind (arith, nat_tests)
+
+none_prev : (s p : Bool) (first end e k : ℕ) → e ≤ first → (first ≤ k → k < end → nat_lt k e ≡ p) → ((is_inside first end k && s) && p) ≡ false
+none_prev s p first end e k h f = grind (arith, nat_tests)
+
+from_is : (t : Table) (x : ℕ) (c : Cell) (v : ℤ) → x < length t.cells.items → get_or t.cells.items x c ≡ c →
+    values_from v (values_left (box_in t) x) ≡ values_below (λ k. is_kept t.words.items c k && int_le v (c.base +ℤ pos k)) c.base c.width
+from_is t x c v h at = ap (values_from v) (values_at t.words.items t.cells.items x c h at) ∙ values_filter (is_kept t.words.items c) (int_le v) c.base c.width
+
+up_to_is : (t : Table) (x : ℕ) (c : Cell) (v : ℤ) → x < length t.cells.items → get_or t.cells.items x c ≡ c →
+    values_up_to v (values_left (box_in t) x) ≡ values_below (λ k. is_kept t.words.items c k && int_le (c.base +ℤ pos k) v) c.base c.width
+up_to_is t x c v h at = ap (values_up_to v) (values_at t.words.items t.cells.items x c h at) ∙ values_filter (is_kept t.words.items c) (λ u. int_le u v) c.base c.width
+
+pub next_found : (t : Table) (x : ℕ) (c : Cell) (v : ℤ) (a place : ℕ) → x < length t.cells.items → get_or t.cells.items x c ≡ c → IsCell t.words.items c → c.first ≤ a →
+    ((k : ℕ) → c.first ≤ k → k < c.end → nat_le a k ≡ int_le v (c.base +ℤ pos k)) → 64 * c.start + a ≤ place → place < 64 * c.start + c.end → is_set t.words.items place ≡ true →
+    ((p : ℕ) → 64 * c.start + a ≤ p → p < place → is_set t.words.items p ≡ false) →
+    Some (c.base +ℤ pos (place - 64 * c.start)) ≡ least_of (values_from v (values_left (box_in t) x))
+next_found t x c v a place h at i low test from below found none =
+    let k = place - 64 * c.start in
+    let here : 64 * c.start + (place - 64 * c.start) ≡ place = omega arith in
+    let passes : nat_le a (place - 64 * c.start) ≡ true = up a (place - 64 * c.start) (omega arith) in
+    some_least _ _ (least_at (λ j. is_kept t.words.items c j && int_le v (c.base +ℤ pos j)) c.base k c.width (omega (arith, i.within))
+    (kept_true (is_set t.words.items (64 * c.start + k)) (int_le v (c.base +ℤ pos k)) c.first c.end k (omega arith) (omega arith) (ap (is_set t.words.items) here ∙ found) (sym (test k (omega arith) (omega arith)) ∙ passes))
+    (λ j l. before_next (is_set t.words.items (64 * c.start + j)) (int_le v (c.base +ℤ pos j)) c.first c.end a j k (test j) (λ m n. none (64 * c.start + j) (omega arith) (omega arith)) l))
+    ∙ ap least_of (sym (from_is t x c v h at))
+  where
+    up : (a k : ℕ) → a ≤ k → nat_le a k ≡ true
+    up a k l = grind (arith, nat_tests)
+
+pub next_none : (t : Table) (x : ℕ) (c : Cell) (v : ℤ) (a : ℕ) → x < length t.cells.items → get_or t.cells.items x c ≡ c → c.end ≤ a →
+    ((k : ℕ) → c.first ≤ k → k < c.end → nat_le a k ≡ int_le v (c.base +ℤ pos k)) → None ≡ least_of (values_from v (values_left (box_in t) x))
+next_none t x c v a h at l test = sym (ap least_of (from_is t x c v h at
+    ∙ values_none (λ k. is_kept t.words.items c k && int_le v (c.base +ℤ pos k)) c.base c.width (λ k m. none_next (is_set t.words.items (64 * c.start + k)) (int_le v (c.base +ℤ pos k)) c.first c.end a k l (test k))))
+
+pub prev_found : (t : Table) (x : ℕ) (c : Cell) (v : ℤ) (e end : ℕ) → x < length t.cells.items → get_or t.cells.items x c ≡ c → IsCell t.words.items c → e ≤ c.end →
+    ((k : ℕ) → c.first ≤ k → k < c.end → nat_lt k e ≡ int_le (c.base +ℤ pos k) v) → 64 * c.start + c.first < end → end ≤ 64 * c.start + e → is_set t.words.items (end - 1) ≡ true →
+    ((p : ℕ) → end ≤ p → p < 64 * c.start + e → is_set t.words.items p ≡ false) →
+    Some (c.base +ℤ pos (end - 1 - 64 * c.start)) ≡ greatest_of (values_up_to v (values_left (box_in t) x))
+prev_found t x c v e end h at i high test from below found none =
+    let k = end - 1 - 64 * c.start in
+    let f = λ (j : ℕ). is_kept t.words.items c j && int_le (c.base +ℤ pos j) v in
+    let here : 64 * c.start + (end - 1 - 64 * c.start) ≡ end - 1 = omega arith in
+    let passes : nat_lt (end - 1 - 64 * c.start) e ≡ true = up (end - 1 - 64 * c.start) e (omega arith) in
+    let kept : f k ≡ true = kept_true (is_set t.words.items (64 * c.start + k)) (int_le (c.base +ℤ pos k) v) c.first c.end k (omega arith) (omega arith) (ap (is_set t.words.items) here ∙ found) (sym (test k (omega arith) (omega arith)) ∙ passes) in
+    some_greatest _ _ (some_values f c.base k c.width (omega (arith, i.within)) kept)
+    (greatest_at f c.base k c.width (omega (arith, i.within)) kept
+    (λ j l m. after_prev (is_set t.words.items (64 * c.start + j)) (int_le (c.base +ℤ pos j) v) c.first c.end e j k (test j) (λ a b. none (64 * c.start + j) (omega arith) (omega arith)) l))
+    ∙ ap greatest_of (sym (up_to_is t x c v h at))
+  where
+    up : (k e : ℕ) → k < e → nat_lt k e ≡ true
+    up k e l = grind (arith, nat_tests)
+
+    some_values : (f : ℕ → Bool) (b : ℤ) (k n : ℕ) → k < n → f k ≡ true → 0 < length (values_below f b n)
+    some_values f b k n h e = omega (arith, length-values f b n, count_some f n k h e)
+
+pub prev_none : (t : Table) (x : ℕ) (c : Cell) (v : ℤ) (e : ℕ) → x < length t.cells.items → get_or t.cells.items x c ≡ c → e ≤ c.first →
+    ((k : ℕ) → c.first ≤ k → k < c.end → nat_lt k e ≡ int_le (c.base +ℤ pos k) v) → None ≡ greatest_of (values_up_to v (values_left (box_in t) x))
+prev_none t x c v e h at l test = sym (ap greatest_of (up_to_is t x c v h at
+    ∙ values_none (λ k. is_kept t.words.items c k && int_le (c.base +ℤ pos k) v) c.base c.width (λ k m. none_prev (is_set t.words.items (64 * c.start + k)) (int_le (c.base +ℤ pos k) v) c.first c.end e k l (test k))))

@@ -1,0 +1,12 @@
+use Rattle.std.proofs.Common.{◌∙◌, arith}
+use Rattle.fd_store.proofs.MovedEnds.{count_dense, place_count}
+use Rattle.fd_store.proofs.table.Table.count.Goals as goal
+
+pub returns-then-cell : goal.returns-then-cell
+returns-then-cell c =
+    count_dense c.args.self.now.words.items c.args.cell c.args.a c.args.e c.requires.right c.if-cell.true c.requires.first (omega arith) c.requires.end
+
+pub returns : goal.returns
+returns c =
+    c.count_set.ensures
+    ∙ place_count c.args.self.now.words.items c.as_slice.result.now c.args.cell c.args.a c.args.e c.as_slice.ensures.value c.requires.first (omega arith) c.requires.end c.requires.right.within
