@@ -1,0 +1,20 @@
+//! The table of refutations: when a constraint refutes a box.
+//!
+//! A view is a box in which one variable keeps only its values from one number to another. Each meaning of the table is
+//! one function over the arguments and a view, with the same clause, as the table of what holds has them over values.
+#![tactic(auto)]
+
+mod comparisons;
+mod differing;
+mod elements;
+mod ends;
+mod members;
+mod reading;
+mod spans;
+mod sums;
+mod table;
+mod truths;
+mod view;
+
+pub use sums::{Extent, sum_extent};
+pub use table::{refutes, refutes_in, rule_refutes_in};
