@@ -1,0 +1,4 @@
+pub mod Steps
+pub mod Keeps
+pub mod Widening
+mod OneEnd

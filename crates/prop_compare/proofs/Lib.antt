@@ -1,0 +1,9 @@
+pub mod Kept
+pub mod Commons
+pub mod Sides
+pub mod Reduced
+pub mod Reducing
+pub mod Narrowed
+pub mod Losing
+pub mod Rows
+pub mod Whole

@@ -1,0 +1,73 @@
+use Rattle.std.proofs.Common.{◌≡◌, ◌∙◌, ◌<◌, ◌+◌, sym, ap, subst, arith, length, take, true, false, Bool, ℕ, refl}
+use Rattle.std.specs.Prelude.{pos, ◌+ℤ◌}
+use Rattle.std.proofs.lemmas.List.{take_all}
+use Rattle.qc_model.specs.declared.problem.Arg.TheVariants.{Num}
+use Rattle.qc_model.specs.Domains.{declared_box}
+use Rattle.qc_arguments.specs.Asked.{IsAsked}
+use Rattle.prop_base.specs.Pruning.{is_just}
+use Rattle.prop_base.proofs.Steps.{pruning_more, pruning_sub}
+use Rattle.prop_linear.specs.Tightening.{AllNear, least_sum}
+use Rattle.prop_linear.proofs.Moves.{keeps_items}
+use Rattle.prop_linear.proofs.Found.{placed}
+use Rattle.prop_linear.proofs.tighten.tighten_all.Goals.{then-branch, else-branch}
+use Rattle.prop_linear.proofs.tighten.tighten_all.Goals as goal
+
+pub returns-in_err-tighten_place-clause-pruning : goal.returns-in_err-tighten_place-clause-pruning
+returns-in_err-tighten_place-clause-pruning c =
+    pruning_more (is_just c.args.c.0) c.args.problem.now _ _ _ _ _ _ c.loop-k.invariant.pruning c.tighten_place.ensures.pruning
+
+-- steps were appended before, or none
+longer : (b : Bool) (n m k : ℕ) → (b ≡ false → m ≡ n) → (b ≡ true → n < m) → k ≡ m + 1 → n < k
+longer true n m k p q h = omega (arith, q refl)
+longer false n m k p q h = omega (arith, p refl)
+
+not_both : (b : Bool) → b ≡ true → b ≡ false → ⊥
+not_both true h k = cc
+not_both false h k = cc
+
+pub loop-k-preserved : goal.loop-k-preserved
+loop-k-preserved c =
+    let i = c.loop-k.invariant in
+    let t = c.in_ok-tighten_place.ensures in
+    let pruned = pruning_more (is_just c.args.c.0) c.args.problem.now _ _ _ _ _ _ i.pruning c.tighten_place.ensures.pruning in
+    let declared = pruning_sub (is_just c.args.c.0) c.args.problem.now _ _ _ _ (declared_box c.args.problem.now) c.tighten_place.ensures.pruning i.declared in
+    elim c.if-branch.branch [
+      | then-branch w ↦
+          (record {
+            pruning = pruned;
+            declared = declared;
+            full = t.full;
+            sum = t.sum ∙ i.sum;
+            near = t.near i.near;
+            same = λ e. absurd (not_both c.if-branch.changed w.changed-is e);
+            grown = λ e. longer c.loop-k.changed _ _ _ (λ f. ap length (i.same f)) i.grown (t.grown.0 w.if-branch.true);
+          })
+      | else-branch w ↦
+          (record {
+            pruning = pruned;
+            declared = declared;
+            full = t.full;
+            sum = t.sum ∙ i.sum;
+            near = t.near i.near;
+            same = λ e. t.grown.1 w.if-branch.false ∙ i.same (sym w.changed-is ∙ e);
+            grown = λ e. omega (arith, i.grown (sym w.changed-is ∙ e), ap length (t.grown.1 w.if-branch.false));
+          })
+    ]
+
+pub returns-clause-keeps : goal.returns-clause-keeps
+returns-clause-keeps c =
+    let i = c.loop-k.invariant in
+    let g = c.args.problem.now in
+    let r = c.args.rule.now in
+    let ns = c.args.factors.now in
+    let xs = c.args.items.now in
+    let box = c.loop-k.store.box in
+    let k = c.loop-k.k in
+    let asked : IsAsked g r box = record { rule = c.requires.asked.rule; declared = i.declared; full = i.full } in
+    let all_ns : take k ns ≡ ns = take_all k ns (omega (arith, c.requires.equal)) in
+    let all_xs : take k xs ≡ xs = take_all k xs (omega arith) in
+    let near : AllNear c.args.s ns xs box =
+    subst (λ l. AllNear c.args.s l xs box) all_ns (subst (λ l. AllNear c.args.s (take k ns) l box) all_xs i.near) in
+    keeps_items r ns xs (least_sum ns xs c.args.store.now.box +ℤ pos c.args.s) c.args.s box c.requires.bounded c.requires.once c.requires.equal
+    (λ j x h q. placed g r box xs j x (Num (pos 0)) asked c.requires.sees h q)
+    (ap (λ z. z +ℤ pos c.args.s) (sym i.sum)) near

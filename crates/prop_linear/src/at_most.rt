@@ -1,0 +1,66 @@
+//! The filter of a constraint that says no more than that a sum is at most a number.
+ghost use Rattle.std.specs.Prelude.{◌≡◌, ◌≤◌, ◌^◌, IsTrue, IfOk, length, slice_get, Some, pos, ◌+ℤ◌, ◌≤ℤ◌, unsigned_abs};
+ghost use Rattle.std.specs.List.{list_all};
+ghost use Rattle.qc_model.specs.Valid.{arg_sees, is_number};
+ghost use Rattle.qc_arguments.specs.Asked.{IsAsked};
+ghost use Rattle.qc_refuter.specs.Met.{is_open};
+ghost use Rattle.prop_base.specs.Pruning.{IsPruning, IsFiltered, is_just};
+ghost use Rattle.prop_linear.specs.Tightening.{IsBounded};
+
+use crate::failing::empty_first;
+use crate::repeats::is_repeated;
+use crate::tighten::tighten_all;
+use fd_store::Store;
+use proof_tree::StepList;
+use prop_base::{Filtered, filter_by_ends};
+use prop_compare::Table;
+use qc_model::{Arg, ConId, Constraint, Problem};
+use qc_refuter::sum_extent;
+use std::alloc::AllocError;
+
+// How far the bound is above the least of the sum.
+fn slack(bound: i64, least: i128) -> u128
+    requires least { unsigned_abs least ≤ 10 ^ 21 }
+    requires order { least ≤ℤ bound }
+    ensures { bound ≡ least +ℤ pos result }
+{
+    (bound as i128 - least) as u128
+}
+
+/// One pass, where no variable stands twice; end by end otherwise. Where the bound is passed already, a variable loses
+/// all its values.
+pub(crate) fn filter_at_most(
+    problem: &Problem,
+    c: ConId,
+    rule: &Constraint,
+    factors: &[i64],
+    items: &[Arg],
+    bound: i64,
+    store: &mut Store,
+    steps: &mut StepList,
+) -> Result<Filtered, AllocError>
+    requires c { slice_get problem.now.constraints c.0 ≡ Some rule.now }
+    requires asked { IsAsked problem.now rule.now store.old.box }
+    requires bounded { IsBounded rule.now factors.now items.now bound }
+    requires equal { length factors.now ≡ length items.now }
+    requires few { length items.now ≤ 1000 }
+    requires factors { IsTrue (list_all is_number factors.now) }
+    requires sees { IsTrue (list_all (arg_sees problem.now.variables rule.now.owner.0) items.now) }
+    requires open { IsTrue (list_all (is_open store.old.box) items.now) }
+    ensures pruning { IsPruning (is_just c.0) problem.now store.old store.new steps.old steps.new }
+    ensures answer { IfOk result (λ f. IsFiltered f rule.now store.new.box steps.old steps.new) }
+{
+    if is_repeated(items) {
+        return filter_by_ends(&Table {}, problem, c, rule, store, steps);
+    }
+    let least = sum_extent(problem, rule, factors, items, store).from;
+    if (bound as i128) < least {
+        return empty_first(problem, c, rule, factors, items, bound, store, steps);
+    }
+    let s = slack(bound, least);
+    if tighten_all(problem, c, rule, factors, items, s, store, steps)? {
+        Ok(Filtered::Changed)
+    } else {
+        Ok(Filtered::Stable)
+    }
+}
