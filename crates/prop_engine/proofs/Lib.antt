@@ -1,0 +1,5 @@
+mod Rules
+pub mod Own
+mod Watched
+mod Kept
+pub mod Means

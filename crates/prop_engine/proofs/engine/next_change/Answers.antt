@@ -1,0 +1,44 @@
+use Rattle.std.proofs.Common.{◌∙◌, ◌≤◌, sym, ap, subst, length, drop, ◌<◌}
+use Rattle.prop_base.specs.Pruning.{is_just}
+use Rattle.prop_base.proofs.Steps.{pruning_more}
+use Rattle.prop_engine.specs.Closing.{is_between, IsRun}
+use Rattle.prop_engine.specs.Watching.{names, changed_by}
+use Rattle.prop_engine.proofs.Kept.{inside_first, inside_exist, found_changed}
+use Rattle.prop_engine.proofs.Rules.{pruning_of}
+use Rattle.prop_engine.proofs.engine.next_change.Goals as goal
+
+pub pop-requires-clause-exist : goal.pop-requires-clause-exist
+pop-requires-clause-exist g c =
+    let i = c.loop-c.invariant in
+    inside_exist c.args.span.first c.args.span.last _ c.loop-c.list.queue (subst (λ n. c.args.span.last ≤ n) (sym i.count) c.requires.span) i.inside
+
+pub returns-in_err-run_filter-clause-pruning : goal.returns-in_err-run_filter-clause-pruning
+returns-in_err-run_filter-clause-pruning g c =
+    let ok = is_between c.args.span.first c.args.span.last in
+    let i = c.loop-c.invariant in
+    let here = inside_first ok c.loop-c.list.queue c.pop.new.self.queue c.in-Some.c c.in-Some.ensures.some i.inside in
+    pruning_more ok c.args.problem.now _ _ _ _ _ _ i.pruning (pruning_of ok c.in-Some.c.0 c.args.problem.now _ _ _ _ here c.run_filter.ensures.pruning)
+
+pub returns-in-Emptied-clause-pruning : goal.returns-in-Emptied-clause-pruning
+returns-in-Emptied-clause-pruning g c =
+    let ok = is_between c.args.span.first c.args.span.last in
+    let i = c.loop-c.invariant in
+    let here = inside_first ok c.loop-c.list.queue c.pop.new.self.queue c.in-Some.c c.in-Some.ensures.some i.inside in
+    pruning_more ok c.args.problem.now _ _ _ _ _ _ i.pruning (pruning_of ok c.in-Some.c.0 c.args.problem.now _ _ _ _ here c.run_filter.ensures.pruning)
+
+pub returns-in-Changed-clause-pruning : goal.returns-in-Changed-clause-pruning
+returns-in-Changed-clause-pruning g c =
+    let ok = is_between c.args.span.first c.args.span.last in
+    let i = c.loop-c.invariant in
+    let here = inside_first ok c.loop-c.list.queue c.pop.new.self.queue c.in-Some.c c.in-Some.ensures.some i.inside in
+    pruning_more ok c.args.problem.now _ _ _ _ _ _ i.pruning (pruning_of ok c.in-Some.c.0 c.args.problem.now _ _ _ _ here c.run_filter.ensures.pruning)
+
+pub returns-in-Changed-clause-answer : goal.returns-in-Changed-clause-answer
+returns-in-Changed-clause-answer g c =
+    let ok = is_between c.args.span.first c.args.span.last in
+    let game = c.args.problem.now in
+    let i = c.loop-c.invariant in
+    let d = c.in-Some.c in
+    let a = subst (λ f. IsRun f (is_just d.0) game c.loop-c.store.box c.run_filter.new.store.box c.loop-c.steps c.run_filter.new.steps) c.in-Changed.is c.in_ok-run_filter.ensures.answer in
+    let found = found_changed ok (is_just d.0) game d c.loop-c.list c.pop.new.self c.loop-c.store c.run_filter.new.store c.loop-c.steps c.run_filter.new.steps c.run_filter.ensures.pruning c.in-Some.ensures.others i.kept a.2 in
+    (a.0, subst (λ l. length l < length c.run_filter.new.steps) i.same a.1, λ k r o e u f. found k r o e u (λ z x m. ap (λ l. names (changed_by (drop (length l) c.run_filter.new.steps)) x) i.same ∙ f z x m))

@@ -1,0 +1,102 @@
+-- Which constraints a change wakes, and which of them wait.
+use Rattle.std.specs.Prelude.{◌≡◌, ◌<◌, ◌==◌, ℕ, Bool, false, Option, Some, None, List, [], map, drop, length, slice_get, slice_index_or, IsTrue, IsFalse}
+use Rattle.std.specs.List.{list_any, list_all}
+use Rattle.qc_model.specs.declared.problem.ConId.{ConId}
+use Rattle.qc_model.specs.declared.problem.VarId.{VarId}
+use Rattle.qc_model.specs.Arguments.{variables_of}
+use Rattle.qc_model.specs.Content.{Game, Rule}
+use Rattle.qc_model.specs.Closed.{keeps_ends}
+use Rattle.qc_model.specs.Domains.{Box, values_left, has_empty}
+use Rattle.proof_tree.specs.declared.tree.Step.{Step}
+use Rattle.proof_tree.specs.declared.tree.Step.TheVariants.{Prune, Bound}
+use Rattle.prop_engine.specs.declared.found.Found.{Found}
+use Rattle.prop_engine.specs.declared.found.Found.TheVariants.{Settled, Emptied, Changed}
+use Rattle.prop_engine.specs.Closing.{has_constraint, EachRule, IsClosedFor}
+
+-- the constraints that wait, in order, and a mark for each constraint
+pub record Waiting : Type 0 where
+  pub marks : List Bool
+  pub queue : List ConId
+
+abbrev pub is_marked : Waiting → ℕ → Bool
+is_marked w k = slice_index_or w.marks k false
+
+-- each constraint with a mark waits
+abbrev pub MarkedWait : Waiting → Type 0
+MarkedWait w = (k : ℕ) → IsTrue (is_marked w k) → IsTrue (has_constraint w.queue k)
+
+-- each that waits has a number that passes
+abbrev pub all_waiting : (ℕ → Bool) → Waiting → Bool
+all_waiting ok w = list_all (λ c. ok c.0) w.queue
+
+-- the constraints that mention each variable
+abbrev pub Watches : Type 0
+Watches = List (List ConId)
+
+abbrev pub watchers : Watches → ℕ → List ConId
+watchers ws x = slice_index_or ws x []
+
+-- the constraint k watches x
+abbrev pub is_watched : Watches → ℕ → ℕ → Bool
+is_watched ws k x = has_constraint (watchers ws x) k
+
+-- the lists are of these variables, and each constraint watches its own
+pub record IsWatchOf (g : Game) (ws : Watches) : Type 0 where
+  pub count : length ws ≡ length g.variables
+  pub watched : (k : ℕ) (c : Rule) → slice_get g.constraints k ≡ Some c → IsTrue (list_all (is_watched ws k) (variables_of c.args))
+
+-- each list has what it had
+pub record HasGrown (ws vs : Watches) : Type 0 where
+  pub count : length vs ≡ length ws
+  pub kept : (k x : ℕ) → IsTrue (is_watched ws k x) → IsTrue (is_watched vs k x)
+
+-- the constraint that needn't wait
+abbrev pub is_own : Option ConId → ℕ → Bool
+is_own None k = false
+is_own (Some c) k = c.0 == k
+
+abbrev pub names : List VarId → ℕ → Bool
+names xs x = list_any (λ y. y.0 == x) xs
+
+abbrev pub step_variable : Step → VarId
+step_variable (Prune x low high c) = x
+step_variable (Bound x low high) = x
+
+-- the variables that steps name
+abbrev pub changed_by : List Step → List VarId
+changed_by steps = map step_variable steps
+
+-- each constraint that passes and isn't marked keeps its ends
+abbrev pub KeepsUnmarked : (ℕ → Bool) → Game → Waiting → Box → Type 0
+KeepsUnmarked ok g w box =
+    (k : ℕ) (c : Rule) → IsTrue (ok k) → slice_get g.constraints k ≡ Some c → IsFalse (is_marked w k) → IsTrue (keeps_ends box c)
+
+-- what a run of the queue finds: nothing left to do, an empty domain, or steps of one constraint,
+-- after which it and each constraint that none of the steps concerns keep their ends
+abbrev pub IsFound : Found → (ℕ → Bool) → Game → Waiting → Box → List Step → List Step → Type 0
+IsFound Settled ok g w box steps then = IsClosedFor ok g box
+IsFound Emptied ok g w box steps then = IsTrue (has_empty box)
+IsFound (Changed own) ok g w box steps then =
+    IsFalse (has_empty box) × (length steps < length then)
+    × ((k : ℕ) (c : Rule) → IsTrue (ok k) → slice_get g.constraints k ≡ Some c → IsFalse (is_marked w k) →
+    (IsFalse (own.0 == k) → (x : ℕ) → IsTrue (list_any (λ y. y == x) (variables_of c.args)) → IsFalse (names (changed_by (drop (length steps) then)) x)) →
+    IsTrue (keeps_ends box c))
+
+-- in some box each constraint that passes kept its ends, and since then only the named variables have changed
+pub record WasKept (ok : ℕ → Bool) (g : Game) (changed : List VarId) (box : Box) : Type 0 where
+  pub earlier : Box
+  pub count : length box ≡ length earlier
+  pub kept : EachRule ok g (keeps_ends earlier)
+  pub others : (x : ℕ) → IsFalse (names changed x) → values_left box x ≡ values_left earlier x
+
+-- what an engine knows: the constraints that mention each variable, and those that wait
+pub record Knowing : Type 0 where
+  pub watches : List (List ConId)
+  pub waiting : Waiting
+
+-- an engine of this problem between its calls: none waits
+pub record IsReady (g : Game) (e : Knowing) : Type 0 where
+  pub watches : IsWatchOf g e.watches
+  pub count : length e.waiting.marks ≡ length g.constraints
+  pub marked : MarkedWait e.waiting
+  pub empty : e.waiting.queue ≡ []

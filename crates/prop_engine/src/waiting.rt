@@ -1,0 +1,78 @@
+//! The constraints that wait, each once.
+ghost use Rattle.std.specs.Prelude.{◌≡◌, ◌≢◌, ◌<◌, ℕ, Bool, length, [], ◌∷◌, false, IsTrue, IfOk, OnOk, IfNone, IfSome, nat_lt};
+ghost use Rattle.prop_engine.specs.Watching.{is_marked, MarkedWait, all_waiting};
+
+use qc_model::ConId;
+use std::alloc::{AllocError, Global};
+use std::collections::VecDeque;
+use std::marker::Model;
+
+/// A queue of constraints, with a mark for each constraint that stands in it.
+#[derive(Drop)]
+pub(crate) struct WorkList {
+    marks: Vec<bool>,
+    queue: VecDeque<ConId>,
+}
+
+impl Model for WorkList {
+    ghost use Rattle.prop_engine.specs.Watching.{Waiting};
+
+    ghost Value = { Waiting };
+
+    ghost view = { λ a. record { marks = a.marks.items; queue = a.queue.items } };
+}
+
+impl WorkList {
+    /// An empty queue, with room for each of so many constraints.
+    pub(crate) fn new(alloc: Global, count: usize) -> Result<WorkList, AllocError>
+        ensures count { IfOk result (λ w. length w.marks ≡ count) }
+        ensures empty { IfOk result (λ w. w.queue ≡ []) }
+        ensures idle { IfOk result (λ w. (k : ℕ) → is_marked w k ≡ false) }
+    {
+        Ok(WorkList {
+            marks: vec![in alloc; false; count]?,
+            queue: VecDeque::with_capacity(alloc, count)?,
+        })
+    }
+
+    /// Whether c waits.
+    pub(crate) fn has(&self, c: ConId) -> bool
+        requires { c.0 < length self.now.marks }
+        ensures { result ≡ is_marked self.now c.0 }
+    {
+        self.marks[c.0 as usize]
+    }
+
+    /// Lets c wait behind the others, unless it waits already. After a refusal nothing has changed.
+    pub(crate) fn add(&mut self, c: ConId) -> Result<(), AllocError>
+        requires c { c.0 < length self.old.marks }
+        requires waiting { MarkedWait self.old }
+        ensures waiting { MarkedWait self.new }
+        ensures allowed { (ok : ℕ → Bool) → IsTrue (ok c.0) → IsTrue (all_waiting ok self.old) → IsTrue (all_waiting ok self.new) }
+        ensures count { length self.new.marks ≡ length self.old.marks }
+        ensures kept { (k : ℕ) → IsTrue (is_marked self.old k) → IsTrue (is_marked self.new k) }
+        ensures marked { OnOk result (IsTrue (is_marked self.new c.0)) }
+    {
+        if self.marks[c.0 as usize] {
+            return Ok(());
+        }
+        self.queue.push_back(c)?;
+        self.marks[c.0 as usize] = true;
+        Ok(())
+    }
+
+    /// Takes the first of the queue out.
+    pub(crate) fn pop(&mut self) -> Option<ConId>
+        requires waiting { MarkedWait self.old }
+        requires exist { IsTrue (all_waiting (λ k. nat_lt k (length self.old.marks)) self.old) }
+        ensures waiting { MarkedWait self.new }
+        ensures count { length self.new.marks ≡ length self.old.marks }
+        ensures none { IfNone result ((self.old.queue ≡ []) × (self.new ≡ self.old)) }
+        ensures some { IfSome result (λ c. self.old.queue ≡ c ∷ self.new.queue) }
+        ensures others { IfSome result (λ c. (k : ℕ) → k ≢ c.0 → is_marked self.new k ≡ is_marked self.old k) }
+    {
+        let c = self.queue.pop_front()?;
+        self.marks[c.0 as usize] = false;
+        Some(c)
+    }
+}

@@ -1,0 +1,6 @@
+//! The filters of all families that are built, as one.
+#![tactic(auto)]
+
+mod families;
+
+pub use families::Families;
