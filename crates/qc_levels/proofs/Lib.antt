@@ -1,0 +1,6 @@
+pub mod Compared
+pub mod Bests
+pub mod ExistsVerdicts
+pub mod Gathered
+pub mod ForallVerdicts
+pub mod DemandSteps
