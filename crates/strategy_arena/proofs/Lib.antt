@@ -1,0 +1,4 @@
+mod Parts
+mod FittingLines
+mod ReadParts
+mod UniqueLines

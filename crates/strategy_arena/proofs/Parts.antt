@@ -1,0 +1,78 @@
+-- A text that goes to a sink part by part, behind the bytes that are held.
+use Rattle.std.proofs.Common.{◌≡◌, ◌∙◌, sym, ap, subst, [], ℕ, List, ◌∷◌, ◌++◌, append_assoc, append-nil, Option, Result, Ok, Err, OnOk, OnErr, flat_map}
+use Rattle.std.proofs.lemmas.Grind.{flat_map-append}
+use Rattle.std.specs.Io.KnownBytes.{Appends}
+use Rattle.qc_io.specs.Sink.{AppendsPrefix, Moves}
+use Rattle.qc_io.proofs.Known.{Appends-append, moves_then, prefix_then, prefix_of}
+
+pub on_ok : {T E P : Type 0} (r : Result T E) → P → OnOk r P
+on_ok (Ok x) p = p
+on_ok (Err e) p = tt
+
+pub map_ok : {T E P Q : Type 0} (r : Result T E) → (P → Q) → OnOk r P → OnOk r Q
+map_ok (Ok x) f p = f p
+map_ok (Err e) f p = tt
+
+pub map_err : {T E P Q : Type 0} (r : Result T E) → (P → Q) → OnErr r P → OnErr r Q
+map_err (Ok x) f p = tt
+map_err (Err e) f p = f p
+
+-- a fault at the first part of a text
+pub first_fails : (a b : Option (List ℕ)) (held x y : List ℕ) → AppendsPrefix a b (held ++ x) → AppendsPrefix a b (held ++ (x ++ y))
+first_fails a b held x y p = subst (AppendsPrefix a b) (append_assoc held x y) (prefix_of a b (held ++ x) y p)
+
+-- both parts
+pub both_put : (a b c : Option (List ℕ)) (held x middle y z last : List ℕ) → Moves a b middle (held ++ x) → y ≡ z → Moves b c last (middle ++ y) → Moves a c last (held ++ (x ++ z))
+both_put a b c held x middle y z last p e q =
+    subst (Moves a c last) (append_assoc held x z) (moves_then a b c (held ++ x) middle z last p (subst (λ bs. Moves b c last (middle ++ bs)) e q))
+
+-- a fault at the second part
+pub second_fails : (a b c : Option (List ℕ)) (held x middle y z : List ℕ) → Moves a b middle (held ++ x) → y ≡ z → AppendsPrefix b c (middle ++ y) → AppendsPrefix a c (held ++ (x ++ z))
+second_fails a b c held x middle y z p e q =
+    subst (AppendsPrefix a c) (append_assoc held x z) (prefix_then a b c (held ++ x) middle z p (subst (λ bs. AppendsPrefix b c (middle ++ bs)) e q))
+
+-- the bytes that are held at the end are written
+pub held_written : (a b c : Option (List ℕ)) (held all : List ℕ) → Moves a b held all → Appends b c held → Appends a c all
+held_written a b c held all (xs, first, e) p = subst (Appends a c) e (Appends-append a b c xs held first p)
+
+pub held_fails : (a b c : Option (List ℕ)) (held all : List ℕ) → Moves a b held all → AppendsPrefix b c held → AppendsPrefix a c all
+held_fails a b c held all p q =
+    subst (AppendsPrefix a c) (append-nil all) (prefix_then a b c all held [] p (subst (AppendsPrefix b c) (sym (append-nil held)) q))
+
+-- the text of the items so far, and of one more
+pub one_more : {X : Type 0} (text : X → List ℕ) (xs : List X) (x : X) → flat_map text (xs ++ x ∷ []) ≡ flat_map text xs ++ text x
+one_more text xs x = flat_map-append text xs (x ∷ []) ∙ ap (λ (l : List ℕ). flat_map text xs ++ l) (append-nil (text x))
+
+-- a part behind the text of the items so far
+pub one_put : {X : Type 0} (text : X → List ℕ) (a b c : Option (List ℕ)) (held middle last : List ℕ) (xs : List X) (x : X)
+    → Moves a b middle (held ++ flat_map text xs) → Moves b c last (middle ++ text x) → Moves a c last (held ++ flat_map text (xs ++ x ∷ []))
+one_put text a b c held middle last xs x p q =
+    subst (λ (l : List ℕ). Moves a c last (held ++ l)) (sym (one_more text xs x))
+    (subst (Moves a c last) (append_assoc held (flat_map text xs) (text x)) (moves_then a b c (held ++ flat_map text xs) middle (text x) last p q))
+
+-- a fault at an item, where others are left
+pub one_fails : {X : Type 0} (text : X → List ℕ) (a b c : Option (List ℕ)) (held middle : List ℕ) (xs : List X) (x : X) (rest all : List X)
+    → Moves a b middle (held ++ flat_map text xs) → AppendsPrefix b c (middle ++ text x) → xs ++ x ∷ rest ≡ all → AppendsPrefix a c (held ++ flat_map text all)
+one_fails text a b c held middle xs x rest all p q e =
+    let sofar = prefix_then a b c (held ++ flat_map text xs) middle (text x) p q in
+    let more = prefix_of a c ((held ++ flat_map text xs) ++ text x) (flat_map text rest) sofar in
+    let whole : ((held ++ flat_map text xs) ++ text x) ++ flat_map text rest ≡ held ++ flat_map text all =
+    append_assoc (held ++ flat_map text xs) (text x) (flat_map text rest)
+    ∙ append_assoc held (flat_map text xs) (text x ++ flat_map text rest)
+    ∙ ap (λ (l : List ℕ). held ++ l) (sym (flat_map-append text xs (x ∷ rest)) ∙ ap (λ l. flat_map text l) e) in
+    subst (AppendsPrefix a c) whole more
+
+-- a head, lines, and the bytes that are held at the end, where none were held before
+pub all_written : (a b c d : Option (List ℕ)) (none held last head lines : List ℕ) → none ≡ [] → Moves a b held (none ++ head) → Moves b c last (held ++ lines) → Appends c d last → Appends a d (head ++ lines)
+all_written a b c d none held last head lines e p q r =
+    held_written a c d last (head ++ lines) (moves_then a b c head held lines last (subst (λ (l : List ℕ). Moves a b held (l ++ head)) e p) q) r
+
+pub head_fails : (a b : Option (List ℕ)) (none head lines : List ℕ) → none ≡ [] → AppendsPrefix a b (none ++ head) → AppendsPrefix a b (head ++ lines)
+head_fails a b none head lines e p = prefix_of a b head lines (subst (λ (l : List ℕ). AppendsPrefix a b (l ++ head)) e p)
+
+pub lines_fail : (a b c : Option (List ℕ)) (none held head lines : List ℕ) → none ≡ [] → Moves a b held (none ++ head) → AppendsPrefix b c (held ++ lines) → AppendsPrefix a c (head ++ lines)
+lines_fail a b c none held head lines e p q = prefix_then a b c head held lines (subst (λ (l : List ℕ). Moves a b held (l ++ head)) e p) q
+
+pub end_fails : (a b c d : Option (List ℕ)) (none held last head lines : List ℕ) → none ≡ [] → Moves a b held (none ++ head) → Moves b c last (held ++ lines) → AppendsPrefix c d last → AppendsPrefix a d (head ++ lines)
+end_fails a b c d none held last head lines e p q r =
+    held_fails a c d last (head ++ lines) (moves_then a b c head held lines last (subst (λ (l : List ℕ). Moves a b held (l ++ head)) e p) q) r

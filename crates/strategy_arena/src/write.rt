@@ -1,0 +1,76 @@
+//! Writing a certificate from its lines.
+ghost use Rattle.std.specs.Prelude.{◌≡◌, ◌++◌, [], IsTrue, OnOk, OnErr, flat_map};
+ghost use Rattle.std.specs.List.{list_all};
+ghost use Rattle.std.specs.Io.KnownBytes.{Appends};
+ghost use Rattle.qc_io.specs.Counts.{HasCause};
+ghost use Rattle.qc_io.specs.Sink.{AppendsPrefix, Moves};
+ghost use Rattle.proof_tree.specs.Text.{line_text, outcome_text, version_text, outcome_fits};
+ghost use Rattle.proof_tree.specs.declared.tree.Version.TheVariants.{Two};
+ghost use Rattle.strategy_arena.specs.Certificate.{text_of_lines, line_fits};
+
+use crate::Arena;
+use crate::spell::{Text, spell_line, spell_outcome};
+use proof_tree::{Line, Outcome};
+use qc_io::{Pieces, Sink, WriteFault};
+
+impl Arena {
+    /// Writes the text of the certificate that has this head and these lines, in the second version. It takes no
+    /// memory, and gathers 65,536 bytes before it hands them on. It asks that the optimum stands beside True alone, and
+    /// that all numbers lie in the ranges that a text can have. A fault comes only where the sink's count of faults
+    /// rose, and where it rose no other answer comes; then a prefix of the text was written.
+    pub fn write_from<K: Sink>(
+        &self,
+        outcome: Outcome,
+        optimum: Option<i64>,
+        sink: &mut K,
+    ) -> Result<(), WriteFault>
+        requires head { IsTrue (outcome_fits outcome optimum) }
+        requires lines { IsTrue (list_all line_fits self.now) }
+        ensures ok { OnOk result (Appends (K.written sink.old) (K.written sink.new) (text_of_lines outcome optimum self.now)) }
+        ensures err { OnErr result (AppendsPrefix (K.written sink.old) (K.written sink.new) (text_of_lines outcome optimum self.now)) }
+        ensures cause { HasCause (K.faults sink.old) (K.faults sink.new) result }
+    {
+        let mut pieces = Pieces::new();
+        put_head(&mut pieces, sink, outcome, optimum)?;
+        self.put_lines(&mut pieces, sink)?;
+        pieces.finish(sink)
+    }
+
+    // Puts the lines behind the bytes that are held.
+    fn put_lines<K: Sink>(&self, pieces: &mut Pieces, sink: &mut K) -> Result<(), WriteFault>
+        ensures ok { OnOk result (Moves (K.written sink.old) (K.written sink.new) pieces.new (pieces.old ++ flat_map line_text self.now)) }
+        ensures err { OnErr result (AppendsPrefix (K.written sink.old) (K.written sink.new) (pieces.old ++ flat_map line_text self.now)) }
+        ensures cause { HasCause (K.faults sink.old) (K.faults sink.new) result }
+    {
+        for line in self.lines() {
+            put_line(pieces, sink, line)?;
+        }
+        Ok(())
+    }
+}
+
+fn put_head<K: Sink>(
+    pieces: &mut Pieces,
+    sink: &mut K,
+    outcome: Outcome,
+    optimum: Option<i64>,
+) -> Result<(), WriteFault>
+    ensures ok { OnOk result (Moves (K.written sink.old) (K.written sink.new) pieces.new (pieces.old ++ (version_text Two ++ outcome_text outcome optimum))) }
+    ensures err { OnErr result (AppendsPrefix (K.written sink.old) (K.written sink.new) (pieces.old ++ (version_text Two ++ outcome_text outcome optimum))) }
+    ensures cause { HasCause (K.faults sink.old) (K.faults sink.new) result }
+{
+    let mut text = Text::new();
+    spell_outcome(&mut text, outcome, optimum);
+    pieces.put_all(sink, b"qcert 2\n")?;
+    pieces.put_all(sink, text.as_str().as_bytes())
+}
+
+fn put_line<K: Sink>(pieces: &mut Pieces, sink: &mut K, line: Line) -> Result<(), WriteFault>
+    ensures ok { OnOk result (Moves (K.written sink.old) (K.written sink.new) pieces.new (pieces.old ++ line_text line)) }
+    ensures err { OnErr result (AppendsPrefix (K.written sink.old) (K.written sink.new) (pieces.old ++ line_text line)) }
+    ensures cause { HasCause (K.faults sink.old) (K.faults sink.new) result }
+{
+    let mut text = Text::new();
+    spell_line(&mut text, line);
+    pieces.put_all(sink, text.as_str().as_bytes())
+}
