@@ -1,0 +1,16 @@
+mod Cases
+mod Values
+mod Turns
+mod Wins
+mod Pieces
+mod Digits
+mod Taken
+mod Complete
+mod Stops
+mod Known
+mod Refused
+mod Good
+mod Valid
+mod Positive
+mod Made
+mod Once

@@ -1,0 +1,9 @@
+pub mod Formula
+pub mod Content
+pub mod Laws
+pub mod Tokens
+pub mod Grammar
+pub mod Moves
+pub mod Refusals
+pub mod Table
+pub mod Read
