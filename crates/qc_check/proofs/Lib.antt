@@ -1,6 +1,8 @@
+mod Covers
 pub mod Standings
 pub mod Boards
 pub mod Places
 pub mod Parts
+pub mod PlainWalks
 pub mod Roots
 mod Worked

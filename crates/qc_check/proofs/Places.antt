@@ -11,12 +11,10 @@ use Rattle.qc_model.specs.Domains.{declared_box, domain_values, values_left}
 use Rattle.qc_model.specs.Game.{restriction}
 use Rattle.qc_model.specs.Valid.{is_number, is_domain, is_constraint}
 use Rattle.qc_model.proofs.DomainValues.{domain_fits}
-use Rattle.proof_tree.specs.declared.tree.Case.{Case, Skip, Open, Go'}
-use Rattle.proof_tree.specs.Tree.{Branches, no_more, skip, left_open, go}
-use Rattle.proof_tree.specs.Shape.{put_case, branches_of}
+use Rattle.proof_tree.specs.declared.tree.Piece.{Piece}
+use Rattle.proof_tree.specs.Shape.{case_of, branches_of}
 use Rattle.proof_tree.specs.Place.{is_goal}
-use Rattle.proof_tree.specs.Counts.{branch_weight}
-use Rattle.qc_check.specs.Shown.{case_weight}
+use Rattle.proof_tree.specs.Counts.{branch_weight, case_weight}
 use Rattle.qc_rules.specs.Plain.{NoConditions, has_no_condition}
 use Rattle.qc_check.proofs.Boards.{both, all_at}
 
@@ -100,26 +98,10 @@ is_outside m n x h = grind (arith, nat_tests)
 pub is_below : (m n : ℕ) → m < n → nat_lt m n ≡ true
 is_below m n h = grind (arith, nat_tests)
 
-some_weight : (bs : Branches) → 0 < branch_weight bs
-some_weight no_more = omega arith
-some_weight (skip bs) = omega arith
-some_weight (left_open bs) = omega arith
-some_weight (go steps e bs) = omega arith
-
-pub case_smaller : (cs : List Case) (n : ℕ) (c : Case) → n < length cs → c ≡ get_or cs n c → case_weight c < branch_weight (branches_of cs)
-case_smaller [] n c h e = absurd (omega arith)
-case_smaller (d ∷ cs) zero c h e = subst (λ b. case_weight b < branch_weight (branches_of (d ∷ cs))) (sym e) (here d (branches_of cs))
-  where
-    here : (c : Case) (bs : Branches) → case_weight c < branch_weight (put_case c bs)
-    here Skip bs = let h = some_weight bs in omega (arith, h)
-    here Open bs = let h = some_weight bs in omega (arith, h)
-    here (Go' steps e) bs = let h = some_weight bs in omega (arith, h)
-case_smaller (d ∷ cs) (suc n) c h e = omega (arith, case_smaller cs n c (omega arith) e, later d (branches_of cs))
-  where
-    later : (c : Case) (bs : Branches) → branch_weight bs ≤ branch_weight (put_case c bs)
-    later Skip bs = omega arith
-    later Open bs = omega arith
-    later (Go' steps e) bs = omega arith
+pub case_smaller : (ps : List Piece) (n : ℕ) (p : Piece) → n < length ps → p ≡ get_or ps n p → case_weight (case_of p.case) < branch_weight (branches_of ps)
+case_smaller [] n p h e = absurd (omega arith)
+case_smaller (q ∷ ps) zero p h e = subst (λ (b : Piece). case_weight (case_of b.case) < branch_weight (branches_of (q ∷ ps))) (sym e) (omega arith)
+case_smaller (q ∷ ps) (suc n) p h e = omega (arith, case_smaller ps n p (omega arith) e)
 
 pub none_after : (ss : List Scope) (i : ℕ) → length ss ≤ i → drop i ss ≡ []
 none_after ss i h = drop_of_length-le ss h

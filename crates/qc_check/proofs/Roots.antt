@@ -20,7 +20,7 @@ use Rattle.proof_tree.specs.InPlace.{root_in_place}
 use Rattle.proof_tree.specs.Read.{read, root_finding}
 use Rattle.proof_tree.specs.Proves.{proves, shows, optimises_first}
 use Rattle.proof_tree.specs.Counts.{turns_of, opens_of}
-use Rattle.proof_tree.specs.Stepless.{is_stepless}
+use Rattle.qc_check.specs.PlainTrees.{is_plain}
 use Rattle.qc_check.specs.declared.standing.Standing.{Standing}
 use Rattle.qc_rules.specs.Plain.{NoConditions}
 use Rattle.qc_check.specs.Standing.{standing_of, only_if}
@@ -97,19 +97,19 @@ module _ (g : Game) (t : Tree) where
 
   pub record IsRoot (s : Standing) : Type 0 where
     pub placed : root_in_place g t ≡ true
-    pub stepless : is_stepless (length g.variables) t ≡ true
+    pub plain : is_plain (length g.variables) t ≡ true
     pub known : s ≡ standing_of (root_finding g t).verdict
 
   pub root_is : (s : Standing) → Some s ≡ root_standing → IsRoot s
-  root_is s e = by (root_in_place g t) (is_stepless (length g.variables) t) refl refl e
+  root_is s e = by (root_in_place g t) (is_plain (length g.variables) t) refl refl e
     where
-      by : (a b : Bool) → root_in_place g t ≡ a → is_stepless (length g.variables) t ≡ b → Some s ≡ only_if (a && b) (standing_of (root_finding g t).verdict) → IsRoot s
-      by true true e f h = let k : s ≡ standing_of (root_finding g t).verdict = cc in record { placed = e; stepless = f; known = k }
+      by : (a b : Bool) → root_in_place g t ≡ a → is_plain (length g.variables) t ≡ b → Some s ≡ only_if (a && b) (standing_of (root_finding g t).verdict) → IsRoot s
+      by true true e f h = let k : s ≡ standing_of (root_finding g t).verdict = cc in record { placed = e; plain = f; known = k }
       by true false e f h = cc
       by false b e f h = cc
 
-  pub no_root : None ≡ root_standing → root_in_place g t ≡ true → is_stepless (length g.variables) t ≡ true → ⊥
-  no_root h e f = by (root_in_place g t) (is_stepless (length g.variables) t) e f h
+  pub no_root : None ≡ root_standing → root_in_place g t ≡ true → is_plain (length g.variables) t ≡ true → ⊥
+  no_root h e f = by (root_in_place g t) (is_plain (length g.variables) t) e f h
     where
       by : (a b : Bool) → a ≡ true → b ≡ true → None ≡ only_if (a && b) (standing_of (root_finding g t).verdict) → ⊥
       by true true e f h = cc

@@ -8,8 +8,8 @@ use Rattle.qc_model.specs.declared.problem.Argument.TheVariants.{One}
 use Rattle.qc_model.specs.declared.problem.Pred.TheVariants.{IntEq, IntLt}
 use Rattle.qc_model.specs.Content.{Game}
 use Rattle.qc_model.specs.Domains.{declared_box}
-use Rattle.proof_tree.specs.Tree.{Tree, tree, goal, cases, next, branch, no_more, skip, left_open, go}
-use Rattle.proof_tree.proofs.Build.{var, scope, variable, rule}
+use Rattle.proof_tree.specs.Tree.{Tree, tree, goal, cases, next, branch, no_more, piece, left_open}
+use Rattle.proof_tree.proofs.Build.{var, scope, variable, rule, skip_one, go_one}
 use Rattle.qc_check.specs.declared.standing.Standing.TheVariants.{Lost, Won}
 use Rattle.qc_check.specs.Judged.{node_standing}
 
@@ -33,15 +33,15 @@ two_choices = record {
 
 -- v 1, n, v 2, s, n, g, ., n, v 2, n, g, s, ., .
 abbrev copies : Tree
-copies = tree None (cases [] (branch (var 0) (go [] (next (tree None (cases [] (branch (var 1) (skip (go [] (next (tree None goal)) no_more)))))) (go [] (next (tree None (cases [] (branch (var 1) (go [] (next (tree None goal)) (skip no_more)))))) no_more))))
+copies = tree None (cases [] (branch (var 0) (go_one [] (next (tree None (cases [] (branch (var 1) (skip_one (go_one [] (next (tree None goal)) no_more)))))) (go_one [] (next (tree None (cases [] (branch (var 1) (go_one [] (next (tree None goal)) (skip_one no_more)))))) no_more))))
 
 -- v 2, s, v 1, n, g, s, ., .
 abbrev last_first : Tree
-last_first = tree None (cases [] (branch (var 1) (skip (go [] (branch (var 0) (go [] (next (tree None goal)) (skip no_more))) no_more))))
+last_first = tree None (cases [] (branch (var 1) (skip_one (go_one [] (branch (var 0) (go_one [] (next (tree None goal)) (skip_one no_more))) no_more))))
 
 -- v 2, o, v 2, n, g, s, ., .
 abbrev twice : Tree
-twice = tree None (cases [] (branch (var 1) (left_open (go [] (branch (var 1) (go [] (next (tree None goal)) (skip no_more))) no_more))))
+twice = tree None (cases [] (branch (var 1) (piece None left_open (go_one [] (branch (var 1) (go_one [] (next (tree None goal)) (skip_one no_more))) no_more))))
 
 opponent_copies : node_standing copy_later copies copy_later.scopes 0 (declared_box copy_later) ≡ Some Lost
 opponent_copies = refl

@@ -1,4 +1,5 @@
 pub mod Standing
 pub mod Board
+pub mod PlainTrees
 pub mod Judged
 pub mod Shown

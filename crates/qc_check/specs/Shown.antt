@@ -2,10 +2,8 @@
 use Rattle.std.specs.Prelude.{ℕ, ◌-◌, ◌==◌, nat_lt, nat_le, Bool, true, false, ◌&&◌, cond, Option, Some, None, ℤ}
 use Rattle.proof_tree.specs.declared.tree.Outcome.{Outcome}
 use Rattle.proof_tree.specs.declared.tree.Outcome.TheVariants.{True, False, Open}
-use Rattle.proof_tree.specs.declared.tree.Case.{Case, Skip, Open as OpenCase, Go'}
 use Rattle.proof_tree.specs.Tree.{Tree}
-use Rattle.proof_tree.specs.Shape.{ending_of}
-use Rattle.proof_tree.specs.Counts.{turns_of, opens_of, ending_opens, ending_weight}
+use Rattle.proof_tree.specs.Counts.{turns_of, opens_of}
 use Rattle.qc_check.specs.declared.standing.Standing.{Standing}
 use Rattle.qc_check.specs.declared.standing.Standing.TheVariants.{Lost, Unknown, Won}
 
@@ -34,14 +32,3 @@ outcome_shown t s (Open n) None = is_open s && (turns_of t == n) && nat_lt 0 (op
 -- what is left of n after m, where m is within it
 abbrev pub left_after : ℕ → ℕ → Option ℕ
 left_after n m = cond (nat_le m n) (Some (n - m)) None
-
--- as a measure
-abbrev pub case_weight : Case → ℕ
-case_weight Skip = 1
-case_weight OpenCase = 1
-case_weight (Go' steps end) = ending_weight (ending_of end)
-
-abbrev pub case_opens : Case → ℕ
-case_opens Skip = 0
-case_opens OpenCase = 1
-case_opens (Go' steps end) = ending_opens (ending_of end)

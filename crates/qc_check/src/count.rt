@@ -1,10 +1,11 @@
 //! Counts of a tree, as far as an outcome needs them.
 ghost use Rattle.std.specs.Prelude.{◌≡◌, ◌<◌, nat_lt};
-ghost use Rattle.proof_tree.specs.Shape.{tree_of, ending_of, branches_of};
-ghost use Rattle.proof_tree.specs.Counts.{turns_of, ending_turns, branch_turns, opens_of, ending_opens, branch_opens};
-ghost use Rattle.qc_check.specs.Shown.{left_after, case_opens};
+ghost use Rattle.proof_tree.specs.Shape.{tree_of, ending_of, branches_of, case_of};
+ghost use Rattle.proof_tree.specs.Pieces.{is_open};
+ghost use Rattle.proof_tree.specs.Counts.{turns_of, ending_turns, branch_turns, opens_of, ending_opens, branch_opens, case_count};
+ghost use Rattle.qc_check.specs.Shown.{left_after};
 
-use proof_tree::{Body, Case, End, Node};
+use proof_tree::{Body, Case, End, Node, Piece};
 
 /// What is left of so many turns after those of the node; None where it takes more.
 #[cycle(turns)]
@@ -31,12 +32,12 @@ fn end_turns_left(end: &End, most: u64) -> Option<u64>
 }
 
 #[cycle(turns)]
-fn case_turns_left(cases: &[Case], most: u64) -> Option<u64>
+fn case_turns_left(cases: &[Piece], most: u64) -> Option<u64>
     ensures { result ≡ left_after most (branch_turns (branches_of cases.now)) }
 {
     let mut left = most;
-    for case in cases {
-        if let Case::Go(own) = case {
+    for piece in cases {
+        if let Case::Go(own) = &piece.case {
             if left == 0 {
                 return None;
             }
@@ -71,11 +72,11 @@ fn end_has_open(end: &End) -> bool
 }
 
 #[cycle(opens)]
-fn cases_have_open(cases: &[Case]) -> bool
+fn cases_have_open(cases: &[Piece]) -> bool
     ensures { result ≡ nat_lt 0 (branch_opens (branches_of cases.now)) }
 {
-    for case in cases {
-        if case_has_open(case) {
+    for piece in cases {
+        if case_has_open(&piece.case) {
             return true;
         }
     }
@@ -84,7 +85,7 @@ fn cases_have_open(cases: &[Case]) -> bool
 
 #[cycle(opens)]
 fn case_has_open(case: &Case) -> bool
-    ensures { result ≡ nat_lt 0 (case_opens case.now) }
+    ensures { result ≡ nat_lt 0 (case_count is_open (case_of case.now)) }
 {
     match case {
         Case::Skip => false,

@@ -6,56 +6,56 @@ ghost use Rattle.std.specs.Prelude.{◌≡◌, ◌<◌, ◌≤◌, suc, length, 
 ghost use Rattle.qc_model.specs.Domains.{declared_box, values_left, box_at};
 ghost use Rattle.qc_model.specs.Valid.{is_number};
 ghost use Rattle.proof_tree.specs.Tree.{tree, goal, cases as tree_cases, next, barred, branch};
-ghost use Rattle.proof_tree.specs.Shape.{tree_of, ending_of, branches_of};
+ghost use Rattle.proof_tree.specs.Shape.{tree_of, ending_of, branches_of, case_of};
 ghost use Rattle.qc_rules.specs.Plain.{NoConditions};
-ghost use Rattle.qc_check.specs.Board.{IsBoard, IsLevel, box_of};
+ghost use Rattle.qc_check.specs.Board.{IsAt, IsFree};
 ghost use Rattle.qc_check.specs.Judged.{node_standing, ending_standing, cases_standing, case_standing};
 
-use crate::board::Board;
-use crate::level::{Level, allowed_tuple};
+use crate::cover::case_end;
+use crate::level::allowed_tuple;
 use crate::standing::{Standing, preferred_of, standing_without_tuple};
-use proof_tree::{Body, Case, Cases, End, Node};
-use qc_model::{Problem, ScopeId, VarId};
-use qc_rules::all_hold;
+use proof_tree::{Body, Case, Cases, End, Node, Piece};
+use qc_model::{ScopeId, VarId};
+use qc_rules::{Board, Level, Levels, all_hold};
 
 /// A node of a scope, or of the goal.
 #[cycle(judge)]
 pub(crate) fn judge_node(
-    problem: &Problem,
+    levels: &Levels,
     number: u8,
     board: &mut Board,
     node: &Node,
 ) -> Option<Standing>
-    requires scope { number ≤ length problem.now.scopes }
-    requires plain { NoConditions problem.now.scopes }
-    requires board { IsBoard problem.now number board.old.values.items board.old.marks.items }
-    ensures exact { result ≡ node_standing problem.now (tree_of node.now) (drop number problem.now.scopes) number (box_of problem.now board.old.values.items board.old.marks.items) }
-    ensures values { board.new.values.items ≡ board.old.values.items }
-    ensures marks { board.new.marks.items ≡ board.old.marks.items }
+    requires scope { number ≤ length levels.now.problem.now.scopes }
+    requires plain { NoConditions levels.now.problem.now.scopes }
+    requires board { IsAt levels.now.problem.now number board.old }
+    ensures exact { result ≡ node_standing levels.now.problem.now (tree_of node.now) (drop number levels.now.problem.now.scopes) number board.old.box }
+    ensures same { board.new ≡ board.old }
 {
     if node.horizon.is_some() {
         return None;
     }
     match &node.body {
         Body::Stuck => None,
-        Body::Goal => judge_goal(problem, number, board),
-        Body::Tree(own) => judge_scope(problem, number, board, own),
+        Body::Goal => judge_goal(levels, number, board),
+        Body::Tree(own) => judge_scope(levels, number, board, own),
     }
 }
 
 /// The goal, where no scope is left.
-fn judge_goal(problem: &Problem, number: u8, board: &Board) -> Option<Standing>
-    requires scope { number ≤ length problem.now.scopes }
-    requires board { IsBoard problem.now number board.now.values.items board.now.marks.items }
-    ensures { result ≡ node_standing problem.now (tree None goal) (drop number problem.now.scopes) number (box_of problem.now board.now.values.items board.now.marks.items) }
+fn judge_goal(levels: &Levels, number: u8, board: &Board) -> Option<Standing>
+    requires scope { number ≤ length levels.now.problem.now.scopes }
+    requires board { IsAt levels.now.problem.now number board.now }
+    ensures { result ≡ node_standing levels.now.problem.now (tree None goal) (drop number levels.now.problem.now.scopes) number board.now.box }
 {
+    let problem = levels.problem;
     problem.known();
+    board.known();
     if (number as usize) < problem.scopes() {
         return None;
     }
-    let values = board.values.as_slice();
-    let reached = &values[..problem.variables_before(number as usize)];
-    if all_hold(problem, problem.restriction(number as usize), reached) {
+    let values = board.values_to(problem.variables());
+    if all_hold(problem, levels.goal_rules, values) {
         Some(Standing::Won)
     } else {
         Some(Standing::Lost)
@@ -64,58 +64,48 @@ fn judge_goal(problem: &Problem, number: u8, board: &Board) -> Option<Standing>
 
 /// The own tree of a scope.
 #[cycle(judge)]
-fn judge_scope(problem: &Problem, number: u8, board: &mut Board, own: &Cases) -> Option<Standing>
-    requires scope { number ≤ length problem.now.scopes }
-    requires plain { NoConditions problem.now.scopes }
-    requires board { IsBoard problem.now number board.old.values.items board.old.marks.items }
-    ensures exact { result ≡ node_standing problem.now (tree None (tree_cases own.now.steps (ending_of own.now.end))) (drop number problem.now.scopes) number (box_of problem.now board.old.values.items board.old.marks.items) }
-    ensures values { board.new.values.items ≡ board.old.values.items }
-    ensures marks { board.new.marks.items ≡ board.old.marks.items }
+fn judge_scope(levels: &Levels, number: u8, board: &mut Board, own: &Cases) -> Option<Standing>
+    requires scope { number ≤ length levels.now.problem.now.scopes }
+    requires plain { NoConditions levels.now.problem.now.scopes }
+    requires board { IsAt levels.now.problem.now number board.old }
+    ensures exact { result ≡ node_standing levels.now.problem.now (tree None (tree_cases own.now.steps (ending_of own.now.end))) (drop number levels.now.problem.now.scopes) number board.old.box }
+    ensures same { board.new ≡ board.old }
 {
-    problem.known();
-    if number as usize == problem.scopes() {
+    levels.problem.known();
+    if number as usize == levels.problem.scopes() {
         return None;
     }
     if !own.steps.items().is_empty() {
         return None;
     }
-    let level = Level {
-        problem,
-        rules: problem.restriction(number as usize),
-        number,
-        kind: problem.scope(ScopeId(number)).kind,
-        from: problem.variables_before(number as usize),
-        stop: problem.variables_before(number as usize + 1),
-    };
-    judge_end(&level, board, &own.end)
+    let level = levels.level(ScopeId(number));
+    judge_end(levels, level, board, &own.end)
 }
 
 /// The end of a part of a scope's tree.
 #[cycle(judge)]
-fn judge_end(level: &Level, board: &mut Board, end: &End) -> Option<Standing>
-    requires level { IsLevel level.now.problem.now level.now.number level.now.rules.now level.now.from level.now.stop }
+fn judge_end(levels: &Levels, level: &Level, board: &mut Board, end: &End) -> Option<Standing>
+    requires levels { level.now.problem.now ≡ levels.now.problem.now }
     requires plain { NoConditions level.now.problem.now.scopes }
-    requires board { IsBoard level.now.problem.now level.now.number board.old.values.items board.old.marks.items }
-    ensures exact { result ≡ ending_standing level.now.problem.now level.now.kind (ending_of end.now) (drop level.now.number level.now.problem.now.scopes) level.now.number (box_of level.now.problem.now board.old.values.items board.old.marks.items) }
-    ensures values { board.new.values.items ≡ board.old.values.items }
-    ensures marks { board.new.marks.items ≡ board.old.marks.items }
+    requires board { IsAt level.now.problem.now level.now.number board.old }
+    ensures exact { result ≡ ending_standing level.now.problem.now level.now.kind (ending_of end.now) (drop level.now.number level.now.problem.now.scopes) level.now.number board.old.box }
+    ensures same { board.new ≡ board.old }
 {
-    level.problem.known();
+    board.known();
     match end {
         End::Empty => None,
         End::Barred => judge_barred(level, board),
-        End::Next(node) => judge_next(level, board, node),
-        End::Branch { x, cases } => judge_branch(level, board, *x, cases.items()),
+        End::Next(node) => judge_next(levels, level, board, node),
+        End::Branch { x, cases } => judge_branch(levels, level, board, *x, cases.items()),
     }
 }
 
 /// A tuple that is said not to be allowed.
 fn judge_barred(level: &Level, board: &Board) -> Option<Standing>
-    requires level { IsLevel level.now.problem.now level.now.number level.now.rules.now level.now.from level.now.stop }
-    requires board { IsBoard level.now.problem.now level.now.number board.now.values.items board.now.marks.items }
-    ensures { result ≡ ending_standing level.now.problem.now level.now.kind barred (drop level.now.number level.now.problem.now.scopes) level.now.number (box_of level.now.problem.now board.now.values.items board.now.marks.items) }
+    requires board { IsAt level.now.problem.now level.now.number board.now }
+    ensures { result ≡ ending_standing level.now.problem.now level.now.kind barred (drop level.now.number level.now.problem.now.scopes) level.now.number board.now.box }
 {
-    level.problem.known();
+    board.known();
     let allowed = allowed_tuple(level, board)?;
     if allowed {
         return None;
@@ -125,96 +115,111 @@ fn judge_barred(level: &Level, board: &Board) -> Option<Standing>
 
 /// An allowed tuple, and the node after it.
 #[cycle(judge)]
-fn judge_next(level: &Level, board: &mut Board, node: &Node) -> Option<Standing>
-    requires level { IsLevel level.now.problem.now level.now.number level.now.rules.now level.now.from level.now.stop }
+fn judge_next(levels: &Levels, level: &Level, board: &mut Board, node: &Node) -> Option<Standing>
+    requires levels { level.now.problem.now ≡ levels.now.problem.now }
     requires plain { NoConditions level.now.problem.now.scopes }
-    requires board { IsBoard level.now.problem.now level.now.number board.old.values.items board.old.marks.items }
-    ensures exact { result ≡ ending_standing level.now.problem.now level.now.kind (next (tree_of node.now)) (drop level.now.number level.now.problem.now.scopes) level.now.number (box_of level.now.problem.now board.old.values.items board.old.marks.items) }
-    ensures values { board.new.values.items ≡ board.old.values.items }
-    ensures marks { board.new.marks.items ≡ board.old.marks.items }
+    requires board { IsAt level.now.problem.now level.now.number board.old }
+    ensures exact { result ≡ ending_standing level.now.problem.now level.now.kind (next (tree_of node.now)) (drop level.now.number level.now.problem.now.scopes) level.now.number board.old.box }
+    ensures same { board.new ≡ board.old }
 {
     level.problem.known();
+    board.known();
     let allowed = allowed_tuple(level, board)?;
     if !allowed {
         return None;
     }
-    judge_node(level.problem, level.number + 1, board, node)
+    judge_node(levels, level.number + 1, board, node)
 }
 
-/// A branch on a variable of the scope that has no value yet, with a case for each of its values.
+/// A branch on a variable of the scope that has no value yet, with cases for its values.
 #[cycle(judge)]
-fn judge_branch(level: &Level, board: &mut Board, x: VarId, cases: &[Case]) -> Option<Standing>
-    requires level { IsLevel level.now.problem.now level.now.number level.now.rules.now level.now.from level.now.stop }
+fn judge_branch(
+    levels: &Levels,
+    level: &Level,
+    board: &mut Board,
+    x: VarId,
+    cases: &[Piece],
+) -> Option<Standing>
+    requires levels { level.now.problem.now ≡ levels.now.problem.now }
     requires plain { NoConditions level.now.problem.now.scopes }
-    requires board { IsBoard level.now.problem.now level.now.number board.old.values.items board.old.marks.items }
-    ensures exact { result ≡ ending_standing level.now.problem.now level.now.kind (branch x (branches_of cases.now)) (drop level.now.number level.now.problem.now.scopes) level.now.number (box_of level.now.problem.now board.old.values.items board.old.marks.items) }
-    ensures values { board.new.values.items ≡ board.old.values.items }
-    ensures marks { board.new.marks.items ≡ board.old.marks.items }
+    requires board { IsAt level.now.problem.now level.now.number board.old }
+    ensures exact { result ≡ ending_standing level.now.problem.now level.now.kind (branch x (branches_of cases.now)) (drop level.now.number level.now.problem.now.scopes) level.now.number board.old.box }
+    ensures same { board.new ≡ board.old }
 {
-    level.problem.known();
+    board.known();
     let place = x.0 as usize;
     if place < level.from || level.stop <= place {
         return None;
     }
-    if board.marks[place] {
+    if board.is_fixed(x) {
         return None;
     }
-    judge_cases(level, board, x, cases)
+    judge_cases(levels, level, board, x, cases)
 }
 
 /// The cases of a branch.
 #[cycle(judge)]
-fn judge_cases(level: &Level, board: &mut Board, x: VarId, cases: &[Case]) -> Option<Standing>
-    requires level { IsLevel level.now.problem.now level.now.number level.now.rules.now level.now.from level.now.stop }
+fn judge_cases(
+    levels: &Levels,
+    level: &Level,
+    board: &mut Board,
+    x: VarId,
+    cases: &[Piece],
+) -> Option<Standing>
+    requires levels { level.now.problem.now ≡ levels.now.problem.now }
     requires plain { NoConditions level.now.problem.now.scopes }
-    requires board { IsBoard level.now.problem.now level.now.number board.old.values.items board.old.marks.items }
+    requires board { IsAt level.now.problem.now level.now.number board.old }
     requires place { x.0 < level.now.stop }
-    requires free { slice_get board.old.marks.items x.0 ≡ Some false }
-    ensures exact { result ≡ cases_standing level.now.problem.now level.now.kind (branches_of cases.now) x.0 (values_left (declared_box level.now.problem.now) x.0) (drop level.now.number level.now.problem.now.scopes) level.now.number (box_of level.now.problem.now board.old.values.items board.old.marks.items) }
-    ensures values { board.new.values.items ≡ board.old.values.items }
-    ensures marks { board.new.marks.items ≡ board.old.marks.items }
+    requires free { IsFree level.now.problem.now board.old x.0 }
+    ensures exact { result ≡ cases_standing level.now.problem.now level.now.kind (branches_of cases.now) x.0 (values_left (declared_box level.now.problem.now) x.0) (drop level.now.number level.now.problem.now.scopes) level.now.number board.old.box }
+    ensures same { board.new ≡ board.old }
 {
     level.problem.known();
     let domain = &level.problem.variable(x).domain;
-    let size = domain.size();
-    if cases.len() != size as usize {
-        return None;
-    }
     let mut standing = standing_without_tuple(level.kind);
-    for k in 0..size {
-        let found = judge_case(level, board, x, domain.value_at(k), &cases[k as usize])?;
+    let mut place = 0;
+    for piece in cases {
+        let end = case_end(domain, place, piece.upto)?;
+        let found = judge_case(levels, level, board, x, domain.value_at(place), piece)?;
         standing = preferred_of(level.kind, standing, found);
+        place = end;
+    }
+    if place < domain.size() {
+        return None;
     }
     Some(standing)
 }
 
-/// One case, for this value of the variable.
+/// One case, whose first value of the variable is this.
 #[cycle(judge)]
 fn judge_case(
+    levels: &Levels,
     level: &Level,
     board: &mut Board,
     x: VarId,
     value: i64,
-    case: &Case,
+    piece: &Piece,
 ) -> Option<Standing>
-    requires level { IsLevel level.now.problem.now level.now.number level.now.rules.now level.now.from level.now.stop }
+    requires levels { level.now.problem.now ≡ levels.now.problem.now }
     requires plain { NoConditions level.now.problem.now.scopes }
-    requires board { IsBoard level.now.problem.now level.now.number board.old.values.items board.old.marks.items }
+    requires board { IsAt level.now.problem.now level.now.number board.old }
     requires place { x.0 < level.now.stop }
-    requires free { slice_get board.old.marks.items x.0 ≡ Some false }
+    requires free { IsFree level.now.problem.now board.old x.0 }
     requires value { IsTrue (is_number value) }
-    ensures exact { result ≡ case_standing level.now.problem.now level.now.kind case.now x.0 value (drop level.now.number level.now.problem.now.scopes) level.now.number (box_of level.now.problem.now board.old.values.items board.old.marks.items) }
-    ensures values { board.new.values.items ≡ board.old.values.items }
-    ensures marks { board.new.marks.items ≡ board.old.marks.items }
+    ensures exact { result ≡ case_standing level.now.problem.now level.now.kind piece.now.upto (case_of piece.now.case) x.0 value (drop level.now.number level.now.problem.now.scopes) level.now.number board.old.box }
+    ensures same { board.new ≡ board.old }
 {
-    match case {
+    match &piece.case {
         Case::Skip => Some(Standing::Unknown),
         Case::Open => Some(Standing::Unknown),
         Case::Go(own) => {
+            if piece.upto.is_some() {
+                return None;
+            }
             if !own.steps.items().is_empty() {
                 return None;
             }
-            judge_value(level, board, x, value, &own.end)
+            judge_value(levels, level, board, x, value, &own.end)
         }
     }
 }
@@ -222,28 +227,24 @@ fn judge_case(
 /// The part of the tree where the variable has this value.
 #[cycle(judge)]
 fn judge_value(
+    levels: &Levels,
     level: &Level,
     board: &mut Board,
     x: VarId,
     value: i64,
     end: &End,
 ) -> Option<Standing>
-    requires level { IsLevel level.now.problem.now level.now.number level.now.rules.now level.now.from level.now.stop }
+    requires levels { level.now.problem.now ≡ levels.now.problem.now }
     requires plain { NoConditions level.now.problem.now.scopes }
-    requires board { IsBoard level.now.problem.now level.now.number board.old.values.items board.old.marks.items }
+    requires board { IsAt level.now.problem.now level.now.number board.old }
     requires place { x.0 < level.now.stop }
-    requires free { slice_get board.old.marks.items x.0 ≡ Some false }
+    requires free { IsFree level.now.problem.now board.old x.0 }
     requires value { IsTrue (is_number value) }
-    ensures exact { result ≡ ending_standing level.now.problem.now level.now.kind (ending_of end.now) (drop level.now.number level.now.problem.now.scopes) level.now.number (box_at (box_of level.now.problem.now board.old.values.items board.old.marks.items) x.0 value) }
-    ensures values { board.new.values.items ≡ board.old.values.items }
-    ensures marks { board.new.marks.items ≡ board.old.marks.items }
+    ensures exact { result ≡ ending_standing level.now.problem.now level.now.kind (ending_of end.now) (drop level.now.number level.now.problem.now.scopes) level.now.number (box_at board.old.box x.0 value) }
+    ensures same { board.new ≡ board.old }
 {
-    let place = x.0 as usize;
-    let earlier = board.values[place];
-    board.values[place] = value;
-    board.marks[place] = true;
-    let found = judge_end(level, board, end);
-    board.values[place] = earlier;
-    board.marks[place] = false;
+    board.fix(x, value);
+    let found = judge_end(levels, level, board, end);
+    board.free(x);
     found
 }

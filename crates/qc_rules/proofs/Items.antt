@@ -5,7 +5,7 @@ use Rattle.std.specs.List.{list_all}
 use Rattle.qc_model.specs.declared.problem.Scope.{Scope}
 use Rattle.qc_rules.specs.Plain.{NoConditions}
 
-both : (a b : Bool) → (a && b) ≡ true → (a ≡ true) × (b ≡ true)
+pub both : (a b : Bool) → (a && b) ≡ true → (a ≡ true) × (b ≡ true)
 both true b e = (refl, e)
 both false b e = cc
 
@@ -16,7 +16,7 @@ all_item p (y ∷ xs) zero x h l e = subst (λ z. p z ≡ true) (sym e) (both (p
 all_item p (y ∷ xs) (suc n) x h l e = all_item p xs n x (both (p y) (list_all p xs) h).1 (omega arith) e
 
 -- what stands at a place is the head of what is dropped up to it
-drop_at : {X : Type 0} (n : ℕ) (xs : List X) (y : X) → slice_get xs n ≡ Some y → drop n xs ≡ y ∷ drop (suc n) xs
+pub drop_at : {X : Type 0} (n : ℕ) (xs : List X) (y : X) → slice_get xs n ≡ Some y → drop n xs ≡ y ∷ drop (suc n) xs
 drop_at n [] y e = cc
 drop_at zero (x ∷ xs) y e = let h : x ≡ y = cc in ap (λ z. z ∷ xs) h
 drop_at (suc n) (x ∷ xs) y e = drop_at n xs y e

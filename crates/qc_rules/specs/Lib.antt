@@ -1,1 +1,4 @@
 pub mod Plain
+pub mod Spans
+pub mod Tables
+pub mod Boards

@@ -1,9 +1,24 @@
-//! What the search and the checker both ask of a problem: whether rules hold on values, and whether
-//! nothing is optimised.
+//! What the search and the checker both ask of a problem: where the variables and constraints of each
+//! scope stand, whether rules hold on values, and whether a scope has a condition.
 #![tactic(auto)]
 
-mod plain;
+mod blocks;
+mod board;
+mod conditions;
+mod level;
+mod levels;
+mod marks;
+mod places;
 mod rules;
+mod scopes;
+mod span;
+mod start;
+#[cfg(test)]
+mod tests;
 
-pub use plain::is_plain;
+pub use board::Board;
+pub use conditions::has_no_condition;
+pub use level::Level;
+pub use levels::Levels;
 pub use rules::all_hold;
+pub use span::Span;

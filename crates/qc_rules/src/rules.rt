@@ -4,7 +4,8 @@ ghost use Rattle.std.specs.List.{list_all};
 ghost use Rattle.qc_model.specs.Holds.{holds_on};
 ghost use Rattle.qc_model.specs.Valid.{is_constraint, is_number};
 
-use qc_model::{Constraint, Problem, satisfies};
+use qc_evaluation::satisfies;
+use qc_model::{Constraint, Problem};
 
 /// Whether each of the constraints holds on the values. It takes no memory, and stops at the first
 /// that doesn't hold.

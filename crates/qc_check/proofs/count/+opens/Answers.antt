@@ -20,5 +20,5 @@ end_has_open-returns-in-Branch t c =
 
 pub cases_have_open-case_has_open-requires : goal.cases_have_open-case_has_open-requires
 cases_have_open-case_has_open-requires t c =
-    let less = case_smaller c.args.cases.now c.loop-case.case-index c.case-item.result c.loop-case-test.true c.case-item.is in
+    let less = case_smaller c.args.cases.now c.loop-piece.piece-index c.piece-item.result c.loop-piece-test.true c.piece-item.is in
     (omega (arith, less), tt)

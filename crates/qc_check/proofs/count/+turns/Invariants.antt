@@ -13,8 +13,8 @@ decreases-end_turns_left l = ending_weight (ending_of l.end.now)
 abbrev pub decreases-case_turns_left : goal.decreases-case_turns_left
 decreases-case_turns_left l = branch_weight (branches_of l.cases.now)
 
-abbrev pub invariant-case_turns_left-loop-case : goal.invariant-case_turns_left-loop-case
-invariant-case_turns_left-loop-case l = record {
-  told : left_after l.left (branch_turns (branches_of (drop l.case-index l.cases))) ≡ left_after l.fn.most (branch_turns (branches_of l.cases));
-  less : branch_weight (branches_of (drop l.case-index l.cases)) ≤ branch_weight (branches_of l.cases);
+abbrev pub invariant-case_turns_left-loop-piece : goal.invariant-case_turns_left-loop-piece
+invariant-case_turns_left-loop-piece l = record {
+  told : left_after l.left (branch_turns (branches_of (drop l.piece-index l.cases))) ≡ left_after l.fn.most (branch_turns (branches_of l.cases));
+  less : branch_weight (branches_of (drop l.piece-index l.cases)) ≤ branch_weight (branches_of l.cases);
 }

@@ -2,4 +2,4 @@ use Rattle.qc_check.proofs.Places.{plain_to}
 use Rattle.qc_check.proofs.space.Space.new.Goals as goal
 
 pub invariant_of-result : goal.invariant_of-result
-invariant_of-result c = record { plain = plain_to c.args.problem.now.scopes c.requires; values = c.in_ok-board.ensures.values; marks = c.in_ok-board.ensures.marks }
+invariant_of-result c = record { plain = plain_to c.args.problem.now.scopes c.requires; of_problem = c.in_ok-levels.ensures; declared = c.in_ok-board.ensures.0; first = c.in_ok-board.ensures.1 }
