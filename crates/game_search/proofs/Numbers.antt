@@ -5,6 +5,7 @@ use Rattle.std.proofs.lemmas.Bool.Decides.{nat_tests}
 use Rattle.std.specs.Prelude.{◌≤◌, slice_get, unsigned_abs, ◌==◌}
 use Rattle.std.specs.List.{list_all}
 use Rattle.qc_model.specs.declared.problem.Variable.{Variable}
+use Rattle.qc_model.specs.declared.problem.Domain.{Domain}
 use Rattle.qc_model.specs.Content.{Game}
 use Rattle.qc_model.specs.Domains.{domain_values}
 use Rattle.qc_model.specs.Game.{restriction}
@@ -40,6 +41,9 @@ all_push p (y ∷ xs) x h e = let r = both (p y) (list_all p xs) h in ap (λ c. 
 -- a value of a valid domain is a number
 pub value_fits : (x : Variable) (k : ℕ) (v : ℤ) → is_domain x.domain ≡ true → slice_get (domain_values x.domain) k ≡ Some v → is_number v ≡ true
 value_fits x k v h e = all_at is_number (domain_values x.domain) k v (domain_fits x.domain h) e
+
+pub item_fits : (d : Domain) (k : ℕ) (v : ℤ) → is_domain d ≡ true → slice_get (domain_values d) k ≡ Some v → is_number v ≡ true
+item_fits d k v h e = all_at is_number (domain_values d) k v (domain_fits d h) e
 
 pub rules_valid : (g : Game) (i : ℕ) → list_all (is_constraint g.variables) g.constraints ≡ true → list_all (is_constraint g.variables) (restriction g i) ≡ true
 rules_valid g i h = all_filter (is_constraint g.variables) (λ c. c.owner.0 == i) g.constraints h

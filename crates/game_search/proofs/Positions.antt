@@ -2,13 +2,8 @@
 use Rattle.std.proofs.Common.{◌≡◌, ℕ, zero, suc, ◌<◌, ◌≤◌, Bool, true, false, ◌&&◌, ◌||◌, List, [], ◌∷◌, ◌++◌, length, map, take, drop, set, get_or, refl, ap, ◌∙◌, arith}
 use Rattle.std.specs.Prelude.{ℤ}
 use Rattle.std.specs.List.{list_all}
-use Rattle.qc_model.specs.Content.{Game}
-use Rattle.qc_model.specs.Domains.{Box, Values, declared_box, is_single, is_none_left, has_empty, box_values, least_value}
-
--- each domain has its one value
-abbrev pub singles : List ℤ → Box
-singles [] = []
-singles (v ∷ w) = (v ∷ []) ∷ singles w
+use Rattle.game_search.specs.Boxes.{singles, filled}
+use Rattle.qc_model.specs.Domains.{Box, Values, is_single, is_none_left, has_empty, box_values, least_value}
 
 all_single : (w : List ℤ) → list_all is_single (singles w) ≡ true
 all_single [] = refl
@@ -17,12 +12,6 @@ all_single (v ∷ w) = all_single w
 heads_singles : (w : List ℤ) → map least_value (singles w) ≡ w
 heads_singles [] = refl
 heads_singles (v ∷ w) = ap (λ u. v ∷ u) (heads_singles w)
-
-abbrev pub filled : List ℤ → Box → Box
-filled a ds = singles a ++ drop (length a) ds
-
-abbrev pub box_of : Game → List ℤ → Box
-box_of g a = filled a (declared_box g)
 
 pub set_next : (a : List ℤ) (ds : Box) (d : Values) (es : Box) (v : ℤ) → drop (length a) ds ≡ d ∷ es → set (filled a ds) (length a) (v ∷ []) ≡ filled (a ++ v ∷ []) ds
 set_next [] [] d es v h = cc

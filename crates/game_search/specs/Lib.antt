@@ -1,4 +1,6 @@
-pub mod Wins
-pub mod Enumeration
-pub mod Level
-pub mod Outcomes
+pub mod Joins
+pub mod Boxes
+pub mod Made
+pub mod Written
+pub mod Attempted
+pub mod Solution

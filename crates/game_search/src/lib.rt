@@ -1,10 +1,21 @@
-//! Decides small games by going over all values, and shows it by a certificate.
+//! Decides games within a budget of turns, and writes the lines of a certificate one after the other.
+//!
+//! No tree is built on the way: `solve_flat` puts the lines into an arena, and `solve` reads them as a tree afterwards.
+//! The contracts say which tree the lines are by what holds of it (`specs/Made`, `specs/Solution`), not by how it was
+//! found: it proves the outcome, is in order, means what it says, fits the text, and has no more turns than the budget.
+//!
+//! A first pass keeps of each settled node the case that settled it alone. Where that comes to nothing, a second one
+//! goes over the cases in order, so that an open certificate has exactly the turns of the budget.
 #![tactic(auto)]
 
+mod attempts;
 mod certify;
-mod level;
+mod join;
 mod search;
+mod stage;
 #[cfg(test)]
 mod tests;
+mod walk;
 
+pub use attempts::{Flat, solve_flat};
 pub use certify::solve;
