@@ -1,5 +1,6 @@
 pub mod Written
-mod Spellable
-mod Solved
+mod Certified
+mod Completeness
+mod Down
+mod Numerals
 mod Parts
-mod Rose

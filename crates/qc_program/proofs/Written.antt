@@ -1,5 +1,5 @@
 -- What was written, part by part and layer by layer.
-use Rattle.std.proofs.Common.{◌≡◌, ◌+◌, ℕ, List, ◌++◌, [], inr, Option, Result, Ok, Err, OnErr, arith, take, length, length-append}
+use Rattle.std.proofs.Common.{◌≡◌, ◌+◌, ℕ, List, ◌++◌, Option, Result, Ok, Err, OnErr, arith, take, length, length-append, subst}
 use Rattle.std.specs.Io.KnownBytes.{Appends}
 use Rattle.std.proofs.Math.Seq.{take-append-add}
 use Rattle.std.proofs.lemmas.List.{take-append-le}
@@ -7,7 +7,7 @@ use Rattle.qc_io.specs.Sink.{AppendsPrefix}
 use Rattle.qc_io.proofs.Known.{Appends-append}
 use Rattle.qc_program.specs.declared.status.Status.{Status}
 use Rattle.qc_program.specs.declared.status.Status.TheVariants.{Done, NotProved, Open, Usage, BadProblem, BadCertificate, TooLong, ReadFault, WriteFault, Memory}
-use Rattle.qc_program.specs.Answers.{IsFile, AnswersFile, Wrote}
+use Rattle.qc_program.specs.Answers.{Wrote}
 
 pub on_err : {T E P : Type 0} (r : Result T E) → P → OnErr r P
 on_err (Ok x) p = tt
@@ -27,17 +27,7 @@ pub Wrote-weaker : (old new : Option (List ℕ)) (before now : ℕ) (status : St
 Wrote-weaker old new before now WriteFault P Q f h = (h.0, (h.1.0, h.1.1, f h.1.0 h.1.1 h.1.2, h.1.3))
 Wrote-weaker old new before now status P Q f h = (h.0, (h.1.0, f status h.1.0 h.1.1, h.1.2))
 
--- what is answered for a file's bytes is what is answered for the file, where nothing is written with a fault of reading or memory
-pub file_from_bytes : (limit : ℕ) (P : List ℕ → Status → List ℕ → Type 0) (name bytes : List ℕ) (told : Option (List ℕ)) (gave : ℕ → Type 0) → IsFile limit told bytes →
-    ((t : List ℕ) → P bytes ReadFault t → t ≡ []) → ((t : List ℕ) → P bytes Memory t → t ≡ []) →
-    (s : Status) (t : List ℕ) → P bytes s t → AnswersFile limit P name told gave s t
-file_from_bytes limit P name bytes told gave file f m ReadFault t h = f t h
-file_from_bytes limit P name bytes told gave file f m Memory t h = m t h
-file_from_bytes limit P name bytes told gave file f m TooLong t h = inr (bytes, file, h)
-file_from_bytes limit P name bytes told gave file f m Done t h = (bytes, file, h)
-file_from_bytes limit P name bytes told gave file f m NotProved t h = (bytes, file, h)
-file_from_bytes limit P name bytes told gave file f m Open t h = (bytes, file, h)
-file_from_bytes limit P name bytes told gave file f m Usage t h = (bytes, file, h)
-file_from_bytes limit P name bytes told gave file f m BadProblem t h = (bytes, file, h)
-file_from_bytes limit P name bytes told gave file f m BadCertificate t h = (bytes, file, h)
-file_from_bytes limit P name bytes told gave file f m WriteFault t h = (bytes, file, h)
+-- where nothing was written before
+pub wrote_from : {X : Type 0} (written : X → Option (List ℕ)) (faults : X → ℕ) (a b : X) (new : Option (List ℕ)) (now : ℕ) (status : Status) (P : Status → List ℕ → Type 0)
+    → b ≡ a → Wrote (written b) new (faults b) now status P → Wrote (written a) new (faults a) now status P
+wrote_from written faults a b new now status P e h = subst (λ o. Wrote (written o) new (faults o) now status P) e h

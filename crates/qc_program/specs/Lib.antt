@@ -1,4 +1,5 @@
 pub mod Answers
+pub mod Complete
 pub mod Edge
 pub mod Refusals
 pub mod View

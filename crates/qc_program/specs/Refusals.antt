@@ -1,9 +1,8 @@
 -- The lines that tell why a text is no problem, or none that is taken by now.
-use Rattle.std.specs.Prelude.{◌≡◌, ◌≤◌, ℕ, List, [], ◌++◌, codes, decimal}
+use Rattle.std.specs.Prelude.{◌≡◌, ℕ, List, [], ◌++◌, codes, decimal}
 use Rattle.qc_model.specs.Content.{Game}
-use Rattle.qc_model.specs.Turns.{full_turns_of}
 use Rattle.qc_syntax.specs.declared.fault.Refused13.{Refused13}
-use Rattle.qc_syntax.specs.declared.fault.Refused13.TheVariants.{BadByte, BadNumber, Syntax, DuplicateName, UnknownName, UnknownPredicate, WrongArguments, OutOfRange, EmptyDomain, TooWide, TooMany, NotVisible, BadAggregate}
+use Rattle.qc_syntax.specs.declared.fault.Refused13.TheVariants.{BadByte, BadNumber, Syntax, DuplicateName, UnknownName, UnknownPredicate, WrongArguments, OutOfRange, EmptyDomain, TooWide, TooMany, NotVisible, BottleneckFirst}
 use Rattle.qc_syntax.specs.declared.fault.ReadFault.{ReadFault}
 use Rattle.qc_syntax.specs.declared.fault.ReadFault.TheVariants.{Refused, Memory as Want}
 use Rattle.qc_syntax.specs.Reads.{Refuses}
@@ -25,7 +24,7 @@ kind_text EmptyDomain = codes "9 EmptyDomain"
 kind_text TooWide = codes "10 TooWide"
 kind_text TooMany = codes "11 TooMany"
 kind_text NotVisible = codes "12 NotVisible"
-kind_text BadAggregate = codes "13 BadAggregate"
+kind_text BottleneckFirst = codes "14 BottleneckFirst"
 
 abbrev pub refusal_line : Refused13 → ℕ → List ℕ
 refusal_line kind at = codes "bad problem: " ++ kind_text kind ++ codes " at " ++ decimal at ++ codes "\n"
@@ -42,12 +41,13 @@ pub record IsRefused (bytes text : List ℕ) : Type 0 where
   pub refuses : Refuses bytes kind at
   pub line : text ≡ refusal_line kind at
 
+-- what is answered for a text that is no problem's
+abbrev pub TurnsTextDown : List ℕ → Status → List ℕ → Type 0
+TurnsTextDown bytes BadProblem text = IsRefused bytes text
+TurnsTextDown bytes Memory text = text ≡ []
+TurnsTextDown bytes status text = ⊥
+
 -- nothing is optimised: such problems are checked by now
 pub record IsPlain (g : Game) : Type 0 where
   pub no_conditions : NoConditions g.scopes
   pub no_aggregates : g.aggregates ≡ []
-
--- those are solved whose turns are few enough to go over all values
-pub record IsSolved (g : Game) : Type 0 where
-  pub plain : IsPlain g
-  pub small : full_turns_of g ≤ 10000000

@@ -1,9 +1,16 @@
 -- A command of the program, seen as what it asks for.
+use Rattle.std.specs.Prelude.{◌≤◌, ⊤}
 use Rattle.qc_program.specs.declared.words.Command.{Command}
 use Rattle.qc_program.specs.declared.words.Command.TheVariants.{Solve, Check, Print}
 use Rattle.qc_program.specs.Words.{Asked, solves, checks, prints}
 
 abbrev pub asked : Command → Asked
-asked (Solve problem) = solves problem.now
+asked (Solve problem turns) = solves problem.now turns
 asked (Check problem certificate) = checks problem.now certificate.now
 asked (Print problem) = prints problem.now
+
+-- the turns are a budget
+abbrev pub HasBudget : Command → Type 0
+HasBudget (Solve problem turns) = (1 ≤ turns) × (turns ≤ 10000000)
+HasBudget (Check problem certificate) = ⊤
+HasBudget (Print problem) = ⊤

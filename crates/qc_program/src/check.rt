@@ -3,10 +3,10 @@ ghost use Rattle.std.specs.Prelude.{◌≡◌, ◌≢◌, ◌≤◌, ◌++◌, �
 ghost use Rattle.qc_io.specs.Counts.{Rose, RoseBy};
 ghost use Rattle.proof_tree.specs.Text.{outcome_text};
 ghost use Rattle.qc_program.specs.Refusals.{IsPlain};
-ghost use Rattle.qc_program.specs.Answers.{ChecksBytes, ChecksProblem, ChecksText, AnswersFile, Wrote};
+ghost use Rattle.qc_program.specs.Answers.{ChecksBytes, ChecksFile, ChecksProblem, AnswersProblem, Wrote};
 
-use crate::refuse::{is_plain, not_built, turn_down};
-use crate::solve::LIMIT;
+use crate::problem_file::open_problem;
+use crate::refuse::{is_plain, not_built};
 use crate::status::Status;
 use crate::writing::{finish, finish_parts, too_long};
 use itoa::Buffer;
@@ -15,14 +15,13 @@ use proof_tree::Outcome;
 use qc_check::{Answer, Space};
 use qc_io::{ReadError, Shelf, Sink, read_all};
 use qc_model::Problem;
-use qc_syntax::read_problem;
 use std::alloc::{AllocError, Global};
 
 /// The most bytes of a certificate's text.
 const CERTIFICATE_LIMIT: u64 = 1_073_741_824;
 
 /// Checks the certificate of one file against the problem of another.
-pub fn check_files<S: Shelf, K: Sink>(
+pub(crate) fn check_files<S: Shelf, K: Sink>(
     alloc: Global,
     problem: &str,
     certificate: &str,
@@ -30,37 +29,15 @@ pub fn check_files<S: Shelf, K: Sink>(
     out: &mut K,
 ) -> Status
     ensures wrote { Wrote (K.written out.old) (K.written out.new) (K.faults out.old) (K.faults out.new) result
-        (AnswersFile 4194304 (ChecksText certificate.now (S.told shelf.old certificate.now) (λ n. RoseBy n (S.given shelf.old) (S.given shelf.new)))
+        (AnswersProblem (ChecksProblem certificate.now (S.told shelf.old certificate.now) (λ n. RoseBy n (S.given shelf.old) (S.given shelf.new)))
         problem.now (S.told shelf.old problem.now) (λ n. RoseBy n (S.given shelf.old) (S.given shelf.new))) }
     ensures usage { result ≢ Status.Usage }
     ensures read_fault { result ≡ Status.ReadFault → Rose (S.faults shelf.old) (S.faults shelf.new) }
     ensures no_read_fault { result ≢ Status.ReadFault → S.faults shelf.new ≡ S.faults shelf.old }
 {
-    match read_all(alloc, shelf, problem, LIMIT) {
-        Ok(text) => check_text(alloc, &text, certificate, shelf, out),
-        Err(ReadError::TooLong) => too_long(out, problem),
-        Err(ReadError::Fault) => Status::ReadFault,
-        Err(ReadError::Memory(_)) => Status::Memory,
-    }
-}
-
-fn check_text<S: Shelf, K: Sink>(
-    alloc: Global,
-    text: &[u8],
-    certificate: &str,
-    shelf: &mut S,
-    out: &mut K,
-) -> Status
-    requires { length text.now ≤ 4194304 }
-    ensures wrote { Wrote (K.written out.old) (K.written out.new) (K.faults out.old) (K.faults out.new) result
-        (ChecksText certificate.now (S.told shelf.old certificate.now) (λ n. RoseBy n (S.given shelf.old) (S.given shelf.new)) text.now) }
-    ensures usage { result ≢ Status.Usage }
-    ensures read_fault { result ≡ Status.ReadFault → Rose (S.faults shelf.old) (S.faults shelf.new) }
-    ensures no_read_fault { result ≢ Status.ReadFault → S.faults shelf.new ≡ S.faults shelf.old }
-{
-    match read_problem(alloc, text) {
+    match open_problem(alloc, problem, shelf, out) {
         Ok(problem) => check_problem(alloc, &problem, certificate, shelf, out),
-        Err(fault) => turn_down(out, fault),
+        Err(status) => status,
     }
 }
 
@@ -93,7 +70,7 @@ fn check_plain<S: Shelf, K: Sink>(
 ) -> Status
     requires { IsPlain problem.now }
     ensures wrote { Wrote (K.written out.old) (K.written out.new) (K.faults out.old) (K.faults out.new) result
-        (AnswersFile 1073741824 (ChecksBytes problem.now) certificate.now (S.told shelf.old certificate.now) (λ n. RoseBy n (S.given shelf.old) (S.given shelf.new))) }
+        (ChecksFile problem.now certificate.now (S.told shelf.old certificate.now) (λ n. RoseBy n (S.given shelf.old) (S.given shelf.new))) }
     ensures rows { (result ≢ Status.Usage) × (result ≢ Status.BadProblem) }
     ensures read_fault { result ≡ Status.ReadFault → Rose (S.faults shelf.old) (S.faults shelf.new) }
     ensures no_read_fault { result ≢ Status.ReadFault → S.faults shelf.new ≡ S.faults shelf.old }

@@ -8,6 +8,7 @@ ghost use Rattle.qc_program.specs.Edge.{EndsRight};
 
 mod check;
 mod print;
+mod problem_file;
 mod refuse;
 mod run;
 mod solve;
@@ -67,11 +68,5 @@ fn answer<R: Files + Print + AllocGlobal>(rt: &R, words: &[String]) -> Result<St
     Ok(run(alloc, texts.as_slice(), &mut shelf, &mut out))
 }
 
-#[cfg(test)]
-mod examples;
-#[cfg(test)]
-mod refusals;
-#[cfg(test)]
-mod table;
 #[cfg(test)]
 mod tests;

@@ -11,7 +11,7 @@ use qc_model::Problem;
 use qc_syntax::{ReadFault, Refused13};
 
 /// Tells why the text is no problem; nothing is written where memory was refused.
-pub fn turn_down<K: Sink>(out: &mut K, fault: ReadFault) -> Status
+pub(crate) fn turn_down<K: Sink>(out: &mut K, fault: ReadFault) -> Status
     ensures wrote { Wrote (K.written out.old) (K.written out.new) (K.faults out.old) (K.faults out.new) result (TurnsDown fault) }
     ensures rows { (result ≡ Status.BadProblem) ⊎ (result ≡ Status.Memory) ⊎ (result ≡ Status.WriteFault) }
 {
@@ -53,19 +53,19 @@ fn front_of(kind: Refused13) -> &'static [u8]
         Refused13::TooWide => b"bad problem: 10 TooWide at ",
         Refused13::TooMany => b"bad problem: 11 TooMany at ",
         Refused13::NotVisible => b"bad problem: 12 NotVisible at ",
-        Refused13::BadAggregate => b"bad problem: 13 BadAggregate at ",
+        Refused13::BottleneckFirst => b"bad problem: 14 BottleneckFirst at ",
     }
 }
 
 /// Whether nothing is optimised.
-pub fn is_plain(problem: &Problem) -> bool
+pub(crate) fn is_plain(problem: &Problem) -> bool
     ensures { IsTrue result ↔ IsPlain problem.now }
 {
-    qc_rules::is_plain(problem) && problem.aggregates() == 0
+    qc_rules::has_no_condition(problem) && problem.aggregates() == 0
 }
 
 /// Tells that the problem isn't taken by now.
-pub fn not_built<K: Sink>(out: &mut K) -> Status
+pub(crate) fn not_built<K: Sink>(out: &mut K) -> Status
     ensures wrote { Wrote (K.written out.old) (K.written out.new) (K.faults out.old) (K.faults out.new) result
         (λ s t. (s ≡ Status.BadProblem) × (t ≡ codes "bad problem: not built\n")) }
     ensures rows { (result ≡ Status.BadProblem) ⊎ (result ≡ Status.WriteFault) }

@@ -1,9 +1,10 @@
 //! The top call: reads what the words name, and writes the answer.
 ghost use Rattle.std.specs.Prelude.{◌≡◌, ◌≢◌, map, IsSome, None};
-ghost use Rattle.qc_io.specs.Counts.{Rose, RoseBy};
+ghost use Rattle.qc_io.specs.Counts.{NoneRose, Rose, RoseBy};
 ghost use Rattle.qc_io.specs.Memory.{sound_state, sound_told};
 ghost use Rattle.qc_program.specs.Words.{asked_of};
 ghost use Rattle.qc_program.specs.Answers.{Answers, Wrote};
+ghost use Rattle.qc_program.specs.Complete.{IsComplete};
 
 use crate::check::check_files;
 use crate::print::print_file;
@@ -11,13 +12,18 @@ use crate::solve::solve_file;
 use crate::status::Status;
 use crate::words::{Command, command_of};
 use crate::writing::finish;
+use proof_text::bytes_are_one_text_or_have_one_fault;
 use qc_io::{Shelf, Sink, SoundShelf};
+use qc_syntax::texts_say_one_thing;
 use std::alloc::Global;
 
 const USAGE: &[u8] =
     b"usage: qecode solve PROBLEM [--turns N] | check PROBLEM CERTIFICATE | print PROBLEM | generate N [--text]\n";
 
 /// Does what the words ask for.
+///
+/// Where nothing failed and memory sufficed, a problem is solved within as many turns as the whole game can
+/// take, a certificate that proves what it states is confirmed, and a problem is printed.
 pub fn run<S: Shelf, K: Sink>(alloc: Global, words: &[&str], shelf: &mut S, out: &mut K) -> Status
     ensures wrote { Wrote (K.written out.old) (K.written out.new) (K.faults out.old) (K.faults out.new) result
         (Answers (asked_of (map (λ w. w.now) words.now)) (S.told shelf.old) (λ n. RoseBy n (S.given shelf.old) (S.given shelf.new))) }
@@ -26,9 +32,25 @@ pub fn run<S: Shelf, K: Sink>(alloc: Global, words: &[&str], shelf: &mut S, out:
     ensures memory { result ≡ Status.Memory → IsSome (asked_of (map (λ w. w.now) words.now)) }
     ensures read_fault { result ≡ Status.ReadFault → Rose (S.faults shelf.old) (S.faults shelf.new) }
     ensures no_read_fault { result ≢ Status.ReadFault → S.faults shelf.new ≡ S.faults shelf.old }
+
+    ensures complete { NoneRose (S.faults shelf.old) (S.faults shelf.new) → NoneRose (K.faults out.old) (K.faults out.new)
+        → result ≢ Status.Memory → IsComplete (asked_of (map (λ w. w.now) words.now)) (S.told shelf.old) result }
+{
+    texts_say_one_thing();
+    bytes_are_one_text_or_have_one_fault();
+    answer(alloc, words, shelf, out)
+}
+
+fn answer<S: Shelf, K: Sink>(alloc: Global, words: &[&str], shelf: &mut S, out: &mut K) -> Status
+    ensures wrote { Wrote (K.written out.old) (K.written out.new) (K.faults out.old) (K.faults out.new) result
+        (Answers (asked_of (map (λ w. w.now) words.now)) (S.told shelf.old) (λ n. RoseBy n (S.given shelf.old) (S.given shelf.new))) }
+    ensures usage { result ≡ Status.Usage → asked_of (map (λ w. w.now) words.now) ≡ None }
+    ensures memory { result ≡ Status.Memory → IsSome (asked_of (map (λ w. w.now) words.now)) }
+    ensures read_fault { result ≡ Status.ReadFault → Rose (S.faults shelf.old) (S.faults shelf.new) }
+    ensures no_read_fault { result ≢ Status.ReadFault → S.faults shelf.new ≡ S.faults shelf.old }
 {
     match command_of(words) {
-        Some(Command::Solve { problem }) => solve_file(alloc, problem, shelf, out),
+        Some(Command::Solve { problem, turns }) => solve_file(alloc, problem, turns, shelf, out),
         Some(
             Command::Check {
                 problem,

@@ -1,84 +1,87 @@
 //! `solve`: the certificate of a problem.
-ghost use Rattle.std.specs.Prelude.{◌≡◌, ◌≢◌, ◌≤◌, ◌↔◌, length, IfOk, IsTrue};
+ghost use Rattle.std.specs.Prelude.{◌≡◌, ◌≢◌, ◌≤◌, IsTrue};
+ghost use Rattle.std.specs.List.{list_all};
 ghost use Rattle.qc_io.specs.Counts.{Rose, RoseBy};
-ghost use Rattle.qc_program.specs.Refusals.{IsSolved};
-ghost use Rattle.qc_program.specs.Answers.{Certifies, SolvesProblem, SolvesText, AnswersFile, Wrote};
+ghost use Rattle.proof_tree.specs.Text.{outcome_fits};
+ghost use Rattle.strategy_arena.specs.Certificate.{text_of_lines, line_fits};
+ghost use Rattle.qc_program.specs.Refusals.{IsPlain};
+ghost use Rattle.qc_program.specs.Answers.{AnswersProblem, SolvesProblem, SolvesPlain, Wrote, status_of};
 
-use crate::refuse::{is_plain, not_built, turn_down};
+use crate::problem_file::open_problem;
+use crate::refuse::{is_plain, not_built};
 use crate::status::Status;
-use crate::writing::{finish, too_long};
-use game_search::solve;
-use proof_text::write_cert;
-use qc_io::{ReadError, Shelf, Sink, read_all};
-use qc_model::{Problem, full_turns};
-use qc_syntax::read_problem;
+use game_search::{Flat, solve_flat};
+use proof_tree::Outcome;
+use qc_io::{Shelf, Sink};
+use qc_model::Problem;
 use std::alloc::{AllocError, Global};
 
-/// The most bytes of a problem's text.
-pub const LIMIT: u64 = 4_194_304;
-
-/// The most turns that a search may take.
-const TURNS: u64 = 10_000_000;
-
-/// Solves the problem of a file.
-pub fn solve_file<S: Shelf, K: Sink>(
+/// Solves the problem of a file within so many turns.
+pub(crate) fn solve_file<S: Shelf, K: Sink>(
     alloc: Global,
     name: &str,
+    turns: u64,
     shelf: &mut S,
     out: &mut K,
 ) -> Status
+    requires turns { (1 ≤ turns) × (turns ≤ 10000000) }
     ensures wrote { Wrote (K.written out.old) (K.written out.new) (K.faults out.old) (K.faults out.new) result
-        (AnswersFile 4194304 SolvesText name.now (S.told shelf.old name.now) (λ n. RoseBy n (S.given shelf.old) (S.given shelf.new))) }
+        (AnswersProblem (SolvesProblem turns) name.now (S.told shelf.old name.now) (λ n. RoseBy n (S.given shelf.old) (S.given shelf.new))) }
     ensures usage { result ≢ Status.Usage }
     ensures read_fault { result ≡ Status.ReadFault → Rose (S.faults shelf.old) (S.faults shelf.new) }
     ensures no_read_fault { result ≢ Status.ReadFault → S.faults shelf.new ≡ S.faults shelf.old }
 {
-    match read_all(alloc, shelf, name, LIMIT) {
-        Ok(text) => solve_text(alloc, &text, out),
-        Err(ReadError::TooLong) => too_long(out, name),
-        Err(ReadError::Fault) => Status::ReadFault,
-        Err(ReadError::Memory(_)) => Status::Memory,
+    match open_problem(alloc, name, shelf, out) {
+        Ok(problem) => solve_problem(alloc, &problem, turns, out),
+        Err(status) => status,
     }
 }
 
-fn solve_text<K: Sink>(alloc: Global, text: &[u8], out: &mut K) -> Status
-    requires { length text.now ≤ 4194304 }
-    ensures wrote { Wrote (K.written out.old) (K.written out.new) (K.faults out.old) (K.faults out.new) result (SolvesText text.now) }
-    ensures rows { (result ≢ Status.Usage) × (result ≢ Status.TooLong) × (result ≢ Status.ReadFault) }
+fn solve_problem<K: Sink>(alloc: Global, problem: &Problem, turns: u64, out: &mut K) -> Status
+    requires turns { (1 ≤ turns) × (turns ≤ 10000000) }
+    ensures wrote { Wrote (K.written out.old) (K.written out.new) (K.faults out.old) (K.faults out.new) result (SolvesProblem turns problem.now) }
+    ensures rows { (result ≢ Status.Usage) × (result ≢ Status.ReadFault) }
 {
-    match read_problem(alloc, text) {
-        Ok(problem) => solve_problem(alloc, &problem, out),
-        Err(fault) => turn_down(out, fault),
+    if is_plain(problem) {
+        solve_plain(alloc, problem, turns, out)
+    } else {
+        not_built(out)
     }
 }
 
-fn solve_problem<K: Sink>(alloc: Global, problem: &Problem, out: &mut K) -> Status
-    ensures wrote { Wrote (K.written out.old) (K.written out.new) (K.faults out.old) (K.faults out.new) result (SolvesProblem problem.now) }
-    ensures rows { (result ≢ Status.Usage) × (result ≢ Status.TooLong) × (result ≢ Status.ReadFault) }
+fn solve_plain<K: Sink>(alloc: Global, problem: &Problem, turns: u64, out: &mut K) -> Status
+    requires plain { IsPlain problem.now }
+    requires turns { (1 ≤ turns) × (turns ≤ 10000000) }
+    ensures wrote { Wrote (K.written out.old) (K.written out.new) (K.faults out.old) (K.faults out.new) result (SolvesPlain turns problem.now) }
+    ensures rows { (result ≢ Status.Usage) × (result ≢ Status.BadProblem) × (result ≢ Status.ReadFault) }
 {
-    if !is_solved(problem) {
-        return not_built(out);
-    }
-    match certificate(alloc, problem) {
-        Ok(written) => finish(out, &written, Status::Done),
+    problem.known();
+    match solve_flat(alloc, problem, turns) {
+        Ok(flat) => write_flat(&flat, out),
         Err(AllocError) => Status::Memory,
     }
 }
 
-// Whether the search takes the problem by now.
-fn is_solved(problem: &Problem) -> bool
-    ensures { IsTrue result ↔ IsSolved problem.now }
+// Writes a certificate from its lines. It takes no memory.
+fn write_flat<K: Sink>(flat: &Flat, out: &mut K) -> Status
+    requires head { IsTrue (outcome_fits flat.now.outcome flat.now.optimum) }
+    requires lines { IsTrue (list_all line_fits flat.now.arena) }
+    ensures wrote { Wrote (K.written out.old) (K.written out.new) (K.faults out.old) (K.faults out.new) result
+        (λ s t. (s ≡ status_of flat.now.outcome) × (t ≡ text_of_lines flat.now.outcome flat.now.optimum flat.now.arena)) }
+    ensures rows { (result ≢ Status.Usage) × (result ≢ Status.BadProblem) × (result ≢ Status.ReadFault) }
 {
-    is_plain(problem) && full_turns(problem) <= TURNS
+    match flat.arena.write_from(flat.outcome, flat.optimum, out) {
+        Ok(()) => status_for(flat.outcome),
+        Err(_) => Status::WriteFault,
+    }
 }
 
-// The text of the problem's certificate.
-fn certificate(alloc: Global, problem: &Problem) -> Result<Vec<u8>, AllocError>
-    requires { IsSolved problem.now }
-    ensures { IfOk result (λ v. Certifies problem.now v.items) }
+fn status_for(outcome: Outcome) -> Status
+    ensures { result ≡ status_of outcome }
 {
-    problem.known();
-    let certificate = solve(alloc, problem, TURNS)?;
-    let written = write_cert(alloc, &certificate)?;
-    Ok(written)
+    match outcome {
+        Outcome::True => Status::Done,
+        Outcome::False => Status::Done,
+        Outcome::Open(_) => Status::Open,
+    }
 }

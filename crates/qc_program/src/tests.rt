@@ -1,13 +1,17 @@
 //! Worked runs over a shelf and a sink in memory.
+mod examples;
+mod refusals;
+mod table;
+
 use crate::run::run;
 use crate::status::Status;
 use qc_io::{MemoryShelf, MemorySink};
 use std::alloc::{AllocError, Global};
 use std::test::Fail;
 
-const TRUE: &[u8] = b"qcert 1\ntrue\ng\n";
+const TRUE: &[u8] = b"qcert 2\ntrue\ng\n";
 
-const FALSE: &[u8] = b"qcert 1\nfalse\ng\n";
+const FALSE: &[u8] = b"qcert 2\nfalse\ng\n";
 
 // What a run of these words over one file `p` answers and writes.
 fn answered(alloc: Global, word: &str, text: &[u8]) -> Result<(Status, MemorySink), AllocError> {
@@ -19,8 +23,16 @@ fn answered(alloc: Global, word: &str, text: &[u8]) -> Result<(Status, MemorySin
 }
 
 #[test]
-fn goals_alone_are_answered(rt: HostRuntime) -> Result<(), Fail> {
-    let rows: [(&[u8], &[u8]); 5] = [
+fn goals_and_single_moves_are_answered(rt: HostRuntime) -> Result<(), Fail> {
+    let rows: [(&[u8], &[u8]); 7] = [
+        (
+            b"exists; var 1000000000..1000000000: x; goal; solve;",
+            b"qcert 2\ntrue\nn\ng\n",
+        ),
+        (
+            b"exists; var 0..1048575: x; goal; solve;",
+            b"qcert 2\ntrue\nv 1\nn\ng\nr 1048575\ns\n.\n",
+        ),
         (b"goal;\nsolve;\n", TRUE),
         (b"goal; solve;", TRUE),
         (b"goal; constraint int_lt(1,0); solve;", FALSE),
@@ -44,50 +56,42 @@ fn goals_alone_are_answered(rt: HostRuntime) -> Result<(), Fail> {
 // truth values.
 #[test]
 fn games_are_answered(rt: HostRuntime) -> Result<(), Fail> {
-    let rows: [(&[u8], &[u8]); 11] = [
+    let rows: [(&[u8], &[u8]); 9] = [
         (
             b"exists; var 1..3: x; constraint int_ne(x,2); forall; var 1..2: y; constraint int_le(y,x); goal; constraint int_lin_le([1,1],[x,y],3); solve;",
-            b"qcert 1\ntrue\n",
+            b"qcert 2\ntrue\n",
         ),
         (
             b"exists; var 0..1: x; forall; var 0..1: y; constraint int_lt(y,0); goal; constraint int_eq(x,2); solve;",
-            b"qcert 1\ntrue\n",
+            b"qcert 2\ntrue\n",
         ),
         (
             b"exists; var 0..1: x; constraint int_lt(1,x); goal; solve;",
-            b"qcert 1\nfalse\n",
+            b"qcert 2\nfalse\n",
         ),
         (
             b"exists; var 0..1: x; forall; var 0..1: y; exists; var 0..1: z; constraint int_lt(z,0); goal; solve;",
-            b"qcert 1\nfalse\n",
+            b"qcert 2\nfalse\n",
         ),
         (
             b"exists; var 0..1: x; forall; var 0..1: y; goal; constraint int_eq(x,y); solve;",
-            b"qcert 1\nfalse\n",
+            b"qcert 2\nfalse\n",
         ),
         (
             b"forall; var 0..1: y; exists; var 0..1: x; goal; constraint int_eq(x,y); solve;",
-            b"qcert 1\ntrue\n",
+            b"qcert 2\ntrue\n",
         ),
         (
             b"exists; var 0..0: x; var -5..5: q; constraint int_div(5,x,q); goal; solve;",
-            b"qcert 1\nfalse\n",
+            b"qcert 2\nfalse\n",
         ),
         (
             b"exists; var -5..5: q; var -5..5: r; constraint int_div(-7,2,q); constraint int_mod(-7,2,r); goal; constraint int_eq(q,-3); constraint int_eq(r,-1); solve;",
-            b"qcert 1\ntrue\n",
+            b"qcert 2\ntrue\n",
         ),
         (
             b"forall; var bool: a; var bool: b; exists; var bool: c; goal; constraint bool_xor(a,b,c); solve;",
-            b"qcert 1\ntrue\n",
-        ),
-        (
-            b"exists; var 1000000000..1000000000: x; goal; solve;",
-            b"qcert 1\ntrue\n",
-        ),
-        (
-            b"exists; var 0..1048575: x; goal; solve;",
-            b"qcert 1\ntrue\n",
+            b"qcert 2\ntrue\n",
         ),
     ];
     for (text, front) in rows {
@@ -116,19 +120,47 @@ goal;
 solve;
 ";
 
-// A condition, an aggregate, and too many turns aren't taken by now.
+// A condition, and an aggregate, aren't taken by now.
 #[test]
 fn problems_that_are_not_taken_are_told(rt: HostRuntime) -> Result<(), Fail> {
-    let rows: [&[u8]; 3] = [
+    let rows: [&[u8]; 2] = [
         PRICES,
         b"forall; var 0..1: t; aggregate g = sum(t); goal; solve;",
-        b"exists; var 0..99999: x; var 0..99: y; goal; solve;",
     ];
     for text in rows {
         let (answer, sink) = answered(rt.alloc(), "solve", text)?;
         assert_eq!(rt; answer, Status::BadProblem, "at {text:?}");
         assert!(rt; sink.bytes() == b"bad problem: not built\n".as_slice());
         assert_eq!(rt; answered(rt.alloc(), "print", text)?.0, Status::Done);
+    }
+    Ok(())
+}
+
+const ODD: &[u8] =
+    b"forall; var bool: a; var bool: b; exists; var bool: c; goal; constraint bool_xor(a,b,c); solve;";
+
+// Five turns, then what is open; twelve are enough. The whole game has 24.
+#[test]
+fn budgets_are_kept(rt: HostRuntime) -> Result<(), Fail> {
+    let rows: [(&str, Status, &[u8], &[u8]); 3] = [
+        ("5", Status::Open, b"qcert 2\nopen 5\n", b"yes open 5\n"),
+        ("11", Status::Open, b"qcert 2\nopen 11\n", b"yes open 11\n"),
+        ("12", Status::Done, b"qcert 2\ntrue\n", b"yes true\n"),
+    ];
+    let alloc = rt.alloc();
+    for (turns, status, front, yes) in rows {
+        let mut shelf = MemoryShelf::new(alloc);
+        shelf.add("p", ODD)?;
+        let mut sink = MemorySink::new(alloc, 65_536, 65_536)?;
+        let words = ["solve", "p", "--turns", turns];
+        let answer = run(alloc, &words, &mut shelf, &mut sink);
+        assert_eq!(rt; answer, status, "at {turns}");
+        assert!(rt; sink.bytes().starts_with(front));
+        shelf.add("c", sink.bytes())?;
+        let mut checked = MemorySink::new(alloc, 65_536, 65_536)?;
+        let answer = run(alloc, &["check", "p", "c"], &mut shelf, &mut checked);
+        assert_eq!(rt; answer, Status::Done);
+        assert!(rt; checked.bytes() == yes);
     }
     Ok(())
 }
@@ -175,7 +207,7 @@ fn faults_are_answered(rt: HostRuntime) -> Result<(), Fail> {
     // No call of the shelf fails any more.
     let status = run(alloc, &["solve", "p"], &mut shelf, &mut sink);
     assert_eq!(rt; status, Status::WriteFault);
-    assert!(rt; sink.bytes() == b"qcert 1\ntr".as_slice());
+    assert!(rt; sink.bytes() == b"qcert 2\ntr".as_slice());
     let status = run(alloc, &["solve", "q"], &mut shelf, &mut sink);
     assert_eq!(rt; status, Status::ReadFault);
     Ok(())
@@ -184,12 +216,19 @@ fn faults_are_answered(rt: HostRuntime) -> Result<(), Fail> {
 #[test]
 fn other_words_give_the_usage_line(rt: HostRuntime) -> Result<(), Fail> {
     let alloc = rt.alloc();
-    let rows: [&[&str]; 5] = [
+    let rows: [&[&str]; 12] = [
         &[],
         &["solve"],
         &["solve", "--turns"],
         &["solve", ""],
         &["print", "-p"],
+        &["check", "p"],
+        &["solve", "p", "--turns"],
+        &["solve", "p", "--turns", "0"],
+        &["solve", "p", "--turns", "05"],
+        &["solve", "p", "--turns", "+5"],
+        &["solve", "p", "--turns", "10000001"],
+        &["solve", "--turns", "5", "p"],
     ];
     for words in rows {
         let mut shelf = MemoryShelf::new(alloc);
@@ -241,7 +280,7 @@ fn certificates_are_answered(rt: HostRuntime) -> Result<(), Fail> {
             b"yes true\n",
         ),
         (
-            b"qcert 1\nfalse\nv 1\nn\nv 2\nn\ng\nn\ng\n.\nn\nv 2\nn\ng\nn\ng\n.\n.\n",
+            b"qcert 2\nfalse\nv 1\nn\nv 2\nn\ng\nn\ng\n.\nn\nv 2\nn\ng\nn\ng\n.\n.\n",
             Status::NotProved,
             b"no\n",
         ),
@@ -284,36 +323,80 @@ const UNLIKE: &[u8] =
 #[test]
 fn certificates_are_judged(rt: HostRuntime) -> Result<(), Fail> {
     let counter: &[u8] = b"qcert 1\nfalse\nv 1\nn\nv 2\ns\nn\ng\n.\nn\nv 2\nn\ng\ns\n.\n.\n";
-    let rows: [(&[u8], &[u8], &[u8]); 5] = [
-        (UNLIKE, counter, b"yes false\n"),
+    let rows: [(&[u8], &[u8], Status, &[u8]); 5] = [
+        (UNLIKE, counter, Status::Done, b"yes false\n"),
         (
             b"forall; var 0..1: y; exists; var 0..1: x; goal; constraint int_eq(x,y); solve;",
             counter,
+            Status::NotProved,
             b"no\n",
         ),
         (
             UNLIKE,
             b"qcert 1\nfalse\nv 1\nn\nv 2\ns\nn\ng\n.\ns\n.\n",
+            Status::NotProved,
             b"no\n",
         ),
         (
             UNLIKE,
             b"qcert 1\nfalse\nv 1\nn\nv 2\ns\nn\ng\n.\n.\n",
+            Status::NotProved,
             b"no\n",
         ),
         (
             b"exists; var 0..0: x; goal; solve;",
             b"qcert 1\nfalse\nx\n",
+            Status::NotProved,
             b"no\n",
         ),
     ];
     let alloc = rt.alloc();
-    for (problem, certificate, written) in rows {
+    for (problem, certificate, status, written) in rows {
         let mut shelf = MemoryShelf::new(alloc);
         shelf.add("p", problem)?;
         shelf.add("c", certificate)?;
         let mut sink = MemorySink::new(alloc, 65_536, 65_536)?;
-        let _ = run(alloc, &["check", "p", "c"], &mut shelf, &mut sink);
+        let answer = run(alloc, &["check", "p", "c"], &mut shelf, &mut sink);
+        assert_eq!(rt; answer, status, "at {certificate:?}");
+        assert!(rt; sink.bytes() == written, "at {certificate:?}");
+    }
+    Ok(())
+}
+
+// The rest left out from 1 to 9; to 8 alone, so that 9 has no case; in the first version, which has no ranges; the
+// same values left out one by one.
+#[test]
+fn ranges_are_judged(rt: HostRuntime) -> Result<(), Fail> {
+    let rows: [(&[u8], Status, &[u8]); 4] = [
+        (
+            b"qcert 2\ntrue\nv 1\nn\ng\nr 9\ns\n.\n",
+            Status::Done,
+            b"yes true\n",
+        ),
+        (
+            b"qcert 2\ntrue\nv 1\nn\ng\nr 8\ns\n.\n",
+            Status::NotProved,
+            b"no\n",
+        ),
+        (
+            b"qcert 1\ntrue\nv 1\nn\ng\nr 9\ns\n.\n",
+            Status::BadCertificate,
+            b"bad certificate at 21\n",
+        ),
+        (
+            b"qcert 1\ntrue\nv 1\nn\ng\ns\ns\ns\ns\ns\ns\ns\ns\ns\n.\n",
+            Status::Done,
+            b"yes true\n",
+        ),
+    ];
+    let alloc = rt.alloc();
+    for (certificate, status, written) in rows {
+        let mut shelf = MemoryShelf::new(alloc);
+        shelf.add("p", b"exists; var 0..9: x; goal; solve;")?;
+        shelf.add("c", certificate)?;
+        let mut sink = MemorySink::new(alloc, 65_536, 65_536)?;
+        let answer = run(alloc, &["check", "p", "c"], &mut shelf, &mut sink);
+        assert_eq!(rt; answer, status, "at {certificate:?}");
         assert!(rt; sink.bytes() == written, "at {certificate:?}");
     }
     Ok(())

@@ -1,14 +1,21 @@
 //! The words of a command.
-ghost use Rattle.std.specs.Prelude.{◌≡◌, map};
+ghost use Rattle.std.specs.Prelude.{◌≡◌, ◌≤◌, ◌<◌, length, map, Some, IfSome};
 ghost use Rattle.std.specs.Option.{option_map};
-ghost use Rattle.qc_program.specs.Words.{is_name as is_name_of, asked_of};
-ghost use Rattle.qc_program.specs.View.{asked};
+ghost use Rattle.qc_program.specs.Words.{is_name as is_name_of, digits_after, is_short_numeral as is_short_numeral_of, solves_within, turns_asked, asked_by_two, asked_by_three, asked_by_four, asked_of};
+ghost use Rattle.qc_program.specs.View.{asked, HasBudget};
 
-/// What the words ask for; each field is a file's name.
+/// The most turns that a search may be given.
+const MOST_TURNS: u64 = 10_000_000;
+
+/// The turns that a search is given where the words name none.
+const USUAL_TURNS: u64 = 1_000_000;
+
+/// What the words ask for: names of files, and how many turns a search may take, 1 to 10,000,000.
 #[derive(Clone, Copy)]
-pub enum Command<'a> {
+pub(crate) enum Command<'a> {
     Solve {
         problem: &'a str,
+        turns: u64,
     },
     Check {
         problem: &'a str,
@@ -20,20 +27,65 @@ pub enum Command<'a> {
 }
 
 /// What the words ask for, where they match the table.
-pub fn command_of<'a>(words: &[&'a str]) -> Option<Command<'a>>
-    ensures { option_map asked result ≡ asked_of (map (λ w. w.now) words.now) }
+pub(crate) fn command_of<'a>(words: &[&'a str]) -> Option<Command<'a>>
+    ensures asked { option_map asked result ≡ asked_of (map (λ w. w.now) words.now) }
+    ensures budget { IfSome result HasBudget }
 {
     match words {
-        [word, problem] if *word == "solve" && is_name(problem) => Some(Command::Solve { problem }),
-        [word, problem] if *word == "print" && is_name(problem) => Some(Command::Print { problem }),
-        [word, problem, certificate]
-            if *word == "check" && is_name(problem) && is_name(certificate) => {
-            Some(Command::Check {
-                problem,
-                certificate,
-            })
-        }
+        [word, problem] => by_two(word, problem),
+        [word, problem, certificate] => by_three(word, problem, certificate),
+        [word, problem, flag, number] => by_four(word, problem, flag, number),
         _ => None,
+    }
+}
+
+fn by_two<'a>(word: &str, problem: &'a str) -> Option<Command<'a>>
+    ensures asked { option_map asked result ≡ asked_by_two word.now problem.now }
+    ensures budget { IfSome result HasBudget }
+{
+    if word == "solve" && is_name(problem) {
+        return Some(Command::Solve {
+            problem,
+            turns: USUAL_TURNS,
+        });
+    }
+    if word == "print" && is_name(problem) {
+        return Some(Command::Print { problem });
+    }
+    None
+}
+
+fn by_three<'a>(word: &str, problem: &'a str, certificate: &'a str) -> Option<Command<'a>>
+    ensures asked { option_map asked result ≡ asked_by_three word.now problem.now certificate.now }
+    ensures budget { IfSome result HasBudget }
+{
+    if word == "check" && is_name(problem) && is_name(certificate) {
+        return Some(Command::Check {
+            problem,
+            certificate,
+        });
+    }
+    None
+}
+
+fn by_four<'a>(word: &str, problem: &'a str, flag: &str, number: &str) -> Option<Command<'a>>
+    ensures asked { option_map asked result ≡ asked_by_four word.now problem.now flag.now number.now }
+    ensures budget { IfSome result HasBudget }
+{
+    if word == "solve" && is_name(problem) && flag == "--turns" {
+        return solve_within(problem, turns_in(number));
+    }
+    None
+}
+
+fn solve_within(problem: &str, turns: Option<u64>) -> Option<Command<'_>>
+    requires { IfSome turns (λ n. (1 ≤ n) × (n ≤ 10000000)) }
+    ensures asked { option_map asked result ≡ solves_within problem.now turns }
+    ensures budget { IfSome result HasBudget }
+{
+    match turns {
+        Some(turns) => Some(Command::Solve { problem, turns }),
+        None => None,
     }
 }
 
@@ -45,4 +97,43 @@ fn is_name(word: &str) -> bool
         [] => false,
         [first, ..] => *first != b'-',
     }
+}
+
+// The turns that a word asks for.
+fn turns_in(word: &str) -> Option<u64>
+    ensures asked { result ≡ turns_asked word.now }
+    ensures budget { IfSome result (λ n. (1 ≤ n) × (n ≤ 10000000)) }
+{
+    let digits = word.as_bytes();
+    if !is_short_numeral(digits) {
+        return None;
+    }
+    match number_in(digits) {
+        Some(turns) if 1 <= turns && turns <= MOST_TURNS => Some(turns),
+        _ => None,
+    }
+}
+
+fn is_short_numeral(digits: &[u8]) -> bool
+    ensures { result ≡ is_short_numeral_of digits.now }
+{
+    match digits {
+        [] => false,
+        [first, ..] => b'1' <= *first && digits.len() <= 8,
+    }
+}
+
+// The number that eight digits at most write.
+fn number_in(digits: &[u8]) -> Option<u64>
+    requires { length digits.now ≤ 8 }
+    ensures { result ≡ digits_after 0 digits.now }
+{
+    let mut number: u64 = 0;
+    for digit in digits {
+        if !digit.is_ascii_digit() {
+            return None;
+        }
+        number = number * 10 + u64::from(*digit - b'0');
+    }
+    Some(number)
 }

@@ -8,8 +8,8 @@ ghost use Rattle.qc_program.specs.Answers.{Wrote};
 use crate::status::Status;
 use qc_io::{Pieces, Sink, WriteFault, write_all};
 
-// Writes the text of an answer.
-pub fn finish<K: Sink>(out: &mut K, text: &[u8], status: Status) -> Status
+/// Writes the text of an answer, whose status isn't WriteFault.
+pub(crate) fn finish<K: Sink>(out: &mut K, text: &[u8], status: Status) -> Status
     requires { status ≢ Status.WriteFault }
     ensures wrote { Wrote (K.written out.old) (K.written out.new) (K.faults out.old) (K.faults out.new) result (λ s t. (s ≡ status) × (t ≡ text.now)) }
     ensures rows { (result ≡ status) ⊎ (result ≡ Status.WriteFault) }
@@ -20,7 +20,8 @@ pub fn finish<K: Sink>(out: &mut K, text: &[u8], status: Status) -> Status
     }
 }
 
-pub fn too_long<K: Sink>(out: &mut K, name: &str) -> Status
+/// Tells that a file is longer than its limit.
+pub(crate) fn too_long<K: Sink>(out: &mut K, name: &str) -> Status
     ensures wrote { Wrote (K.written out.old) (K.written out.new) (K.faults out.old) (K.faults out.new) result
         (λ s t. (s ≡ Status.TooLong) × (t ≡ codes "too long: " ++ name.now ++ codes "\n")) }
     ensures rows { (result ≡ Status.TooLong) ⊎ (result ≡ Status.WriteFault) }
@@ -49,8 +50,8 @@ fn write_parts<K: Sink>(
     pieces.finish(out)
 }
 
-// Writes a text made of three parts.
-pub fn finish_parts<K: Sink>(
+/// Writes the text of an answer in three parts.
+pub(crate) fn finish_parts<K: Sink>(
     out: &mut K,
     front: &[u8],
     middle: &[u8],

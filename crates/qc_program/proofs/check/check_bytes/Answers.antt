@@ -7,6 +7,7 @@ returns-in-Yes-clause-wrote g c =
     let r = c.in-Ok.ensures.ok in
     Wrote-weaker _ _ _ _ c.confirm.result _ _
     (λ s t is. rw is.0 (record {
+      version = c.in-Ok.cert.version;
       outcome = c.in-Ok.cert.outcome;
       optimum = c.in-Ok.cert.optimum;
       root = tree_of c.in-Ok.cert.root;
@@ -21,6 +22,7 @@ returns-in-Ok-clause-wrote g c =
     let r = c.in-Ok.ensures.ok in
     Wrote-weaker _ _ _ _ c.finish.result _ _
     (λ s t is. rw is.0 (record {
+      version = c.in-Ok.cert.version;
       outcome = c.in-Ok.cert.outcome;
       optimum = c.in-Ok.cert.optimum;
       root = tree_of c.in-Ok.cert.root;

@@ -1,10 +1,8 @@
+use Rattle.qc_program.proofs.Completeness.{run_done}
 use Rattle.qc_program.proofs.run.run.Goals as goal
 
-pub returns-in-Some-Solve-clause-wrote : goal.returns-in-Some-Solve-clause-wrote
-returns-in-Some-Solve-clause-wrote g c = rw (← c.in-Some-Solve.ensures, c.in-Some-Solve.field-0-is) c.solve_file.ensures.wrote
-
-pub returns-in-Some-Check-clause-wrote : goal.returns-in-Some-Check-clause-wrote
-returns-in-Some-Check-clause-wrote g c = rw (← c.in-Some-Check.ensures, c.in-Some-Check.field-0-is) c.check_files.ensures.wrote
-
-pub returns-in-Some-Print-clause-wrote : goal.returns-in-Some-Print-clause-wrote
-returns-in-Some-Print-clause-wrote g c = rw (← c.in-Some-Print.ensures, c.in-Some-Print.field-0-is) c.print_file.ensures.wrote
+pub returns-clause-complete : goal.returns-clause-complete
+returns-clause-complete g c =
+    λ files output memory.
+    run_done (record { one = c.texts_say_one_thing.ensures.problem; either = c.texts_say_one_thing.ensures.not_both; never = c.bytes_are_one_text_or_have_one_fault.ensures.not_both; certificate = c.bytes_are_one_text_or_have_one_fault.ensures.certificate })
+    _ _ _ _ _ _ _ _ _ c.answer.result c.answer.ensures.wrote c.answer.ensures.read_fault files output memory

@@ -72,7 +72,8 @@ const VALUES: &str = "8 OutOfRange at 12|exists; var 1000000001..1000000001: x; 
 12 NotVisible at 26|exists; constraint int_le(y,1); forall; var 0..1: y; goal; solve;
 12 NotVisible at 26|forall; aggregate g = sum(g); goal; solve;
 12 NotVisible at 61|forall; var 0..1: t; aggregate f = sum(t); aggregate g = sum(f); goal; solve;
-13 BadAggregate at 43|forall; var 0..1: t; aggregate f = sum(t); aggregate g = sum(t); goal; solve;";
+14 BottleneckFirst at 81|exists minimize s; exists minimize m; forall; var 1..2: t; aggregate s = sum(z); aggregate m = greatest(w) else 0; exists; var 0..3: z; var 0..3: w; constraint int_lin_le([1,-1,-1],[t,z,w],0); goal; solve;
+14 BottleneckFirst at 90|exists minimize m; exists minimize n; forall; var 0..1: t; aggregate m = least(t) else 0; aggregate n = greatest(t) else 0; goal; solve;";
 
 #[test]
 fn refusals_have_their_places(rt: HostRuntime) -> Result<(), Fail> {
@@ -178,6 +179,31 @@ fn variables_have_a_limit(rt: HostRuntime) -> Result<(), Fail> {
     let more = variables(alloc, 501)?;
     assert!(rt;
         printed(alloc, &more)?.1.bytes() == b"bad problem: 11 TooMany at 7898\n".as_slice()
+    );
+    Ok(())
+}
+
+fn aggregates(alloc: Global, count: usize) -> Result<Vec<u8>, AllocError> {
+    let mut text = repeated(alloc, "forall;\nvar 0..1: t;\n", "", 0, "")?;
+    for k in 0..count {
+        let line = format!(in alloc; "aggregate g{k} = sum(t);\n")?;
+        text.extend_from_slice(line.as_bytes())?;
+    }
+    text.extend_from_slice(b"goal;\nsolve;\n")?;
+    Ok(text)
+}
+
+// All in one scope, g0 to g254 take 10 * 23 + 90 * 24 + 155 * 25 bytes, after 21 others.
+#[test]
+fn aggregates_have_a_limit(rt: HostRuntime) -> Result<(), Fail> {
+    let alloc = rt.alloc();
+    let most = aggregates(alloc, 255)?;
+    let (status, sink) = printed(alloc, &most)?;
+    assert_eq!(rt; status, Status::Done);
+    assert!(rt; sink.bytes() == most.as_slice());
+    let more = aggregates(alloc, 256)?;
+    assert!(rt;
+        printed(alloc, &more)?.1.bytes() == b"bad problem: 11 TooMany at 6286\n".as_slice()
     );
     Ok(())
 }

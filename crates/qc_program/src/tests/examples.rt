@@ -122,8 +122,8 @@ solve;
 #[test]
 fn examples_are_answered(rt: HostRuntime) -> Result<(), Fail> {
     let alloc = rt.alloc();
-    let won: &[u8] = b"qcert 1\ntrue\n";
-    let lost: &[u8] = b"qcert 1\nfalse\n";
+    let won: &[u8] = b"qcert 2\ntrue\n";
+    let lost: &[u8] = b"qcert 2\nfalse\n";
     let yes_won: &[u8] = b"yes true\n";
     let yes_lost: &[u8] = b"yes false\n";
     let rows: [(&[u8], &[u8], &[u8]); 6] = [

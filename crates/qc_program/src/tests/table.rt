@@ -155,8 +155,8 @@ fn predicates_are_answered(rt: HostRuntime) -> Result<(), Fail> {
             };
             let text = format!(in alloc; "goal; constraint {call}; solve;")?;
             let wanted: &[u8] = match truth {
-                "1" => b"qcert 1\ntrue\ng\n",
-                _ => b"qcert 1\nfalse\ng\n",
+                "1" => b"qcert 2\ntrue\ng\n",
+                _ => b"qcert 2\nfalse\ng\n",
             };
             let mut shelf = MemoryShelf::new(alloc);
             shelf.add("p", text.as_bytes())?;

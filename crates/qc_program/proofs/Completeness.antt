@@ -1,0 +1,205 @@
+-- A run in which nothing failed answers what was asked.
+use Rattle.std.proofs.Common.{◌≡◌, ◌≤◌, ◌<◌, ℕ, List, length, Option, Some, None, IfSome, ◌⊎◌, inl, inr, refl, sym, subst, arith, ◌∙◌, ℤ}
+use Rattle.qc_io.specs.Counts.{Rose, NoneRose}
+use Rattle.qc_model.specs.Content.{Game}
+use Rattle.qc_model.specs.Turns.{full_turns_of}
+use Rattle.qc_syntax.specs.Reads.{Reads}
+use Rattle.qc_syntax.specs.Laws.{ReadsOne, NeverBoth as NeverRefused}
+use Rattle.proof_tree.specs.declared.tree.Outcome.{Outcome}
+use Rattle.proof_tree.specs.declared.tree.Outcome.TheVariants.{True, False, Open as OpenOutcome}
+use Rattle.proof_tree.specs.Tree.{Tree}
+use Rattle.proof_text.specs.declared.fault.CertFault.{CertFault}
+use Rattle.proof_text.specs.declared.fault.CertFault.TheVariants.{NotACertificate, TooDeep, Memory as Want}
+use Rattle.proof_text.specs.Places.{IsText, IsFault, IsWant}
+use Rattle.proof_text.specs.Laws.{NeverBoth, IsOneCertificate}
+use Rattle.game_search.specs.Solution.{OpenMeans}
+use Rattle.qc_program.specs.declared.status.Status.{Status}
+use Rattle.qc_program.specs.declared.status.Status.TheVariants.{Done, NotProved, Open, Usage, BadProblem, BadCertificate, TooLong, ReadFault, WriteFault, Memory}
+use Rattle.qc_program.specs.Words.{Asked, solves, checks, prints}
+use Rattle.qc_program.specs.Refusals.{IsPlain}
+use Rattle.qc_program.specs.Answers.{status_of, Certifies, IsRead, Passes, Denies, FaultLine, IsProblemOf, IsNoProblem, IsLong, IsFile, AnswersProblem, SolvesProblem, PrintsProblem, ChecksProblem, Answers, Wrote}
+use Rattle.qc_program.specs.Complete.{TellsProblem, TellsProof, IsComplete}
+
+-- the laws of the texts
+pub record Laws : Type 0 where
+  pub one : ReadsOne
+  pub either : NeverRefused
+  pub never : NeverBoth
+  pub certificate : IsOneCertificate
+
+told_bytes : (told : Option (List ℕ)) (b c : List ℕ) → told ≡ Some b → IfSome told (λ file. c ≡ file) → c ≡ b
+told_bytes told b c e h = subst (λ o. IfSome o (λ file. c ≡ file)) e h
+
+same_game : ReadsOne → (told : Option (List ℕ)) (g h : Game) → TellsProblem told g → IsProblemOf told h → h ≡ g
+same_game one told g h tells of =
+    let e : of.bytes ≡ tells.bytes = told_bytes told tells.bytes of.bytes tells.told_is of.file.same in
+    one tells.bytes h g (subst (λ b. Reads b h) e of.reads) tells.reads
+
+-- the file has a problem
+never_refused : NeverRefused → (told : Option (List ℕ)) (g : Game) (t : List ℕ) → TellsProblem told g → IsNoProblem told t → ⊥
+never_refused either told g t tells down =
+    let e : down.bytes ≡ tells.bytes = told_bytes told tells.bytes down.bytes tells.told_is down.file.same in
+    either down.bytes g down.refused.kind down.refused.at (subst (λ b. Reads b g) (sym e) tells.reads) down.refused.refuses
+
+-- and isn't too long
+never_long : (limit : ℕ) (name : List ℕ) (told : Option (List ℕ)) (gave : ℕ → Type 0) (t b : List ℕ) → told ≡ Some b → length b ≤ limit → IsLong limit name told gave t → ⊥
+never_long limit name told gave t b e le long =
+    let lt : limit < length b = subst (λ o. IfSome o (λ file. limit < length file)) e long.longer in omega arith
+
+open_below : (o : Outcome) (g : Game) (turns : ℕ) (root : Tree) → Open ≡ status_of o → OpenMeans o g turns root → full_turns_of g ≤ turns → ⊥
+open_below True g turns root e m f = let k : Open ≡ Done = e in cc
+open_below False g turns root e m f = let k : Open ≡ Done = e in cc
+open_below (OpenOutcome n) g turns root e m f = let all : n ≡ turns = m.all in let below : n < full_turns_of g = m.below in omega arith
+
+solves_done : Laws → (name : List ℕ) (turns : ℕ) (told : Option (List ℕ)) (gave : ℕ → Type 0) (s : Status) (t : List ℕ) →
+    AnswersProblem (SolvesProblem turns) name told gave s t → ¬ (s ≡ Memory) → ¬ (s ≡ ReadFault) →
+    (g : Game) → TellsProblem told g → IsPlain g → full_turns_of g ≤ turns → s ≡ Done
+solves_done l name turns told gave Done t h m r g tells plain f = refl
+solves_done l name turns told gave NotProved t h m r g tells plain f = elim h [ inl d ↦ absurd d | inr (h0, of, k) ↦ elim k [ inl d ↦ absurd d | inr (p, x) ↦ absurd x ] ]
+solves_done l name turns told gave Open t h m r g tells plain f =
+    elim h [
+      | inl d ↦ absurd d
+      | inr (h0, of, k) ↦ elim k [
+        | inl d ↦ absurd d
+        | inr (p, c) ↦ absurd (open_below c.outcome h0 turns c.root c.ends c.spent (subst (λ q. full_turns_of q ≤ turns) (sym (same_game l.one told g h0 tells of)) f))
+      ]
+    ]
+solves_done l name turns told gave Usage t h m r g tells plain f = elim h [ inl d ↦ absurd d | inr (h0, of, k) ↦ elim k [ inl d ↦ absurd d | inr (p, x) ↦ absurd x ] ]
+solves_done l name turns told gave BadProblem t h m r g tells plain f =
+    elim h [
+      | inl d ↦ absurd (never_refused l.either told g t tells d)
+      | inr (h0, of, k) ↦ elim k [
+        | inl d ↦ absurd (d.beyond (subst IsPlain (sym (same_game l.one told g h0 tells of)) plain))
+        | inr (p, x) ↦ absurd x
+      ]
+    ]
+solves_done l name turns told gave BadCertificate t h m r g tells plain f = elim h [ inl d ↦ absurd d | inr (h0, of, k) ↦ elim k [ inl d ↦ absurd d | inr (p, x) ↦ absurd x ] ]
+solves_done l name turns told gave TooLong t h m r g tells plain f =
+    elim h [ inl d ↦ absurd (never_long 4194304 name told gave t tells.bytes tells.told_is tells.within d) | inr (h0, of, k) ↦ elim k [ inl d ↦ absurd d | inr (p, x) ↦ absurd x ] ]
+solves_done l name turns told gave ReadFault t h m r g tells plain f = absurd (r refl)
+solves_done l name turns told gave WriteFault t h m r g tells plain f = elim h [ inl d ↦ absurd d | inr (h0, of, k) ↦ elim k [ inl d ↦ absurd d | inr (p, x) ↦ absurd x ] ]
+solves_done l name turns told gave Memory t h m r g tells plain f = absurd (m refl)
+
+prints_done : Laws → (name : List ℕ) (told : Option (List ℕ)) (gave : ℕ → Type 0) (s : Status) (t : List ℕ) →
+    AnswersProblem PrintsProblem name told gave s t → ¬ (s ≡ Memory) → ¬ (s ≡ ReadFault) → (g : Game) → TellsProblem told g → s ≡ Done
+prints_done l name told gave Done t h m r g tells = refl
+prints_done l name told gave NotProved t h m r g tells = elim h [ inl d ↦ absurd d | inr (h0, of, k) ↦ absurd k ]
+prints_done l name told gave Open t h m r g tells = elim h [ inl d ↦ absurd d | inr (h0, of, k) ↦ absurd k ]
+prints_done l name told gave Usage t h m r g tells = elim h [ inl d ↦ absurd d | inr (h0, of, k) ↦ absurd k ]
+prints_done l name told gave BadProblem t h m r g tells = elim h [ inl d ↦ absurd (never_refused l.either told g t tells d) | inr (h0, of, k) ↦ absurd k ]
+prints_done l name told gave BadCertificate t h m r g tells = elim h [ inl d ↦ absurd d | inr (h0, of, k) ↦ absurd k ]
+prints_done l name told gave TooLong t h m r g tells = elim h [ inl d ↦ absurd (never_long 4194304 name told gave t tells.bytes tells.told_is tells.within d) | inr (h0, of, k) ↦ absurd k ]
+prints_done l name told gave ReadFault t h m r g tells = absurd (r refl)
+prints_done l name told gave WriteFault t h m r g tells = elim h [ inl d ↦ absurd d | inr (h0, of, k) ↦ absurd k ]
+prints_done l name told gave Memory t h m r g tells = absurd (m refl)
+
+moved : (g : Game) (o p : Outcome) (v w : Option ℤ) (r s : Tree) → o ≡ p → v ≡ w → r ≡ s → Passes g o v r → Passes g p w s
+moved g o p v w r s a b c h = rw (← a, ← b, ← c) h
+
+no_want : (fault : CertFault) (t : List ℕ) → FaultLine fault t → IsWant fault → ⊥
+no_want (NotACertificate at) t h w = w
+no_want (TooDeep at) t h w = w
+no_want (Want e) t h w = h
+
+denied : IsOneCertificate → (told : Option (List ℕ)) (g : Game) (bytes t : List ℕ) (proof : TellsProof told g) → Denies g bytes t → bytes ≡ proof.bytes → ⊥
+denied one told g bytes t proof d e =
+    let p : IsText 1000 bytes = (proof.version, proof.outcome, proof.optimum, proof.root, proof.read.spellable, proof.read.shallow, e ∙ proof.read.spelled) in
+    let q : IsText 1000 bytes = (d.version, d.outcome, d.optimum, d.root, d.read.spellable, d.read.shallow, d.read.spelled) in
+    let same : (p.0 ≡ q.0) × (p.1 ≡ q.1) × (p.2 ≡ q.2) × (p.3 ≡ q.3) = one bytes p q in
+    d.fails (moved g proof.outcome d.outcome proof.optimum d.optimum proof.root d.root same.1 same.2 same.3 proof.passes)
+
+-- the certificate that is read is the one that passes
+never_denied : IsOneCertificate → (told : Option (List ℕ)) (g : Game) (bytes t : List ℕ) → TellsProof told g → IsFile 1073741824 told bytes → Denies g bytes t → ⊥
+never_denied one told g bytes t proof file d =
+    denied one told g bytes t proof d (told_bytes told proof.bytes bytes proof.told_is file.same)
+
+never_faulty : NeverBoth → (told : Option (List ℕ)) (g : Game) (bytes t : List ℕ) (fault : CertFault) → TellsProof told g → IsFile 1073741824 told bytes → IsFault fault bytes → FaultLine fault t → ⊥
+never_faulty never told g bytes t fault proof file is line =
+    let e : bytes ≡ proof.bytes = told_bytes told proof.bytes bytes proof.told_is file.same in
+    never proof.bytes fault (proof.version, proof.outcome, proof.optimum, proof.root, proof.read.spellable, proof.read.shallow, proof.read.spelled)
+    (subst (IsFault fault) e is, no_want fault t line)
+
+checks_done : Laws → (name certificate : List ℕ) (told proof : Option (List ℕ)) (gave : ℕ → Type 0) (s : Status) (t : List ℕ) →
+    AnswersProblem (ChecksProblem certificate proof gave) name told gave s t → ¬ (s ≡ Memory) → ¬ (s ≡ ReadFault) →
+    (g : Game) → TellsProblem told g → IsPlain g → TellsProof proof g → s ≡ Done
+checks_done l name certificate told proof gave Done t h m r g tells plain proves = refl
+checks_done l name certificate told proof gave NotProved t h m r g tells plain proves =
+    elim h [
+      | inl d ↦ absurd d
+      | inr (h0, of, k) ↦ elim k [
+        | inl d ↦ absurd d
+        | inr (p, x) ↦ elim x [
+          | inl d ↦ absurd d
+          | inr (bytes, file, y) ↦ absurd (never_denied l.certificate proof g bytes t proves file (subst (λ q. Denies q bytes t) (same_game l.one told g h0 tells of) y))
+        ]
+      ]
+    ]
+checks_done l name certificate told proof gave Open t h m r g tells plain proves = elim h [ inl d ↦ absurd d | inr (h0, of, k) ↦ elim k [ inl d ↦ absurd d | inr (p, x) ↦ elim x [ inl d ↦ absurd d | inr (bytes, file, y) ↦ absurd y ] ] ]
+checks_done l name certificate told proof gave Usage t h m r g tells plain proves = elim h [ inl d ↦ absurd d | inr (h0, of, k) ↦ elim k [ inl d ↦ absurd d | inr (p, x) ↦ elim x [ inl d ↦ absurd d | inr (bytes, file, y) ↦ absurd y ] ] ]
+checks_done l name certificate told proof gave BadProblem t h m r g tells plain proves =
+    elim h [
+      | inl d ↦ absurd (never_refused l.either told g t tells d)
+      | inr (h0, of, k) ↦ elim k [
+        | inl d ↦ absurd (d.beyond (subst IsPlain (sym (same_game l.one told g h0 tells of)) plain))
+        | inr (p, x) ↦ elim x [ inl d ↦ absurd d | inr (bytes, file, y) ↦ absurd y ]
+      ]
+    ]
+checks_done l name certificate told proof gave BadCertificate t h m r g tells plain proves =
+    elim h [
+      | inl d ↦ absurd d
+      | inr (h0, of, k) ↦ elim k [
+        | inl d ↦ absurd d
+        | inr (p, x) ↦ elim x [
+          | inl d ↦ absurd d
+          | inr (bytes, file, (fault, is, line)) ↦ absurd (never_faulty l.never proof g bytes t fault proves file is line)
+        ]
+      ]
+    ]
+checks_done l name certificate told proof gave TooLong t h m r g tells plain proves =
+    elim h [
+      | inl d ↦ absurd (never_long 4194304 name told gave t tells.bytes tells.told_is tells.within d)
+      | inr (h0, of, k) ↦ elim k [
+        | inl d ↦ absurd d
+        | inr (p, x) ↦ elim x [ inl d ↦ absurd (never_long 1073741824 certificate proof gave t proves.bytes proves.told_is proves.within d) | inr (bytes, file, y) ↦ absurd y ]
+      ]
+    ]
+checks_done l name certificate told proof gave ReadFault t h m r g tells plain proves = absurd (r refl)
+checks_done l name certificate told proof gave WriteFault t h m r g tells plain proves = elim h [ inl d ↦ absurd d | inr (h0, of, k) ↦ elim k [ inl d ↦ absurd d | inr (p, x) ↦ elim x [ inl d ↦ absurd d | inr (bytes, file, y) ↦ absurd y ] ] ]
+checks_done l name certificate told proof gave Memory t h m r g tells plain proves = absurd (m refl)
+
+asked_done : Laws → (asked : Option Asked) (told : List ℕ → Option (List ℕ)) (gave : ℕ → Type 0) (s : Status) (t : List ℕ) →
+    Answers asked told gave s t → ¬ (s ≡ Memory) → ¬ (s ≡ ReadFault) → IsComplete asked told s
+asked_done l None told gave s t h m r = words s h where
+  words : (s : Status) → Answers None told gave s t → s ≡ Usage
+  words Usage h = refl
+  words Done h = absurd h
+  words NotProved h = absurd h
+  words Open h = absurd h
+  words BadProblem h = absurd h
+  words BadCertificate h = absurd h
+  words TooLong h = absurd h
+  words ReadFault h = absurd h
+  words WriteFault h = absurd h
+  words Memory h = absurd h
+asked_done l (Some (solves name turns)) told gave s t h m r = λ g tells plain f. solves_done l name turns (told name) gave s t h m r g tells plain f
+asked_done l (Some (prints name)) told gave s t h m r = λ g tells. prints_done l name (told name) gave s t h m r g tells
+asked_done l (Some (checks name certificate)) told gave s t h m r =
+    λ g tells plain proof. checks_done l name certificate (told name) (told certificate) gave s t h m r g tells plain proof
+
+no_fault : (before now : ℕ) → Rose before now → NoneRose before now → ⊥
+no_fault before now rose (same, below) = omega arith
+
+-- the answer was written, and nothing failed
+pub run_done : Laws → (asked : Option Asked) (told : List ℕ → Option (List ℕ)) (gave : ℕ → Type 0) (old new : Option (List ℕ)) (before now missed misses : ℕ) (s : Status) →
+    Wrote old new before now s (Answers asked told gave) → (s ≡ ReadFault → Rose missed misses) →
+    NoneRose missed misses → NoneRose before now → ¬ (s ≡ Memory) → IsComplete asked told s
+run_done l asked told gave old new before now missed misses Done wrote fault files output m = asked_done l asked told gave Done wrote.1.0 wrote.1.1 m (λ e. no_fault missed misses (fault e) files)
+run_done l asked told gave old new before now missed misses NotProved wrote fault files output m = asked_done l asked told gave NotProved wrote.1.0 wrote.1.1 m (λ e. no_fault missed misses (fault e) files)
+run_done l asked told gave old new before now missed misses Open wrote fault files output m = asked_done l asked told gave Open wrote.1.0 wrote.1.1 m (λ e. no_fault missed misses (fault e) files)
+run_done l asked told gave old new before now missed misses Usage wrote fault files output m = asked_done l asked told gave Usage wrote.1.0 wrote.1.1 m (λ e. no_fault missed misses (fault e) files)
+run_done l asked told gave old new before now missed misses BadProblem wrote fault files output m = asked_done l asked told gave BadProblem wrote.1.0 wrote.1.1 m (λ e. no_fault missed misses (fault e) files)
+run_done l asked told gave old new before now missed misses BadCertificate wrote fault files output m = asked_done l asked told gave BadCertificate wrote.1.0 wrote.1.1 m (λ e. no_fault missed misses (fault e) files)
+run_done l asked told gave old new before now missed misses TooLong wrote fault files output m = asked_done l asked told gave TooLong wrote.1.0 wrote.1.1 m (λ e. no_fault missed misses (fault e) files)
+run_done l asked told gave old new before now missed misses ReadFault wrote fault files output m = asked_done l asked told gave ReadFault wrote.1.0 wrote.1.1 m (λ e. no_fault missed misses (fault e) files)
+run_done l asked told gave old new before now missed misses WriteFault wrote fault files output m = absurd (no_fault before now wrote.0 output)
+run_done l asked told gave old new before now missed misses Memory wrote fault files output m = asked_done l asked told gave Memory wrote.1.0 wrote.1.1 m (λ e. no_fault missed misses (fault e) files)

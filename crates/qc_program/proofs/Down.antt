@@ -1,0 +1,57 @@
+-- What is answered where a file can't be had, or has no problem.
+use Rattle.std.proofs.Common.{◌≡◌, ◌+◌, ◌⊎◌, ℕ, List, Option, inl, inr, arith}
+use Rattle.qc_io.specs.Counts.{RoseBy}
+use Rattle.qc_model.specs.Content.{Game}
+use Rattle.qc_syntax.specs.declared.fault.ReadFault.{ReadFault as Fault}
+use Rattle.qc_syntax.specs.declared.fault.ReadFault.TheVariants.{Refused, Memory as Want}
+use Rattle.qc_syntax.specs.Reads.{Explains}
+use Rattle.qc_program.specs.declared.status.Status.{Status}
+use Rattle.qc_program.specs.declared.status.Status.TheVariants.{Done, NotProved, Open, Usage, BadProblem, BadCertificate, TooLong, ReadFault, WriteFault, Memory}
+use Rattle.qc_program.specs.Refusals.{TurnsDown, TurnsTextDown}
+use Rattle.qc_program.specs.Answers.{IsFile, IsLong, TurnsFileDown, TurnsProblemDown, ChecksFile, ChecksProblem}
+
+pub rose_after : (m n a b c : ℕ) → RoseBy m a b → RoseBy n b c → RoseBy n a c
+rose_after m n a b c h k = omega arith
+
+-- a text that couldn't be read
+pub fault_down : (bytes : List ℕ) (f : Fault) (s : Status) (t : List ℕ) → Explains bytes f → TurnsDown f s t → TurnsTextDown bytes s t
+fault_down bytes (Refused r) s t why is = rw is.0 (record { kind = r.kind; at = r.at; refuses = why; line = is.1 })
+fault_down bytes (Want e) s t why is = rw is.0 is.1
+
+-- what is answered for such a text is answered for its file
+pub text_down : (name bytes : List ℕ) (told : Option (List ℕ)) (gave : ℕ → Type 0) → IsFile 4194304 told bytes →
+    (s : Status) (t : List ℕ) → TurnsTextDown bytes s t → TurnsProblemDown name told gave s t
+text_down name bytes told gave file Done t h = absurd h
+text_down name bytes told gave file NotProved t h = absurd h
+text_down name bytes told gave file Open t h = absurd h
+text_down name bytes told gave file Usage t h = absurd h
+text_down name bytes told gave file BadProblem t h = record { bytes = bytes; file = file; refused = h }
+text_down name bytes told gave file BadCertificate t h = absurd h
+text_down name bytes told gave file TooLong t h = absurd h
+text_down name bytes told gave file ReadFault t h = absurd h
+text_down name bytes told gave file WriteFault t h = absurd h
+text_down name bytes told gave file Memory t h = h
+
+long_before : (limit : ℕ) (name : List ℕ) (told : Option (List ℕ)) (gave gave' : ℕ → Type 0) (t : List ℕ) → ((n : ℕ) → gave n → gave' n) →
+    IsLong limit name told gave t → IsLong limit name told gave' t
+long_before limit name told gave gave' t f h = record { given = f (limit + 1) h.given; longer = h.longer; line = h.line }
+
+-- more was given before
+file_before : (limit : ℕ) (name : List ℕ) (told : Option (List ℕ)) (gave gave' : ℕ → Type 0) → ((n : ℕ) → gave n → gave' n) →
+    (s : Status) (t : List ℕ) → TurnsFileDown limit name told gave s t → TurnsFileDown limit name told gave' s t
+file_before limit name told gave gave' f Done t h = h
+file_before limit name told gave gave' f NotProved t h = h
+file_before limit name told gave gave' f Open t h = h
+file_before limit name told gave gave' f Usage t h = h
+file_before limit name told gave gave' f BadProblem t h = h
+file_before limit name told gave gave' f BadCertificate t h = h
+file_before limit name told gave gave' f TooLong t h = long_before limit name told gave gave' t f h
+file_before limit name told gave gave' f ReadFault t h = h
+file_before limit name told gave gave' f WriteFault t h = h
+file_before limit name told gave gave' f Memory t h = h
+
+pub checks_before : (name : List ℕ) (told : Option (List ℕ)) (gave gave' : ℕ → Type 0) (g : Game) → ((n : ℕ) → gave n → gave' n) →
+    (s : Status) (t : List ℕ) → ChecksProblem name told gave g s t → ChecksProblem name told gave' g s t
+checks_before name told gave gave' g f s t h = elim h [ inl d ↦ inl d | inr c ↦ inr (c.0, inner c.1) ] where
+  inner : ChecksFile g name told gave s t → ChecksFile g name told gave' s t
+  inner c = elim c [ inl d ↦ inl (file_before 1073741824 name told gave gave' f s t d) | inr b ↦ inr b ]

@@ -1,0 +1,10 @@
+use Rattle.qc_program.proofs.run.answer.Goals as goal
+
+pub returns-in-Some-Solve-clause-wrote : goal.returns-in-Some-Solve-clause-wrote
+returns-in-Some-Solve-clause-wrote g c = rw (← c.in-Some-Solve.ensures.asked, c.in-Some-Solve.field-0-is) c.solve_file.ensures.wrote
+
+pub returns-in-Some-Check-clause-wrote : goal.returns-in-Some-Check-clause-wrote
+returns-in-Some-Check-clause-wrote g c = rw (← c.in-Some-Check.ensures.asked, c.in-Some-Check.field-0-is) c.check_files.ensures.wrote
+
+pub returns-in-Some-Print-clause-wrote : goal.returns-in-Some-Print-clause-wrote
+returns-in-Some-Print-clause-wrote g c = rw (← c.in-Some-Print.ensures.asked, c.in-Some-Print.field-0-is) c.print_file.ensures.wrote

@@ -1,0 +1,44 @@
+-- What a run answers in which nothing failed, and where memory sufficed.
+use Rattle.std.specs.Prelude.{◌≡◌, ◌≤◌, ℕ, List, length, Option, Some, None, ℤ}
+use Rattle.qc_model.specs.Content.{Game}
+use Rattle.qc_model.specs.Turns.{full_turns_of}
+use Rattle.qc_syntax.specs.Reads.{Reads}
+use Rattle.proof_tree.specs.declared.tree.Version.{Version}
+use Rattle.proof_tree.specs.declared.tree.Outcome.{Outcome}
+use Rattle.proof_tree.specs.Tree.{Tree}
+use Rattle.qc_program.specs.declared.status.Status.{Status}
+use Rattle.qc_program.specs.declared.status.Status.TheVariants.{Done, Usage}
+use Rattle.qc_program.specs.Words.{Asked, solves, checks, prints}
+use Rattle.qc_program.specs.Refusals.{IsPlain}
+use Rattle.qc_program.specs.Answers.{IsRead, Passes}
+
+-- the file is told, and has the text of this problem
+pub record TellsProblem (told : Option (List ℕ)) (g : Game) : Type 0 where
+  pub bytes : List ℕ
+  pub told_is : told ≡ Some bytes
+  pub within : length bytes ≤ 4194304
+  pub reads : Reads bytes g
+
+-- the file is told, and has the text of a certificate that passes
+pub record TellsProof (told : Option (List ℕ)) (g : Game) : Type 0 where
+  pub bytes : List ℕ
+  pub told_is : told ≡ Some bytes
+  pub within : length bytes ≤ 1073741824
+  pub version : Version
+  pub outcome : Outcome
+  pub optimum : Option ℤ
+  pub root : Tree
+  pub read : IsRead bytes version outcome optimum root
+  pub passes : Passes g outcome optimum root
+
+-- A problem is solved where the turns are as many as the whole game can take; a certificate that proves what it states is
+-- confirmed; a problem is printed.
+abbrev pub Completes : Asked → (List ℕ → Option (List ℕ)) → Status → Type 0
+Completes (solves name turns) told status = (g : Game) → TellsProblem (told name) g → IsPlain g → full_turns_of g ≤ turns → status ≡ Done
+Completes (prints name) told status = (g : Game) → TellsProblem (told name) g → status ≡ Done
+Completes (checks problem certificate) told status =
+    (g : Game) → TellsProblem (told problem) g → IsPlain g → TellsProof (told certificate) g → status ≡ Done
+
+abbrev pub IsComplete : Option Asked → (List ℕ → Option (List ℕ)) → Status → Type 0
+IsComplete None told status = status ≡ Usage
+IsComplete (Some asked) told status = Completes asked told status
