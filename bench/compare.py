@@ -94,7 +94,7 @@ class Maker:
                 if self.rarely() or name not in [known for known, _, _ in self.declared]:
                     self.declared.append((name, self.random.choice("iib"), scope))
             if kind == "forall" and self.random.random() < 0.5:
-                self.declared += [(f"q{scope}", "q", scope)] + [(f"r{scope}", "q", scope)] * self.rarely(0.05)
+                self.declared += [(f"q{scope}", "q", scope)] + [(f"r{scope}", "q", scope)] * self.rarely(0.3)
 
     def problem(self):
         kinds = [self.random.choice(["exists", "forall"]) for _ in range(self.random.randrange(5))]
@@ -107,6 +107,20 @@ class Maker:
             parts += [self.head(kind)] + items
         parts += ["goal;"] + [self.constraint(len(kinds)) for _ in range(self.random.randrange(3))] + ["solve;"]
         return self.random.choice([" ", "\n", "% c\n", "\t"]).join(parts).encode()
+
+    def wishes(self):
+        """Scopes that ask for several aggregates, some for a least or a greatest first."""
+        last, parts = self.random.randrange(2), []
+        for block in range(last + 1):
+            names = [f"a{block}{k}" for k in range(3)]
+            targets = [f"t{block}"] if block == last else [f"t{block}", f"a{block + 1}0", f"a{block + 1}1"]
+            for _ in range(self.random.randrange(1, 4)):
+                parts.append(f"exists {self.random.choice(['minimize', 'maximize'])} {self.random.choice(names)};")
+            parts.append(f"forall;var 0..1: t{block};")
+            for name in names:
+                fold = self.random.choice(["sum(%s)", "sum(%s)", "least(%s) else 0", "greatest(%s) else 0"])
+                parts.append(f"aggregate {name} = {fold % self.random.choice(targets)};")
+        return "".join(parts + ["goal;solve;"]).encode()
 
     def damaged(self, data):
         data = bytearray(data)
@@ -121,7 +135,7 @@ class Maker:
         return bytes(data)
 
     def text(self):
-        data = self.problem()
+        data = self.wishes() if self.rarely(0.1) else self.problem()
         return self.damaged(data) if self.random.random() < 0.3 else data
 
 

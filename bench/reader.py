@@ -13,8 +13,9 @@ DIGITS = set(b"0123456789")
 SIGNS = set(b";:,()[]{}=")
 KINDS = (
     "BadByte BadNumber Syntax DuplicateName UnknownName UnknownPredicate WrongArguments OutOfRange EmptyDomain TooWide"
-    " TooMany NotVisible BadAggregate"
+    " TooMany NotVisible"
 ).split()
+NUMBERS = {kind: number for number, kind in enumerate(KINDS, 1)} | {"BottleneckFirst": 14}
 
 # The kinds of arguments of each predicate, a letter each as in docs/predicates.md.
 SIGNATURES = {}
@@ -48,7 +49,7 @@ class Refused(Exception):
     """A text that is no problem, with the kind and the place."""
 
     def __init__(self, kind, at):
-        super().__init__(f"bad problem: {KINDS.index(kind) + 1} {kind} at {at}\n")
+        super().__init__(f"bad problem: {NUMBERS[kind]} {kind} at {at}\n")
 
 
 @dataclass
@@ -232,7 +233,7 @@ class Parser:
 
 
 class Checker:
-    """The ten kinds of refusals that items meet, in their order."""
+    """The kinds of refusals that items meet, in their order."""
 
     def __init__(self, tokens, items):
         self.tokens, self.items, self.meant = tokens, items, {}
@@ -254,11 +255,7 @@ class Checker:
         self.domains()
         self.limits()
         self.visible()
-        last = None
-        for item in self.of("aggregate"):
-            if item.owner == last:
-                raise Refused("BadAggregate", item.at)
-            last = item.owner
+        self.bottlenecks()
 
     def of(self, what):
         return (item for item in self.items if item.what == what)
@@ -326,7 +323,7 @@ class Checker:
 
     def limits(self):
         count = dict.fromkeys(("scope", "var", "constraint", "aggregate", "goal"), 0)
-        most = {"scope": 64, "var": 500, "constraint": 20_000}
+        most = {"scope": 64, "var": 500, "aggregate": 255, "constraint": 20_000}
         for item in self.items:
             what = "scope" if item.what in ("exists", "forall") else item.what
             count[what] += 1
@@ -353,6 +350,25 @@ class Checker:
                 hidden = self.meant[name.value][1] > item.owner
                 if hidden if item.what == "constraint" else not self.sees(item.owner, name.value):
                     raise Refused("NotVisible", name.at)
+
+    def bottlenecks(self):
+        """Whether a scope is asked for a least or a greatest and then for another aggregate.
+
+        `asked` is what the scope is asked for, the nearest wish first. The first such in the text is told.
+        """
+        aggregates = {item.name.value: item for item in self.of("aggregate")}
+        asked, early = [], []
+        for item in self.items:
+            if item.condition:
+                asked = [item.condition[1].value] + asked
+            elif item.what == "forall":
+                named = [name for name in asked if name in aggregates]
+                for k, name in enumerate(named):
+                    if aggregates[name].fold[0] != "sum" and any(other != name for other in named[k:]):
+                        early.append(aggregates[name].at)
+                asked = [aggregates[name].target.value for name in dict.fromkeys(named)]
+        if early:
+            raise Refused("BottleneckFirst", min(early))
 
 
 def set_text(members):
@@ -387,7 +403,7 @@ def item_text(item):
 
 
 def canonical(items):
-    """A scope's head first, then its variables, its aggregate and its constraints, each in order."""
+    """A scope's head first, then its variables, its aggregates and its constraints, each in order."""
     order = {"exists": 0, "forall": 0, "goal": 0, "var": 1, "aggregate": 2, "constraint": 3}
     return "".join(item_text(item) for item in sorted(items, key=lambda i: (i.owner, order[i.what]))) + "solve;\n"
 

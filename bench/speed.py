@@ -1,8 +1,14 @@
 #!/usr/bin/env python3
-"""Measures the program on large inputs: time and the most memory, one line each.
+"""Measures the program on large inputs and on constraints: time and the most memory, one line each.
 
-Run it at the top of a checkout, after ./qecode has built the program. Nothing here is part of the gate.
+    python3 bench/speed.py [--against FILE] [--write FILE]
+
+Run it at the top of a checkout, after ./qecode has built the program. Nothing here is part of the gate. With --against
+each line ends with what it was in the results of that file; with --write the results go into the file. A problem that
+the program doesn't take yet has status 4. Less memory than this script's own, some 45 MB, can't be told.
 """
+import argparse
+import json
 import os
 import random
 import subprocess
@@ -12,6 +18,7 @@ import time
 
 PROGRAM = "crates/qc_program/out/qc_program"
 LIMIT = 4_194_304
+USAGE = 3
 
 
 def measured(words, output):
@@ -29,6 +36,9 @@ def texts():
     empty = "constraint array_bool_xor([]);"
     table = "constraint array_int_element(1,[" + "1," * 99_999 + "1],1);"
     sums = "constraint int_lin_le([" + ",".join("1" * 1_000) + "],[" + ",".join("x" * 1_000) + "],5);"
+    clauses = "constraint bool_clause([" + ",".join("b" * 1_000) + "],[" + ",".join("b" * 1_000) + "]);"
+    elements = "constraint array_var_int_element(x,[" + ",".join("x" * 1_000) + "],x);"
+    different = "constraint all_different_int([" + ",".join("x" * 1_000) + "]);"
     yield "blanks", " " * LIMIT
     yield "one comment", "%" + "x" * (LIMIT - 1)
     yield "one word", "a" * LIMIT
@@ -44,35 +54,106 @@ def texts():
     yield "braces", "exists;var {" + "1," * 2_097_100 + "2}:x;goal;solve;"
     yield "tables, printed", "goal;" + table * 20 + "solve;"
     yield "sums, printed", "exists;var 0..1:x;goal;" + sums * 1_040 + "solve;"
+    yield "clauses, printed", "exists;var bool:b;goal;" + clauses * 1_035 + "solve;"
+    yield "elements, printed", "exists;var 0..1:x;goal;" + elements * 2_050 + "solve;"
+    yield "all different, printed", "exists;var 0..1:x;goal;" + different * 2_055 + "solve;"
 
 
-def wide_game(variables):
-    """A game that has to be gone through whole: every choice of the opponent is won."""
-    declarations = "".join(f"var 0..1: x{k};\n" for k in range(variables))
-    return "forall;\n" + declarations + "goal;\nsolve;\n"
+def listed(names):
+    return "[" + ",".join(map(str, names)) + "]"
 
 
-def report(name, result):
-    seconds, megabytes, status = result
-    print(f"{name:24} {seconds:6.2f} s {megabytes:6.0f} MB  status {status}")
+def declared(domain, names):
+    return "".join(f"var {domain}: {name};\n" for name in names)
+
+
+def game(*parts):
+    return "".join(part + "\n" for part in parts) + "solve;\n"
+
+
+def goal(*constraints):
+    return "goal;\n" + "".join(f"constraint {constraint};\n" for constraint in constraints)
+
+
+def games():
+    """Problems to solve and check. All but the last are gone through whole by a search without propagation."""
+    names = [f"x{k}" for k in range(19)]
+    yield "nothing to keep", game("forall;", declared("0..1", names), "goal;")
+    some = names[:17]
+    ones, minus = listed([1] * 17), listed([-1] * 17)
+    sums = [f"int_lin_le({ones},{listed(some)},17)", f"int_lin_le({minus},{listed(some)},0)"]
+    sums += [f"int_lin_ne({ones},{listed(some)},18)"]
+    yield "sums", game("forall;", declared("0..1", some), goal(*sums))
+    clauses = [f"bool_clause({listed([one, other])},{listed([one])})" for one, other in zip(some, some[1:])]
+    yield "clauses", game("forall;", declared("bool", some), goal(*clauses))
+    places = names[:5]
+    elements = [f"array_var_int_element(x0,{listed(places[1:] + places[:2])},e)"]
+    elements += ["array_int_element(x1,[5,4,3,2,1,0],f)"]
+    yield "elements", game("forall;", declared("1..6", places), "exists;\nvar 1..6: e;\nvar 0..5: f;", goal(*elements))
+    yield "all different", game("exists;", declared("1..6", names[:7]), goal(f"all_different_int({listed(names[:7])})"))
+    cells = names[:9]
+    lines = [cells[k : k + 3] for k in (0, 3, 6)] + [cells[k::3] for k in range(3)] + [cells[0::4], cells[2:7:2]]
+    square = [f"int_lin_eq([1,1,1],{listed(line)},15)" for line in lines] + [f"all_different_int({listed(cells)})"]
+    yield "a magic square", game("exists;", declared("1..9", cells), goal(*square))
+
+
+class Results:
+    """Prints each result as it comes, beside the earlier one."""
+
+    def __init__(self, earlier):
+        self.earlier, self.found = earlier, {}
+
+    def add(self, name, result):
+        seconds, megabytes, status = self.found[name] = result
+        was = "  (was {:.2f} s {:.0f} MB  status {})".format(*self.earlier[name]) if name in self.earlier else ""
+        print(f"{name:30} {seconds:6.2f} s {megabytes:6.0f} MB  status {status}{was}", flush=True)
+
+
+def written(path, content):
+    with open(path, "wb") as file:
+        file.write(content if isinstance(content, bytes) else content.encode())
+
+
+def solved(text, certificate):
+    """With the greatest budget, or without one where the program doesn't know budgets."""
+    for budget in ["--turns", "10000000"], []:
+        with open(certificate, "wb") as file:
+            result = measured(["solve", text, *budget], file)
+        if result[2] != USAGE:
+            break
+    return result
+
+
+def measure(results, folder):
+    text, certificate = os.path.join(folder, "text"), os.path.join(folder, "certificate")
+    for name, content in texts():
+        assert len(content if isinstance(content, bytes) else content.encode()) <= LIMIT, name
+        written(text, content)
+        results.add(f"print: {name}", measured(["print", text], subprocess.DEVNULL))
+    for name, content in games():
+        written(text, content)
+        results.add(f"print: {name}", measured(["print", text], subprocess.DEVNULL))
+        results.add(f"solve: {name}", solved(text, certificate))
+        results.add(f"check: {name}", measured(["check", text, certificate], subprocess.DEVNULL))
 
 
 def main():
+    parser = argparse.ArgumentParser(description="Measures the program.")
+    parser.add_argument("--against", metavar="FILE")
+    parser.add_argument("--write", metavar="FILE")
+    options = parser.parse_args()
     if not os.access(PROGRAM, os.X_OK):
         sys.exit("build the program first: ./qecode print examples/price.qc")
+    earlier = {}
+    if options.against:
+        with open(options.against, encoding="utf-8") as file:
+            earlier = json.load(file)
+    results = Results(earlier)
     with tempfile.TemporaryDirectory() as folder:
-        text, certificate = os.path.join(folder, "text"), os.path.join(folder, "certificate")
-        for name, content in texts():
-            data = content if isinstance(content, bytes) else content.encode()
-            assert len(data) <= LIMIT, name
-            with open(text, "wb") as file:
-                file.write(data)
-            report(f"print: {name}", measured(["print", text], subprocess.DEVNULL))
-        with open(text, "w") as file:
-            file.write(wide_game(19))
-        with open(certificate, "wb") as file:
-            report("solve: 1,048,574 turns", measured(["solve", text], file))
-        report("check: its certificate", measured(["check", text, certificate], subprocess.DEVNULL))
+        measure(results, folder)
+    if options.write:
+        with open(options.write, "w", encoding="utf-8") as file:
+            json.dump(results.found, file, indent=1)
 
 
 main()
