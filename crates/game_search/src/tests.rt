@@ -4,7 +4,7 @@ ghost use Rattle.std.specs.Prelude.{◌≤◌};
 use crate::attempts::{Found, attempt};
 use crate::join::NodeVerdict;
 use crate::{solve, solve_flat};
-use proof_tree::{Outcome, turns};
+use proof_tree::Outcome;
 use qc_model::{
     Arg, Argument, Constraint, Domain, Draft, Kind, Name, Pred, Problem, Scope, ScopeId, VarId,
     Variable, build,
@@ -98,12 +98,12 @@ fn keeps_the_settling_case_alone(rt: HostRuntime) -> Result<(), Fail> {
     Ok(())
 }
 
-/// The outcome within this budget, how many lines show it, and how many turns the tree of them takes.
+/// The outcome within this budget, which the tree states too, and how many lines show it.
 fn solved(
     alloc: Global,
     problem: Option<Problem>,
     budget: u64,
-) -> Result<Option<(Outcome, usize, u64)>, AllocError>
+) -> Result<Option<(Outcome, usize)>, AllocError>
     requires some { 1 ≤ budget }
     requires most { budget ≤ 10000000 }
 {
@@ -113,9 +113,8 @@ fn solved(
     if has_no_condition(&problem) {
         let flat = solve_flat(alloc, &problem, budget)?;
         let certificate = solve(alloc, &problem, budget)?;
-        let count = turns(&certificate.root);
         if certificate.outcome == flat.outcome {
-            return Ok(Some((flat.outcome, flat.arena.len(), count)));
+            return Ok(Some((flat.outcome, flat.arena.len())));
         }
     }
     Ok(None)
@@ -126,9 +125,9 @@ fn spends_the_budget(rt: HostRuntime) -> Result<(), Fail> {
     let alloc = rt.alloc();
     // v 1, n, v 2, n, g, n, g, r 3, o, dot, r 3, o, dot
     let game = two_scopes(alloc, Kind::Exists, Kind::Forall, 3, Pred::IntLe)?;
-    let (outcome, lines, count) = solved(alloc, game, 3)?.ok_or("no game")?;
+    let (outcome, lines) = solved(alloc, game, 3)?.ok_or("no game")?;
     assert!(rt; outcome == Outcome::Open(3));
-    assert_eq!(rt; (lines, count), (13, 3));
+    assert_eq!(rt; lines, 13);
     Ok(())
 }
 
@@ -137,24 +136,24 @@ fn a_budget_that_is_just_enough(rt: HostRuntime) -> Result<(), Fail> {
     let alloc = rt.alloc();
     // v 1; x = 0 has n, v 2, n, g, n, g and dot; s, dot: x = 0 loses, after one turn of x and two of y.
     let game = two_scopes(alloc, Kind::Forall, Kind::Exists, 1, Pred::IntLt)?;
-    let (outcome, lines, count) = solved(alloc, game, 3)?.ok_or("no game")?;
+    let (outcome, lines) = solved(alloc, game, 3)?.ok_or("no game")?;
     assert!(rt; outcome == Outcome::False);
-    assert_eq!(rt; (lines, count), (10, 3));
+    assert_eq!(rt; lines, 10);
     let again = two_scopes(alloc, Kind::Forall, Kind::Exists, 1, Pred::IntLt)?;
     // v 1, n, v 2, n, g, o, dot, o, dot
-    let (short, fewer, taken) = solved(alloc, again, 2)?.ok_or("no game")?;
+    let (short, fewer) = solved(alloc, again, 2)?.ok_or("no game")?;
     assert!(rt; short == Outcome::Open(2));
-    assert_eq!(rt; (fewer, taken), (9, 2));
+    assert_eq!(rt; fewer, 9);
     Ok(())
 }
 
 #[test]
 fn cuts_what_settled_late(rt: HostRuntime) -> Result<(), Fail> {
     let alloc = rt.alloc();
-    // As above with cuts: 32 lines, and one turn of x and one of y for each x.
+    // As above with cuts: 32 lines.
     let game = two_scopes(alloc, Kind::Forall, Kind::Exists, 3, Pred::IntEq)?;
-    let (outcome, lines, count) = solved(alloc, game, 100)?.ok_or("no game")?;
+    let (outcome, lines) = solved(alloc, game, 100)?.ok_or("no game")?;
     assert!(rt; outcome == Outcome::True);
-    assert_eq!(rt; (lines, count), (32, 8));
+    assert_eq!(rt; lines, 32);
     Ok(())
 }
