@@ -97,6 +97,17 @@ def games():
     yield "a magic square", game("exists;", declared("1..9", cells), goal(*square))
 
 
+def formulas():
+    """Formulas of about the greatest length that is read, and of many clauses."""
+    pick = random.Random(2)
+    head = "p cnf 500 20000\na 1 2 3 4 5 6 7 8 9 10 0\ne 11 12 13 14 15 16 17 18 19 20 0\n"
+    for name, size in ("three literals", 3), ("45 literals", 45):
+        clauses = (" ".join(str(pick.choice((1, -1)) * pick.randrange(1, 501)) for _ in range(size)) for _ in range(20_000))
+        yield name, head + "".join(clause + " 0\n" for clause in clauses)
+    yield "one comment", "c" * LIMIT
+    yield "one clause", "p cnf 500 1\n" + "1 " * 2_000_000 + "0\n"
+
+
 class Results:
     """Prints each result as it comes, beside the earlier one."""
 
@@ -130,6 +141,10 @@ def measure(results, folder):
         assert len(content if isinstance(content, bytes) else content.encode()) <= LIMIT, name
         written(text, content)
         results.add(f"print: {name}", measured(["print", text], subprocess.DEVNULL))
+    for name, content in formulas():
+        assert len(content) <= LIMIT, name
+        written(text, content)
+        results.add(f"qbf --text: {name}", measured(["qbf", text, "--text"], subprocess.DEVNULL))
     for name, content in games():
         written(text, content)
         results.add(f"print: {name}", measured(["print", text], subprocess.DEVNULL))

@@ -7,7 +7,8 @@ use Rattle.proof_tree.specs.declared.tree.Outcome.TheVariants.{True, False, Open
 use Rattle.strategy_arena.specs.Certificate.{text_of_lines}
 use Rattle.game_search.specs.Solution.{SolutionLines}
 use Rattle.qc_program.specs.declared.status.Status.{Status}
-use Rattle.qc_program.specs.Answers.{status_of, Certifies, SolvesPlain}
+use Rattle.qc_program.specs.Answers.{SolvesPlain}
+use Rattle.qc_program.specs.Certifies.{status_of, Certifies}
 
 certified : (g : Game) (turns : ℕ) (o : Outcome) (v : Option ℤ) (lines : List Line) (s : Status) (t : List ℕ) →
     SolutionLines g turns o v lines → s ≡ status_of o → t ≡ text_of_lines o v lines → Certifies g turns s t

@@ -1,5 +1,5 @@
 -- A run in which nothing failed answers what was asked.
-use Rattle.std.proofs.Common.{◌≡◌, ◌≤◌, ◌<◌, ℕ, List, length, Option, Some, None, IfSome, ◌⊎◌, inl, inr, refl, sym, subst, arith, ◌∙◌, ℤ}
+use Rattle.std.proofs.Common.{◌≡◌, ◌≤◌, ◌<◌, ℕ, List, length, Option, Some, None, IfSome, inl, inr, refl, sym, subst, arith, ◌∙◌, ℤ}
 use Rattle.qc_io.specs.Counts.{Rose, NoneRose}
 use Rattle.qc_model.specs.Content.{Game}
 use Rattle.qc_model.specs.Turns.{full_turns_of}
@@ -13,12 +13,20 @@ use Rattle.proof_text.specs.declared.fault.CertFault.TheVariants.{NotACertificat
 use Rattle.proof_text.specs.Places.{IsText, IsFault, IsWant}
 use Rattle.proof_text.specs.Laws.{NeverBoth, IsOneCertificate}
 use Rattle.game_search.specs.Solution.{OpenMeans}
+use Rattle.qdimacs.specs.Grammar.{File, IsFile as IsFormulaFile}
+use Rattle.qdimacs.specs.Tokens.{tokens_of}
+use Rattle.qdimacs.specs.Content.{game_of}
+use Rattle.qdimacs.specs.Refusals.{IsRefused as IsRefusedFormula, formula_of}
+use Rattle.qdimacs.specs.Laws.{OneFile, NeverBoth as NeverRefusedFormula}
 use Rattle.qc_program.specs.declared.status.Status.{Status}
-use Rattle.qc_program.specs.declared.status.Status.TheVariants.{Done, NotProved, Open, Usage, BadProblem, BadCertificate, TooLong, ReadFault, WriteFault, Memory}
-use Rattle.qc_program.specs.Words.{Asked, solves, checks, prints}
+use Rattle.qc_program.specs.declared.status.Status.TheVariants.{Done, NotProved, Open, Usage, BadProblem, BadCertificate, TooLong, ReadFault, WriteFault, Memory, BadQdimacs}
+use Rattle.qc_program.specs.Words.{Asked, solves, checks, prints, decides, rewrites}
 use Rattle.qc_program.specs.Refusals.{IsPlain}
-use Rattle.qc_program.specs.Answers.{status_of, Certifies, IsRead, Passes, Denies, FaultLine, IsProblemOf, IsNoProblem, IsLong, IsFile, AnswersProblem, SolvesProblem, PrintsProblem, ChecksProblem, Answers, Wrote}
-use Rattle.qc_program.specs.Complete.{TellsProblem, TellsProof, IsComplete}
+use Rattle.qc_program.specs.Answers.{Passes, Denies, FaultLine, IsProblemOf, IsNoProblem, AnswersProblem, SolvesProblem, PrintsProblem, ChecksProblem, Answers}
+use Rattle.qc_program.specs.Certifies.{status_of}
+use Rattle.qc_program.specs.Files.{IsLong, IsFile, Wrote}
+use Rattle.qc_program.specs.Formulas.{IsFormulaOf, HasNoFormula, AnswersFormula, DecidesFormula, RewritesFormula}
+use Rattle.qc_program.specs.Complete.{TellsProblem, TellsProof, TellsFormula, IsComplete}
 
 -- the laws of the texts
 pub record Laws : Type 0 where
@@ -26,6 +34,8 @@ pub record Laws : Type 0 where
   pub either : NeverRefused
   pub never : NeverBoth
   pub certificate : IsOneCertificate
+  pub formula : OneFile
+  pub formula_never : NeverRefusedFormula
 
 told_bytes : (told : Option (List ℕ)) (b c : List ℕ) → told ≡ Some b → IfSome told (λ file. c ≡ file) → c ≡ b
 told_bytes told b c e h = subst (λ o. IfSome o (λ file. c ≡ file)) e h
@@ -79,6 +89,7 @@ solves_done l name turns told gave TooLong t h m r g tells plain f =
 solves_done l name turns told gave ReadFault t h m r g tells plain f = absurd (r refl)
 solves_done l name turns told gave WriteFault t h m r g tells plain f = elim h [ inl d ↦ absurd d | inr (h0, of, k) ↦ elim k [ inl d ↦ absurd d | inr (p, x) ↦ absurd x ] ]
 solves_done l name turns told gave Memory t h m r g tells plain f = absurd (m refl)
+solves_done l name turns told gave BadQdimacs t h m r g tells plain f = elim h [ inl d ↦ absurd d | inr (h0, of, k) ↦ elim k [ inl d ↦ absurd d | inr (p, x) ↦ absurd x ] ]
 
 prints_done : Laws → (name : List ℕ) (told : Option (List ℕ)) (gave : ℕ → Type 0) (s : Status) (t : List ℕ) →
     AnswersProblem PrintsProblem name told gave s t → ¬ (s ≡ Memory) → ¬ (s ≡ ReadFault) → (g : Game) → TellsProblem told g → s ≡ Done
@@ -92,6 +103,7 @@ prints_done l name told gave TooLong t h m r g tells = elim h [ inl d ↦ absurd
 prints_done l name told gave ReadFault t h m r g tells = absurd (r refl)
 prints_done l name told gave WriteFault t h m r g tells = elim h [ inl d ↦ absurd d | inr (h0, of, k) ↦ absurd k ]
 prints_done l name told gave Memory t h m r g tells = absurd (m refl)
+prints_done l name told gave BadQdimacs t h m r g tells = elim h [ inl d ↦ absurd d | inr (h0, of, k) ↦ absurd k ]
 
 moved : (g : Game) (o p : Outcome) (v w : Option ℤ) (r s : Tree) → o ≡ p → v ≡ w → r ≡ s → Passes g o v r → Passes g p w s
 moved g o p v w r s a b c h = rw (← a, ← b, ← c) h
@@ -166,6 +178,52 @@ checks_done l name certificate told proof gave TooLong t h m r g tells plain pro
 checks_done l name certificate told proof gave ReadFault t h m r g tells plain proves = absurd (r refl)
 checks_done l name certificate told proof gave WriteFault t h m r g tells plain proves = elim h [ inl d ↦ absurd d | inr (h0, of, k) ↦ elim k [ inl d ↦ absurd d | inr (p, x) ↦ elim x [ inl d ↦ absurd d | inr (bytes, file, y) ↦ absurd y ] ] ]
 checks_done l name certificate told proof gave Memory t h m r g tells plain proves = absurd (m refl)
+checks_done l name certificate told proof gave BadQdimacs t h m r g tells plain proves = elim h [ inl d ↦ absurd d | inr (h0, of, k) ↦ elim k [ inl d ↦ absurd d | inr (p, x) ↦ elim x [ inl d ↦ absurd d | inr (bytes, file, y) ↦ absurd y ] ] ]
+
+same_file : OneFile → (told : Option (List ℕ)) (f h : File) → TellsFormula told f → IsFormulaOf told h → h ≡ f
+same_file one told f h tells of =
+    let e : of.bytes ≡ tells.bytes = told_bytes told tells.bytes of.bytes tells.told_is of.file.same in
+    one (tokens_of tells.bytes) h f (subst (λ b. IsFormulaFile h (tokens_of b)) e of.states.is_file) tells.states.is_file
+
+-- the file has a formula
+never_no_formula : NeverRefusedFormula → (told : Option (List ℕ)) (f : File) (t : List ℕ) → TellsFormula told f → HasNoFormula told t → ⊥
+never_no_formula never told f t tells down =
+    let e : down.bytes ≡ tells.bytes = told_bytes told tells.bytes down.bytes tells.told_is down.file.same in
+    never tells.bytes f down.refused.kind down.refused.at tells.states (subst (λ b. IsRefusedFormula b down.refused.kind down.refused.at) e down.refused.refuses)
+
+decides_done : Laws → (name : List ℕ) (turns : ℕ) (told : Option (List ℕ)) (gave : ℕ → Type 0) (s : Status) (t : List ℕ) →
+    AnswersFormula (DecidesFormula turns) name told gave s t → ¬ (s ≡ Memory) → ¬ (s ≡ ReadFault) →
+    (f : File) → TellsFormula told f → full_turns_of (game_of (formula_of f)) ≤ turns → s ≡ Done
+decides_done l name turns told gave Done t h m r f tells full = refl
+decides_done l name turns told gave NotProved t h m r f tells full = elim h [ inl d ↦ absurd d | inr (h0, of, k) ↦ absurd k ]
+decides_done l name turns told gave Open t h m r f tells full =
+    elim h [
+      | inl d ↦ absurd d
+      | inr (h0, of, k) ↦ absurd (open_below k.certifies.outcome (game_of (formula_of h0)) turns k.certifies.root k.certifies.ends k.certifies.spent
+          (subst (λ q. full_turns_of (game_of (formula_of q)) ≤ turns) (sym (same_file l.formula told f h0 tells of)) full))
+    ]
+decides_done l name turns told gave Usage t h m r f tells full = elim h [ inl d ↦ absurd d | inr (h0, of, k) ↦ absurd k ]
+decides_done l name turns told gave BadProblem t h m r f tells full = elim h [ inl d ↦ absurd d | inr (h0, of, k) ↦ absurd k ]
+decides_done l name turns told gave BadCertificate t h m r f tells full = elim h [ inl d ↦ absurd d | inr (h0, of, k) ↦ absurd k ]
+decides_done l name turns told gave TooLong t h m r f tells full = elim h [ inl d ↦ absurd (never_long 4194304 name told gave t tells.bytes tells.told_is tells.within d) | inr (h0, of, k) ↦ absurd k ]
+decides_done l name turns told gave ReadFault t h m r f tells full = absurd (r refl)
+decides_done l name turns told gave WriteFault t h m r f tells full = elim h [ inl d ↦ absurd d | inr (h0, of, k) ↦ absurd k ]
+decides_done l name turns told gave Memory t h m r f tells full = absurd (m refl)
+decides_done l name turns told gave BadQdimacs t h m r f tells full = elim h [ inl d ↦ absurd (never_no_formula l.formula_never told f t tells d) | inr (h0, of, k) ↦ absurd k ]
+
+rewrites_done : Laws → (name : List ℕ) (told : Option (List ℕ)) (gave : ℕ → Type 0) (s : Status) (t : List ℕ) →
+    AnswersFormula RewritesFormula name told gave s t → ¬ (s ≡ Memory) → ¬ (s ≡ ReadFault) → (f : File) → TellsFormula told f → s ≡ Done
+rewrites_done l name told gave Done t h m r f tells = refl
+rewrites_done l name told gave NotProved t h m r f tells = elim h [ inl d ↦ absurd d | inr (h0, of, k) ↦ absurd k ]
+rewrites_done l name told gave Open t h m r f tells = elim h [ inl d ↦ absurd d | inr (h0, of, k) ↦ absurd k ]
+rewrites_done l name told gave Usage t h m r f tells = elim h [ inl d ↦ absurd d | inr (h0, of, k) ↦ absurd k ]
+rewrites_done l name told gave BadProblem t h m r f tells = elim h [ inl d ↦ absurd d | inr (h0, of, k) ↦ absurd k ]
+rewrites_done l name told gave BadCertificate t h m r f tells = elim h [ inl d ↦ absurd d | inr (h0, of, k) ↦ absurd k ]
+rewrites_done l name told gave TooLong t h m r f tells = elim h [ inl d ↦ absurd (never_long 4194304 name told gave t tells.bytes tells.told_is tells.within d) | inr (h0, of, k) ↦ absurd k ]
+rewrites_done l name told gave ReadFault t h m r f tells = absurd (r refl)
+rewrites_done l name told gave WriteFault t h m r f tells = elim h [ inl d ↦ absurd d | inr (h0, of, k) ↦ absurd k ]
+rewrites_done l name told gave Memory t h m r f tells = absurd (m refl)
+rewrites_done l name told gave BadQdimacs t h m r f tells = elim h [ inl d ↦ absurd (never_no_formula l.formula_never told f t tells d) | inr (h0, of, k) ↦ absurd k ]
 
 asked_done : Laws → (asked : Option Asked) (told : List ℕ → Option (List ℕ)) (gave : ℕ → Type 0) (s : Status) (t : List ℕ) →
     Answers asked told gave s t → ¬ (s ≡ Memory) → ¬ (s ≡ ReadFault) → IsComplete asked told s
@@ -181,10 +239,13 @@ asked_done l None told gave s t h m r = words s h where
   words ReadFault h = absurd h
   words WriteFault h = absurd h
   words Memory h = absurd h
+  words BadQdimacs h = absurd h
 asked_done l (Some (solves name turns)) told gave s t h m r = λ g tells plain f. solves_done l name turns (told name) gave s t h m r g tells plain f
 asked_done l (Some (prints name)) told gave s t h m r = λ g tells. prints_done l name (told name) gave s t h m r g tells
 asked_done l (Some (checks name certificate)) told gave s t h m r =
     λ g tells plain proof. checks_done l name certificate (told name) (told certificate) gave s t h m r g tells plain proof
+asked_done l (Some (decides name turns)) told gave s t h m r = λ f tells full. decides_done l name turns (told name) gave s t h m r f tells full
+asked_done l (Some (rewrites name)) told gave s t h m r = λ f tells. rewrites_done l name (told name) gave s t h m r f tells
 
 no_fault : (before now : ℕ) → Rose before now → NoneRose before now → ⊥
 no_fault before now rose (same, below) = omega arith
@@ -203,3 +264,4 @@ run_done l asked told gave old new before now missed misses TooLong wrote fault 
 run_done l asked told gave old new before now missed misses ReadFault wrote fault files output m = asked_done l asked told gave ReadFault wrote.1.0 wrote.1.1 m (λ e. no_fault missed misses (fault e) files)
 run_done l asked told gave old new before now missed misses WriteFault wrote fault files output m = absurd (no_fault before now wrote.0 output)
 run_done l asked told gave old new before now missed misses Memory wrote fault files output m = asked_done l asked told gave Memory wrote.1.0 wrote.1.1 m (λ e. no_fault missed misses (fault e) files)
+run_done l asked told gave old new before now missed misses BadQdimacs wrote fault files output m = asked_done l asked told gave BadQdimacs wrote.1.0 wrote.1.1 m (λ e. no_fault missed misses (fault e) files)

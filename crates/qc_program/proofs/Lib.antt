@@ -2,5 +2,6 @@ pub mod Written
 mod Certified
 mod Completeness
 mod Down
+mod FormulaGames
 mod Numerals
 mod Parts

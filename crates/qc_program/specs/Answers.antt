@@ -1,20 +1,13 @@
 -- What `run` answers and writes.
-use Rattle.std.specs.Prelude.{◌≡◌, ◌≤◌, ◌<◌, ◌⊎◌, ◌+◌, ℕ, ℤ, List, [], ◌++◌, codes, decimal, length, Option, Some, None, IfSome, IsTrue}
-use Rattle.std.specs.Io.KnownBytes.{Appends}
-use Rattle.qc_io.specs.Counts.{Rose}
-use Rattle.qc_io.specs.Sink.{AppendsPrefix}
+use Rattle.std.specs.Prelude.{◌≡◌, ◌≤◌, ◌⊎◌, ℕ, ℤ, List, [], ◌++◌, codes, decimal, Option, Some, None, IsTrue}
 use Rattle.qc_model.specs.Content.{Game}
 use Rattle.proof_tree.specs.declared.tree.Version.{Version}
-use Rattle.proof_tree.specs.declared.tree.Version.TheVariants.{Two}
 use Rattle.proof_tree.specs.declared.tree.Outcome.{Outcome}
-use Rattle.proof_tree.specs.declared.tree.Outcome.TheVariants.{True, False, Open as OpenOutcome}
 use Rattle.proof_tree.specs.Tree.{Tree}
 use Rattle.proof_tree.specs.Proves.{proves}
-use Rattle.proof_tree.specs.Order.{in_order}
 use Rattle.proof_tree.specs.Meaning.{OutcomeMeans}
 use Rattle.proof_tree.specs.Text.{certificate_text, outcome_text, has_text}
-use Rattle.proof_tree.specs.Counts.{depth_of, turns_of}
-use Rattle.game_search.specs.Solution.{OpenMeans}
+use Rattle.proof_tree.specs.Counts.{depth_of}
 use Rattle.proof_tree.specs.Stepless.{is_stepless}
 use Rattle.proof_tree.specs.Pieces.{each_case, goes_at_one}
 use Rattle.proof_text.specs.declared.fault.CertFault.{CertFault}
@@ -23,32 +16,12 @@ use Rattle.proof_text.specs.Places.{IsFault}
 use Rattle.qc_model.specs.Canonical.{canonical_text}
 use Rattle.qc_syntax.specs.Reads.{Reads}
 use Rattle.qc_program.specs.declared.status.Status.{Status}
-use Rattle.qc_program.specs.declared.status.Status.TheVariants.{Done, NotProved, Open, Usage, BadProblem, BadCertificate, TooLong, ReadFault, WriteFault, Memory}
-use Rattle.qc_program.specs.Words.{Asked, solves, checks, prints}
+use Rattle.qc_program.specs.declared.status.Status.TheVariants.{Done, NotProved, Open, Usage, BadProblem, BadCertificate, Memory}
+use Rattle.qc_program.specs.Words.{Asked, solves, checks, prints, decides, rewrites}
 use Rattle.qc_program.specs.Refusals.{IsRefused, IsPlain}
-
--- how a run of `solve` ends whose certificate states this
-abbrev pub status_of : Outcome → Status
-status_of True = Done
-status_of False = Done
-status_of (OpenOutcome n) = Open
-
--- The text is that of a certificate of the second version that proves what it states, is in order, and takes at most as many
--- turns as were given. Open is stated only after exactly these turns, and the whole game can take more. What it states is so:
--- with true the game is won, and the strategy read from the tree is optimal; with false it isn't won, and the
--- counterstrategy read from it wins.
-pub record Certifies (g : Game) (turns : ℕ) (status : Status) (text : List ℕ) : Type 0 where
-  pub outcome : Outcome
-  pub optimum : Option ℤ
-  pub root : Tree
-  pub proved : IsTrue (proves g outcome optimum root)
-  pub ordered : IsTrue (in_order g root)
-  pub few : turns_of root ≤ turns
-  pub spent : OpenMeans outcome g turns root
-  pub spellable : IsTrue (has_text Two outcome optimum root)
-  pub spelled : text ≡ certificate_text Two outcome optimum root
-  pub ends : status ≡ status_of outcome
-  pub means : OutcomeMeans outcome optimum g root
+use Rattle.qc_program.specs.Certifies.{Certifies}
+use Rattle.qc_program.specs.Files.{IsFile, TurnsFileDown}
+use Rattle.qc_program.specs.Formulas.{AnswersFormula, DecidesFormula, RewritesFormula}
 
 -- a problem that isn't taken by now
 pub record IsNotBuilt (g : Game) (text : List ℕ) : Type 0 where
@@ -121,25 +94,6 @@ ChecksBytes g bytes BadCertificate text = (fault : CertFault) × IsFault fault b
 ChecksBytes g bytes Memory text = text ≡ []
 ChecksBytes g bytes status text = ⊥
 
--- what a file holds: bytes up to the limit, those that are told
-pub record IsFile (limit : ℕ) (told : Option (List ℕ)) (bytes : List ℕ) : Type 0 where
-  pub same : IfSome told (λ file. bytes ≡ file)
-  pub within : length bytes ≤ limit
-
--- a file longer than the limit: more than it was given, and a told file is longer
-pub record IsLong (limit : ℕ) (name : List ℕ) (told : Option (List ℕ)) (gave : ℕ → Type 0) (text : List ℕ) : Type 0 where
-  pub given : gave (limit + 1)
-  pub longer : IfSome told (λ bytes. limit < length bytes)
-  pub line : text ≡ codes "too long: " ++ name ++ codes "\n"
-
--- what is answered where a file of at most so many bytes can't be had; gave n says that the shelf's count of bytes given
--- rose by n
-abbrev pub TurnsFileDown : ℕ → List ℕ → Option (List ℕ) → (ℕ → Type 0) → Status → List ℕ → Type 0
-TurnsFileDown limit name told gave ReadFault text = text ≡ []
-TurnsFileDown limit name told gave Memory text = text ≡ []
-TurnsFileDown limit name told gave TooLong text = IsLong limit name told gave text
-TurnsFileDown limit name told gave status text = ⊥
-
 -- the bytes of the file are no problem's text
 pub record IsNoProblem (told : Option (List ℕ)) (text : List ℕ) : Type 0 where
   pub bytes : List ℕ
@@ -177,14 +131,11 @@ AnswersAsked (solves name turns) told gave status text = AnswersProblem (SolvesP
 AnswersAsked (prints name) told gave status text = AnswersProblem PrintsProblem name (told name) gave status text
 AnswersAsked (checks problem certificate) told gave status text =
     AnswersProblem (ChecksProblem certificate (told certificate) gave) problem (told problem) gave status text
+AnswersAsked (decides name turns) told gave status text = AnswersFormula (DecidesFormula turns) name (told name) gave status text
+AnswersAsked (rewrites name) told gave status text = AnswersFormula RewritesFormula name (told name) gave status text
 
 -- what is answered for the words; told gives the bytes of the names that are told
 abbrev pub Answers : Option Asked → (List ℕ → Option (List ℕ)) → (ℕ → Type 0) → Status → List ℕ → Type 0
-Answers None told gave Usage text = text ≡ codes "usage: qecode solve PROBLEM [--turns N] | check PROBLEM CERTIFICATE | print PROBLEM | generate N [--text]\n"
+Answers None told gave Usage text = text ≡ codes "usage: qecode solve PROBLEM [--turns N] | check PROBLEM CERTIFICATE | print PROBLEM | generate N [--text] | qbf FILE [--turns N | --text]\n"
 Answers None told gave status text = ⊥
 Answers (Some asked) told gave status text = AnswersAsked asked told gave status text
-
--- The text of an answer was written; at WriteFault a prefix of it, and then the sink's count of faults rose.
-abbrev pub Wrote : Option (List ℕ) → Option (List ℕ) → ℕ → ℕ → Status → (Status → List ℕ → Type 0) → Type 0
-Wrote old new before now WriteFault P = Rose before now × ((status : Status) × (text : List ℕ) × P status text × AppendsPrefix old new text)
-Wrote old new before now status P = (now ≡ before) × ((text : List ℕ) × P status text × Appends old new text)

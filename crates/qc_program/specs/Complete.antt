@@ -3,12 +3,15 @@ use Rattle.std.specs.Prelude.{◌≡◌, ◌≤◌, ℕ, List, length, Option, S
 use Rattle.qc_model.specs.Content.{Game}
 use Rattle.qc_model.specs.Turns.{full_turns_of}
 use Rattle.qc_syntax.specs.Reads.{Reads}
+use Rattle.qdimacs.specs.Grammar.{File}
+use Rattle.qdimacs.specs.Content.{game_of}
+use Rattle.qdimacs.specs.Refusals.{States, formula_of}
 use Rattle.proof_tree.specs.declared.tree.Version.{Version}
 use Rattle.proof_tree.specs.declared.tree.Outcome.{Outcome}
 use Rattle.proof_tree.specs.Tree.{Tree}
 use Rattle.qc_program.specs.declared.status.Status.{Status}
 use Rattle.qc_program.specs.declared.status.Status.TheVariants.{Done, Usage}
-use Rattle.qc_program.specs.Words.{Asked, solves, checks, prints}
+use Rattle.qc_program.specs.Words.{Asked, solves, checks, prints, decides, rewrites}
 use Rattle.qc_program.specs.Refusals.{IsPlain}
 use Rattle.qc_program.specs.Answers.{IsRead, Passes}
 
@@ -31,13 +34,22 @@ pub record TellsProof (told : Option (List ℕ)) (g : Game) : Type 0 where
   pub read : IsRead bytes version outcome optimum root
   pub passes : Passes g outcome optimum root
 
+-- the file is told, and has the text of this formula
+pub record TellsFormula (told : Option (List ℕ)) (f : File) : Type 0 where
+  pub bytes : List ℕ
+  pub told_is : told ≡ Some bytes
+  pub within : length bytes ≤ 4194304
+  pub states : States bytes f
+
 -- A problem is solved where the turns are as many as the whole game can take; a certificate that proves what it states is
--- confirmed; a problem is printed.
+-- confirmed; a problem is printed. A formula is decided where the turns are as many as its game can take, or its game is printed.
 abbrev pub Completes : Asked → (List ℕ → Option (List ℕ)) → Status → Type 0
 Completes (solves name turns) told status = (g : Game) → TellsProblem (told name) g → IsPlain g → full_turns_of g ≤ turns → status ≡ Done
 Completes (prints name) told status = (g : Game) → TellsProblem (told name) g → status ≡ Done
 Completes (checks problem certificate) told status =
     (g : Game) → TellsProblem (told problem) g → IsPlain g → TellsProof (told certificate) g → status ≡ Done
+Completes (decides name turns) told status = (f : File) → TellsFormula (told name) f → full_turns_of (game_of (formula_of f)) ≤ turns → status ≡ Done
+Completes (rewrites name) told status = (f : File) → TellsFormula (told name) f → status ≡ Done
 
 abbrev pub IsComplete : Option Asked → (List ℕ → Option (List ℕ)) → Status → Type 0
 IsComplete None told status = status ≡ Usage

@@ -1,6 +1,9 @@
 pub mod Answers
+pub mod Certifies
 pub mod Complete
 pub mod Edge
+pub mod Files
+pub mod Formulas
 pub mod Refusals
 pub mod View
 pub mod Words

@@ -1,12 +1,14 @@
 -- The words of a command.
-use Rattle.std.specs.Prelude.{◌==◌, ◌+◌, ◌-◌, ◌*◌, ℕ, nat_le, length, Bool, true, false, not, ◌&&◌, List, [], ◌∷◌, codes, Option, Some, None, if◌then◌else◌}
+use Rattle.std.specs.Prelude.{◌==◌, ◌+◌, ◌-◌, ◌*◌, ℕ, nat_le, length, Bool, false, not, ◌&&◌, List, [], ◌∷◌, codes, Option, Some, None, if◌then◌else◌}
 use Rattle.std.specs.Str.{bytes_eq}
 
--- what the words ask for: files by their names, and a budget of turns
+-- what the words ask for: files by their names, and a budget of turns; a formula is decided, or rewritten as a problem
 pub data Asked : Type 0 where
   solves : List ℕ → ℕ → Asked
   checks : List ℕ → List ℕ → Asked
   prints : List ℕ → Asked
+  decides : List ℕ → ℕ → Asked
+  rewrites : List ℕ → Asked
 
 -- a word that names a file: it isn't empty and doesn't begin with a dash
 abbrev pub is_name : List ℕ → Bool
@@ -39,6 +41,10 @@ abbrev pub solves_within : List ℕ → Option ℕ → Option Asked
 solves_within name None = None
 solves_within name (Some turns) = Some (solves name turns)
 
+abbrev pub decides_within : List ℕ → Option ℕ → Option Asked
+decides_within name None = None
+decides_within name (Some turns) = Some (decides name turns)
+
 -- the turns where the words name none
 abbrev pub usual_turns : ℕ
 usual_turns = 1000000
@@ -46,15 +52,18 @@ usual_turns = 1000000
 abbrev pub asked_by_two : List ℕ → List ℕ → Option Asked
 asked_by_two word name =
     if bytes_eq word (codes "solve") && is_name name then Some (solves name usual_turns)
-    else if bytes_eq word (codes "print") && is_name name then Some (prints name) else None
+    else if bytes_eq word (codes "print") && is_name name then Some (prints name)
+    else if bytes_eq word (codes "qbf") && is_name name then Some (decides name usual_turns) else None
 
 abbrev pub asked_by_three : List ℕ → List ℕ → List ℕ → Option Asked
 asked_by_three word problem certificate =
-    if bytes_eq word (codes "check") && is_name problem && is_name certificate then Some (checks problem certificate) else None
+    if bytes_eq word (codes "check") && is_name problem && is_name certificate then Some (checks problem certificate)
+    else if bytes_eq word (codes "qbf") && is_name problem && bytes_eq certificate (codes "--text") then Some (rewrites problem) else None
 
 abbrev pub asked_by_four : List ℕ → List ℕ → List ℕ → List ℕ → Option Asked
 asked_by_four word name flag number =
-    if bytes_eq word (codes "solve") && is_name name && bytes_eq flag (codes "--turns") then solves_within name (turns_asked number) else None
+    if bytes_eq word (codes "solve") && is_name name && bytes_eq flag (codes "--turns") then solves_within name (turns_asked number)
+    else if bytes_eq word (codes "qbf") && is_name name && bytes_eq flag (codes "--turns") then decides_within name (turns_asked number) else None
 
 -- the table of words
 abbrev pub asked_of : List (List ℕ) → Option Asked

@@ -3,17 +3,19 @@ ghost use Rattle.std.specs.Prelude.{◌≡◌, ◌≢◌, ◌≤◌, ◌++◌, �
 ghost use Rattle.qc_io.specs.Counts.{Rose, RoseBy};
 ghost use Rattle.proof_tree.specs.Text.{outcome_text};
 ghost use Rattle.qc_program.specs.Refusals.{IsPlain};
-ghost use Rattle.qc_program.specs.Answers.{ChecksBytes, ChecksFile, ChecksProblem, AnswersProblem, Wrote};
+ghost use Rattle.qc_program.specs.Answers.{ChecksBytes, ChecksFile, ChecksProblem, AnswersProblem};
+ghost use Rattle.qc_program.specs.Files.{Wrote};
 
+use crate::file::open_file;
 use crate::problem_file::open_problem;
 use crate::refuse::{is_plain, not_built};
 use crate::status::Status;
-use crate::writing::{finish, finish_parts, too_long};
+use crate::writing::{finish, finish_parts};
 use itoa::Buffer;
 use proof_text::{CertFault, read_cert};
 use proof_tree::Outcome;
 use qc_check::{Answer, Space};
-use qc_io::{ReadError, Shelf, Sink, read_all};
+use qc_io::{Shelf, Sink};
 use qc_model::Problem;
 use std::alloc::{AllocError, Global};
 
@@ -80,11 +82,9 @@ fn check_plain<S: Shelf, K: Sink>(
         Ok(space) => space,
         Err(AllocError) => return Status::Memory,
     };
-    match read_all(alloc, shelf, certificate, CERTIFICATE_LIMIT) {
+    match open_file(alloc, certificate, CERTIFICATE_LIMIT, shelf, out) {
         Ok(text) => check_bytes(alloc, &mut space, &text, out),
-        Err(ReadError::TooLong) => too_long(out, certificate),
-        Err(ReadError::Fault) => Status::ReadFault,
-        Err(ReadError::Memory(_)) => Status::Memory,
+        Err(status) => status,
     }
 }
 

@@ -7,6 +7,9 @@ ghost use Rattle.qc_program.specs.Words.{asked_of};
 ghost use Rattle.qc_program.specs.Edge.{EndsRight};
 
 mod check;
+mod file;
+mod formula;
+mod formula_file;
 mod print;
 mod problem_file;
 mod refuse;

@@ -1,7 +1,8 @@
 //! `print`: the one text of a problem.
 ghost use Rattle.std.specs.Prelude.{◌≡◌, ◌≢◌};
 ghost use Rattle.qc_io.specs.Counts.{Rose, RoseBy};
-ghost use Rattle.qc_program.specs.Answers.{AnswersProblem, PrintsProblem, Wrote};
+ghost use Rattle.qc_program.specs.Answers.{AnswersProblem, PrintsProblem};
+ghost use Rattle.qc_program.specs.Files.{Wrote};
 
 use crate::problem_file::open_problem;
 use crate::status::Status;
@@ -30,7 +31,8 @@ pub(crate) fn print_file<S: Shelf, K: Sink>(
     }
 }
 
-fn write_problem<K: Sink>(alloc: Global, problem: &Problem, out: &mut K) -> Status
+/// Writes the canonical text of a problem.
+pub(crate) fn write_problem<K: Sink>(alloc: Global, problem: &Problem, out: &mut K) -> Status
     ensures wrote { Wrote (K.written out.old) (K.written out.new) (K.faults out.old) (K.faults out.new) result (PrintsProblem problem.now) }
     ensures rows { (result ≢ Status.Usage) × (result ≢ Status.ReadFault) }
 {

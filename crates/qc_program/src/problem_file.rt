@@ -1,20 +1,18 @@
 //! The problem of a file, or the answer that tells why there is none.
 ghost use Rattle.std.specs.Prelude.{◌≡◌, ◌≢◌, ◌≤◌, Err, length, IfOk, IfErr, OnOk};
 ghost use Rattle.qc_io.specs.Counts.{Rose, RoseBy};
-ghost use Rattle.qc_program.specs.Answers.{IsProblemOf, TurnsProblemDown, Wrote};
+ghost use Rattle.qc_program.specs.Answers.{IsProblemOf, TurnsProblemDown};
+ghost use Rattle.qc_program.specs.Files.{Wrote};
 ghost use Rattle.qc_program.specs.Refusals.{TurnsTextDown};
 ghost use Rattle.qc_syntax.specs.Reads.{Reads};
 
+use crate::file::{TEXT_LIMIT, open_file};
 use crate::refuse::turn_down;
 use crate::status::Status;
-use crate::writing::too_long;
-use qc_io::{ReadError, Shelf, Sink, read_all};
+use qc_io::{Shelf, Sink};
 use qc_model::Problem;
 use qc_syntax::read_problem;
 use std::alloc::Global;
-
-/// The most bytes of a problem's text.
-const LIMIT: u64 = 4_194_304;
 
 /// The problem of a file. Where it can't be read, is too long or has none, the answer is written, and
 /// its status given.
@@ -35,11 +33,9 @@ pub(crate) fn open_problem<S: Shelf, K: Sink>(
     ensures given { OnOk result (RoseBy 0 (S.given shelf.old) (S.given shelf.new)) }
     ensures stays { S.told shelf.new ≡ S.told shelf.old }
 {
-    match read_all(alloc, shelf, name, LIMIT) {
+    match open_file(alloc, name, TEXT_LIMIT, shelf, out) {
         Ok(text) => problem_in(alloc, &text, out),
-        Err(ReadError::TooLong) => Err(too_long(out, name)),
-        Err(ReadError::Fault) => Err(Status::ReadFault),
-        Err(ReadError::Memory(_)) => Err(Status::Memory),
+        Err(status) => Err(status),
     }
 }
 

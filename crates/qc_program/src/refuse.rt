@@ -1,7 +1,7 @@
 //! Problems that are turned down, and the lines that tell why.
 ghost use Rattle.std.specs.Prelude.{◌≡◌, ◌++◌, ◌⊎◌, ◌↔◌, codes, IsTrue};
 ghost use Rattle.qc_program.specs.Refusals.{kind_text, refusal_line, TurnsDown, IsPlain};
-ghost use Rattle.qc_program.specs.Answers.{Wrote};
+ghost use Rattle.qc_program.specs.Files.{Wrote};
 
 use crate::status::Status;
 use crate::writing::{finish, finish_parts};

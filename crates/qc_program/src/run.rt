@@ -3,10 +3,12 @@ ghost use Rattle.std.specs.Prelude.{◌≡◌, ◌≢◌, map, IsSome, None};
 ghost use Rattle.qc_io.specs.Counts.{NoneRose, Rose, RoseBy};
 ghost use Rattle.qc_io.specs.Memory.{sound_state, sound_told};
 ghost use Rattle.qc_program.specs.Words.{asked_of};
-ghost use Rattle.qc_program.specs.Answers.{Answers, Wrote};
+ghost use Rattle.qc_program.specs.Answers.{Answers};
+ghost use Rattle.qc_program.specs.Files.{Wrote};
 ghost use Rattle.qc_program.specs.Complete.{IsComplete};
 
 use crate::check::check_files;
+use crate::formula::{decide_file, rewrite_file};
 use crate::print::print_file;
 use crate::solve::solve_file;
 use crate::status::Status;
@@ -15,15 +17,17 @@ use crate::writing::finish;
 use proof_text::bytes_are_one_text_or_have_one_fault;
 use qc_io::{Shelf, Sink, SoundShelf};
 use qc_syntax::texts_say_one_thing;
+use qdimacs::texts_get_one_answer;
 use std::alloc::Global;
 
 const USAGE: &[u8] =
-    b"usage: qecode solve PROBLEM [--turns N] | check PROBLEM CERTIFICATE | print PROBLEM | generate N [--text]\n";
+    b"usage: qecode solve PROBLEM [--turns N] | check PROBLEM CERTIFICATE | print PROBLEM | generate N [--text] | qbf FILE [--turns N | --text]\n";
 
 /// Does what the words ask for.
 ///
 /// Where nothing failed and memory sufficed, a problem is solved within as many turns as the whole game can
-/// take, a certificate that proves what it states is confirmed, and a problem is printed.
+/// take, a certificate that proves what it states is confirmed, and a problem is printed; a formula is decided within as
+/// many turns, or its game is printed.
 pub fn run<S: Shelf, K: Sink>(alloc: Global, words: &[&str], shelf: &mut S, out: &mut K) -> Status
     ensures wrote { Wrote (K.written out.old) (K.written out.new) (K.faults out.old) (K.faults out.new) result
         (Answers (asked_of (map (λ w. w.now) words.now)) (S.told shelf.old) (λ n. RoseBy n (S.given shelf.old) (S.given shelf.new))) }
@@ -38,6 +42,7 @@ pub fn run<S: Shelf, K: Sink>(alloc: Global, words: &[&str], shelf: &mut S, out:
 {
     texts_say_one_thing();
     bytes_are_one_text_or_have_one_fault();
+    texts_get_one_answer();
     answer(alloc, words, shelf, out)
 }
 
@@ -58,6 +63,8 @@ fn answer<S: Shelf, K: Sink>(alloc: Global, words: &[&str], shelf: &mut S, out: 
             },
         ) => check_files(alloc, problem, certificate, shelf, out),
         Some(Command::Print { problem }) => print_file(alloc, problem, shelf, out),
+        Some(Command::Decide { formula, turns }) => decide_file(alloc, formula, turns, shelf, out),
+        Some(Command::Rewrite { formula }) => rewrite_file(alloc, formula, shelf, out),
         None => finish(out, USAGE, Status::Usage),
     }
 }

@@ -5,7 +5,9 @@ ghost use Rattle.qc_io.specs.Counts.{Rose, RoseBy};
 ghost use Rattle.proof_tree.specs.Text.{outcome_fits};
 ghost use Rattle.strategy_arena.specs.Certificate.{text_of_lines, line_fits};
 ghost use Rattle.qc_program.specs.Refusals.{IsPlain};
-ghost use Rattle.qc_program.specs.Answers.{AnswersProblem, SolvesProblem, SolvesPlain, Wrote, status_of};
+ghost use Rattle.qc_program.specs.Answers.{AnswersProblem, SolvesProblem, SolvesPlain};
+ghost use Rattle.qc_program.specs.Certifies.{status_of};
+ghost use Rattle.qc_program.specs.Files.{Wrote};
 
 use crate::problem_file::open_problem;
 use crate::refuse::{is_plain, not_built};
@@ -49,7 +51,13 @@ fn solve_problem<K: Sink>(alloc: Global, problem: &Problem, turns: u64, out: &mu
     }
 }
 
-fn solve_plain<K: Sink>(alloc: Global, problem: &Problem, turns: u64, out: &mut K) -> Status
+/// Solves a problem in which nothing is optimised.
+pub(crate) fn solve_plain<K: Sink>(
+    alloc: Global,
+    problem: &Problem,
+    turns: u64,
+    out: &mut K,
+) -> Status
     requires plain { IsPlain problem.now }
     requires turns { (1 ≤ turns) × (turns ≤ 10000000) }
     ensures wrote { Wrote (K.written out.old) (K.written out.new) (K.faults out.old) (K.faults out.new) result (SolvesPlain turns problem.now) }

@@ -23,4 +23,6 @@ pub enum Status {
     WriteFault,
     /// There was too little memory; nothing was written.
     Memory,
+    /// The text isn't a formula.
+    BadQdimacs = 11,
 }

@@ -1,5 +1,6 @@
 //! Worked runs over a shelf and a sink in memory.
 mod examples;
+mod formulas;
 mod refusals;
 mod table;
 
@@ -216,7 +217,7 @@ fn faults_are_answered(rt: HostRuntime) -> Result<(), Fail> {
 #[test]
 fn other_words_give_the_usage_line(rt: HostRuntime) -> Result<(), Fail> {
     let alloc = rt.alloc();
-    let rows: [&[&str]; 12] = [
+    let rows: [&[&str]; 15] = [
         &[],
         &["solve"],
         &["solve", "--turns"],
@@ -229,6 +230,9 @@ fn other_words_give_the_usage_line(rt: HostRuntime) -> Result<(), Fail> {
         &["solve", "p", "--turns", "+5"],
         &["solve", "p", "--turns", "10000001"],
         &["solve", "--turns", "5", "p"],
+        &["qbf"],
+        &["qbf", "p", "--turns"],
+        &["qbf", "--text", "p"],
     ];
     for words in rows {
         let mut shelf = MemoryShelf::new(alloc);

@@ -1,7 +1,7 @@
 //! The words of a command.
 ghost use Rattle.std.specs.Prelude.{◌≡◌, ◌≤◌, ◌<◌, length, map, Some, IfSome};
 ghost use Rattle.std.specs.Option.{option_map};
-ghost use Rattle.qc_program.specs.Words.{is_name as is_name_of, digits_after, is_short_numeral as is_short_numeral_of, solves_within, turns_asked, asked_by_two, asked_by_three, asked_by_four, asked_of};
+ghost use Rattle.qc_program.specs.Words.{is_name as is_name_of, digits_after, is_short_numeral as is_short_numeral_of, solves_within, decides_within, turns_asked, asked_by_two, asked_by_three, asked_by_four, asked_of};
 ghost use Rattle.qc_program.specs.View.{asked, HasBudget};
 
 /// The most turns that a search may be given.
@@ -23,6 +23,13 @@ pub(crate) enum Command<'a> {
     },
     Print {
         problem: &'a str,
+    },
+    Decide {
+        formula: &'a str,
+        turns: u64,
+    },
+    Rewrite {
+        formula: &'a str,
     },
 }
 
@@ -52,6 +59,12 @@ fn by_two<'a>(word: &str, problem: &'a str) -> Option<Command<'a>>
     if word == "print" && is_name(problem) {
         return Some(Command::Print { problem });
     }
+    if word == "qbf" && is_name(problem) {
+        return Some(Command::Decide {
+            formula: problem,
+            turns: USUAL_TURNS,
+        });
+    }
     None
 }
 
@@ -65,6 +78,9 @@ fn by_three<'a>(word: &str, problem: &'a str, certificate: &'a str) -> Option<Co
             certificate,
         });
     }
+    if word == "qbf" && is_name(problem) && certificate == "--text" {
+        return Some(Command::Rewrite { formula: problem });
+    }
     None
 }
 
@@ -74,6 +90,9 @@ fn by_four<'a>(word: &str, problem: &'a str, flag: &str, number: &str) -> Option
 {
     if word == "solve" && is_name(problem) && flag == "--turns" {
         return solve_within(problem, turns_in(number));
+    }
+    if word == "qbf" && is_name(problem) && flag == "--turns" {
+        return decide_within(problem, turns_in(number));
     }
     None
 }
@@ -85,6 +104,17 @@ fn solve_within(problem: &str, turns: Option<u64>) -> Option<Command<'_>>
 {
     match turns {
         Some(turns) => Some(Command::Solve { problem, turns }),
+        None => None,
+    }
+}
+
+fn decide_within(formula: &str, turns: Option<u64>) -> Option<Command<'_>>
+    requires { IfSome turns (λ n. (1 ≤ n) × (n ≤ 10000000)) }
+    ensures asked { option_map asked result ≡ decides_within formula.now turns }
+    ensures budget { IfSome result HasBudget }
+{
+    match turns {
+        Some(turns) => Some(Command::Decide { formula, turns }),
         None => None,
     }
 }

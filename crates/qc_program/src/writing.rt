@@ -3,7 +3,7 @@ ghost use Rattle.std.specs.Prelude.{◌≡◌, ◌≢◌, ◌++◌, ◌⊎◌, c
 ghost use Rattle.std.specs.Io.KnownBytes.{Appends};
 ghost use Rattle.qc_io.specs.Sink.{AppendsPrefix};
 ghost use Rattle.qc_io.specs.Counts.{HasCause};
-ghost use Rattle.qc_program.specs.Answers.{Wrote};
+ghost use Rattle.qc_program.specs.Files.{Wrote};
 
 use crate::status::Status;
 use qc_io::{Pieces, Sink, WriteFault, write_all};

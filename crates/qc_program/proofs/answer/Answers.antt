@@ -4,7 +4,8 @@ use Rattle.qc_io.specs.Edge.{ShelfCounts, SinkCounts}
 use Rattle.qc_program.specs.declared.status.Status.{Status}
 use Rattle.qc_program.specs.declared.status.Status.TheVariants.{ReadFault}
 use Rattle.qc_program.specs.Words.{Asked, asked_of}
-use Rattle.qc_program.specs.Answers.{Answers, Wrote}
+use Rattle.qc_program.specs.Answers.{Answers}
+use Rattle.qc_program.specs.Files.{Wrote}
 use Rattle.qc_program.specs.Edge.{EndsRight}
 use Rattle.qc_program.proofs.answer.Goals as goal
 

@@ -8,3 +8,9 @@ returns-in-Some-Check-clause-wrote g c = rw (← c.in-Some-Check.ensures.asked, 
 
 pub returns-in-Some-Print-clause-wrote : goal.returns-in-Some-Print-clause-wrote
 returns-in-Some-Print-clause-wrote g c = rw (← c.in-Some-Print.ensures.asked, c.in-Some-Print.field-0-is) c.print_file.ensures.wrote
+
+pub returns-in-Some-Decide-clause-wrote : goal.returns-in-Some-Decide-clause-wrote
+returns-in-Some-Decide-clause-wrote g c = rw (← c.in-Some-Decide.ensures.asked, c.in-Some-Decide.field-0-is) c.decide_file.ensures.wrote
+
+pub returns-in-Some-Rewrite-clause-wrote : goal.returns-in-Some-Rewrite-clause-wrote
+returns-in-Some-Rewrite-clause-wrote g c = rw (← c.in-Some-Rewrite.ensures.asked, c.in-Some-Rewrite.field-0-is) c.rewrite_file.ensures.wrote
