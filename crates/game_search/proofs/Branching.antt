@@ -21,7 +21,7 @@ use Rattle.proof_tree.specs.Order.{has_go, is_joined, settles, skips, branches_s
 use Rattle.game_search.specs.declared.join.Join.{Join}
 use Rattle.game_search.specs.declared.join.Join.TheVariants.{Settled, Whole, Gap}
 use Rattle.game_search.specs.Joins.{with_gap, after_all, is_settled, gaps}
-use Rattle.game_search.specs.Boxes.{upto_all, upto_first}
+use Rattle.game_search.specs.Uppers.{upto_all, upto_first}
 use Rattle.game_search.specs.Made.{CasesMade, PartMade}
 use Rattle.game_search.proofs.Bools.{two, not_first, not_second, is_below, none_below}
 use Rattle.game_search.proofs.Joining.{JoinLaws, stays_settled, none_settles, settled_is}

@@ -14,7 +14,7 @@ use Rattle.qc_model.proofs.Sound.{hi_of}
 use Rattle.qc_model.proofs.Widths.{greatest_is_last}
 use Rattle.qc_model.proofs.DomainValues.{range_values}
 use Rattle.proof_tree.specs.Cover.{is_cover, uncovered}
-use Rattle.game_search.specs.Boxes.{upto_all, upto_first}
+use Rattle.game_search.specs.Uppers.{upto_all, upto_first}
 use Rattle.game_search.proofs.Bools.{two, both, is_below}
 
 greatest_item : (n : ℤ) (d : Values) → Among (greatest_from n d) (n ∷ d)

@@ -9,7 +9,7 @@ use Rattle.qc_model.specs.Valid.{is_number}
 use Rattle.proof_tree.specs.declared.tree.Version.TheVariants.{Two}
 use Rattle.proof_tree.specs.Cover.{cover, is_cover}
 use Rattle.proof_tree.specs.Text.{is_place, upto_fits}
-use Rattle.game_search.specs.Boxes.{upto_all}
+use Rattle.game_search.specs.Uppers.{upto_all}
 use Rattle.game_search.proofs.Bools.{both}
 use Rattle.game_search.proofs.Covers.{covers_all}
 

@@ -1,6 +1,6 @@
 pub mod Bools
 pub mod Numbers
-pub mod Positions
+pub mod Boards
 pub mod Places
 pub mod Joining
 pub mod Covers
@@ -10,6 +10,5 @@ pub mod Nodes
 pub mod Branching
 pub mod Progress
 pub mod Plain
-pub mod Allowed
 pub mod Solved
 pub mod Trees

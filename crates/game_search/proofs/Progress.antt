@@ -22,12 +22,13 @@ use Rattle.proof_tree.specs.declared.line.Line.{Line}
 use Rattle.proof_tree.specs.declared.line.Line.TheVariants.{Skip, Open, Range}
 use Rattle.game_search.specs.declared.join.Join.{Join}
 use Rattle.game_search.specs.Joins.{with_gap, is_settled}
-use Rattle.game_search.specs.Boxes.{upto_all, upto_first}
+use Rattle.game_search.specs.Uppers.{upto_all, upto_first}
 use Rattle.proof_tree.specs.Lines.{step_line, upto_lines, ending_lines, branches_lines}
 use Rattle.game_search.specs.Made.{CasesMade}
 use Rattle.game_search.specs.Written.{CasesWritten, PartWritten}
 use Rattle.game_search.proofs.Joining.{JoinLaws, stays_settled, gap_unsettled}
-use Rattle.game_search.proofs.Places.{drop_at, drop_here}
+use Rattle.qc_rules.proofs.Items.{drop_at}
+use Rattle.game_search.proofs.Places.{drop_here}
 use Rattle.std.specs.List.{list_all}
 use Rattle.qc_model.specs.Valid.{is_number}
 use Rattle.proof_tree.specs.declared.tree.Version.TheVariants.{Two}

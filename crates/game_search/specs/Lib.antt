@@ -1,5 +1,6 @@
 pub mod Joins
-pub mod Boxes
+pub mod Board
+pub mod Uppers
 pub mod Made
 pub mod Written
 pub mod Attempted

@@ -10,7 +10,7 @@ use crate::walk::Walk;
 use proof_tree::{Outcome, cases_are_few};
 use qc_meaning::outcomes_are_true;
 use qc_model::Problem;
-use qc_rules::Levels;
+use qc_rules::{Board, Levels};
 use std::alloc::{AllocError, Global};
 use strategy_arena::{Arena, lines_fit};
 
@@ -90,9 +90,9 @@ pub(crate) fn attempt(
     requires plain { NoConditions levels.now.problem.now.scopes }
     ensures { IfOk result (λ a. Attempted cuts levels.now.problem.now turns a.verdict a.arena) }
 {
-    levels.problem.known();
+    let board = Board::new(alloc, levels.problem)?;
     let mut walk = Walk {
-        values: Vec::with_capacity(alloc, levels.problem.variables())?,
+        board,
         lines: Arena::new(alloc),
         kept: Vec::new(alloc),
         left: turns,

@@ -1,17 +1,21 @@
 //! Goes over the values of the variables, one variable after the other, and writes a line for each step.
 //!
+//! The walk's board has the values on the way down: the box at a node is the declared one with these values
+//! fixed. A variable is fixed where a case is gone into and freed where it is left, so that after each part the
+//! board is as before.
+//!
 //! In an existential scope the first exact leaf settles the scope, in a universal one the first lost leaf, and
 //! the cases after it are left out. Where no turn is left the cases that remain are left open.
 ghost use Rattle.proof_tree.specs.declared.line.Line.TheVariants.{Skip};
 ghost use Rattle.game_search.specs.Joins.{is_settled};
-ghost use Rattle.std.specs.Prelude.{nat_lt, ◌&&◌, take, ◌≡◌, ◌≤◌, ◌<◌, ◌+◌, ◌++◌, ◌∷◌, [], None, length, drop, reverse, IfOk, OnOk, IsTrue, IsFalse};
-ghost use Rattle.std.specs.List.{list_all};
-ghost use Rattle.qc_model.specs.Domains.{declared_box, domain_values, is_single, values_left};
-ghost use Rattle.qc_model.specs.Game.{before};
+ghost use Rattle.std.specs.Prelude.{nat_lt, ◌&&◌, take, ◌≡◌, ◌≤◌, ◌<◌, ◌++◌, ◌∷◌, [], None, length, drop, reverse, IfOk, OnOk, IsTrue};
+ghost use Rattle.qc_model.specs.Domains.{domain_values, values_left, box_at};
 ghost use Rattle.qc_model.specs.Valid.{is_domain, is_number};
 ghost use Rattle.qc_rules.specs.Plain.{NoConditions};
 ghost use Rattle.proof_tree.specs.Lines.{upto_lines};
-ghost use Rattle.game_search.specs.Boxes.{box_of, upto_all, upto_first};
+ghost use Rattle.qc_rules.specs.Reached.{IsAt, IsFree};
+ghost use Rattle.game_search.specs.Board.{IsWithin};
+ghost use Rattle.game_search.specs.Uppers.{upto_all, upto_first};
 ghost use Rattle.game_search.specs.Written.{NodeWritten, EndingWritten, CasesWritten};
 
 use crate::join::{Join, NodeVerdict, joined, left_out, settled, verdict};
@@ -19,11 +23,11 @@ use crate::stage::Stage;
 use crate::walk::Walk;
 use proof_tree::Line;
 use qc_model::{Domain, ScopeId, VarId};
-use qc_rules::{Levels, all_hold};
+use qc_rules::{Board, Level, Levels, goal_holds, is_allowed};
 use std::alloc::AllocError;
 use strategy_arena::Arena;
 
-/// The node of a scope, or of the goal, after the walk's values.
+/// The node of a scope, or of the goal, in the box that the walk's board holds.
 #[cycle(search)]
 pub(crate) fn node(
     levels: &Levels,
@@ -33,10 +37,9 @@ pub(crate) fn node(
 ) -> Result<NodeVerdict, AllocError>
     requires plain { NoConditions levels.now.problem.now.scopes }
     requires scope { number ≤ length levels.now.problem.now.scopes }
-    requires place { length walk.old.values.items ≡ before levels.now.problem.now number }
-    requires numbers { IsTrue (list_all is_number walk.old.values.items) }
-    ensures written { IfOk result (λ v. NodeWritten cuts levels.now.problem.now (drop number levels.now.problem.now.scopes) number [] (box_of levels.now.problem.now walk.old.values.items) None v walk.old.left walk.new.left walk.old.lines walk.new.lines) }
-    ensures kept { OnOk result (walk.new.values.items ≡ walk.old.values.items) }
+    requires board { IsAt levels.now.problem.now number walk.old.board }
+    ensures written { IfOk result (λ v. NodeWritten cuts levels.now.problem.now (drop number levels.now.problem.now.scopes) number [] walk.old.board.box None v walk.old.left walk.new.left walk.old.lines walk.new.lines) }
+    ensures same { OnOk result (walk.new.board ≡ walk.old.board) }
 {
     levels.problem.known();
     if number as usize == levels.problem.scopes() {
@@ -49,57 +52,68 @@ pub(crate) fn node(
         cuts,
     };
     let mut join = Join::Whole;
-    within(&stage, &mut join, walk)?;
+    within(&stage, level.from, &mut join, walk)?;
     Ok(verdict(level.kind, join))
 }
 
-/// The goal, after the walk's values.
+/// The goal, where each variable has its value.
 fn goal(levels: &Levels, cuts: bool, walk: &mut Walk) -> Result<NodeVerdict, AllocError>
-    requires place { length walk.old.values.items ≡ before levels.now.problem.now (length levels.now.problem.now.scopes) }
-    requires numbers { IsTrue (list_all is_number walk.old.values.items) }
-    ensures written { IfOk result (λ v. NodeWritten cuts levels.now.problem.now [] (length levels.now.problem.now.scopes) [] (box_of levels.now.problem.now walk.old.values.items) None v walk.old.left walk.new.left walk.old.lines walk.new.lines) }
-    ensures kept { OnOk result (walk.new.values.items ≡ walk.old.values.items) }
+    requires board { IsAt levels.now.problem.now (length levels.now.problem.now.scopes) walk.old.board }
+    ensures written { IfOk result (λ v. NodeWritten cuts levels.now.problem.now [] (length levels.now.problem.now.scopes) [] walk.old.board.box None v walk.old.left walk.new.left walk.old.lines walk.new.lines) }
+    ensures same { OnOk result (walk.new.board ≡ walk.old.board) }
 {
-    levels.problem.known();
     walk.lines.put(Line::Goal)?;
-    if all_hold(levels.problem, levels.goal_rules, walk.values.as_slice()) {
+    if goal_holds(levels, &walk.board) {
         return Ok(NodeVerdict::Exact);
     }
     Ok(NodeVerdict::Lost)
 }
 
-/// The part of a scope's tree after the walk's values.
+/// The part of a scope's tree in the box of the walk's board, where the variables of the scope before x have their
+/// values.
 #[cycle(search)]
-fn within(stage: &Stage, join: &mut Join, walk: &mut Walk) -> Result<(), AllocError>
-    requires place { length walk.old.values.items ≤ stage.now.level.now.stop }
-    requires start { before stage.now.level.now.problem.now stage.now.level.now.number ≤ length walk.old.values.items }
-    requires numbers { IsTrue (list_all is_number walk.old.values.items) }
-    ensures written { OnOk result (EndingWritten stage.now.cuts stage.now.level.now.problem.now (drop stage.now.level.now.number stage.now.level.now.problem.now.scopes) stage.now.level.now.number [] stage.now.level.now.kind (box_of stage.now.level.now.problem.now walk.old.values.items) None join.old join.new walk.old.left walk.new.left walk.old.lines walk.new.lines) }
-    ensures kept { OnOk result (walk.new.values.items ≡ walk.old.values.items) }
+fn within(stage: &Stage, x: usize, join: &mut Join, walk: &mut Walk) -> Result<(), AllocError>
+    requires place { IsWithin stage.now.level.now.problem.now stage.now.level.now.number x walk.old.board }
+    ensures written { OnOk result (EndingWritten stage.now.cuts stage.now.level.now.problem.now (drop stage.now.level.now.number stage.now.level.now.problem.now.scopes) stage.now.level.now.number [] stage.now.level.now.kind walk.old.board.box None join.old join.new walk.old.left walk.new.left walk.old.lines walk.new.lines) }
+    ensures same { OnOk result (walk.new.board ≡ walk.old.board) }
 {
     stage.level.problem.known();
-    let x = walk.values.len();
-    if x == stage.level.stop {
+    let next = next_free(stage.level, &walk.board, x);
+    if next == stage.level.stop {
         return after_tuple(stage, join, walk);
     }
-    let domain = &stage.level.problem.variable(VarId(x as u16)).domain;
-    if domain.size() == 1 {
-        return with_value(stage, domain.value_at(0), join, walk);
+    over_values(stage, VarId(next as u16), join, walk)
+}
+
+/// The first variable of the scope from x on that has more values than one; where there is none, the one after the
+/// scope's last.
+fn next_free(level: &Level, board: &Board, x: usize) -> usize
+    requires { IsWithin level.now.problem.now level.now.number x board.now }
+    ensures after { x ≤ result }
+    ensures place { IsWithin level.now.problem.now level.now.number result board.now }
+    ensures free { result < level.now.stop → IsFree level.now.problem.now board.now result }
+{
+    level.problem.known();
+    board.known();
+    for at in x..level.stop {
+        if !board.is_fixed(VarId(at as u16)) {
+            return at;
+        }
     }
-    over_values(stage, join, walk)
+    level.stop
 }
 
 /// The end of a scope's tree, where its tuple is complete.
 #[cycle(search)]
 fn after_tuple(stage: &Stage, join: &mut Join, walk: &mut Walk) -> Result<(), AllocError>
-    requires place { length walk.old.values.items ≡ stage.now.level.now.stop }
-    requires numbers { IsTrue (list_all is_number walk.old.values.items) }
-    ensures written { OnOk result (EndingWritten stage.now.cuts stage.now.level.now.problem.now (drop stage.now.level.now.number stage.now.level.now.problem.now.scopes) stage.now.level.now.number [] stage.now.level.now.kind (box_of stage.now.level.now.problem.now walk.old.values.items) None join.old join.new walk.old.left walk.new.left walk.old.lines walk.new.lines) }
-    ensures kept { OnOk result (walk.new.values.items ≡ walk.old.values.items) }
+    requires place { IsWithin stage.now.level.now.problem.now stage.now.level.now.number stage.now.level.now.stop walk.old.board }
+    ensures written { OnOk result (EndingWritten stage.now.cuts stage.now.level.now.problem.now (drop stage.now.level.now.number stage.now.level.now.problem.now.scopes) stage.now.level.now.number [] stage.now.level.now.kind walk.old.board.box None join.old join.new walk.old.left walk.new.left walk.old.lines walk.new.lines) }
+    ensures same { OnOk result (walk.new.board ≡ walk.old.board) }
 {
     stage.level.problem.known();
+    walk.board.known();
     let level = stage.level;
-    if !all_hold(level.problem, level.rules, walk.values.as_slice()) {
+    if !is_allowed(level, &walk.board) {
         walk.lines.put(Line::Barred)?;
         return Ok(());
     }
@@ -109,52 +123,62 @@ fn after_tuple(stage: &Stage, join: &mut Join, walk: &mut Walk) -> Result<(), Al
     Ok(())
 }
 
-/// The part of a scope's tree where the next variable has this value.
+/// The part of a scope's tree where x, its next variable with more values than one, has this one.
 #[cycle(search)]
-fn with_value(stage: &Stage, value: i64, join: &mut Join, walk: &mut Walk) -> Result<(), AllocError>
-    requires place { length walk.old.values.items < stage.now.level.now.stop }
-    requires start { before stage.now.level.now.problem.now stage.now.level.now.number ≤ length walk.old.values.items }
-    requires numbers { IsTrue (list_all is_number walk.old.values.items) }
+fn with_value(
+    stage: &Stage,
+    x: VarId,
+    value: i64,
+    join: &mut Join,
+    walk: &mut Walk,
+) -> Result<(), AllocError>
+    requires var { x.0 < stage.now.level.now.stop }
+    requires place { IsWithin stage.now.level.now.problem.now stage.now.level.now.number x.0 walk.old.board }
+    requires free { IsFree stage.now.level.now.problem.now walk.old.board x.0 }
     requires value { IsTrue (is_number value) }
-    ensures written { OnOk result (EndingWritten stage.now.cuts stage.now.level.now.problem.now (drop stage.now.level.now.number stage.now.level.now.problem.now.scopes) stage.now.level.now.number [] stage.now.level.now.kind (box_of stage.now.level.now.problem.now (walk.old.values.items ++ value ∷ [])) None join.old join.new walk.old.left walk.new.left walk.old.lines walk.new.lines) }
-    ensures kept { OnOk result (walk.new.values.items ≡ walk.old.values.items) }
+    ensures written { OnOk result (EndingWritten stage.now.cuts stage.now.level.now.problem.now (drop stage.now.level.now.number stage.now.level.now.problem.now.scopes) stage.now.level.now.number [] stage.now.level.now.kind (box_at walk.old.board.box x.0 value) None join.old join.new walk.old.left walk.new.left walk.old.lines walk.new.lines) }
+    ensures same { OnOk result (walk.new.board ≡ walk.old.board) }
 {
-    walk.values.push(value)?;
-    within(stage, join, walk)?;
-    let _ = walk.values.pop();
+    walk.board.fix(x, value);
+    within(stage, x.0 as usize + 1, join, walk)?;
+    walk.board.free(x);
     Ok(())
 }
 
-/// A branch on the next variable, which has more values than one.
+/// A branch on x, the next variable of the scope that has more values than one.
 #[cycle(search)]
-fn over_values(stage: &Stage, join: &mut Join, walk: &mut Walk) -> Result<(), AllocError>
-    requires place { length walk.old.values.items < stage.now.level.now.stop }
-    requires start { before stage.now.level.now.problem.now stage.now.level.now.number ≤ length walk.old.values.items }
-    requires numbers { IsTrue (list_all is_number walk.old.values.items) }
-    requires many { IsFalse (is_single (values_left (declared_box stage.now.level.now.problem.now) (length walk.old.values.items))) }
-    ensures written { OnOk result (EndingWritten stage.now.cuts stage.now.level.now.problem.now (drop stage.now.level.now.number stage.now.level.now.problem.now.scopes) stage.now.level.now.number [] stage.now.level.now.kind (box_of stage.now.level.now.problem.now walk.old.values.items) None join.old join.new walk.old.left walk.new.left walk.old.lines walk.new.lines) }
-    ensures kept { OnOk result (walk.new.values.items ≡ walk.old.values.items) }
+fn over_values(stage: &Stage, x: VarId, join: &mut Join, walk: &mut Walk) -> Result<(), AllocError>
+    requires var { x.0 < stage.now.level.now.stop }
+    requires place { IsWithin stage.now.level.now.problem.now stage.now.level.now.number x.0 walk.old.board }
+    requires free { IsFree stage.now.level.now.problem.now walk.old.board x.0 }
+    ensures written { OnOk result (EndingWritten stage.now.cuts stage.now.level.now.problem.now (drop stage.now.level.now.number stage.now.level.now.problem.now.scopes) stage.now.level.now.number [] stage.now.level.now.kind walk.old.board.box None join.old join.new walk.old.left walk.new.left walk.old.lines walk.new.lines) }
+    ensures same { OnOk result (walk.new.board ≡ walk.old.board) }
 {
     stage.level.problem.known();
-    let x = VarId(walk.values.len() as u16);
+    walk.board.known();
     let domain = &stage.level.problem.variable(x).domain;
     walk.lines.put(Line::Branch { x })?;
-    cases(stage, domain, join, walk)?;
+    cases(stage, x, domain, join, walk)?;
     walk.lines.put(Line::Dot)?;
     Ok(())
 }
 
-/// The cases of a branch on the next variable, which has this domain.
+/// The cases of a branch on x, which has this domain.
 #[cycle(search)]
-fn cases(stage: &Stage, domain: &Domain, join: &mut Join, walk: &mut Walk) -> Result<(), AllocError>
-    requires place { length walk.old.values.items < stage.now.level.now.stop }
-    requires start { before stage.now.level.now.problem.now stage.now.level.now.number ≤ length walk.old.values.items }
-    requires numbers { IsTrue (list_all is_number walk.old.values.items) }
-    requires domain { values_left (declared_box stage.now.level.now.problem.now) (length walk.old.values.items) ≡ domain_values domain.now }
+fn cases(
+    stage: &Stage,
+    x: VarId,
+    domain: &Domain,
+    join: &mut Join,
+    walk: &mut Walk,
+) -> Result<(), AllocError>
+    requires var { x.0 < stage.now.level.now.stop }
+    requires place { IsWithin stage.now.level.now.problem.now stage.now.level.now.number x.0 walk.old.board }
+    requires free { IsFree stage.now.level.now.problem.now walk.old.board x.0 }
+    requires domain { values_left walk.old.board.box x.0 ≡ domain_values domain.now }
     requires valid { IsTrue (is_domain domain.now) }
-    requires many { IsFalse (is_single (domain_values domain.now)) }
-    ensures written { OnOk result (CasesWritten stage.now.cuts stage.now.level.now.problem.now (drop stage.now.level.now.number stage.now.level.now.problem.now.scopes) stage.now.level.now.number [] stage.now.level.now.kind (box_of stage.now.level.now.problem.now walk.old.values.items) None (length walk.old.values.items) (domain_values domain.now) join.old join.new walk.old.left walk.new.left walk.old.lines walk.new.lines) }
-    ensures kept { OnOk result (walk.new.values.items ≡ walk.old.values.items) }
+    ensures written { OnOk result (CasesWritten stage.now.cuts stage.now.level.now.problem.now (drop stage.now.level.now.number stage.now.level.now.problem.now.scopes) stage.now.level.now.number [] stage.now.level.now.kind walk.old.board.box None x.0 (domain_values domain.now) join.old join.new walk.old.left walk.new.left walk.old.lines walk.new.lines) }
+    ensures same { OnOk result (walk.new.board ≡ walk.old.board) }
 {
     let size = domain.size();
     let start = walk.lines.len();
@@ -168,7 +192,7 @@ fn cases(stage: &Stage, domain: &Domain, join: &mut Join, walk: &mut Walk) -> Re
         }
         let at = walk.lines.len();
         walk.left -= 1;
-        with_value(stage, domain.value_at(k), join, walk)?;
+        with_value(stage, x, domain.value_at(k), join, walk)?;
         if is_cut(stage.cuts, k, *join) {
             cut(&mut walk.lines, &mut walk.kept, start, at, domain, k)?;
         }

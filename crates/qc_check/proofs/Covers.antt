@@ -8,7 +8,7 @@ use Rattle.std.proofs.lemmas.Bool.Decides.{nat_tests, Decides-int_eq}
 use Rattle.qc_model.specs.Domains.{Values, is_ascending, has_value}
 use Rattle.proof_tree.specs.Cover.{cover}
 use Rattle.qc_check.specs.Judged.{end_of}
-use Rattle.qc_check.proofs.Places.{drop_at}
+use Rattle.qc_rules.proofs.Items.{drop_at}
 
 true_unless : (b : Bool) → (b ≡ false → ⊥) → b ≡ true
 true_unless true h = refl

@@ -1,6 +1,5 @@
 mod Covers
 pub mod Standings
-pub mod Boards
 pub mod Places
 pub mod Parts
 pub mod PlainWalks

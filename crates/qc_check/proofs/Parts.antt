@@ -28,7 +28,7 @@ use Rattle.qc_check.specs.Standing.{preferred, without_tuple, standing_of, stand
 use Rattle.qc_check.specs.Judged.{node_standing, ending_standing, cases_standing, case_standing, end_of, tuple_allowed}
 use Rattle.qc_rules.specs.Plain.{NoConditions}
 use Rattle.qc_check.proofs.Standings.{preferred-none, among-append, seen-append, kind_standing, join_parts, join_known, both_last, both_assoc, never}
-use Rattle.qc_check.proofs.Places.{drop_at}
+use Rattle.qc_rules.proofs.Items.{drop_at}
 
 differ : false ≡ true → ⊥
 differ e = cc

@@ -26,7 +26,7 @@ use Rattle.qc_rules.specs.Plain.{NoConditions}
 use Rattle.qc_check.specs.Standing.{standing_of, only_if}
 use Rattle.qc_check.specs.Judged.{node_standing}
 use Rattle.qc_check.specs.Shown.{is_won, is_lost_here, is_open, outcome_shown}
-use Rattle.qc_check.proofs.Boards.{both}
+use Rattle.qc_rules.proofs.Items.{both}
 
 not_first : (later : List Scope) → NoConditions later → optimises_first later ≡ false
 not_first [] n = refl

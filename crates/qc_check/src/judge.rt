@@ -8,7 +8,7 @@ ghost use Rattle.qc_model.specs.Valid.{is_number};
 ghost use Rattle.proof_tree.specs.Tree.{tree, goal, cases as tree_cases, next, barred, branch};
 ghost use Rattle.proof_tree.specs.Shape.{tree_of, ending_of, branches_of, case_of};
 ghost use Rattle.qc_rules.specs.Plain.{NoConditions};
-ghost use Rattle.qc_check.specs.Board.{IsAt, IsFree};
+ghost use Rattle.qc_rules.specs.Reached.{IsAt, IsFree};
 ghost use Rattle.qc_check.specs.Judged.{node_standing, ending_standing, cases_standing, case_standing};
 
 use crate::cover::case_end;
@@ -16,7 +16,7 @@ use crate::level::allowed_tuple;
 use crate::standing::{Standing, preferred_of, standing_without_tuple};
 use proof_tree::{Body, Case, Cases, End, Node, Piece};
 use qc_model::{ScopeId, VarId};
-use qc_rules::{Board, Level, Levels, all_hold};
+use qc_rules::{Board, Level, Levels, goal_holds};
 
 /// A node of a scope, or of the goal.
 #[cycle(judge)]
@@ -49,13 +49,10 @@ fn judge_goal(levels: &Levels, number: u8, board: &Board) -> Option<Standing>
     ensures { result ≡ node_standing levels.now.problem.now (tree None goal) (drop number levels.now.problem.now.scopes) number board.now.box }
 {
     let problem = levels.problem;
-    problem.known();
-    board.known();
     if (number as usize) < problem.scopes() {
         return None;
     }
-    let values = board.values_to(problem.variables());
-    if all_hold(problem, levels.goal_rules, values) {
+    if goal_holds(levels, board) {
         Some(Standing::Won)
     } else {
         Some(Standing::Lost)

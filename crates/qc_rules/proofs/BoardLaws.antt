@@ -12,7 +12,7 @@ use Rattle.qc_model.proofs.DomainValues.{domain_full, domain_fits}
 use Rattle.qc_rules.specs.Boards.{chosen, box_of, all_set, IsBoard, first_of_each}
 use Rattle.qc_rules.proofs.Items.{both, drop_at}
 
-two : (a b : Bool) → a ≡ true → b ≡ true → (a && b) ≡ true
+pub two : (a b : Bool) → a ≡ true → b ≡ true → (a && b) ≡ true
 two a b e f = ap (λ c. c && b) e ∙ f
 
 pub chosen_set : (ds : Box) (vs : List ℤ) (ms : List Bool) (x : ℕ) (v : ℤ) → x < length vs → x < length ms →
@@ -100,7 +100,7 @@ map_size : {X Y : Type 0} (f : X → Y) (xs : List X) → length (map f xs) ≡ 
 map_size f [] = refl
 map_size f (x ∷ xs) = ap suc (map_size f xs)
 
-set_size : {X : Type 0} (xs : List X) (n : ℕ) (x : X) → length (set xs n x) ≡ length xs
+pub set_size : {X : Type 0} (xs : List X) (n : ℕ) (x : X) → length (set xs n x) ≡ length xs
 set_size [] n x = refl
 set_size (y ∷ xs) zero x = refl
 set_size (y ∷ xs) (suc n) x = ap suc (set_size xs n x)
@@ -162,6 +162,15 @@ pub get_at : {X : Type 0} (xs : List X) (n : ℕ) (d : X) → n < length xs → 
 get_at [] n d h = absurd (omega arith)
 get_at (x ∷ xs) zero d h = refl
 get_at (x ∷ xs) (suc n) d h = get_at xs n d (omega arith)
+
+-- the domain of a variable
+pub declared_at : (g : Game) (n : ℕ) (x : Variable) → slice_get g.variables n ≡ Some x → values_left (declared_box g) n ≡ domain_values x.domain
+declared_at g n x e = go n g.variables e
+  where
+    go : (n : ℕ) (xs : List Variable) → slice_get xs n ≡ Some x → get_or (map (λ y. domain_values y.domain) xs) n [] ≡ domain_values x.domain
+    go n [] e = cc
+    go zero (y ∷ xs) e = let h : y ≡ x = cc in ap (λ (z : Variable). domain_values z.domain) h
+    go (suc n) (y ∷ xs) e = go n xs e
 
 -- a value of a valid domain is a number
 pub value_fits : (x : Variable) (k : ℕ) (v : ℤ) → is_domain x.domain ≡ true → slice_get (domain_values x.domain) k ≡ Some v → is_number v ≡ true

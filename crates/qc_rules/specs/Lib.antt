@@ -2,3 +2,4 @@ pub mod Plain
 pub mod Spans
 pub mod Tables
 pub mod Boards
+pub mod Reached

@@ -20,5 +20,5 @@ pub use board::Board;
 pub use conditions::has_no_condition;
 pub use level::Level;
 pub use levels::Levels;
-pub use rules::all_hold;
+pub use rules::{all_hold, goal_holds, is_allowed};
 pub use span::Span;

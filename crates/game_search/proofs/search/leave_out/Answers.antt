@@ -1,7 +1,8 @@
 use Rattle.std.proofs.Common.{◌≡◌, ◌∙◌, sym, ap, subst, [], ◌∷◌, ◌++◌, ◌+◌, ◌-◌, ℤ, List, Some, None, length, arith, append_assoc, w64, to_z, of_z, Option, true}
 use Rattle.qc_model.specs.Domains.{domain_values}
 use Rattle.qc_model.specs.Valid.{is_number}
-use Rattle.game_search.proofs.Numbers.{item_fits, passed}
+use Rattle.qc_rules.proofs.BoardLaws.{passed}
+use Rattle.game_search.proofs.Numbers.{item_fits}
 use Rattle.proof_tree.specs.declared.line.Line.{Line}
 use Rattle.proof_tree.specs.declared.line.Line.TheVariants.{Range}
 use Rattle.proof_tree.specs.Lines.{upto_lines}

@@ -18,25 +18,27 @@ use Rattle.qc_rules.specs.Boards.{Placed}
 use Rattle.qc_rules.specs.Spans.{kind_at}
 use Rattle.qc_rules.specs.Plain.{NoConditions}
 use Rattle.qc_check.specs.declared.standing.Standing.{Standing}
-use Rattle.qc_check.specs.Board.{IsAt, IsFree}
+use Rattle.qc_rules.specs.Reached.{IsAt, IsFree}
 use Rattle.qc_check.specs.Judged.{node_standing, ending_standing, case_standing, end_of}
-use Rattle.qc_check.proofs.Boards.{all_at, reach_next, reach_fixed, box_inside, free_ready, after_free}
-use Rattle.qc_check.proofs.Places.{get_at, drop_at, declared_at, value_fits, passed, is_between, is_below, case_smaller, plain_at, none_of_them}
+use Rattle.qc_rules.proofs.BoardLaws.{all_at, get_at, declared_at, value_fits, passed}
+use Rattle.qc_rules.proofs.Items.{drop_at, plain_at}
+use Rattle.qc_rules.proofs.Reaching.{box_size, is_free, reach_next, reach_fixed, free_ready, after_free}
+use Rattle.qc_check.proofs.Places.{is_between, is_below, case_smaller, none_of_them}
 use Rattle.qc_check.proofs.Parts.{after_none, next_drop, fixed_if, at_scope, inside, end_within, one_more, one_fails, none_covered, none_is_left, some_are_left, at_empty, at_next, at_branch}
 use Rattle.qc_check.proofs.judge.+judge.Goals as goal
 
 in_scope : (g : Game) (i from stop x : ℕ) → from ≡ before g i → stop ≡ before g (suc i) → from ≤ x → x < stop → is_of_scope g i x ≡ true
 in_scope g i from stop x e f h k = is_between (before g i) (before g (suc i)) x (subst (λ n. n ≤ x) e h) (subst (λ n. x < n) f k)
 
-free_here : (g : Game) (b : Placed) (x : ℕ) (fixed : Bool) → b.declared ≡ declared_box g → x < length b.box → fixed ≡ is_single (values_left b.box x) → (fixed ≡ false → values_left b.box x ≡ values_left b.declared x) → fixed ≡ false → IsFree g b x
-free_here g b x fixed d h e f k = record { inside = h; whole = f k ∙ ap (λ box. values_left box x) d; unfixed = sym e ∙ k }
+free_here : (g : Game) (b : Placed) (x : ℕ) (fixed : Bool) → b.declared ≡ declared_box g → length b.box ≡ length b.declared → x < length g.variables → fixed ≡ is_single (values_left b.box x) → (fixed ≡ false → values_left b.box x ≡ values_left b.declared x) → fixed ≡ false → IsFree g b x
+free_here g b x fixed d n h e f k = let size = box_size g b n d in is_free g b x fixed d (omega (arith, size, h)) e f k
 
 pub judge_branch-judge_cases-requires : goal.judge_branch-judge_cases-requires
 judge_branch-judge_cases-requires t c =
     let g = c.args.level.now.problem.now in
     let x = c.args.x.0 in
     let inside : x < length g.variables = omega (arith, c.args.level.now.stop_within) in
-    let free = free_here g c.args.board.now x c.is_fixed.result c.requires.board.declared (box_inside g c.args.board.now x c.known.ensures.count c.requires.board.declared inside) c.is_fixed.ensures.fixed c.is_fixed.ensures.free c.if-is_fixed.false in
+    let free = free_here g c.args.board.now x c.is_fixed.result c.requires.board.declared c.known.ensures.count inside c.is_fixed.ensures.fixed c.is_fixed.ensures.free c.if-is_fixed.false in
     (omega arith, (c.requires.levels, (c.requires.plain, (c.requires.board, (omega arith, free)))))
 
 pub judge_branch-returns-clause-exact : goal.judge_branch-returns-clause-exact
@@ -47,7 +49,7 @@ judge_branch-returns-clause-exact t c =
     let box = c.args.board.now.box in
     let x = c.args.x.0 in
     let inside : x < length g.variables = omega (arith, c.args.level.now.stop_within) in
-    let free = free_here g c.args.board.now x c.is_fixed.result c.requires.board.declared (box_inside g c.args.board.now x c.known.ensures.count c.requires.board.declared inside) c.is_fixed.ensures.fixed c.is_fixed.ensures.free c.if-is_fixed.false in
+    let free = free_here g c.args.board.now x c.is_fixed.result c.requires.board.declared c.known.ensures.count inside c.is_fixed.ensures.fixed c.is_fixed.ensures.free c.if-is_fixed.false in
     c.judge_cases.ensures.exact
     ∙ sym (at_branch g k (drop i g.scopes) i box c.args.x (branches_of c.args.cases.now) (values_left (declared_box g) x)
     c.known.ensures.full

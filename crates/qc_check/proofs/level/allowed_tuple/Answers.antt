@@ -1,14 +1,11 @@
-use Rattle.std.proofs.Common.{◌≡◌, ◌∙◌, sym, ap, subst, suc, true, take, drop, ℕ, Some, None, cond, Bool}
+use Rattle.std.proofs.Common.{◌≡◌, ◌∙◌, sym, ap, suc, true, take, drop, ℕ, Some, None, cond, Bool}
 use Rattle.std.specs.List.{list_all}
 use Rattle.qc_model.specs.Content.{Game}
-use Rattle.qc_model.specs.Domains.{Box, box_values, is_single}
+use Rattle.qc_model.specs.Domains.{Box, is_single}
 use Rattle.qc_model.specs.Game.{before, allows}
-use Rattle.qc_model.specs.Holds.{holds_on}
-use Rattle.qc_model.specs.Valid.{is_constraint}
 use Rattle.proof_tree.specs.Place.{position, is_fixed}
+use Rattle.qc_rules.proofs.Reaching.{reach_next}
 use Rattle.qc_check.specs.Judged.{tuple_allowed}
-use Rattle.qc_check.proofs.Boards.{reach_next}
-use Rattle.qc_check.proofs.Places.{rules_valid}
 use Rattle.qc_check.proofs.level.allowed_tuple.Goals as goal
 
 -- as the code cuts the variables of a scope
@@ -20,27 +17,14 @@ tuple_is : (g : Game) (i : ℕ) (box : Box) (b : Bool) → is_fixed g i box ≡ 
 tuple_is g i box b e f =
     sym (ap (λ c. cond c (Some (allows g i (position g (suc i) box))) None) e ∙ ap Some f)
 
-pub values_to-reached-requires-clause-fixed : goal.values_to-reached-requires-clause-fixed
-values_to-reached-requires-clause-fixed c =
-    let g = c.args.level.now.problem.now in
-    let i = c.args.level.now.number in
-    let b = c.args.board.now in
-    let fixed = cut_so g i c.args.level.now.from c.args.level.now.stop b.box c.args.level.now.has_from c.args.level.now.has_stop ∙ (sym c.are_fixed.ensures ∙ c.if-not-are_fixed.false) in
-    let next = reach_next g i b c.requires fixed in
-    subst (λ n. list_all is_single (take n b.box) ≡ true) (sym c.args.level.now.has_stop) next.reached
-
-pub all_hold-requires-clause-rules : goal.all_hold-requires-clause-rules
-all_hold-requires-clause-rules c =
-    let g = c.args.level.now.problem.now in
-    subst (λ rules. list_all (is_constraint g.variables) rules ≡ true) (sym c.args.level.now.has_rules) (rules_valid g c.args.level.now.number c.known.ensures.constraints)
+pub is_allowed-requires : goal.is_allowed-requires
+is_allowed-requires c =
+    let l = c.args.level.now in
+    reach_next l.problem.now l.number c.args.board.now c.requires
+    (cut_so l.problem.now l.number l.from l.stop c.args.board.now.box l.has_from l.has_stop ∙ (sym c.are_fixed.ensures ∙ c.if-not-are_fixed.false))
 
 pub returns : goal.returns
 returns c =
-    let g = c.args.level.now.problem.now in
-    let i = c.args.level.now.number in
-    let box = c.args.board.now.box in
-    let fixed = cut_so g i c.args.level.now.from c.args.level.now.stop box c.args.level.now.has_from c.args.level.now.has_stop ∙ (sym c.are_fixed.ensures ∙ c.if-not-are_fixed.false) in
-    let values : position g (suc i) box ≡ c.values_to-reached.result.now =
-    ap (λ n. box_values (take n box)) (sym c.args.level.now.has_stop) ∙ sym c.values_to-reached.ensures.values in
-    tuple_is g i box c.all_hold.result fixed
-    (ap (allows g i) values ∙ (ap (list_all (λ r. holds_on r c.values_to-reached.result.now)) (sym c.args.level.now.has_rules) ∙ sym c.all_hold.ensures))
+    let l = c.args.level.now in
+    let fixed = cut_so l.problem.now l.number l.from l.stop c.args.board.now.box l.has_from l.has_stop ∙ (sym c.are_fixed.ensures ∙ c.if-not-are_fixed.false) in
+    tuple_is l.problem.now l.number c.args.board.now.box c.is_allowed.result fixed (sym c.is_allowed.ensures)

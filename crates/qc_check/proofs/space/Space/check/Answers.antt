@@ -2,7 +2,7 @@ use Rattle.std.proofs.Common.{◌≡◌, ◌∙◌, sym, refl, true, false, leng
 use Rattle.proof_tree.specs.Shape.{tree_of}
 use Rattle.proof_tree.proofs.NamedVariables.{names_variables}
 use Rattle.qc_check.specs.declared.check.Answer.TheVariants.{Yes, NotProved}
-use Rattle.qc_check.proofs.Places.{plain_from}
+use Rattle.qc_rules.proofs.Items.{plain_from}
 use Rattle.qc_check.proofs.PlainWalks.{plain_parts, parts_plain}
 use Rattle.qc_check.proofs.Roots.{root_is, no_root, root_proves, proves_placed}
 use Rattle.qc_check.proofs.space.Space.check.Goals as goal

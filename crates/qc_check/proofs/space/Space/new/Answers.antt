@@ -1,4 +1,4 @@
-use Rattle.qc_check.proofs.Places.{plain_to}
+use Rattle.qc_rules.proofs.Items.{plain_to}
 use Rattle.qc_check.proofs.space.Space.new.Goals as goal
 
 pub invariant_of-result : goal.invariant_of-result

@@ -5,8 +5,8 @@ use Rattle.proof_tree.specs.Tree.{Tree}
 use Rattle.proof_tree.specs.Shape.{tree_of}
 use Rattle.qc_rules.specs.Plain.{NoConditions}
 use Rattle.qc_check.specs.Judged.{node_standing}
-use Rattle.qc_check.proofs.Boards.{reach_first}
-use Rattle.qc_check.proofs.Places.{plain_from}
+use Rattle.qc_rules.proofs.Reaching.{reach_first}
+use Rattle.qc_rules.proofs.Items.{plain_from}
 use Rattle.qc_check.proofs.space.Space.standing.Goals as goal
 
 at_root : (g h : Game) (t : Tree) (box : Box) → h ≡ g → box ≡ declared_box g → node_standing h t h.scopes 0 box ≡ node_standing g t g.scopes 0 (declared_box g)
