@@ -4,6 +4,10 @@ ghost use Rattle.qc_model.specs.Content.{Rule};
 ghost use Rattle.qc_arguments.specs.Asked.{IsAsked};
 ghost use Rattle.prop_base.specs.Pruning.{IsPruning, IsFiltered, is_just};
 
+use crate::predicates::{
+    filter_all_items, filter_both, filter_clause, filter_either, filter_exactly_one,
+    filter_odd_items, filter_some_item, filter_told_clause,
+};
 use fd_store::Store;
 use proof_tree::StepList;
 use prop_base::{Filtered, filter_by_ends};
@@ -29,6 +33,14 @@ fn filter_rule(
         Pred::BoolNot => filter_comparison(problem, c, rule, Comparison::Different, store, steps),
         Pred::BoolLe => filter_comparison(problem, c, rule, Comparison::AtMost, store, steps),
         Pred::BoolLt => filter_comparison(problem, c, rule, Comparison::Below, store, steps),
+        Pred::BoolClause => filter_clause(problem, c, rule, store, steps),
+        Pred::BoolClauseReif => filter_told_clause(problem, c, rule, store, steps),
+        Pred::ArrayBoolAnd => filter_all_items(problem, c, rule, store, steps),
+        Pred::ArrayBoolOr => filter_some_item(problem, c, rule, store, steps),
+        Pred::BoolAnd => filter_both(problem, c, rule, store, steps),
+        Pred::BoolOr => filter_either(problem, c, rule, store, steps),
+        Pred::BoolXor => filter_exactly_one(problem, c, rule, store, steps),
+        Pred::ArrayBoolXor => filter_odd_items(problem, c, rule, store, steps),
         _ => filter_by_ends(&Table {}, problem, c, rule, store, steps),
     }
 }

@@ -1,0 +1,7 @@
+use Rattle.std.proofs.Common.{take}
+use Rattle.prop_bool.specs.Findings.{StandsAny}
+use Rattle.prop_bool.specs.Literals.{literals}
+use Rattle.prop_bool.proofs.outcomes.outcome_of.Given as goal
+
+abbrev pub invariant-loop-k : goal.invariant-loop-k
+invariant-loop-k l = StandsAny l.outcome l.store.box (take l.k (literals l.plain l.negated))

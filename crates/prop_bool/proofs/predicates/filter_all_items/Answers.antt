@@ -1,0 +1,16 @@
+use Rattle.std.proofs.Common.{List, [], ◌∙◌, sym, ap, subst}
+use Rattle.qc_model.specs.declared.problem.Arg.{Arg}
+use Rattle.qc_arguments.specs.Written.{arg_at, args_at}
+use Rattle.prop_bool.specs.Literals.{IsDisjunction, literals, negated}
+use Rattle.prop_bool.proofs.Junctions.{all_items_say}
+use Rattle.prop_bool.proofs.predicates.filter_all_items.Goals as goal
+
+pub filter_disjunction-requires-clause-says : goal.filter_disjunction-requires-clause-says
+filter_disjunction-requires-clause-says c =
+    let g = c.args.problem.now in
+    let r = c.args.rule.now in
+    let xs = c.items_at-items.ensures ∙ ap (λ a. args_at a 0) c.arguments-args.ensures in
+    let h = c.one_at.ensures ∙ ap (λ a. arg_at a 1) c.arguments-args.ensures in
+    let A : List Arg → Type 0 = λ z. IsDisjunction g r (literals [] z) (negated c.one_at.result) in
+    let B : Arg → Type 0 = λ z. IsDisjunction g r (literals [] (args_at r.args 0)) (negated z) in
+    subst A (sym xs) (subst B (sym h) (all_items_say g r c.args.store.now.box c.requires.asked c.requires.pred))
