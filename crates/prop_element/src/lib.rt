@@ -1,6 +1,6 @@
 //! The filter of items of arrays, members of sets, rows of tables, and integers that are to differ.
 //!
-//! It goes end by end, which is right for each of them, and slow.
+//! Integers that are to differ go by full ranges. The others go end by end, which is right for each of them, and slow.
 #![tactic(auto)]
 
 mod filtering;

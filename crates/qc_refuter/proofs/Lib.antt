@@ -5,4 +5,4 @@ pub mod ItemEnds
 pub mod Places
 pub mod Walks
 pub mod Results
-pub mod Crowds
+pub mod Fill

@@ -1,2 +1,3 @@
 pub mod Met
 pub mod Spanned
+pub mod Full

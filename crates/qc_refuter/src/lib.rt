@@ -8,6 +8,7 @@ mod comparisons;
 mod differing;
 mod elements;
 mod ends;
+mod full;
 mod members;
 mod reading;
 mod spans;
@@ -16,5 +17,6 @@ mod table;
 mod truths;
 mod view;
 
+pub use full::widest_full;
 pub use sums::{Extent, sum_extent};
 pub use table::{refutes, refutes_in, rule_refutes_in};

@@ -1,0 +1,7 @@
+pub mod Hall
+pub mod Items
+pub mod Alone
+pub mod Marks
+pub mod Placed
+pub mod Shapes
+pub mod Options

@@ -1,0 +1,4 @@
+pub mod Quiet
+pub mod Repeats
+pub mod Different
+pub mod Parts
