@@ -4,12 +4,31 @@ ghost use Rattle.qc_model.specs.Content.{Rule};
 ghost use Rattle.qc_arguments.specs.Asked.{IsAsked};
 ghost use Rattle.prop_base.specs.Pruning.{IsPruning, IsFiltered, is_just};
 
+use crate::plus::filter_plus;
 use crate::table::Table;
 use fd_store::Store;
 use proof_tree::StepList;
 use prop_base::{Filtered, filter_by_ends};
-use qc_model::{ConId, Problem};
+use qc_model::{ConId, Constraint, Pred, Problem};
 use std::alloc::{AllocError, Global};
+
+fn filter_rule(
+    problem: &Problem,
+    c: ConId,
+    rule: &Constraint,
+    store: &mut Store,
+    steps: &mut StepList,
+) -> Result<Filtered, AllocError>
+    requires c { slice_get problem.now.constraints c.0 ≡ Some rule.now }
+    requires asked { IsAsked problem.now rule.now store.old.box }
+    ensures pruning { IsPruning (is_just c.0) problem.now store.old store.new steps.old steps.new }
+    ensures answer { IfOk result (λ f. IsFiltered f rule.now store.new.box steps.old steps.new) }
+{
+    match rule.pred {
+        Pred::IntPlus => filter_plus(problem, c, rule, store, steps),
+        _ => filter_by_ends(&Table {}, problem, c, rule, store, steps),
+    }
+}
 
 /// Removes values as the constraint c refutes them, each with a step, until a domain is empty or the constraint refutes
 /// the box with none of its own variables at its least or greatest value. After a refusal the steps appended are exactly
@@ -28,5 +47,5 @@ pub fn filter(
 {
     let _ = alloc;
     let rule = problem.constraint(c);
-    filter_by_ends(&Table {}, problem, c, rule, store, steps)
+    filter_rule(problem, c, rule, store, steps)
 }

@@ -1,8 +1,9 @@
 -- The values that a place of a sum lets go.
-use Rattle.std.proofs.Common.{◌≡◌, ℕ, suc, ◌+◌, ◌*◌, ◌<◌, ◌≤◌, Bool, true, false, not, ◌&&◌, ◌||◌, cond, [], ◌∷◌, inl, inr, refl, sym, ap, ◌∙◌, subst, arith, ℤ}
+use Rattle.std.proofs.Common.{◌≡◌, ℕ, suc, ◌+◌, ◌*◌, ◌<◌, ◌≤◌, Bool, true, false, not, ◌&&◌, ◌||◌, cond, [], ◌∷◌, inl, inr, leb, refl, sym, ap, ◌∙◌, subst, arith, ℤ}
 use Rattle.std.specs.Prelude.{pos, negsuc, ◌+ℤ◌, ◌-ℤ◌, ◌≤ℤ◌, ◌<ℤ◌, unsigned_abs, nat_abs, filter, int_lt}
 use Rattle.std.specs.List.{list_all}
 use Rattle.std.specs.Ordering.{int_eq}
+use Rattle.std.proofs.Math.Nat.{mul-le-mul_left}
 use Rattle.std.proofs.lemmas.Int.{ints}
 use Rattle.std.proofs.lemmas.Bool.{leb-true}
 use Rattle.std.proofs.lemmas.Bool.Decides.{Decides-int_eq, nat_tests}
@@ -42,16 +43,16 @@ has_kept q (x ∷ vs) v =
     has_branch (q x) x v (filter q vs)
     ∙ has_table (q x) (q v) (int_eq v x) (has_value (filter q vs) v) (has_value vs v) (λ e. ap q ((Decides-int_eq v x).0 e)) (has_kept q vs v)
 
-keeps : (q : ℤ → Bool) (vs : Values) (v : ℤ) → q v ≡ true → has_value vs v ≡ true → has_value (filter q vs) v ≡ true
+pub keeps : (q : ℤ → Bool) (vs : Values) (v : ℤ) → q v ≡ true → has_value vs v ≡ true → has_value (filter q vs) v ≡ true
 keeps q vs v h k = has_kept q vs v ∙ together (q v) (has_value vs v) h k
 
-passes : (q : ℤ → Bool) (vs : Values) (v : ℤ) → has_value (filter q vs) v ≡ true → q v ≡ true
+pub passes : (q : ℤ → Bool) (vs : Values) (v : ℤ) → has_value (filter q vs) v ≡ true → q v ≡ true
 passes q vs v h = first (q v) (has_value vs v) (sym (has_kept q vs v) ∙ h)
 
-was_left : (q : ℤ → Bool) (vs : Values) (v : ℤ) → has_value (filter q vs) v ≡ true → has_value vs v ≡ true
+pub was_left : (q : ℤ → Bool) (vs : Values) (v : ℤ) → has_value (filter q vs) v ≡ true → has_value vs v ≡ true
 was_left q vs v h = second (q v) (has_value vs v) (sym (has_kept q vs v) ∙ h)
 
-some_of : (vs : Values) (v : ℤ) → has_value vs v ≡ true → is_none_left vs ≡ false
+pub some_of : (vs : Values) (v : ℤ) → has_value vs v ≡ true → is_none_left vs ≡ false
 some_of [] v h = cc
 some_of (x ∷ vs) v h = refl
 
@@ -63,10 +64,10 @@ among_of v (x ∷ vs) h = by (int_eq v x) (Decides-int_eq v x).0 (among_of v vs)
     by true e f h = inl (e refl)
     by false e f h = inr (f h)
 
-low_end : (vs : Values) (v : ℤ) → has_value vs v ≡ true → least_value vs ≤ℤ v
+pub low_end : (vs : Values) (v : ℤ) → has_value vs v ≡ true → least_value vs ≤ℤ v
 low_end vs v h = lo_of v vs (among_of v vs h)
 
-high_end : (vs : Values) (v : ℤ) → has_value vs v ≡ true → v ≤ℤ greatest_value vs
+pub high_end : (vs : Values) (v : ℤ) → has_value vs v ≡ true → v ≤ℤ greatest_value vs
 high_end vs v h = hi_of v vs (among_of v vs h)
 
 same_end : (a b : ℤ) → a ≤ℤ b → b ≤ℤ a → a ≡ b
@@ -108,6 +109,17 @@ small_between a b v h k l m = by (leb-true (unsigned_abs a) 1000000000 h) (leb-t
   where
     by : unsigned_abs a ≤ 1000000000 → unsigned_abs b ≤ 1000000000 → is_number v ≡ true
     by p q = grind (arith, nat_tests, ints)
+
+-- the ends of what is kept lie within the ends
+pub end_kept_low : (lo hi : ℤ) (d : Values) → is_none_left (values_outside lo hi d) ≡ false → least_value d ≤ℤ least_value (values_outside lo hi d)
+end_kept_low lo hi d n =
+    let out = values_outside lo hi d in
+    low_end d (least_value out) (was_left (λ v. not (is_within lo hi v)) d (least_value out) (has_least out n))
+
+pub end_kept_high : (lo hi : ℤ) (d : Values) → is_none_left (values_outside lo hi d) ≡ false → greatest_value (values_outside lo hi d) ≤ℤ greatest_value d
+end_kept_high lo hi d n =
+    let out = values_outside lo hi d in
+    high_end d (greatest_value out) (was_left (λ v. not (is_within lo hi v)) d (greatest_value out) (has_greatest out n))
 
 -- a factor above 0: the values far above the least
 pub cut_up : (p s q : ℕ) (d : Values) (lo : ℤ) → is_domain_left d ≡ true → p * q ≤ s → s < p * (q + 1) → lo ≡ least_value d +ℤ pos (q + 1) → lo ≤ℤ greatest_value d →
@@ -193,6 +205,16 @@ cut_below (negsuc p) s q d lo hi o z m n e f h = subst (λ w. IsTightening (negs
 pub near_of : (a : ℤ) (s q : ℕ) (d : Values) → is_domain_left d ≡ true → unsigned_abs a * q ≤ s → greatest_value d ≤ℤ (least_value d +ℤ pos q) → IsNear a s d
 near_of (pos p) s q d o m h = near_up p s q (least_value d) (greatest_value d) (ordered d (some_left d o)) h m
 near_of (negsuc p) s q d o m h = near_down p s q (least_value d) (greatest_value d) (ordered d (some_left d o)) h m
+
+-- where more goes over s, there are more steps
+pub more_steps : (a m n s : ℕ) → a * m ≤ s → s < a * n → m < n
+more_steps a m n s h k = by (leb n m) refl
+  where
+    by : (b : Bool) → leb n m ≡ b → m < n
+    by true e =
+        let l : a * n ≤ a * m = mul-le-mul_left a (leb-true n m e) in
+        absurd (omega (arith, h, k, l))
+    by false e = grind (arith, nat_tests)
 
 pub near_zero : (s : ℕ) (d : Values) → is_domain_left d ≡ true → IsNear (pos 0) s d
 near_zero s d o = near_up 0 s (nat_abs (greatest_value d -ℤ least_value d)) (least_value d) (greatest_value d) l (reach (least_value d) (greatest_value d) l) (omega arith)

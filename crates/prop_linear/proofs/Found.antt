@@ -15,7 +15,8 @@ use Rattle.qc_refuter.specs.Met.{is_domain_left}
 use Rattle.qc_refuter.proofs.Ready.{var_open}
 use Rattle.prop_base.specs.declared.cuts.Cut.{Cut}
 use Rattle.prop_base.specs.Closed.{IsCut}
-use Rattle.prop_linear.specs.Tightening.{IsTightening, IsBounded, has_repeat, least_sum}
+use Rattle.prop_linear.specs.Tightening.{IsTightening, has_repeat, least_sum}
+use Rattle.prop_linear.specs.Sides.{IsPast}
 use Rattle.prop_linear.proofs.Moves.{cut_refuted}
 
 pub seen_at : (g : Game) (c : Rule) (items : List Arg) (k : ℕ) (x : VarId) (e : Arg) → list_all (arg_sees g.variables c.owner.0) items ≡ true → k < length items → get_or items k e ≡ Var x → arg_sees g.variables c.owner.0 (Var x) ≡ true
@@ -30,7 +31,7 @@ pub open_there : (g : Game) (c : Rule) (box : Box) (items : List Arg) (k : ℕ) 
     is_domain_left (values_left box x.0) ≡ true
 open_there g c box items k x e d a s l q = var_open g box d a.declared a.full x.0 (declared_below g.variables c.owner.0 x.0 (seen_at g c items k x e s l q))
 
-pub cut_of : (c : Rule) (ns : List ℤ) (xs : List Arg) (s : ℕ) (box : Box) (k : ℕ) (x : VarId) (cut : Cut) (e : Arg) → IsBounded c ns xs (least_sum ns xs box +ℤ pos s) → has_repeat xs ≡ false → k < length ns → k < length xs →
+pub cut_of : (c : Rule) (ns : List ℤ) (xs : List Arg) (s : ℕ) (box : Box) (k : ℕ) (x : VarId) (cut : Cut) (e : Arg) → IsPast c ns xs (least_sum ns xs box +ℤ pos s) → has_repeat xs ≡ false → k < length ns → k < length xs →
     get_or xs k e ≡ Var x → x.0 < length box → cut.x ≡ x → IsTightening (get_or ns k (pos 0)) s (values_left box x.0) cut.lo cut.hi → IsCut c box cut
 cut_of c ns xs s box k x cut e b r l h q m f t =
     let P : VarId → Type 0 = λ y. IsCut c box (record { x = y; lo = cut.lo; hi = cut.hi }) in

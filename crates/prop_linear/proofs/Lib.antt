@@ -4,3 +4,12 @@ pub mod Moves
 pub mod Found
 pub mod Shapes
 pub mod Numbers
+pub mod Sides
+pub mod Balanced
+pub mod Still
+pub mod Small
+pub mod Loose
+pub mod Hits
+pub mod Last
+pub mod Marks
+pub mod Sided

@@ -17,26 +17,27 @@ use Rattle.qc_model.specs.Refuted.{left_to, refuted_by}
 use Rattle.qc_model.proofs.Readable.{together}
 use Rattle.prop_base.specs.Closed.{keeps_arg}
 use Rattle.prop_linear.specs.Tightening.{term_of, IsNear, IsTightening, AllNear, same_variable, has_repeat, least_sum, IsBounded}
+use Rattle.prop_linear.specs.Sides.{IsPast}
 use Rattle.prop_linear.proofs.Spread.{low_of, high_of}
 
-neither : (a b : Bool) → (a || b) ≡ false → (a ≡ false) × (b ≡ false)
+pub neither : (a b : Bool) → (a || b) ≡ false → (a ≡ false) × (b ≡ false)
 neither true b h = cc
 neither false b h = (refl, h)
 
-none_at : (p : Arg → Bool) (xs : List Arg) (k : ℕ) (d : Arg) → list_any p xs ≡ false → k < length xs → p (get_or xs k d) ≡ false
+pub none_at : (p : Arg → Bool) (xs : List Arg) (k : ℕ) (d : Arg) → list_any p xs ≡ false → k < length xs → p (get_or xs k d) ≡ false
 none_at p [] k d h l = absurd (omega arith)
 none_at p (x ∷ xs) zero d h l = (neither (p x) (list_any p xs) h).0
 none_at p (x ∷ xs) (suc k) d h l = none_at p xs k d (neither (p x) (list_any p xs) h).1 (omega arith)
 
 -- another variable keeps its values
-other_left : (box : Box) (x : VarId) (us : Values) (a : Arg) → same_variable a (Var x) ≡ false → left_to (set box x.0 us) a ≡ left_to box a
+pub other_left : (box : Box) (x : VarId) (us : Values) (a : Arg) → same_variable a (Var x) ≡ false → left_to (set box x.0 us) a ≡ left_to box a
 other_left box x us (Var y) h = get_or-set_other box x.0 y.0 us [] (apart y.0 x.0 h)
   where
     apart : (a b : ℕ) → (a == b) ≡ false → a ≢ b
     apart a b h = grind (arith, nat_tests)
 other_left box x us (Num n) h = refl
 
-flipped : (a b : Arg) → same_variable a b ≡ false → same_variable b a ≡ false
+pub flipped : (a b : Arg) → same_variable a b ≡ false → same_variable b a ≡ false
 flipped (Var x) (Var y) h = flip x.0 y.0 h
   where
     flip : (a b : ℕ) → (a == b) ≡ false → (b == a) ≡ false
@@ -45,7 +46,7 @@ flipped (Var x) (Num n) h = refl
 flipped (Num n) (Var x) h = refl
 flipped (Num n) (Num m) h = refl
 
-others_left : (box : Box) (x : VarId) (us : Values) (xs : List Arg) → list_any (same_variable (Var x)) xs ≡ false → map (left_to (set box x.0 us)) xs ≡ map (left_to box) xs
+pub others_left : (box : Box) (x : VarId) (us : Values) (xs : List Arg) → list_any (same_variable (Var x)) xs ≡ false → map (left_to (set box x.0 us)) xs ≡ map (left_to box) xs
 others_left box x us [] h = refl
 others_left box x us (a ∷ xs) h =
     let p = neither (same_variable (Var x) a) (list_any (same_variable (Var x)) xs) h in
@@ -101,38 +102,54 @@ near_more s (m ∷ ns) (x ∷ xs) zero box d e h l a n = (n, none (take 0 ns) (t
     none (u ∷ us) vs q = cc
 near_more s (m ∷ ns) (x ∷ xs) (suc k) box d e h l a n = (a.0, near_more s ns xs k box d e (omega arith) (omega arith) a.1 n)
 
-near_at : (s : ℕ) (ns : List ℤ) (xs : List Arg) (k : ℕ) (box : Box) (d : ℤ) (e : Arg) → k < length ns → k < length xs → AllNear s ns xs box → IsNear (get_or ns k d) s (left_to box (get_or xs k e))
+pub near_at : (s : ℕ) (ns : List ℤ) (xs : List Arg) (k : ℕ) (box : Box) (d : ℤ) (e : Arg) → k < length ns → k < length xs → AllNear s ns xs box → IsNear (get_or ns k d) s (left_to box (get_or xs k e))
 near_at s [] xs k box d e h l a = absurd (omega arith)
 near_at s (n ∷ ns) [] k box d e h l a = absurd (omega arith)
 near_at s (n ∷ ns) (x ∷ xs) zero box d e h l a = a.0
 near_at s (n ∷ ns) (x ∷ xs) (suc k) box d e h l a = near_at s ns xs k box d e (omega arith) (omega arith) a.1
 
-all_by : (p : Arg → Bool) (xs : List Arg) (e : Arg) → ((k : ℕ) → k < length xs → p (get_or xs k e) ≡ true) → list_all p xs ≡ true
+pub all_by : (p : Arg → Bool) (xs : List Arg) (e : Arg) → ((k : ℕ) → k < length xs → p (get_or xs k e) ≡ true) → list_all p xs ≡ true
 all_by p [] e f = refl
 all_by p (x ∷ xs) e f = together (p x) (list_all p xs) (f 0 (omega arith)) (all_by p xs e (λ k h. f (suc k) (omega arith)))
 
-not_true : (b : Bool) → b ≡ false → not b ≡ true
+pub not_true : (b : Bool) → b ≡ false → not b ≡ true
 not_true true h = cc
 not_true false h = refl
 
-not_below : (a b : ℤ) → b ≤ℤ a → int_lt a b ≡ false
+pub not_below : (a b : ℤ) → b ≤ℤ a → int_lt a b ≡ false
 not_below a b h = grind (arith, ints)
 
-keeps_value : (c : Rule) (ns : List ℤ) (xs : List Arg) (bound : ℤ) (s : ℕ) (box : Box) (k : ℕ) (x : VarId) (v : ℤ) → IsBounded c ns xs bound → has_repeat xs ≡ false → length ns ≡ length xs → k < length xs →
-    get_or xs k (Num (pos 0)) ≡ Var x → x.0 < length box → bound ≡ least_sum ns xs box +ℤ pos s → IsNear (get_or ns k (pos 0)) s (values_left box x.0) → (get_or ns k (pos 0) *ℤ v) ≤ℤ (term_of (get_or ns k (pos 0)) (values_left box x.0)).to →
-    not (refutes_at c box x.0 v) ≡ true
-keeps_value c ns xs bound s box k x v b r l h q m e near t =
+-- the ends are no more than the greatest of the term
+pub times_low : (n : ℤ) (d : Values) → (n *ℤ least_value d) ≤ℤ (term_of n d).to
+times_low n d = low (n *ℤ least_value d) (n *ℤ greatest_value d) (term_of n d).to (high_of n (least_value d) (greatest_value d))
+  where
+    low : (p q t : ℤ) → t ≡ int_max p q → p ≤ℤ t
+    low p q t h = omega (arith, ints, clamps, h)
+
+pub times_high : (n : ℤ) (d : Values) → (n *ℤ greatest_value d) ≤ℤ (term_of n d).to
+times_high n d = high (n *ℤ least_value d) (n *ℤ greatest_value d) (term_of n d).to (high_of n (least_value d) (greatest_value d))
+  where
+    high : (p q t : ℤ) → t ≡ int_max p q → q ≤ℤ t
+    high p q t h = omega (arith, ints, clamps, h)
+
+-- a near variable at such a value leaves the sum within s above its least
+pub value_near : (ns : List ℤ) (xs : List Arg) (s : ℕ) (box : Box) (k : ℕ) (x : VarId) (v : ℤ) → has_repeat xs ≡ false → length ns ≡ length xs → k < length xs →
+    get_or xs k (Num (pos 0)) ≡ Var x → x.0 < length box → IsNear (get_or ns k (pos 0)) s (values_left box x.0) → (get_or ns k (pos 0) *ℤ v) ≤ℤ (term_of (get_or ns k (pos 0)) (values_left box x.0)).to →
+    least_sum ns xs (box_at box x.0 v) ≤ℤ (least_sum ns xs box +ℤ pos s)
+value_near ns xs s box k x v r l h q m near t =
     let n = get_or ns k (pos 0) in
     let d = values_left box x.0 in
     let one = v ∷ [] in
-    let move = moved ns xs k box x one (pos 0) (Num (pos 0)) r (omega (arith, l)) h q m in
-    let low = low_of n v v in
-    not_true (refutes_at c box x.0 v)
-    (b.refuted (box_at box x.0 v)
-    ∙ not_below bound (least_sum ns xs (box_at box x.0 v)) (sum (least_sum ns xs (box_at box x.0 v)) (least_sum ns xs box) (term_of n d).from (term_of n d).to (term_of n one).from (n *ℤ v) bound move low e near t))
+    sum (least_sum ns xs (box_at box x.0 v)) (least_sum ns xs box) (term_of n d).from (term_of n d).to (term_of n one).from (n *ℤ v)
+    (moved ns xs k box x one (pos 0) (Num (pos 0)) r (omega (arith, l)) h q m) (low_of n v v) near t
   where
-    sum : (r u f t g w b : ℤ) → r +ℤ f ≡ u +ℤ g → g ≡ int_min w w → b ≡ u +ℤ pos s → t ≤ℤ (f +ℤ pos s) → w ≤ℤ t → r ≤ℤ b
-    sum r u f t g w b h i j l m = omega (arith, ints, clamps, h, i, j, l, m)
+    sum : (r u f t g w : ℤ) → r +ℤ f ≡ u +ℤ g → g ≡ int_min w w → t ≤ℤ (f +ℤ pos s) → w ≤ℤ t → r ≤ℤ (u +ℤ pos s)
+    sum r u f t g w h i l m = omega (arith, ints, clamps, h, i, l, m)
+
+keeps_value : (c : Rule) (ns : List ℤ) (xs : List Arg) (bound : ℤ) (s : ℕ) (box : Box) (x : VarId) (v : ℤ) → IsBounded c ns xs bound → bound ≡ least_sum ns xs box +ℤ pos s →
+    least_sum ns xs (box_at box x.0 v) ≤ℤ (least_sum ns xs box +ℤ pos s) → not (refutes_at c box x.0 v) ≡ true
+keeps_value c ns xs bound s box x v b e n =
+    not_true (refutes_at c box x.0 v) (b.refuted (box_at box x.0 v) ∙ not_below bound (least_sum ns xs (box_at box x.0 v)) (subst (λ z. least_sum ns xs (box_at box x.0 v) ≤ℤ z) (sym e) n))
 
 -- near places keep their ends
 keeps_place : (c : Rule) (ns : List ℤ) (xs : List Arg) (bound : ℤ) (s : ℕ) (box : Box) (k : ℕ) (a : Arg) → IsBounded c ns xs bound → has_repeat xs ≡ false → length ns ≡ length xs → k < length xs →
@@ -142,14 +159,8 @@ keeps_place c ns xs bound s box k (Var x) b r l h q f e near =
     let d = values_left box x.0 in
     let n = get_or ns k (pos 0) in
     together (not (refutes_at c box x.0 (least_value d))) (not (refutes_at c box x.0 (greatest_value d)))
-    (keeps_value c ns xs bound s box k x (least_value d) b r l h q (f x refl) e near (low (n *ℤ least_value d) (n *ℤ greatest_value d) (term_of n d).to (high_of n (least_value d) (greatest_value d))))
-    (keeps_value c ns xs bound s box k x (greatest_value d) b r l h q (f x refl) e near (high (n *ℤ least_value d) (n *ℤ greatest_value d) (term_of n d).to (high_of n (least_value d) (greatest_value d))))
-  where
-    low : (p q t : ℤ) → t ≡ int_max p q → p ≤ℤ t
-    low p q t h = omega (arith, ints, clamps, h)
-
-    high : (p q t : ℤ) → t ≡ int_max p q → q ≤ℤ t
-    high p q t h = omega (arith, ints, clamps, h)
+    (keeps_value c ns xs bound s box x (least_value d) b e (value_near ns xs s box k x (least_value d) r l h q (f x refl) near (times_low n d)))
+    (keeps_value c ns xs bound s box x (greatest_value d) b e (value_near ns xs s box k x (greatest_value d) r l h q (f x refl) near (times_high n d)))
 
 pub keeps_items : (c : Rule) (ns : List ℤ) (xs : List Arg) (bound : ℤ) (s : ℕ) (box : Box) → IsBounded c ns xs bound → has_repeat xs ≡ false → length ns ≡ length xs →
     ((k : ℕ) (x : VarId) → k < length xs → get_or xs k (Num (pos 0)) ≡ Var x → x.0 < length box) → bound ≡ least_sum ns xs box +ℤ pos s → AllNear s ns xs box → keeps_ends box c ≡ true
@@ -159,20 +170,17 @@ keeps_items c ns xs bound s box b r l f e near =
     (λ k h. keeps_place c ns xs bound s box k (get_or xs k (Num (pos 0))) b r l h refl (λ x q. f k x h q) e (near_at s ns xs k box (pos 0) (Num (pos 0)) (omega (arith, l)) h near)))
 
 -- the cut of a place is refuted
-pub cut_refuted : (c : Rule) (ns : List ℤ) (xs : List Arg) (s : ℕ) (box : Box) (k : ℕ) (x : VarId) (lo hi : ℤ) (e : Arg) → IsBounded c ns xs (least_sum ns xs box +ℤ pos s) → has_repeat xs ≡ false → k < length ns → k < length xs →
+pub cut_refuted : (c : Rule) (ns : List ℤ) (xs : List Arg) (s : ℕ) (box : Box) (k : ℕ) (x : VarId) (lo hi : ℤ) (e : Arg) → IsPast c ns xs (least_sum ns xs box +ℤ pos s) → has_repeat xs ≡ false → k < length ns → k < length xs →
     get_or xs k e ≡ Var x → x.0 < length box → IsTightening (get_or ns k (pos 0)) s (values_left box x.0) lo hi → refuted_by c (box_within box x.0 lo hi) ≡ true
 cut_refuted c ns xs s box k x lo hi e b r l h q m t =
     let n = get_or ns k (pos 0) in
     let d = values_left box x.0 in
     let us = values_within lo hi d in
     let move = moved ns xs k box x us (pos 0) e r l h q m in
-    b.refuted (box_within box x.0 lo hi) ∙ above (least_sum ns xs (box_within box x.0 lo hi)) (least_sum ns xs box) (term_of n d).from (term_of n us).from move t.far
+    b (box_within box x.0 lo hi) (above (least_sum ns xs (box_within box x.0 lo hi)) (least_sum ns xs box) (term_of n d).from (term_of n us).from move t.far)
   where
-    below : (a b : ℤ) → a <ℤ b → int_lt a b ≡ true
-    below a b h = grind (arith, ints)
-
-    above : (r u f g : ℤ) → r +ℤ f ≡ u +ℤ g → (f +ℤ pos s) <ℤ g → int_lt (u +ℤ pos s) r ≡ true
-    above r u f g h k = below (u +ℤ pos s) r (omega (arith, ints, h, k))
+    above : (r u f g : ℤ) → r +ℤ f ≡ u +ℤ g → (f +ℤ pos s) <ℤ g → (u +ℤ pos s) <ℤ r
+    above r u f g h k = omega (arith, ints, h, k)
 
 pub sum_kept : (ns : List ℤ) (xs : List Arg) (s : ℕ) (box : Box) (k : ℕ) (x : VarId) (lo hi : ℤ) (e : Arg) → has_repeat xs ≡ false → k < length ns → k < length xs →
     get_or xs k e ≡ Var x → x.0 < length box → IsTightening (get_or ns k (pos 0)) s (values_left box x.0) lo hi → least_sum ns xs (box_without box x.0 lo hi) ≡ least_sum ns xs box

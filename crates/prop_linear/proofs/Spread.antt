@@ -56,10 +56,10 @@ steps_down n v e =
 reached : (v w : ℤ) → v ≤ℤ w → w ≡ v +ℤ pos (nat_abs (w -ℤ v))
 reached v w h = omega (arith, ints)
 
-up_gap : (p : ℕ) (v w : ℤ) → v ≤ℤ w → pos p *ℤ w ≡ (pos p *ℤ v) +ℤ pos (p * nat_abs (w -ℤ v))
+pub up_gap : (p : ℕ) (v w : ℤ) → v ≤ℤ w → pos p *ℤ w ≡ (pos p *ℤ v) +ℤ pos (p * nat_abs (w -ℤ v))
 up_gap p v w h = ap (λ z. pos p *ℤ z) (reached v w h) ∙ steps_up p v (nat_abs (w -ℤ v))
 
-down_gap : (n : ℕ) (v w : ℤ) → v ≤ℤ w → (negsuc n *ℤ w) +ℤ pos (suc n * nat_abs (w -ℤ v)) ≡ negsuc n *ℤ v
+pub down_gap : (n : ℕ) (v w : ℤ) → v ≤ℤ w → (negsuc n *ℤ w) +ℤ pos (suc n * nat_abs (w -ℤ v)) ≡ negsuc n *ℤ v
 down_gap n v w h = ap (λ z. (negsuc n *ℤ z) +ℤ pos (suc n * nat_abs (w -ℤ v))) (reached v w h) ∙ steps_down n v (nat_abs (w -ℤ v))
 
 -- the term moves by at most s
@@ -110,3 +110,18 @@ same_down n l k g o r =
     let u = down_gap n l g o in
     let v = down_gap n k g r in
     omega (arith, ints, clamps, low_of (negsuc n) l g, low_of (negsuc n) k g, u, v)
+
+-- the least of the term rises while its values become fewer
+pub rise_up : (p : ℕ) (l k h g : ℤ) → l ≤ℤ k → k ≤ℤ h → h ≤ℤ g → (product (point (pos p)) (range_of l g)).from ≤ℤ (product (point (pos p)) (range_of k h)).from
+rise_up p l k h g o r f =
+    let u = up_gap p l k o in
+    let v = up_gap p k h r in
+    let w = up_gap p l g (omega (arith, ints, o, r, f)) in
+    omega (arith, ints, clamps, low_of (pos p) l g, low_of (pos p) k h, u, v, w)
+
+pub rise_down : (n : ℕ) (l k h g : ℤ) → l ≤ℤ k → k ≤ℤ h → h ≤ℤ g → (product (point (negsuc n)) (range_of l g)).from ≤ℤ (product (point (negsuc n)) (range_of k h)).from
+rise_down n l k h g o r f =
+    let u = down_gap n h g f in
+    let v = down_gap n k h r in
+    let w = down_gap n l g (omega (arith, ints, o, r, f)) in
+    omega (arith, ints, clamps, low_of (negsuc n) l g, low_of (negsuc n) k h, u, v, w)

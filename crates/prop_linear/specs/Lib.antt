@@ -1,1 +1,4 @@
 pub mod Tightening
+pub mod Sides
+pub mod Relations
+pub mod Unequal

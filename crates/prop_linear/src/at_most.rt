@@ -1,5 +1,5 @@
 //! The filter of a constraint that says no more than that a sum is at most a number.
-ghost use Rattle.std.specs.Prelude.{◌≡◌, ◌≤◌, ◌^◌, IsTrue, IfOk, length, slice_get, Some, pos, ◌+ℤ◌, ◌≤ℤ◌, unsigned_abs};
+ghost use Rattle.std.specs.Prelude.{◌≡◌, ◌≤◌, IsTrue, IfOk, length, slice_get, Some};
 ghost use Rattle.std.specs.List.{list_all};
 ghost use Rattle.qc_model.specs.Valid.{arg_sees, is_number};
 ghost use Rattle.qc_arguments.specs.Asked.{IsAsked};
@@ -9,6 +9,7 @@ ghost use Rattle.prop_linear.specs.Tightening.{IsBounded};
 
 use crate::failing::empty_first;
 use crate::repeats::is_repeated;
+use crate::slacks::slack;
 use crate::tighten::tighten_all;
 use fd_store::Store;
 use proof_tree::StepList;
@@ -17,15 +18,6 @@ use prop_compare::Table;
 use qc_model::{Arg, ConId, Constraint, Problem};
 use qc_refuter::sum_extent;
 use std::alloc::AllocError;
-
-// How far the bound is above the least of the sum.
-fn slack(bound: i64, least: i128) -> u128
-    requires least { unsigned_abs least ≤ 10 ^ 21 }
-    requires order { least ≤ℤ bound }
-    ensures { bound ≡ least +ℤ pos result }
-{
-    (bound as i128 - least) as u128
-}
 
 /// One pass, where no variable stands twice; end by end otherwise. Where the bound is passed already, a variable loses
 /// all its values.
@@ -55,7 +47,7 @@ pub(crate) fn filter_at_most(
     }
     let least = sum_extent(problem, rule, factors, items, store).from;
     if (bound as i128) < least {
-        return empty_first(problem, c, rule, factors, items, bound, store, steps);
+        return empty_first(problem, c, rule, items, store, steps);
     }
     let s = slack(bound, least);
     if tighten_all(problem, c, rule, factors, items, s, store, steps)? {

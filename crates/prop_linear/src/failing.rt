@@ -6,7 +6,8 @@ ghost use Rattle.qc_model.specs.Refuted.{refuted_by};
 ghost use Rattle.qc_model.specs.Valid.{arg_sees};
 ghost use Rattle.qc_arguments.specs.Asked.{IsAsked};
 ghost use Rattle.prop_base.specs.Pruning.{IsPruning, IsFiltered, is_just};
-ghost use Rattle.prop_linear.specs.Tightening.{IsBounded, is_number_arg};
+ghost use Rattle.prop_linear.specs.Sides.{AreOwn};
+ghost use Rattle.prop_linear.specs.Tightening.{is_number_arg};
 
 use fd_store::Store;
 use proof_tree::StepList;
@@ -33,21 +34,18 @@ pub(crate) fn empty_first(
     problem: &Problem,
     c: ConId,
     rule: &Constraint,
-    factors: &[i64],
     items: &[Arg],
-    bound: i64,
     store: &mut Store,
     steps: &mut StepList,
 ) -> Result<Filtered, AllocError>
     requires c { slice_get problem.now.constraints c.0 ≡ Some rule.now }
     requires asked { IsAsked problem.now rule.now store.old.box }
-    requires bounded { IsBounded rule.now factors.now items.now bound }
+    requires own { AreOwn rule.now items.now }
     requires sees { IsTrue (list_all (arg_sees problem.now.variables rule.now.owner.0) items.now) }
     requires refuted { IsTrue (refuted_by rule.now store.old.box) }
     ensures pruning { IsPruning (is_just c.0) problem.now store.old store.new steps.old steps.new }
     ensures answer { IfOk result (λ f. IsFiltered f rule.now store.new.box steps.old steps.new) }
 {
-    let _ = (factors.len(), bound);
     problem.known();
     let Some(x) = first_variable(problem, rule, items) else {
         return Ok(Filtered::Stable);

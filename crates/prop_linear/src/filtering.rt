@@ -1,11 +1,13 @@
 //! The filter.
 ghost use Rattle.std.specs.Prelude.{◌≡◌, ◌<◌, length, IfOk, slice_get, Some};
-ghost use Rattle.qc_model.specs.declared.problem.Pred.TheVariants.{IntLinLe};
 ghost use Rattle.qc_model.specs.Content.{Rule};
 ghost use Rattle.qc_arguments.specs.Asked.{IsAsked};
 ghost use Rattle.prop_base.specs.Pruning.{IsPruning, IsFiltered, is_just};
+ghost use Rattle.prop_linear.specs.Relations.{sum_pred};
 
 use crate::at_most::filter_at_most;
+use crate::different::filter_sum_different;
+use crate::equal::filter_sum_equal;
 use fd_store::Store;
 use proof_tree::StepList;
 use prop_base::{Filtered, filter_by_ends};
@@ -14,14 +16,23 @@ use qc_arguments::{arguments, items_at, numbers_at, one_at};
 use qc_model::{Arg, ConId, Constraint, Pred, Problem};
 use std::alloc::{AllocError, Global};
 
-fn filter_sum_at_most(
+// What a sum is to be, beside a number.
+#[derive(Clone, Copy, PartialEq, Eq)]
+enum Relation {
+    AtMost,
+    Equal,
+    Different,
+}
+
+fn filter_sum(
     problem: &Problem,
     c: ConId,
     rule: &Constraint,
+    relation: Relation,
     store: &mut Store,
     steps: &mut StepList,
 ) -> Result<Filtered, AllocError>
-    requires pred { rule.now.pred ≡ IntLinLe }
+    requires pred { rule.now.pred ≡ sum_pred relation }
     requires c { slice_get problem.now.constraints c.0 ≡ Some rule.now }
     requires asked { IsAsked problem.now rule.now store.old.box }
     ensures pruning { IsPruning (is_just c.0) problem.now store.old store.new steps.old steps.new }
@@ -31,9 +42,15 @@ fn filter_sum_at_most(
     let args = arguments(rule);
     let factors = numbers_at(args, 0);
     let items = items_at(args, 1);
-    match one_at(args, 2) {
-        Arg::Num(bound) => filter_at_most(problem, c, rule, factors, items, bound, store, steps),
-        Arg::Var(_) => filter_by_ends(&Table {}, problem, c, rule, store, steps),
+    let Arg::Num(bound) = one_at(args, 2) else {
+        return filter_by_ends(&Table {}, problem, c, rule, store, steps);
+    };
+    match relation {
+        Relation::AtMost => filter_at_most(problem, c, rule, factors, items, bound, store, steps),
+        Relation::Equal => filter_sum_equal(problem, c, rule, factors, items, bound, store, steps),
+        Relation::Different => filter_sum_different(
+            problem, c, rule, factors, items, bound, store, steps,
+        ),
     }
 }
 
@@ -54,7 +71,9 @@ fn filter_rule(
         Pred::IntNe => filter_comparison(problem, c, rule, Comparison::Different, store, steps),
         Pred::IntLe => filter_comparison(problem, c, rule, Comparison::AtMost, store, steps),
         Pred::IntLt => filter_comparison(problem, c, rule, Comparison::Below, store, steps),
-        Pred::IntLinLe => filter_sum_at_most(problem, c, rule, store, steps),
+        Pred::IntLinLe => filter_sum(problem, c, rule, Relation::AtMost, store, steps),
+        Pred::IntLinEq => filter_sum(problem, c, rule, Relation::Equal, store, steps),
+        Pred::IntLinNe => filter_sum(problem, c, rule, Relation::Different, store, steps),
         _ => filter_by_ends(&Table {}, problem, c, rule, store, steps),
     }
 }

@@ -18,8 +18,8 @@ fn steps_within(s: u128, factor: i64) -> u128
     s / factor.unsigned_abs() as u128
 }
 
-// How far the second number is above the first.
-fn width(low: i64, high: i64) -> u128
+/// How far the second number is above the first.
+pub(crate) fn width(low: i64, high: i64) -> u128
     requires low { IsTrue (is_number low) }
     requires high { IsTrue (is_number high) }
     requires order { low ≤ℤ high }
@@ -27,6 +27,14 @@ fn width(low: i64, high: i64) -> u128
     ensures small { result ≤ 2000000000 }
 {
     (high - low) as u128
+}
+
+/// How far a term of this factor moves over so many values.
+pub(crate) fn moves(factor: i64, width: u128) -> u128
+    requires { width ≤ 2000000000 }
+    ensures { result ≡ unsigned_abs factor * width }
+{
+    factor.unsigned_abs() as u128 * width
 }
 
 // The first number more than so many steps above another.
@@ -56,10 +64,10 @@ fn cut_high(factor: i64, x: VarId, s: u128, store: &Store) -> Option<Cut>
 {
     let low = store.min(x);
     let high = store.max(x);
-    let steps = steps_within(s, factor);
-    if width(low, high) <= steps {
+    if moves(factor, width(low, high)) <= s {
         return None;
     }
+    let steps = steps_within(s, factor);
     let lo = past(low, steps);
     Some(Cut { x, lo, hi: high })
 }
@@ -73,10 +81,10 @@ fn cut_low(factor: i64, x: VarId, s: u128, store: &Store) -> Option<Cut>
 {
     let low = store.min(x);
     let high = store.max(x);
-    let steps = steps_within(s, factor);
-    if width(low, high) <= steps {
+    if moves(factor, width(low, high)) <= s {
         return None;
     }
+    let steps = steps_within(s, factor);
     let hi = before(high, steps);
     Some(Cut { x, lo: low, hi })
 }

@@ -1,52 +1,60 @@
 //! One pass over a sum that is to be at most a number, with variables that stand once.
 //!
 //! Each place loses the values that alone make the sum too great. What it loses is never the value that makes its term
-//! least, so the least of the sum stays, and one pass is enough.
-ghost use Rattle.std.specs.Prelude.{◌≡◌, ◌<◌, ◌+◌, IsTrue, IsFalse, OnOk, IfOk, length, take, slice_get, Some, pos, ◌+ℤ◌, true, false};
+//! least, so the least of the sum stays, and one pass is enough. A sum that is to be at least a number is seen as its
+//! negative, which is to be at most the opposite number.
+ghost use Rattle.std.specs.Prelude.{◌≡◌, ◌<◌, ◌+◌, IsTrue, IsFalse, OnOk, IfOk, length, take, slice_get, Some, pos, ◌+ℤ◌, ◌≤ℤ◌, Bool, true, false};
 ghost use Rattle.std.specs.List.{list_all};
 ghost use Rattle.qc_model.specs.Closed.{keeps_ends};
 ghost use Rattle.qc_model.specs.Domains.{has_empty};
-ghost use Rattle.qc_model.specs.Valid.{arg_sees};
+ghost use Rattle.qc_model.specs.Valid.{arg_sees, is_number};
 ghost use Rattle.qc_arguments.specs.Asked.{IsAsked};
 ghost use Rattle.prop_base.specs.Pruning.{IsPruning, is_just};
+ghost use Rattle.prop_linear.specs.Sides.{IsPast, signed};
 ghost use Rattle.prop_linear.specs.Tightening.{AllNear, IsBounded, has_repeat, least_sum};
 
 use crate::places::place_cut;
+use crate::signs::factor_at;
 use fd_store::Store;
 use proof_tree::StepList;
 use prop_base::prune;
 use qc_model::{Arg, ConId, Constraint, Problem};
 use std::alloc::AllocError;
 
-// Whether something was removed at place k.
-fn tighten_place(
+/// What is too far at place k, for the sum or for its negative, which may be at most s above its least: it goes. It answers
+/// whether something was removed. No domain is emptied.
+pub(crate) fn tighten_place(
     problem: &Problem,
     c: ConId,
     rule: &Constraint,
     factors: &[i64],
     items: &[Arg],
     k: usize,
+    negative: bool,
     s: u128,
     store: &mut Store,
     steps: &mut StepList,
 ) -> Result<bool, AllocError>
     requires c { slice_get problem.now.constraints c.0 ≡ Some rule.now }
     requires asked { IsAsked problem.now rule.now store.old.box }
-    requires bounded { IsBounded rule.now factors.now items.now (least_sum factors.now items.now store.old.box +ℤ pos s) }
+    requires past { IsPast rule.now (signed negative factors.now) items.now (least_sum (signed negative factors.now) items.now store.old.box +ℤ pos s) }
     requires once { IsFalse (has_repeat items.now) }
     requires equal { length factors.now ≡ length items.now }
+    requires factors { IsTrue (list_all is_number factors.now) }
     requires sees { IsTrue (list_all (arg_sees problem.now.variables rule.now.owner.0) items.now) }
     requires place { k < length items.now }
     ensures pruning { IsPruning (is_just c.0) problem.now store.old store.new steps.old steps.new }
     ensures full { OnOk result (IsFalse (has_empty store.new.box)) }
-    ensures sum { OnOk result (least_sum factors.now items.now store.new.box ≡ least_sum factors.now items.now store.old.box) }
-    ensures near { OnOk result (AllNear s (take k factors.now) (take k items.now) store.old.box → AllNear s (take (k + 1) factors.now) (take (k + 1) items.now) store.new.box) }
+    ensures rises { OnOk result ((b : Bool) → least_sum (signed b factors.now) items.now store.old.box ≤ℤ least_sum (signed b factors.now) items.now store.new.box) }
+    ensures sum { OnOk result (least_sum (signed negative factors.now) items.now store.new.box ≡ least_sum (signed negative factors.now) items.now store.old.box) }
+    ensures near { OnOk result (AllNear s (take k (signed negative factors.now)) (take k items.now) store.old.box → AllNear s (take (k + 1) (signed negative factors.now)) (take (k + 1) items.now) store.new.box) }
     ensures grown { IfOk result (λ b. (b ≡ true → length steps.new ≡ length steps.old + 1) × (b ≡ false → steps.new ≡ steps.old)) }
 {
     problem.known();
+    let factor = factor_at(factors, k, negative);
     match items[k] {
         Arg::Num(_) => Ok(false),
-        Arg::Var(x) => match place_cut(factors[k], x, s, store) {
+        Arg::Var(x) => match place_cut(factor, x, s, store) {
             None => Ok(false),
             Some(cut) => {
                 prune(problem, c, rule, cut, store, steps)?;
@@ -72,6 +80,7 @@ pub(crate) fn tighten_all(
     requires bounded { IsBounded rule.now factors.now items.now (least_sum factors.now items.now store.old.box +ℤ pos s) }
     requires once { IsFalse (has_repeat items.now) }
     requires equal { length factors.now ≡ length items.now }
+    requires factors { IsTrue (list_all is_number factors.now) }
     requires sees { IsTrue (list_all (arg_sees problem.now.variables rule.now.owner.0) items.now) }
     ensures pruning { IsPruning (is_just c.0) problem.now store.old store.new steps.old steps.new }
     ensures full { OnOk result (IsFalse (has_empty store.new.box)) }
@@ -80,7 +89,7 @@ pub(crate) fn tighten_all(
 {
     let mut changed = false;
     for k in 0..items.len() {
-        if tighten_place(problem, c, rule, factors, items, k, s, store, steps)? {
+        if tighten_place(problem, c, rule, factors, items, k, false, s, store, steps)? {
             changed = true;
         }
     }

@@ -7,7 +7,7 @@ use Rattle.prop_linear.proofs.failing.empty_first.Goals as goal
 pub returns-in_default-clause-answer : goal.returns-in_default-clause-answer
 returns-in_default-clause-answer c =
     let box = c.args.store.now.box in
-    (c.requires.asked.full, refl, c.requires.bounded.own box (numbers_keep c.args.rule.now box c.args.items.now c.in_default.ensures.none))
+    (c.requires.asked.full, refl, c.requires.own box (numbers_keep c.args.rule.now box c.args.items.now c.in_default.ensures.none))
 
 pub prune-requires-clause-cut : goal.prune-requires-clause-cut
 prune-requires-clause-cut c =

@@ -1,12 +1,12 @@
 use Rattle.std.proofs.Common.{◌≡◌, sym, subst, rules, arith, refl, true}
-use Rattle.std.specs.Prelude.{◌≤ℤ◌}
+use Rattle.std.specs.Prelude.{◌≤ℤ◌, unsigned_abs}
 use Rattle.std.proofs.lemmas.Int.{to_z-of_z, ints}
 use mir.Val.{SFits}
 use mir.Syntax.{w64}
 use Rattle.qc_model.specs.Domains.{values_left}
 use Rattle.qc_model.specs.Valid.{is_number}
 use Rattle.qc_refuter.proofs.Terms.{least_small, greatest_small}
-use Rattle.prop_linear.proofs.Ends.{ordered, some_left, near_of, cut_above}
+use Rattle.prop_linear.proofs.Ends.{ordered, some_left, near_of, more_steps, cut_above}
 use Rattle.prop_linear.proofs.places.cut_high.Goals as goal
 
 pub width-requires-clause-low : goal.width-requires-clause-low
@@ -30,8 +30,8 @@ width-requires-clause-order c =
     let r : c.min-low.result ≤ℤ c.max-high.result = omega (arith, ints, o, l, g) in
     simp to_z-of_z r
 
-pub returns-then-width-steps-clause-none : goal.returns-then-width-steps-clause-none
-returns-then-width-steps-clause-none c =
+pub returns-then-moves-s-clause-none : goal.returns-then-moves-s-clause-none
+returns-then-moves-s-clause-none c =
     let f : SFits w64 c.min-low.result = search rules in
     let h : SFits w64 c.max-high.result = search rules in
     let a_fits : SFits w64 c.args.factor = search rules in
@@ -39,8 +39,8 @@ returns-then-width-steps-clause-none c =
     let l = c.min-low.ensures in
     let g = c.max-high.ensures in
     let w = simp to_z-of_z at c.width.ensures.value in
-    let m = simp to_z-of_z at c.steps_within-steps.ensures.most in
-    near_of c.args.factor c.args.s c.steps_within-steps.result d c.requires.open m (omega (arith, ints, l, g, w, c.if-width-steps.true))
+    let v = simp to_z-of_z at c.moves.ensures in
+    near_of c.args.factor c.args.s c.width.result d c.requires.open (omega (arith, v, c.if-moves-s.true)) (omega (arith, ints, l, g, w))
 
 pub past-lo-requires-clause-low : goal.past-lo-requires-clause-low
 past-lo-requires-clause-low c =
@@ -59,6 +59,8 @@ returns-clause-some c =
     let w = simp to_z-of_z at c.width.ensures.value in
     let m = simp to_z-of_z at c.steps_within-steps.ensures.most in
     let n = simp to_z-of_z at c.steps_within-steps.ensures.next in
+    let v = simp to_z-of_z at c.moves.ensures in
+    let room = more_steps (unsigned_abs c.args.factor) c.steps_within-steps.result c.width.result c.args.s m (omega (arith, v, c.if-moves-s.false)) in
     let e = simp to_z-of_z at c.past-lo.ensures in
     simp to_z-of_z
-    (refl, cut_above c.args.factor c.args.s c.steps_within-steps.result d c.past-lo.result c.max-high.result c.requires.open c.requires.factor m n (omega (arith, ints, e, l)) g (omega (arith, ints, e, w, c.if-width-steps.false)))
+    (refl, cut_above c.args.factor c.args.s c.steps_within-steps.result d c.past-lo.result c.max-high.result c.requires.open c.requires.factor m n (omega (arith, ints, e, l)) g (omega (arith, ints, e, w, room)))

@@ -1,4 +1,4 @@
-use Rattle.std.proofs.Common.{◌≡◌, ◌∙◌, ◌<◌, ◌+◌, sym, ap, subst, arith, length, take, true, false, Bool, ℕ, refl}
+use Rattle.std.proofs.Common.{◌≡◌, ◌∙◌, ◌<◌, ◌+◌, sym, ap, subst, arith, length, take, true, false, Bool, ℕ, refl, ℤ}
 use Rattle.std.specs.Prelude.{pos, ◌+ℤ◌}
 use Rattle.std.proofs.lemmas.List.{take_all}
 use Rattle.qc_model.specs.declared.problem.Arg.TheVariants.{Num}
@@ -7,10 +7,20 @@ use Rattle.qc_arguments.specs.Asked.{IsAsked}
 use Rattle.prop_base.specs.Pruning.{is_just}
 use Rattle.prop_base.proofs.Steps.{pruning_more, pruning_sub}
 use Rattle.prop_linear.specs.Tightening.{AllNear, least_sum}
+use Rattle.prop_linear.specs.Sides.{IsPast}
 use Rattle.prop_linear.proofs.Moves.{keeps_items}
+use Rattle.prop_linear.proofs.Sides.{bounded_past}
 use Rattle.prop_linear.proofs.Found.{placed}
 use Rattle.prop_linear.proofs.tighten.tighten_all.Goals.{then-branch, else-branch}
 use Rattle.prop_linear.proofs.tighten.tighten_all.Goals as goal
+
+pub tighten_place-requires-clause-past : goal.tighten_place-requires-clause-past
+tighten_place-requires-clause-past c =
+    let r = c.args.rule.now in
+    let ns = c.args.factors.now in
+    let xs = c.args.items.now in
+    let P : ℤ → Type 0 = λ z. IsPast r ns xs (z +ℤ pos c.args.s) in
+    subst P (sym c.loop-k.invariant.sum) (bounded_past r ns xs (least_sum ns xs c.args.store.now.box +ℤ pos c.args.s) c.requires.bounded)
 
 pub returns-in_err-tighten_place-clause-pruning : goal.returns-in_err-tighten_place-clause-pruning
 returns-in_err-tighten_place-clause-pruning c =

@@ -1,6 +1,6 @@
 use Rattle.std.proofs.Common.{◌≡◌, length}
 use Rattle.prop_linear.specs.Tightening.{has_repeat}
-use Rattle.prop_linear.proofs.repeats.is_repeated.Given as goal
+use Rattle.prop_linear.proofs.repeats.stands_twice.Given as goal
 
 abbrev pub invariant-loop-rest : goal.invariant-loop-rest
 invariant-loop-rest l = has_repeat l.rest ≡ has_repeat l.items

@@ -1,0 +1,110 @@
+//! The filter of a constraint that says no more than that a sum is a number.
+ghost use Rattle.std.specs.Prelude.{◌≡◌, ◌≤◌, IsTrue, IsFalse, IfOk, length, slice_get, Some, cond};
+ghost use Rattle.std.specs.List.{list_all};
+ghost use Rattle.qc_model.specs.Valid.{arg_sees, is_number};
+ghost use Rattle.qc_arguments.specs.Asked.{IsAsked};
+ghost use Rattle.qc_refuter.specs.Met.{is_open};
+ghost use Rattle.prop_base.specs.declared.answer.Filtered.TheVariants.{Changed, Stable};
+ghost use Rattle.prop_base.specs.Pruning.{IsPruning, IsFiltered, is_just};
+ghost use Rattle.prop_linear.specs.Sides.{IsBalanced, IsRound};
+ghost use Rattle.prop_linear.specs.Tightening.{has_repeat};
+
+use crate::failing::empty_first;
+use crate::repeats::is_repeated;
+use crate::rounds::tighten_round;
+use crate::slacks::{excess, slack};
+use fd_store::Store;
+use proof_tree::StepList;
+use prop_base::{Filtered, filter_by_ends};
+use prop_compare::Table;
+use qc_model::{Arg, ConId, Constraint, Problem};
+use qc_refuter::sum_extent;
+use std::alloc::AllocError;
+
+// One round. Where the sum can't be the number, a variable loses all its values. Stable says that nothing is too far.
+fn run_round(
+    problem: &Problem,
+    c: ConId,
+    rule: &Constraint,
+    factors: &[i64],
+    items: &[Arg],
+    bound: i64,
+    store: &mut Store,
+    steps: &mut StepList,
+) -> Result<Filtered, AllocError>
+    requires c { slice_get problem.now.constraints c.0 ≡ Some rule.now }
+    requires asked { IsAsked problem.now rule.now store.old.box }
+    requires balanced { IsBalanced rule.now factors.now items.now bound }
+    requires once { IsFalse (has_repeat items.now) }
+    requires equal { length factors.now ≡ length items.now }
+    requires few { length items.now ≤ 1000 }
+    requires factors { IsTrue (list_all is_number factors.now) }
+    requires sees { IsTrue (list_all (arg_sees problem.now.variables rule.now.owner.0) items.now) }
+    requires open { IsTrue (list_all (is_open store.old.box) items.now) }
+    ensures pruning { IsPruning (is_just c.0) problem.now store.old store.new steps.old steps.new }
+    ensures answer { IfOk result (λ f. IsRound f rule.now store.new.box steps.old steps.new) }
+{
+    problem.known();
+    let sum = sum_extent(problem, rule, factors, items, store);
+    if (bound as i128) < sum.from {
+        return empty_first(problem, c, rule, items, store, steps);
+    }
+    if sum.to < bound as i128 {
+        return empty_first(problem, c, rule, items, store, steps);
+    }
+    let s = slack(bound, sum.from);
+    let t = excess(sum.to, bound);
+    if tighten_round(problem, c, rule, factors, items, s, t, store, steps)? {
+        Ok(Filtered::Changed)
+    } else {
+        Ok(Filtered::Stable)
+    }
+}
+
+// What to answer where a round removed nothing.
+fn ended(changed: bool) -> Filtered
+    ensures { result ≡ cond changed Changed Stable }
+{
+    if changed {
+        Filtered::Changed
+    } else {
+        Filtered::Stable
+    }
+}
+
+/// Rounds until one removes nothing, where no variable stands twice; end by end otherwise. Where the sum can't be the
+/// number, a variable loses all its values.
+pub fn filter_sum_equal(
+    problem: &Problem,
+    c: ConId,
+    rule: &Constraint,
+    factors: &[i64],
+    items: &[Arg],
+    bound: i64,
+    store: &mut Store,
+    steps: &mut StepList,
+) -> Result<Filtered, AllocError>
+    requires c { slice_get problem.now.constraints c.0 ≡ Some rule.now }
+    requires asked { IsAsked problem.now rule.now store.old.box }
+    requires balanced { IsBalanced rule.now factors.now items.now bound }
+    requires equal { length factors.now ≡ length items.now }
+    requires few { length items.now ≤ 1000 }
+    requires factors { IsTrue (list_all is_number factors.now) }
+    requires sees { IsTrue (list_all (arg_sees problem.now.variables rule.now.owner.0) items.now) }
+    requires open { IsTrue (list_all (is_open store.old.box) items.now) }
+    ensures pruning { IsPruning (is_just c.0) problem.now store.old store.new steps.old steps.new }
+    ensures answer { IfOk result (λ f. IsFiltered f rule.now store.new.box steps.old steps.new) }
+{
+    problem.known();
+    if is_repeated(items) {
+        return filter_by_ends(&Table {}, problem, c, rule, store, steps);
+    }
+    let mut changed = false;
+    loop {
+        match run_round(problem, c, rule, factors, items, bound, store, steps)? {
+            Filtered::Emptied => return Ok(Filtered::Emptied),
+            Filtered::Stable => return Ok(ended(changed)),
+            Filtered::Changed => changed = true,
+        }
+    }
+}

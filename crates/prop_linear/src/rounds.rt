@@ -1,0 +1,109 @@
+//! One round over a sum that is to be one number, with variables that stand once.
+//!
+//! The slacks on both sides are those at the start of the round. The least of a sum only rises while values go, and its
+//! greatest only falls, so what is too far by these slacks is too far at each later moment too.
+ghost use Rattle.std.specs.Prelude.{◌≡◌, ◌<◌, ◌+◌, IsTrue, IsFalse, OnOk, IfOk, length, slice_get, Some, pos, ◌+ℤ◌, ◌≤ℤ◌, Bool, true, false};
+ghost use Rattle.std.specs.List.{list_all};
+ghost use Rattle.qc_model.specs.Domains.{has_empty, values_left};
+ghost use Rattle.qc_model.specs.Valid.{arg_sees, is_number};
+ghost use Rattle.qc_arguments.specs.Asked.{IsAsked};
+ghost use Rattle.qc_refuter.specs.Met.{is_domain_left};
+ghost use Rattle.prop_base.specs.Pruning.{IsPruning, is_just};
+ghost use Rattle.prop_linear.specs.Sides.{IsPast, AreNear, signed};
+ghost use Rattle.prop_linear.specs.Tightening.{IsNear, has_repeat, least_sum};
+
+use crate::places::{moves, width};
+use crate::tighten::tighten_place;
+use fd_store::Store;
+use proof_tree::StepList;
+use qc_model::{Arg, ConId, Constraint, Problem, VarId};
+use std::alloc::AllocError;
+
+// Whether a term of x moves by at most s, and at most t.
+fn is_near_both(factor: i64, x: VarId, s: u128, t: u128, store: &Store) -> bool
+    requires x { x.0 < length store.now.box }
+    requires open { IsTrue (is_domain_left (values_left store.now.box x.0)) }
+    ensures over { IsTrue result → IsNear factor s (values_left store.now.box x.0) }
+    ensures under { IsTrue result → IsNear factor t (values_left store.now.box x.0) }
+{
+    let room = moves(factor, width(store.min(x), store.max(x)));
+    if s < room {
+        return false;
+    }
+    room <= t
+}
+
+// What is too far at place k, on both sides, goes. Mostly nothing is, and one look at the place's two ends tells it.
+fn tighten_both(
+    problem: &Problem,
+    c: ConId,
+    rule: &Constraint,
+    factors: &[i64],
+    items: &[Arg],
+    k: usize,
+    s: u128,
+    t: u128,
+    store: &mut Store,
+    steps: &mut StepList,
+) -> Result<bool, AllocError>
+    requires c { slice_get problem.now.constraints c.0 ≡ Some rule.now }
+    requires asked { IsAsked problem.now rule.now store.old.box }
+    requires over { IsPast rule.now factors.now items.now (least_sum factors.now items.now store.old.box +ℤ pos s) }
+    requires under { IsPast rule.now (signed true factors.now) items.now (least_sum (signed true factors.now) items.now store.old.box +ℤ pos t) }
+    requires once { IsFalse (has_repeat items.now) }
+    requires equal { length factors.now ≡ length items.now }
+    requires factors { IsTrue (list_all is_number factors.now) }
+    requires sees { IsTrue (list_all (arg_sees problem.now.variables rule.now.owner.0) items.now) }
+    requires place { k < length items.now }
+    ensures pruning { IsPruning (is_just c.0) problem.now store.old store.new steps.old steps.new }
+    ensures full { OnOk result (IsFalse (has_empty store.new.box)) }
+    ensures rises { OnOk result ((b : Bool) → least_sum (signed b factors.now) items.now store.old.box ≤ℤ least_sum (signed b factors.now) items.now store.new.box) }
+    ensures near { IfOk result (λ b. b ≡ false → AreNear k s t factors.now items.now store.old.box → AreNear (k + 1) s t factors.now items.now store.old.box) }
+    ensures grown { IfOk result (λ b. (b ≡ true → length steps.old < length steps.new) × (b ≡ false → steps.new ≡ steps.old)) }
+{
+    problem.known();
+    let Arg::Var(x) = items[k] else {
+        return Ok(false);
+    };
+    if is_near_both(factors[k], x, s, t, store) {
+        return Ok(false);
+    }
+    let over = tighten_place(problem, c, rule, factors, items, k, false, s, store, steps)?;
+    let under = tighten_place(problem, c, rule, factors, items, k, true, t, store, steps)?;
+    Ok(over || under)
+}
+
+/// Removes at each place what is too far above the least of the sum, by more than s, or below its greatest, by more than
+/// t. It answers whether something was removed. No domain is emptied.
+pub(crate) fn tighten_round(
+    problem: &Problem,
+    c: ConId,
+    rule: &Constraint,
+    factors: &[i64],
+    items: &[Arg],
+    s: u128,
+    t: u128,
+    store: &mut Store,
+    steps: &mut StepList,
+) -> Result<bool, AllocError>
+    requires c { slice_get problem.now.constraints c.0 ≡ Some rule.now }
+    requires asked { IsAsked problem.now rule.now store.old.box }
+    requires over { IsPast rule.now factors.now items.now (least_sum factors.now items.now store.old.box +ℤ pos s) }
+    requires under { IsPast rule.now (signed true factors.now) items.now (least_sum (signed true factors.now) items.now store.old.box +ℤ pos t) }
+    requires once { IsFalse (has_repeat items.now) }
+    requires equal { length factors.now ≡ length items.now }
+    requires factors { IsTrue (list_all is_number factors.now) }
+    requires sees { IsTrue (list_all (arg_sees problem.now.variables rule.now.owner.0) items.now) }
+    ensures pruning { IsPruning (is_just c.0) problem.now store.old store.new steps.old steps.new }
+    ensures full { OnOk result (IsFalse (has_empty store.new.box)) }
+    ensures near { IfOk result (λ b. b ≡ false → AreNear (length items.now) s t factors.now items.now store.old.box) }
+    ensures grown { IfOk result (λ b. (b ≡ true → length steps.old < length steps.new) × (b ≡ false → steps.new ≡ steps.old)) }
+{
+    let mut changed = false;
+    for k in 0..items.len() {
+        if tighten_both(problem, c, rule, factors, items, k, s, t, store, steps)? {
+            changed = true;
+        }
+    }
+    Ok(changed)
+}
