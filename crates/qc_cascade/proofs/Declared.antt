@@ -1,0 +1,48 @@
+-- The box of declared domains is one to begin with.
+use Rattle.std.proofs.Common.{◌≡◌, Bool, true, false, ◌||◌, ◌&&◌, List, [], ◌∷◌, map, refl, ap, ◌∙◌, ℤ}
+use Rattle.std.specs.List.{list_all}
+use Rattle.std.specs.Ordering.{int_eq}
+use Rattle.qc_model.specs.declared.problem.Variable.{Variable}
+use Rattle.qc_model.specs.Content.{Game}
+use Rattle.qc_model.specs.Domains.{Values, Box, domain_values, declared_box, has_empty, has_value, is_ascending, is_sub_box}
+use Rattle.qc_model.specs.Valid.{IsValid, is_domain}
+use Rattle.qc_model.proofs.DomainValues.{domain_full}
+use Rattle.qc_model.proofs.Readable.{first, second, together}
+use Rattle.qc_arguments.specs.Asked.{is_box_of}
+use Rattle.qc_arguments.proofs.Values.{has_first}
+use Rattle.qc_rules.proofs.Ascends.{domain_ascends}
+
+or_right : (a b : Bool) → b ≡ true → (a || b) ≡ true
+or_right true b h = refl
+or_right false b h = h
+
+all_of : (p : ℤ → Bool) (vs : Values) → ((v : ℤ) → has_value vs v ≡ true → p v ≡ true) → list_all p vs ≡ true
+all_of p [] f = refl
+all_of p (v ∷ vs) f = together (p v) (list_all p vs) (f v (has_first v vs)) (all_of p vs (λ w h. f w (or_right (int_eq w v) (has_value vs w) h)))
+
+-- a box of ascending values lies within itself
+pub within_itself : (box : Box) → list_all is_ascending box ≡ true → is_sub_box box box ≡ true
+within_itself [] h = refl
+within_itself (d ∷ ds) h =
+    together (is_ascending d && list_all (has_value d) d) (is_sub_box ds ds)
+    (together (is_ascending d) (list_all (has_value d) d) (first (is_ascending d) (list_all is_ascending ds) h) (all_of (has_value d) d (λ v q. q)))
+    (within_itself ds (second (is_ascending d) (list_all is_ascending ds) h))
+
+all_ascend : (xs : List Variable) → list_all (λ x. is_domain x.domain) xs ≡ true → list_all is_ascending (map (λ x. domain_values x.domain) xs) ≡ true
+all_ascend [] h = refl
+all_ascend (x ∷ xs) h =
+    together (is_ascending (domain_values x.domain)) (list_all is_ascending (map (λ x. domain_values x.domain) xs))
+    (domain_ascends x.domain (first (is_domain x.domain) (list_all (λ x. is_domain x.domain) xs) h))
+    (all_ascend xs (second (is_domain x.domain) (list_all (λ x. is_domain x.domain) xs) h))
+
+none_empty : (xs : List Variable) → list_all (λ x. is_domain x.domain) xs ≡ true → has_empty (map (λ x. domain_values x.domain) xs) ≡ false
+none_empty [] h = refl
+none_empty (x ∷ xs) h =
+    ap (λ b. b || has_empty (map (λ x. domain_values x.domain) xs)) (domain_full x.domain (first (is_domain x.domain) (list_all (λ x. is_domain x.domain) xs) h))
+    ∙ none_empty xs (second (is_domain x.domain) (list_all (λ x. is_domain x.domain) xs) h)
+
+pub declared_is_box : (g : Game) (box : Box) → IsValid g → box ≡ declared_box g → is_box_of g box ≡ true
+declared_is_box g box v e = ap (is_box_of g) e ∙ within_itself (declared_box g) (all_ascend g.variables v.domains)
+
+pub declared_is_full : (g : Game) (box : Box) → IsValid g → box ≡ declared_box g → has_empty box ≡ false
+declared_is_full g box v e = ap has_empty e ∙ none_empty g.variables v.domains
