@@ -23,3 +23,9 @@ pub mod Unique
 pub mod UniqueTrees
 pub mod EachText
 pub mod Ends
+pub mod Walking
+pub mod Saying
+pub mod FittingLines
+pub mod UniqueLines
+pub mod Telling
+pub mod OneAnswer

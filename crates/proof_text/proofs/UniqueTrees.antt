@@ -241,7 +241,7 @@ open_one m n None None a b f g e =
 open_one m n None (Some w) a b f g e = absurd (cc)
 open_one m n (Some v) w a b f g e = absurd (cc)
 
-outcome_one : (o p : Outcome) (v w : Option ℤ) (a b : List ℕ) → IsTrue (outcome_fits o v) → IsTrue (outcome_fits p w) → outcome_text o v ++ a ≡ outcome_text p w ++ b → SameOutcome o p v w a b
+pub outcome_one : (o p : Outcome) (v w : Option ℤ) (a b : List ℕ) → IsTrue (outcome_fits o v) → IsTrue (outcome_fits p w) → outcome_text o v ++ a ≡ outcome_text p w ++ b → SameOutcome o p v w a b
 outcome_one True True v w a b f g e = let r = optimum_one v w a b f g e in record { outcome = refl; optimum = r.0; rest = r.1 }
 outcome_one True False v w a b f g e = apart 116 102 _ _ refl (sym (outcome_head True v a).1 ∙ e)
 outcome_one True (Open n) v w a b f g e = apart 116 111 _ _ refl (sym (outcome_head True v a).1 ∙ e)
@@ -252,7 +252,7 @@ outcome_one (Open m) True v w a b f g e = apart 111 116 _ _ refl (e ∙ (outcome
 outcome_one (Open m) False v w a b f g e = apart 111 102 _ _ refl e
 outcome_one (Open m) (Open n) v w a b f g e = open_one m n v w a b f g e
 
-digit_one : (x y : Version) (u v : List ℕ) → version_text x ++ u ≡ version_text y ++ v → (x ≡ y) × (u ≡ v)
+pub digit_one : (x y : Version) (u v : List ℕ) → version_text x ++ u ≡ version_text y ++ v → (x ≡ y) × (u ≡ v)
 digit_one One One u v h = (refl, after_two 49 10 u v (after_word (49 ∷ 10 ∷ u) (49 ∷ 10 ∷ v) h))
 digit_one One Two u v h = apart 49 50 _ _ refl (after_word (49 ∷ 10 ∷ u) (50 ∷ 10 ∷ v) h)
 digit_one Two One u v h = apart 50 49 _ _ refl (after_word (50 ∷ 10 ∷ u) (49 ∷ 10 ∷ v) h)

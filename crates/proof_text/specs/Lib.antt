@@ -1,12 +1,17 @@
+pub mod Answers
+pub mod Fronts
 pub mod Laws
 pub mod Letters
+pub mod LineRanges
 pub mod Nesting
 pub mod Numerals
 pub mod PartLines
 pub mod Parts
 pub mod Places
 pub mod Reading
+pub mod Readings
 pub mod Refusals
 pub mod Running
 pub mod Standing
 pub mod Symbols
+pub mod Walks

@@ -1,13 +1,15 @@
 -- A line of a tree, as far as it is read.
-use Rattle.std.specs.Prelude.{ℕ, ◌≡◌, List, [], ◌∷◌, ◌++◌, Bool, true, false}
+use Rattle.std.specs.Prelude.{ℕ, ◌≡◌, List, [], ◌∷◌, ◌++◌, Bool, true, false, IsTrue}
 use Rattle.std.specs.Fmt.{signed_decimal}
-use Rattle.proof_tree.specs.Text.{line_text, place_text}
+use Rattle.qc_model.specs.Valid.{is_number}
+use Rattle.proof_tree.specs.Text.{line_text, place_text, is_place}
 use Rattle.proof_text.specs.declared.part_line.Kind.{Kind}
 use Rattle.proof_text.specs.declared.part_line.Kind.TheVariants.{Horizon as HorizonKind, Branch as BranchKind, Range as RangeKind, Prune as PruneKind, Bound as BoundKind}
 use Rattle.proof_text.specs.declared.part_line.PartLine.{PartLine}
 use Rattle.proof_text.specs.declared.part_line.PartLine.TheVariants.{Short, Letter, Horizon, Branch, Range, Variable, Low, High, Constraint}
 use Rattle.proof_text.specs.declared.part_line.PartNext.{PartNext}
 use Rattle.proof_text.specs.declared.part_line.PartNext.TheVariants.{More, Whole, Wrong}
+use Rattle.proof_text.specs.LineRanges.{line_fits}
 use Rattle.proof_text.specs.Numerals.{counted_owes, counted_text, FitsCounted, signed_owes, signed_text, FitsSigned}
 use Rattle.proof_text.specs.Symbols.{Symbol, byte, number, signed, prune_line, bound_line}
 use Rattle.proof_text.specs.Standing.{owing, no_text, next_standing}
@@ -64,18 +66,18 @@ part_text (High prune x low high) = removal_letter prune ∷ 32 ∷ (place_text 
 part_text (Constraint x low high c) = 112 ∷ 32 ∷ (place_text x ++ 32 ∷ (signed_decimal low ++ 32 ∷ (signed_decimal high ++ 32 ∷ counted_text c)))
 
 abbrev pub FitsPart : PartLine → Type 0
-FitsPart (Short letter line) = line_text line ≡ letter ∷ 10 ∷ []
+FitsPart (Short letter line) = (line_text line ≡ letter ∷ 10 ∷ []) × IsTrue (line_fits line)
 FitsPart (Letter kind) = Unit {0}
 FitsPart (Horizon k) = FitsCounted 65 k
 FitsPart (Branch x) = FitsCounted 500 x
 FitsPart (Range high) = FitsSigned 1000000000 high
 FitsPart (Variable prune x) = FitsCounted 500 x
-FitsPart (Low prune x low) = FitsSigned 1000000000 low
-FitsPart (High prune x low high) = FitsSigned 1000000000 high
-FitsPart (Constraint x low high c) = FitsCounted 20000 c
+FitsPart (Low prune x low) = FitsSigned 1000000000 low × IsTrue (is_place 500 x)
+FitsPart (High prune x low high) = FitsSigned 1000000000 high × IsTrue (is_place 500 x) × IsTrue (is_number low)
+FitsPart (Constraint x low high c) = FitsCounted 20000 c × IsTrue (is_place 500 x) × IsTrue (is_number low) × IsTrue (is_number high)
 
 -- how it goes on with a byte, whatever is owed after the line
 abbrev pub PartGoes : PartLine → ℕ → PartNext → Type 0
 PartGoes part b (More next) = ((later : List Symbol) → next_standing (owing (part_owes part ++ later)) b ≡ owing (part_owes next ++ later)) × (part_text next ≡ part_text part ++ b ∷ []) × FitsPart next
-PartGoes part b (Whole line) = ((later : List Symbol) → next_standing (owing (part_owes part ++ later)) b ≡ owing later) × (line_text line ≡ part_text part ++ b ∷ [])
+PartGoes part b (Whole line) = ((later : List Symbol) → next_standing (owing (part_owes part ++ later)) b ≡ owing later) × (line_text line ≡ part_text part ++ b ∷ []) × IsTrue (line_fits line)
 PartGoes part b Wrong = (later : List Symbol) → next_standing (owing (part_owes part ++ later)) b ≡ no_text

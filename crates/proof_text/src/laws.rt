@@ -4,7 +4,7 @@ ghost use Rattle.proof_tree.specs.declared.tree.Version.{Version};
 ghost use Rattle.proof_tree.specs.declared.tree.Outcome.{Outcome};
 ghost use Rattle.proof_tree.specs.Tree.{Tree};
 ghost use Rattle.proof_tree.specs.Text.{certificate_text, has_text};
-ghost use Rattle.proof_text.specs.Laws.{IsOneCertificate, IsOneFault, IsTextOrFault, NeverBoth};
+ghost use Rattle.proof_text.specs.Laws.{IsOneAnswer, IsOneCertificate, IsOneFault, IsTextOrFault, NeverBoth, StaysStopped};
 
 /// No certificate's text is a proper front of another's, and so a reader knows where a text ends.
 pub fn no_text_begins_another()
@@ -23,4 +23,11 @@ pub fn bytes_are_one_text_or_have_one_fault()
     ensures not_both { NeverBoth }
     ensures certificate { IsOneCertificate }
     ensures fault { IsOneFault }
+{}
+
+/// A byte has one answer, by the bytes before it and what was told of them, and after `TooDeep` or
+/// `Bad` that is the same again. So what `LineReader` answers is the one answer.
+pub fn each_byte_has_one_answer()
+    ensures one { IsOneAnswer }
+    ensures stays { StaysStopped }
 {}

@@ -144,10 +144,10 @@ pub(crate) fn open_cases(version: Version, nesting: u16, byte: u8) -> Opened
     cases_letter(version, nesting, byte)
 }
 
-// The letter of a case of a branch, after the line of its range; more cases come after it.
+// The letter of a case of a branch, after the line of its range.
 pub(crate) fn open_case(version: Version, nesting: u16, byte: u8) -> Opened
     requires { nesting ≤ 1000 }
-    ensures { Opening version nesting (a_case version nesting ∷ some_branches version nesting ∷ []) (some_branches version nesting ∷ []) byte result }
+    ensures { Opening version nesting (a_case version nesting ∷ []) [] byte result }
 {
     case_letter(version, nesting, byte)
 }

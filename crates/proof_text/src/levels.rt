@@ -1,10 +1,11 @@
 // Which levels of a tree's nesting are branches. The others are next nodes.
-ghost use Rattle.std.specs.Prelude.{◌≡◌, ◌≤◌, ◌<◌, ◌+◌, ◌∷◌, [], cond, length};
+ghost use Rattle.std.specs.Prelude.{◌≡◌, ◌≤◌, ◌<◌, ◌+◌, ◌-◌, ◌∷◌, [], cond, length};
 ghost use Rattle.proof_tree.specs.declared.tree.Version.{Version};
 ghost use Rattle.proof_text.specs.Symbols.{branches};
 ghost use Rattle.proof_text.specs.Nesting.{open_branches};
 
 // Levels are counted from 1.
+#[derive(Drop)]
 pub(crate) struct Levels {
     marks: [bool; 1001],
 }
@@ -38,6 +39,7 @@ impl Levels {
         requires { level ≤ 1000 }
         ensures same { (version : Version) → open_branches version self.now.marks level ≡ open_branches version self.now.marks result }
         ensures above { result ≤ level }
+        ensures open { (version : Version) → 0 < result → open_branches version self.now.marks result ≡ branches version result ∷ open_branches version self.now.marks (result - 1) }
     {
         let mut at = level;
         while at > 0 && !self.marks[usize::from(at)] {

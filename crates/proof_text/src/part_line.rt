@@ -164,7 +164,7 @@ fn variable_byte(prune: bool, x: Counted, byte: u8) -> PartNext
 }
 
 fn low_byte(prune: bool, x: u16, lo: Signed, byte: u8) -> PartNext
-    requires { FitsSigned 1000000000 lo }
+    requires { FitsPart (LowPart prune x lo) }
     ensures { PartGoes (LowPart prune x lo) byte result }
 {
     match read_signed(lo, byte, limits::NUMBER, b' ') {
@@ -180,7 +180,7 @@ fn low_byte(prune: bool, x: u16, lo: Signed, byte: u8) -> PartNext
 }
 
 fn high_byte(x: u16, lo: i64, hi: Signed, byte: u8) -> PartNext
-    requires { FitsSigned 1000000000 hi }
+    requires { FitsPart (HighPart true x lo hi) }
     ensures { PartGoes (HighPart true x lo hi) byte result }
 {
     match read_signed(hi, byte, limits::NUMBER, b' ') {
@@ -202,7 +202,7 @@ fn high_byte(x: u16, lo: i64, hi: Signed, byte: u8) -> PartNext
 
 // The greatest value of a removal that ends with it.
 fn last_byte(x: u16, lo: i64, hi: Signed, byte: u8) -> PartNext
-    requires { FitsSigned 1000000000 hi }
+    requires { FitsPart (HighPart false x lo hi) }
     ensures { PartGoes (HighPart false x lo hi) byte result }
 {
     match read_signed(hi, byte, limits::NUMBER, b'\n') {
@@ -222,7 +222,7 @@ fn last_byte(x: u16, lo: i64, hi: Signed, byte: u8) -> PartNext
 }
 
 fn constraint_byte(x: u16, lo: i64, hi: i64, c: Counted, byte: u8) -> PartNext
-    requires { FitsCounted 20000 c }
+    requires { FitsPart (ConstraintPart x lo hi c) }
     ensures { PartGoes (ConstraintPart x lo hi c) byte result }
 {
     match read_counted(c, byte, ranges::CONSTRAINTS, b'\n') {

@@ -1,8 +1,75 @@
 //! Reading the lines of a certificate byte by byte.
 ghost use Rattle.proof_text.specs.Standing.{standing, Tells};
-ghost use Rattle.std.specs.Prelude.{List, ℕ};
+ghost use Rattle.proof_text.specs.Places.{IsText};
+ghost use Rattle.proof_text.specs.Answers.{Told, nothing, tell, StandsFor, Says, IsTold};
+ghost use Rattle.std.specs.Prelude.{◌↔◌, ◌++◌, ◌∷◌, [], IsTrue, List, ℕ};
+
+use crate::answer::Read;
+use crate::front::{Front, Word};
+use crate::levels::Levels;
+use crate::walk::{At, Nested, is_over, read_byte};
+use proof_tree::Version;
+use std::marker::Model;
 
 /// What any bytes say of the texts of certificates, byte by byte.
 pub fn each_standing_is_right()
     ensures { (bytes : List ℕ) → Tells (standing bytes) bytes }
 {}
+
+/// A reader of a certificate's text, byte by byte. It takes no memory, and keeps of the bytes what
+/// the unfinished line says and how the tree is nested.
+#[derive(Drop)]
+pub struct LineReader {
+    tree: Nested,
+    at: At,
+}
+
+impl Model for LineReader {
+    ghost use Rattle.std.specs.Prelude.{◌≤◌};
+    ghost use Rattle.proof_text.specs.Readings.{Reading};
+
+    ghost Value = { Reading };
+
+    ghost use Rattle.proof_text.specs.Walks.{reading_of, FitsAt};
+
+    ghost view = { λ a. reading_of a.tree a.at };
+
+    ghost invariant = { λ a. (a.tree.nesting ≤ 1000) × FitsAt a.at };
+}
+
+impl LineReader {
+    /// A reader before the first byte.
+    pub fn new() -> LineReader
+        ensures { StandsFor result [] nothing }
+    {
+        LineReader {
+            tree: Nested {
+                version: Version::One,
+                levels: Levels::new(),
+                nesting: 0,
+            },
+            at: At::Head(Front::Letters {
+                word: Word::Name,
+                read: 0,
+            }),
+        }
+    }
+
+    /// Reads the next byte. After `TooDeep` or `Bad` every byte is answered so.
+    pub fn byte(&mut self, byte: u8) -> Read
+        ensures stands { (bytes : List ℕ) (told : Told) → StandsFor self.old bytes told → StandsFor self.new (bytes ++ byte ∷ []) (tell told result) }
+        ensures says { (bytes : List ℕ) (told : Told) → StandsFor self.old bytes told → Says bytes told byte result }
+    {
+        let (at, read) = read_byte(&mut self.tree, self.at, byte);
+        self.at = at;
+        read
+    }
+
+    /// Whether the bytes so far are a whole text.
+    pub fn is_ended(&self) -> bool
+        ensures ended { (bytes : List ℕ) (told : Told) → StandsFor self.now bytes told → IsTrue result ↔ IsText 1000 bytes }
+        ensures told { (bytes : List ℕ) (told : Told) → StandsFor self.now bytes told → IsTrue result → IsTold bytes told }
+    {
+        is_over(&self.tree, self.at)
+    }
+}

@@ -1,5 +1,7 @@
 //! Which bytes are read, and where others stop.
-use crate::{CertFault, read_cert, write_cert};
+use crate::{CertFault, Line, LineReader, Read, read_cert, write_cert};
+use proof_tree::{Outcome, Version};
+use qc_model::{ConId, VarId};
 use std::alloc::{AllocError, Global};
 use std::test::Fail;
 
@@ -114,5 +116,98 @@ fn tells_places_in_long_numbers(rt: HostRuntime) -> Result<(), Fail> {
         }
         assert_eq!(rt; fault(alloc, &text), stops(at));
     }
+    Ok(())
+}
+
+// How the bytes of a text are answered.
+#[derive(Drop)]
+struct Answered {
+    head: Option<(Version, Outcome, Option<i64>)>,
+    lines: Vec<Line>,
+    // where the first fault is
+    fault: Option<CertFault>,
+    ended: bool,
+}
+
+fn read_all(alloc: Global, text: &[u8]) -> Result<Answered, Fail> {
+    let mut reader = LineReader::new();
+    let mut answered = Answered {
+        head: None,
+        lines: Vec::new(alloc),
+        fault: None,
+        ended: false,
+    };
+    for at in 0..text.len() {
+        let place = at as u64;
+        match reader.byte(text[at]) {
+            Read::Within => (),
+            Read::Head {
+                version,
+                outcome,
+                optimum,
+            } => answered.head = Some((version, outcome, optimum)),
+            Read::Whole(line) => answered.lines.push(line)?,
+            Read::TooDeep => answered.fault = answered
+                .fault
+                .or(Some(CertFault::TooDeep { at: place })),
+            Read::Bad => answered.fault = answered.fault.or(stops(place)),
+        }
+    }
+    answered.ended = reader.is_ended();
+    Ok(answered)
+}
+
+#[test]
+fn tells_lines(rt: HostRuntime) -> Result<(), Fail> {
+    let alloc = rt.alloc();
+    let told = read_all(alloc, RANGES)?;
+    assert!(rt; told.ended);
+    assert!(rt; told.head == Some((Version::Two, Outcome::False, None)));
+    assert!(rt; told.fault.is_none());
+    let lines = [
+        Line::Branch { x: VarId(0) },
+        Line::Range { hi: 4 },
+        Line::Prune {
+            x: VarId(0),
+            lo: 0,
+            hi: 4,
+            c: ConId(0),
+        },
+        Line::Empty,
+        Line::Range { hi: 8 },
+        Line::Skip,
+        Line::Next,
+        Line::Stuck,
+        Line::Range { hi: 1_000_000_000 },
+        Line::Open,
+        Line::Dot,
+    ];
+    assert!(rt; told.lines.as_slice() == lines.as_slice());
+    let each = read_all(alloc, EACH)?;
+    assert!(rt; each.ended);
+    assert!(rt; each.head == Some((Version::One, Outcome::True, Some(-4))));
+    assert!(rt; each.lines.len() == 15);
+    Ok(())
+}
+
+// What is read at once and what is read byte by byte stop at the same places.
+#[test]
+fn stops_where_the_whole_does(rt: HostRuntime) -> Result<(), Fail> {
+    let alloc = rt.alloc();
+    for at in 0..EACH.len() {
+        let mut text = Vec::from_slice(alloc, EACH)?;
+        text[at] = b'0';
+        let told = read_all(alloc, &text)?;
+        let whole = fault(alloc, &text);
+        assert!(rt;
+            told.fault == whole
+                || (told.fault.is_none() && !told.ended && whole == stops(text.len() as u64))
+        );
+    }
+    let told = read_all(alloc, &lines(alloc, b'n', 1001)?)?;
+    assert_eq!(rt; told.fault, Some(CertFault::TooDeep { at: 2013 }));
+    let after = read_all(alloc, b"qcert 1\nfalse\nt\ng")?;
+    assert_eq!(rt; after.fault, stops(16));
+    assert!(rt; !after.ended);
     Ok(())
 }
