@@ -1,0 +1,134 @@
+-- When a box has a variable with no value, and values in a range.
+use Rattle.std.proofs.Common.{◌≡◌, ℕ, zero, suc, ◌<◌, Bool, true, false, not, ◌&&◌, ◌||◌, cond, List, [], ◌∷◌, length, map, refl, sym, ap, ◌∙◌, arith, ℤ, Some, None}
+use Rattle.std.specs.Prelude.{filter, int_le, int_lt}
+use Rattle.std.specs.List.{list_all}
+use Rattle.std.proofs.lemmas.Int.{ints}
+use Rattle.qc_model.specs.declared.problem.Variable.{Variable}
+use Rattle.qc_model.specs.Content.{Game}
+use Rattle.qc_model.specs.Domains.{Values, Box, domain_values, declared_box, values_left, values_within, values_outside, is_within, is_none_left, has_empty, box_without, least_from}
+use Rattle.qc_model.specs.Valid.{is_domain}
+use Rattle.qc_model.proofs.DomainValues.{domain_full}
+use Rattle.qc_model.proofs.Readable.{first, second}
+use Rattle.fd_store.specs.declared.answer.Removed.TheVariants.{Emptied}
+use Rattle.fd_store.specs.Held.{removal, values_from, least_of}
+
+none_empty : (xs : List Variable) → list_all (λ x. is_domain x.domain) xs ≡ true → has_empty (map (λ x. domain_values x.domain) xs) ≡ false
+none_empty [] e = refl
+none_empty (x ∷ xs) e =
+    ap (λ b. b || has_empty (map (λ y. domain_values y.domain) xs)) (domain_full x.domain (first (is_domain x.domain) (list_all (λ y. is_domain y.domain) xs) e))
+    ∙ none_empty xs (second (is_domain x.domain) (list_all (λ y. is_domain y.domain) xs) e)
+
+pub declared_full : (g : Game) → list_all (λ x. is_domain x.domain) g.variables ≡ true → has_empty (declared_box g) ≡ false
+declared_full g e = none_empty g.variables e
+
+-- nothing goes
+all_stay : (p : ℤ → Bool) (vs : Values) → is_none_left (filter p vs) ≡ true → filter (λ v. not (p v)) vs ≡ vs
+all_stay p [] e = refl
+all_stay p (v ∷ vs) e = by (p v) e (all_stay p vs)
+  where
+    by : (b : Bool) → is_none_left (cond b (v ∷ filter p vs) (filter p vs)) ≡ true → (is_none_left (filter p vs) ≡ true → filter (λ v. not (p v)) vs ≡ vs) → cond (not b) (v ∷ filter (λ v. not (p v)) vs) (filter (λ v. not (p v)) vs) ≡ v ∷ vs
+    by true e f = cc
+    by false e f = ap (λ us. v ∷ us) (f e)
+
+some_before : (p : ℤ → Bool) (vs : Values) → is_none_left (filter p vs) ≡ false → is_none_left vs ≡ false
+some_before p [] e = e
+some_before p (v ∷ vs) e = refl
+
+differ : {X : Type 0} → true ≡ false → X
+differ e = cc
+
+-- the variable has none left where it had none, unless it was emptied
+same_none : (lo hi : ℤ) (vs : Values) → (removal (values_within lo hi vs) (values_outside lo hi vs) ≡ Emptied → ⊥) → is_none_left (values_outside lo hi vs) ≡ is_none_left vs
+same_none lo hi vs n = by (values_within lo hi vs) (values_outside lo hi vs) refl refl n
+  where
+    by : (go stay : Values) → values_within lo hi vs ≡ go → values_outside lo hi vs ≡ stay → (removal go stay ≡ Emptied → ⊥) → is_none_left (values_outside lo hi vs) ≡ is_none_left vs
+    by [] stay e f n = ap is_none_left (all_stay (is_within lo hi) vs (ap is_none_left e))
+    by (v ∷ go) [] e f n = absurd (n refl)
+    by (v ∷ go) (w ∷ stay) e f n = ap is_none_left f ∙ sym (some_before (is_within lo hi) vs (ap is_none_left e))
+
+pub same_empty : (box : Box) (x : ℕ) (lo hi : ℤ) → (removal (values_within lo hi (values_left box x)) (values_outside lo hi (values_left box x)) ≡ Emptied → ⊥) → has_empty (box_without box x lo hi) ≡ has_empty box
+same_empty [] x lo hi n = refl
+same_empty (vs ∷ box) zero lo hi n = ap (λ b. b || has_empty box) (same_none lo hi vs n)
+same_empty (vs ∷ box) (suc x) lo hi n = ap (λ b. is_none_left vs || b) (same_empty box x lo hi n)
+
+or_true : (b : Bool) → (b || true) ≡ true
+or_true true = refl
+or_true false = refl
+
+pub now_empty : (box : Box) (x : ℕ) (lo hi : ℤ) → x < length box → removal (values_within lo hi (values_left box x)) (values_outside lo hi (values_left box x)) ≡ Emptied → has_empty (box_without box x lo hi) ≡ true
+now_empty [] x lo hi h e = absurd (omega arith)
+now_empty (vs ∷ box) zero lo hi h e = ap (λ b. b || has_empty box) (by (values_within lo hi vs) (values_outside lo hi vs) e)
+  where
+    by : (go stay : Values) → removal go stay ≡ Emptied → is_none_left stay ≡ true
+    by [] stay e = cc
+    by (v ∷ go) [] e = refl
+    by (v ∷ go) (w ∷ stay) e = cc
+now_empty (vs ∷ box) (suc x) lo hi h e = ap (λ b. is_none_left vs || b) (now_empty box x lo hi (omega arith) e) ∙ or_true (is_none_left vs)
+
+-- the least value from lo on tells whether there is one up to hi
+least_low : (n : ℤ) (vs : Values) → int_le (least_from n vs) n ≡ true
+least_low n [] = grind (arith, ints)
+least_low n (v ∷ vs) = by (int_lt v n) refl (least_low v vs) (least_low n vs)
+  where
+    by : (b : Bool) → int_lt v n ≡ b → int_le (least_from v vs) v ≡ true → int_le (least_from n vs) n ≡ true → int_le (least_from (cond b v n) vs) n ≡ true
+    by true e p q = low (least_from v vs) v n p e
+      where
+        low : (a b c : ℤ) → int_le a b ≡ true → int_lt b c ≡ true → int_le a c ≡ true
+        low a b c p q = grind (arith, ints)
+    by false e p q = q
+
+least_below : (h n : ℤ) (vs : Values) → int_le (least_from n vs) h ≡ not (is_none_left (filter (λ v. int_le v h) (n ∷ vs)))
+least_below h n [] = by (int_le n h)
+  where
+    by : (b : Bool) → b ≡ not (is_none_left (cond b (n ∷ []) []))
+    by true = refl
+    by false = refl
+least_below h n (v ∷ vs) = by (int_lt v n) (int_le n h) (int_le v h) refl refl refl (least_below h v vs) (least_below h n vs)
+  where
+    never : (a b c : ℤ) → int_lt b a ≡ true → int_le a c ≡ true → int_le b c ≡ true
+    never a b c p q = grind (arith, ints)
+
+    never2 : (a b c : ℤ) → int_lt b a ≡ false → int_le b c ≡ true → int_le a c ≡ true
+    never2 a b c p q = grind (arith, ints)
+
+    some : (b : Bool) → is_none_left (filter (λ u. int_le u h) vs) ≡ b → ℤ
+    some b e = n
+
+    by : (a b c : Bool) → int_lt v n ≡ a → int_le n h ≡ b → int_le v h ≡ c →
+        int_le (least_from v vs) h ≡ not (is_none_left (cond c (v ∷ filter (λ u. int_le u h) vs) (filter (λ u. int_le u h) vs))) →
+        int_le (least_from n vs) h ≡ not (is_none_left (cond b (n ∷ filter (λ u. int_le u h) vs) (filter (λ u. int_le u h) vs))) →
+        int_le (least_from (cond a v n) vs) h ≡ not (is_none_left (cond b (n ∷ cond c (v ∷ filter (λ u. int_le u h) vs) (filter (λ u. int_le u h) vs)) (cond c (v ∷ filter (λ u. int_le u h) vs) (filter (λ u. int_le u h) vs))))
+    by true true true e f k p q = p
+    by true true false e f k p q = differ (sym (never n v h e f) ∙ k)
+    by true false c e f k p q = p
+    by false true c e f k p q = q
+    by false false true e f k p q = differ (sym (never2 n v h e k) ∙ f)
+    by false false false e f k p q = q
+
+pub filter_two : (p q : ℤ → Bool) (vs : Values) → filter q (filter p vs) ≡ filter (λ v. p v && q v) vs
+filter_two p q [] = refl
+filter_two p q (v ∷ vs) = by (p v) (q v) (filter_two p q vs)
+  where
+    by : (a b : Bool) → filter q (filter p vs) ≡ filter (λ v. p v && q v) vs → filter q (cond a (v ∷ filter p vs) (filter p vs)) ≡ cond (a && q v) (v ∷ filter (λ v. p v && q v) vs) (filter (λ v. p v && q v) vs)
+    by true b e = again (q v) e
+      where
+        again : (b : Bool) → filter q (filter p vs) ≡ filter (λ v. p v && q v) vs → cond b (v ∷ filter q (filter p vs)) (filter q (filter p vs)) ≡ cond b (v ∷ filter (λ v. p v && q v) vs) (filter (λ v. p v && q v) vs)
+        again true e = ap (λ us. v ∷ us) e
+        again false e = e
+    by false b e = e
+
+pub some_within : (vs : Values) (lo hi v : ℤ) → Some v ≡ least_of (values_from lo vs) → int_le v hi ≡ not (is_none_left (values_within lo hi vs))
+some_within vs lo hi v e = by (values_from lo vs) refl e
+  where
+    by : (us : Values) → values_from lo vs ≡ us → Some v ≡ least_of us → int_le v hi ≡ not (is_none_left (values_within lo hi vs))
+    by [] f e = cc
+    by (w ∷ us) f e =
+        let h : v ≡ least_from w us = cc in
+        ap (λ n. int_le n hi) h ∙ (least_below hi w us ∙ ap (λ k. not (is_none_left k)) (sym (ap (filter (λ u. int_le u hi)) f) ∙ filter_two (int_le lo) (λ u. int_le u hi) vs))
+
+pub none_within : (vs : Values) (lo hi : ℤ) → None ≡ least_of (values_from lo vs) → false ≡ not (is_none_left (values_within lo hi vs))
+none_within vs lo hi e = by (values_from lo vs) refl e
+  where
+    by : (us : Values) → values_from lo vs ≡ us → None ≡ least_of us → false ≡ not (is_none_left (values_within lo hi vs))
+    by [] f e = ap (λ k. not (is_none_left k)) (sym (ap (filter (λ u. int_le u hi)) f) ∙ filter_two (int_le lo) (λ u. int_le u hi) vs)
+    by (w ∷ us) f e = cc

@@ -1,0 +1,72 @@
+use Rattle.std.proofs.Common.{◌≡◌, ◌∙◌, sym, ap, subst, arith, true, false, not, ◌&&◌, cond, suc, Some, None, Option, Bool, length, take, drop}
+use Rattle.std.specs.List.{list_all}
+use Rattle.qc_model.specs.Domains.{box_values, is_single, has_empty}
+use Rattle.qc_model.specs.Game.{allows, before}
+use Rattle.qc_model.specs.Holds.{holds_on}
+use Rattle.qc_model.specs.Valid.{is_constraint, is_number}
+use Rattle.proof_tree.specs.Place.{position, is_fixed}
+use Rattle.fd_store.specs.Held.{Held}
+use Rattle.line_check.proofs.Readings.{box_size, read_numbers, rules_valid}
+use Rattle.line_check.proofs.tuple.tuple_allowed.Goals as goal
+
+pub are_fixed-requires-clause-bound : goal.are_fixed-requires-clause-bound
+are_fixed-requires-clause-bound c =
+    let size = box_size c.args.level.now.problem.now c.args.remains.now.box c.requires.declared in
+    let same = ap (λ (h : Held). length h.box) c.store.ensures in
+    omega (arith, size, same, c.args.level.now.stop_within)
+
+pub are_fixed-requires-clause-few : goal.are_fixed-requires-clause-few
+are_fixed-requires-clause-few c =
+    let size = box_size c.args.level.now.problem.now c.args.remains.now.box c.requires.declared in
+    let same = ap (λ (h : Held). length h.box) c.store.ensures in
+    omega (arith, size, same, c.known.ensures.few_variables)
+
+pub read_values-requires-clause-bound : goal.read_values-requires-clause-bound
+read_values-requires-clause-bound c =
+    let size = box_size c.args.level.now.problem.now c.args.remains.now.box c.requires.declared in
+    let same = ap (λ (h : Held). length h.box) c.store-2.ensures in
+    omega (arith, size, same, c.args.level.now.stop_within)
+
+pub read_values-requires-clause-few : goal.read_values-requires-clause-few
+read_values-requires-clause-few c =
+    let size = box_size c.args.level.now.problem.now c.args.remains.now.box c.requires.declared in
+    let same = ap (λ (h : Held). length h.box) c.store-2.ensures in
+    omega (arith, size, same, c.known.ensures.few_variables)
+
+pub read_values-requires-clause-each : goal.read_values-requires-clause-each
+read_values-requires-clause-each c =
+    let size = box_size c.args.level.now.problem.now c.args.remains.now.box c.requires.declared in
+    let same = ap (λ (h : Held). length h.box) c.store-2.ensures in
+    c.requires.each ∙ (sym size ∙ sym same)
+
+pub all_hold-requires-clause-rules : goal.all_hold-requires-clause-rules
+all_hold-requires-clause-rules c =
+    let g = c.args.level.now.problem.now in
+    subst (λ rules. list_all (is_constraint g.variables) rules ≡ true) (sym c.args.level.now.has_rules) (rules_valid g c.args.level.now.number c.known.ensures.constraints)
+
+pub all_hold-requires-clause-values : goal.all_hold-requires-clause-values
+all_hold-requires-clause-values c =
+    let g = c.args.level.now.problem.now in
+    let stop = c.args.level.now.stop in
+    let read = c.read_values.ensures.read ∙ ap (λ (h : Held). box_values (take stop h.box)) c.store-2.ensures in
+    subst (λ vs. list_all is_number vs ≡ true) (sym read) (read_numbers g c.args.remains.now.box stop c.known.ensures.domains c.requires.declared (sym c.is_empty.ensures ∙ c.if-is_empty.false))
+
+joined : (e f a : Bool) (o : Option Bool) → e ≡ false → f ≡ true → o ≡ Some a → o ≡ cond (not e && f) (Some a) None
+joined e f a o p q r = r ∙ sym (ap (λ b. cond (not b && f) (Some a) None) p ∙ ap (λ b. cond b (Some a) None) q)
+
+pub returns-clause-tuple : goal.returns-clause-tuple
+returns-clause-tuple c =
+    let g = c.args.level.now.problem.now in
+    let i = c.args.level.now.number in
+    let from = c.args.level.now.from in
+    let stop = c.args.level.now.stop in
+    let box = c.args.remains.now.box in
+    let read = c.read_values.ensures.read ∙ ap (λ (h : Held). box_values (take stop h.box)) c.store-2.ensures in
+    let fixed : is_fixed g i box ≡ true =
+    sym (ap (λ n. list_all is_single (drop n (take stop box))) c.args.level.now.has_from ∙ ap (λ n. list_all is_single (drop (before g i) (take n box))) c.args.level.now.has_stop)
+    ∙ (sym (ap (λ (h : Held). list_all is_single (drop from (take stop h.box))) c.store.ensures) ∙ (sym c.are_fixed.ensures ∙ c.if-not-are_fixed.false)) in
+    let holds : c.all_hold.result ≡ allows g i (position g (suc i) box) =
+    c.all_hold.ensures
+    ∙ (ap (λ rules. list_all (λ r. holds_on r (take stop c.read_values.new.values)) rules) c.args.level.now.has_rules
+    ∙ (ap (allows g i) read ∙ ap (λ m. allows g i (box_values (take m box))) c.args.level.now.has_stop)) in
+    joined (has_empty box) (is_fixed g i box) (allows g i (position g (suc i) box)) (Some c.all_hold.result) (sym c.is_empty.ensures ∙ c.if-is_empty.false) fixed (ap Some holds)

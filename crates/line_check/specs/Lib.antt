@@ -1,0 +1,11 @@
+pub mod Places
+pub mod Tally
+pub mod State
+pub mod Standing
+pub mod Desk
+pub mod Turns
+pub mod Held
+pub mod Found
+pub mod Cases
+pub mod Tuples
+pub mod Machine

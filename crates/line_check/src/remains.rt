@@ -1,0 +1,119 @@
+//! The values left to each variable, and whether a variable has none.
+ghost use Rattle.std.specs.Prelude.{◌≡◌, ◌<◌, ◌≤◌, true, false, not, [], length, IfOk, OnOk, IsTrue};
+ghost use Rattle.qc_model.specs.Domains.{Box, is_sub_box, declared_box, box_within, box_without, has_empty, is_none_left, values_left, values_within};
+ghost use Rattle.qc_model.specs.Valid.{is_number};
+ghost use Rattle.fd_store.specs.Held.{trail_len, past_box, Follows, IsUndone};
+
+use fd_store::{Mark, Removed, Store};
+use qc_model::{Problem, VarId};
+use std::alloc::{AllocError, Global};
+use std::marker::Model;
+
+/// A store, and whether a variable has no value left.
+#[derive(Drop)]
+pub(crate) struct Remains {
+    store: Store,
+    empty: bool,
+}
+
+impl Model for Remains {
+    ghost use Rattle.std.specs.Prelude.{◌≡◌};
+    ghost use Rattle.qc_model.specs.Domains.{has_empty};
+    ghost use Rattle.fd_store.specs.Held.{Held};
+
+    ghost Value = { Held };
+
+    ghost view = { λ r. r.store };
+
+    ghost invariant = { λ r. r.empty ≡ has_empty r.store.box };
+}
+
+impl Remains {
+    /// The declared domains of a problem's variables. It fails only where memory runs out.
+    pub(crate) fn new(alloc: Global, problem: &Problem) -> Result<Remains, AllocError>
+        ensures { IfOk result (λ r. (r.box ≡ declared_box problem.now) × (r.past ≡ [])) }
+    {
+        problem.known();
+        let store = Store::new(alloc, problem)?;
+        Ok(Remains {
+            store,
+            empty: false,
+        })
+    }
+
+    pub(crate) fn store(&self) -> &Store
+        ensures { result.now ≡ self.now }
+    {
+        &self.store
+    }
+
+    /// The trail's length.
+    pub(crate) fn mark(&self) -> Mark
+        ensures { result.at ≡ trail_len self.now }
+    {
+        self.store.mark()
+    }
+
+    /// Whether a variable has no value left.
+    pub(crate) fn is_empty(&self) -> bool
+        ensures { result ≡ has_empty self.now.box }
+    {
+        self.empty
+    }
+
+    /// Whether x has a value from lo to hi.
+    pub(crate) fn has_within(&self, x: VarId, lo: i64, hi: i64) -> bool
+        ensures { result ≡ not (is_none_left (values_within lo hi (values_left self.now.box x.0))) }
+    {
+        if x.0 as usize >= self.store.count() {
+            return false;
+        }
+        match self.store.next(x, lo) {
+            None => false,
+            Some(v) => v <= hi,
+        }
+    }
+
+    /// Takes the values from lo to hi out of x. After a refusal the box is as before.
+    pub(crate) fn cut(&mut self, x: VarId, lo: i64, hi: i64) -> Result<(), AllocError>
+        requires var { x.0 < length self.old.box }
+        ensures content { OnOk result (self.new.box ≡ box_without self.old.box x.0 lo hi) }
+        ensures past { Follows self.old self.new }
+        ensures fewer { (large : Box) → is_sub_box self.old.box large ≡ true → is_sub_box self.new.box large ≡ true }
+    {
+        let need = self.store.trail_need(x, lo, hi);
+        self.store.reserve_trail(need)?;
+        match self.store.remove(x, lo, hi) {
+            Removed::Emptied => self.empty = true,
+            Removed::Nothing => {}
+            Removed::Some => {}
+        }
+        Ok(())
+    }
+
+    /// Leaves x its values from first to last alone.
+    pub(crate) fn keep(&mut self, x: VarId, first: i64, last: i64) -> Result<(), AllocError>
+        requires var { x.0 < length self.old.box }
+        requires first { IsTrue (is_number first) }
+        requires last { IsTrue (is_number last) }
+        ensures content { OnOk result (self.new.box ≡ box_within self.old.box x.0 first last) }
+        ensures past { Follows self.old self.new }
+        ensures fewer { (large : Box) → is_sub_box self.old.box large ≡ true → is_sub_box self.new.box large ≡ true }
+    {
+        self.store.known(x);
+        self.cut(x, -1_000_000_000, first - 1)?;
+        self.cut(x, last + 1, 1_000_000_000)?;
+        Ok(())
+    }
+
+    /// Goes back to a box in which each variable had a value.
+    pub(crate) fn undo_to(&mut self, mark: Mark)
+        requires at { mark.at ≤ trail_len self.old }
+        requires full { has_empty (past_box self.old mark.at) ≡ false }
+        ensures past { IsUndone mark.at self.old self.new }
+        ensures content { self.new.box ≡ past_box self.old mark.at }
+    {
+        self.store.undo_to(mark);
+        self.empty = false;
+    }
+}
