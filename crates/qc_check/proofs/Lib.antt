@@ -1,7 +1,3 @@
-mod Covers
-pub mod Standings
-pub mod Places
-pub mod Parts
-pub mod PlainWalks
-pub mod Roots
-mod Worked
+mod Shows
+mod Steps
+mod Ends

@@ -1,4 +1,2 @@
-pub mod Standing
-pub mod PlainTrees
-pub mod Judged
+pub mod Checking
 pub mod Shown

@@ -1,21 +1,17 @@
-//! Checks certificates of games in which nothing is optimised, without propagators or search.
+//! Checks the bytes of a certificate against its problem, piece by piece.
 //!
-//! A certificate is walked down once, beside the place in the game that its lines stand for: the
-//! values chosen so far and the variables that have one. Each part of the tree comes to Lost,
-//! Unknown or Won, or to nothing where one of its lines is out of place; the owner of a scope takes
-//! the best for himself. Trees with steps or horizons, or with a range of values in a case that is taken,
-//! aren't read.
+//! A `Checker` reads the bytes one by one. Each line of the certificate's tree, as its last byte comes, is handed to a
+//! machine that keeps a box on its trail and what is open, and nothing of the lines before. So the memory that a check
+//! takes doesn't grow with the certificate. At the end it says what the bytes come to: yes exactly where they are a
+//! certificate that proves what it states, and then what it states is so; or that it doesn't prove that; or the first
+//! place at which the bytes are no certificate, or are nested too deep. Games with conditions aren't taken.
 #![tactic(auto)]
 
-mod check;
-mod count;
-mod cover;
-mod judge;
-mod level;
-mod space;
-mod standing;
-#[cfg(test)]
-mod tests;
+mod checker;
+mod finding;
+mod progress;
+mod shown;
+mod stated;
 
-pub use check::Answer;
-pub use space::Space;
+pub use finding::Checked;
+pub use progress::Checker;

@@ -1,5 +1,5 @@
 -- A run in which nothing failed answers what was asked.
-use Rattle.std.proofs.Common.{◌≡◌, ◌≤◌, ◌<◌, ℕ, List, length, Option, Some, None, IfSome, inl, inr, refl, sym, subst, arith, ◌∙◌, ℤ}
+use Rattle.std.proofs.Common.{◌≡◌, ◌≤◌, ◌<◌, ℕ, List, length, Option, Some, None, IfSome, inl, inr, refl, sym, subst, arith, ◌∙◌, ℤ, IsTrue}
 use Rattle.qc_io.specs.Counts.{Rose, NoneRose}
 use Rattle.qc_model.specs.Content.{Game}
 use Rattle.qc_model.specs.Turns.{full_turns_of}
@@ -8,6 +8,7 @@ use Rattle.qc_syntax.specs.Laws.{ReadsOne, NeverBoth as NeverRefused}
 use Rattle.proof_tree.specs.declared.tree.Outcome.{Outcome}
 use Rattle.proof_tree.specs.declared.tree.Outcome.TheVariants.{True, False, Open as OpenOutcome}
 use Rattle.proof_tree.specs.Tree.{Tree}
+use Rattle.proof_tree.specs.Proves.{proves}
 use Rattle.proof_text.specs.declared.fault.CertFault.{CertFault}
 use Rattle.proof_text.specs.declared.fault.CertFault.TheVariants.{NotACertificate, TooDeep, Memory as Want}
 use Rattle.proof_text.specs.Places.{IsText, IsFault, IsWant}
@@ -22,7 +23,7 @@ use Rattle.qc_program.specs.declared.status.Status.{Status}
 use Rattle.qc_program.specs.declared.status.Status.TheVariants.{Done, NotProved, Open, Usage, BadProblem, BadCertificate, TooLong, ReadFault, WriteFault, Memory, BadQdimacs}
 use Rattle.qc_program.specs.Words.{Asked, solves, checks, prints, decides, rewrites}
 use Rattle.qc_program.specs.Refusals.{IsPlain}
-use Rattle.qc_program.specs.Answers.{Passes, Denies, FaultLine, IsProblemOf, IsNoProblem, AnswersProblem, SolvesProblem, PrintsProblem, ChecksProblem, Answers}
+use Rattle.qc_program.specs.Answers.{Denies, FaultLine, IsProblemOf, IsNoProblem, AnswersProblem, SolvesProblem, PrintsProblem, ChecksProblem, Answers}
 use Rattle.qc_program.specs.Certifies.{status_of}
 use Rattle.qc_program.specs.Files.{IsLong, IsFile, Wrote}
 use Rattle.qc_program.specs.Formulas.{IsFormulaOf, HasNoFormula, AnswersFormula, DecidesFormula, RewritesFormula}
@@ -105,7 +106,7 @@ prints_done l name told gave WriteFault t h m r g tells = elim h [ inl d ↦ abs
 prints_done l name told gave Memory t h m r g tells = absurd (m refl)
 prints_done l name told gave BadQdimacs t h m r g tells = elim h [ inl d ↦ absurd d | inr (h0, of, k) ↦ absurd k ]
 
-moved : (g : Game) (o p : Outcome) (v w : Option ℤ) (r s : Tree) → o ≡ p → v ≡ w → r ≡ s → Passes g o v r → Passes g p w s
+moved : (g : Game) (o p : Outcome) (v w : Option ℤ) (r s : Tree) → o ≡ p → v ≡ w → r ≡ s → IsTrue (proves g o v r) → IsTrue (proves g p w s)
 moved g o p v w r s a b c h = rw (← a, ← b, ← c) h
 
 no_want : (fault : CertFault) (t : List ℕ) → FaultLine fault t → IsWant fault → ⊥
@@ -116,11 +117,12 @@ no_want (Want e) t h w = h
 denied : IsOneCertificate → (told : Option (List ℕ)) (g : Game) (bytes t : List ℕ) (proof : TellsProof told g) → Denies g bytes t → bytes ≡ proof.bytes → ⊥
 denied one told g bytes t proof d e =
     let p : IsText 1000 bytes = (proof.version, proof.outcome, proof.optimum, proof.root, proof.read.spellable, proof.read.shallow, e ∙ proof.read.spelled) in
-    let q : IsText 1000 bytes = (d.version, d.outcome, d.optimum, d.root, d.read.spellable, d.read.shallow, d.read.spelled) in
+    let n = d.no_proof in
+    let q : IsText 1000 bytes = (n.version, n.outcome, n.optimum, n.root, n.read.spellable, n.read.shallow, n.read.spelled) in
     let same : (p.0 ≡ q.0) × (p.1 ≡ q.1) × (p.2 ≡ q.2) × (p.3 ≡ q.3) = one bytes p q in
-    d.fails (moved g proof.outcome d.outcome proof.optimum d.optimum proof.root d.root same.1 same.2 same.3 proof.passes)
+    n.fails (moved g proof.outcome n.outcome proof.optimum n.optimum proof.root n.root same.1 same.2 same.3 proof.proved)
 
--- the certificate that is read is the one that passes
+-- the certificate that is read is the one that proves
 never_denied : IsOneCertificate → (told : Option (List ℕ)) (g : Game) (bytes t : List ℕ) → TellsProof told g → IsFile 1073741824 told bytes → Denies g bytes t → ⊥
 never_denied one told g bytes t proof file d =
     denied one told g bytes t proof d (told_bytes told proof.bytes bytes proof.told_is file.same)

@@ -1,20 +1,14 @@
 -- What `run` answers and writes.
-use Rattle.std.specs.Prelude.{◌≡◌, ◌≤◌, ◌⊎◌, ℕ, ℤ, List, [], ◌++◌, codes, decimal, Option, Some, None, IsTrue}
+use Rattle.std.specs.Prelude.{◌≡◌, ◌⊎◌, ℕ, ℤ, List, [], ◌++◌, codes, decimal, Option, Some, None}
 use Rattle.qc_model.specs.Content.{Game}
-use Rattle.proof_tree.specs.declared.tree.Version.{Version}
 use Rattle.proof_tree.specs.declared.tree.Outcome.{Outcome}
-use Rattle.proof_tree.specs.Tree.{Tree}
-use Rattle.proof_tree.specs.Proves.{proves}
-use Rattle.proof_tree.specs.Meaning.{OutcomeMeans}
-use Rattle.proof_tree.specs.Text.{certificate_text, outcome_text, has_text}
-use Rattle.proof_tree.specs.Counts.{depth_of}
-use Rattle.proof_tree.specs.Stepless.{is_stepless}
-use Rattle.proof_tree.specs.Pieces.{each_case, goes_at_one}
+use Rattle.proof_tree.specs.Text.{outcome_text}
 use Rattle.proof_text.specs.declared.fault.CertFault.{CertFault}
 use Rattle.proof_text.specs.declared.fault.CertFault.TheVariants.{NotACertificate, TooDeep, Memory as Want}
 use Rattle.proof_text.specs.Places.{IsFault}
 use Rattle.qc_model.specs.Canonical.{canonical_text}
 use Rattle.qc_syntax.specs.Reads.{Reads}
+use Rattle.qc_check.specs.Checking.{IsProof, IsNoProof}
 use Rattle.qc_program.specs.declared.status.Status.{Status}
 use Rattle.qc_program.specs.declared.status.Status.TheVariants.{Done, NotProved, Open, Usage, BadProblem, BadCertificate, Memory}
 use Rattle.qc_program.specs.Words.{Asked, solves, checks, prints, decides, rewrites}
@@ -50,34 +44,16 @@ PrintsProblem g Done text = text ≡ canonical_text g
 PrintsProblem g Memory text = text ≡ []
 PrintsProblem g status text = ⊥
 
--- the bytes are the text of this certificate, and nest at most 1,000 deep
-pub record IsRead (bytes : List ℕ) (version : Version) (outcome : Outcome) (optimum : Option ℤ) (root : Tree) : Type 0 where
-  pub spelled : bytes ≡ certificate_text version outcome optimum root
-  pub spellable : IsTrue (has_text version outcome optimum root)
-  pub shallow : depth_of root ≤ 1000
-
--- the certificate proves what it states, and has neither steps nor horizons, nor a range in a case that is taken
-abbrev pub Passes : Game → Outcome → Option ℤ → Tree → Type 0
-Passes g outcome optimum root = IsTrue (proves g outcome optimum root) × IsTrue (is_stepless root) × IsTrue (each_case goes_at_one root)
-
--- a certificate that passes means what it states, which is repeated
+-- the bytes are a certificate that proves what it states, which is so, and is repeated
 pub record Confirms (g : Game) (bytes text : List ℕ) : Type 0 where
-  pub version : Version
   pub outcome : Outcome
   pub optimum : Option ℤ
-  pub root : Tree
-  pub read : IsRead bytes version outcome optimum root
-  pub passes : Passes g outcome optimum root
-  pub means : OutcomeMeans outcome optimum g root
+  pub proof : IsProof g bytes outcome optimum
   pub line : text ≡ codes "yes " ++ outcome_text outcome optimum
 
+-- they are one that doesn't prove what it states
 pub record Denies (g : Game) (bytes text : List ℕ) : Type 0 where
-  pub version : Version
-  pub outcome : Outcome
-  pub optimum : Option ℤ
-  pub root : Tree
-  pub read : IsRead bytes version outcome optimum root
-  pub fails : Passes g outcome optimum root → ⊥
+  pub no_proof : IsNoProof g bytes
   pub line : text ≡ codes "no\n"
 
 -- the line of a fault in a certificate's bytes

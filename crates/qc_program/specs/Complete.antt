@@ -1,5 +1,5 @@
 -- What a run answers in which nothing failed, and where memory sufficed.
-use Rattle.std.specs.Prelude.{◌≡◌, ◌≤◌, ℕ, List, length, Option, Some, None, ℤ}
+use Rattle.std.specs.Prelude.{◌≡◌, ◌≤◌, ℕ, List, length, Option, Some, None, ℤ, IsTrue}
 use Rattle.qc_model.specs.Content.{Game}
 use Rattle.qc_model.specs.Turns.{full_turns_of}
 use Rattle.qc_syntax.specs.Reads.{Reads}
@@ -13,7 +13,8 @@ use Rattle.qc_program.specs.declared.status.Status.{Status}
 use Rattle.qc_program.specs.declared.status.Status.TheVariants.{Done, Usage}
 use Rattle.qc_program.specs.Words.{Asked, solves, checks, prints, decides, rewrites}
 use Rattle.qc_program.specs.Refusals.{IsPlain}
-use Rattle.qc_program.specs.Answers.{IsRead, Passes}
+use Rattle.proof_tree.specs.Proves.{proves}
+use Rattle.qc_check.specs.Checking.{IsCertificate}
 
 -- the file is told, and has the text of this problem
 pub record TellsProblem (told : Option (List ℕ)) (g : Game) : Type 0 where
@@ -22,7 +23,7 @@ pub record TellsProblem (told : Option (List ℕ)) (g : Game) : Type 0 where
   pub within : length bytes ≤ 4194304
   pub reads : Reads bytes g
 
--- the file is told, and has the text of a certificate that passes
+-- the file is told, and has the text of a certificate that proves what it states
 pub record TellsProof (told : Option (List ℕ)) (g : Game) : Type 0 where
   pub bytes : List ℕ
   pub told_is : told ≡ Some bytes
@@ -31,8 +32,8 @@ pub record TellsProof (told : Option (List ℕ)) (g : Game) : Type 0 where
   pub outcome : Outcome
   pub optimum : Option ℤ
   pub root : Tree
-  pub read : IsRead bytes version outcome optimum root
-  pub passes : Passes g outcome optimum root
+  pub read : IsCertificate bytes version outcome optimum root
+  pub proved : IsTrue (proves g outcome optimum root)
 
 -- the file is told, and has the text of this formula
 pub record TellsFormula (told : Option (List ℕ)) (f : File) : Type 0 where

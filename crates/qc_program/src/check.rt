@@ -1,7 +1,11 @@
 //! `check`: whether a certificate proves what it states of a problem.
-ghost use Rattle.std.specs.Prelude.{◌≡◌, ◌≢◌, ◌≤◌, ◌++◌, ◌⊎◌, codes, decimal, length};
+ghost use Rattle.std.specs.Prelude.{◌≡◌, ◌≢◌, ◌≤◌, ◌++◌, ◌⊎◌, [], ℕ, List, codes, decimal, length};
 ghost use Rattle.qc_io.specs.Counts.{Rose, RoseBy};
 ghost use Rattle.proof_tree.specs.Text.{outcome_text};
+ghost use Rattle.qc_model.specs.Content.{Game};
+ghost use Rattle.qc_rules.specs.Plain.{NoConditions};
+ghost use Rattle.line_check.specs.Machine.{game_of, IsReady};
+ghost use Rattle.qc_check.specs.Checking.{Comes, IsChecking};
 ghost use Rattle.qc_program.specs.Refusals.{IsPlain};
 ghost use Rattle.qc_program.specs.Answers.{ChecksBytes, ChecksFile, ChecksProblem, AnswersProblem};
 ghost use Rattle.qc_program.specs.Files.{Wrote};
@@ -12,9 +16,8 @@ use crate::refuse::{is_plain, not_built};
 use crate::status::Status;
 use crate::writing::{finish, finish_parts};
 use itoa::Buffer;
-use proof_text::{CertFault, read_cert};
 use proof_tree::Outcome;
-use qc_check::{Answer, Space};
+use qc_check::{Checked, Checker};
 use qc_io::{Shelf, Sink};
 use qc_model::Problem;
 use std::alloc::{AllocError, Global};
@@ -77,31 +80,44 @@ fn check_plain<S: Shelf, K: Sink>(
     ensures read_fault { result ≡ Status.ReadFault → Rose (S.faults shelf.old) (S.faults shelf.new) }
     ensures no_read_fault { result ≢ Status.ReadFault → S.faults shelf.new ≡ S.faults shelf.old }
 {
-    problem.known();
-    let mut space = match Space::new(alloc, problem) {
-        Ok(space) => space,
+    let mut checker = match Checker::new(alloc, problem) {
+        Ok(checker) => checker,
         Err(AllocError) => return Status::Memory,
     };
     match open_file(alloc, certificate, CERTIFICATE_LIMIT, shelf, out) {
-        Ok(text) => check_bytes(alloc, &mut space, &text, out),
+        Ok(text) => check_bytes(&mut checker, &text, out),
         Err(status) => status,
     }
 }
 
-fn check_bytes<K: Sink>(alloc: Global, space: &mut Space, text: &[u8], out: &mut K) -> Status
-    requires { length text.now ≤ 1073741824 }
+// Whether the bytes are a certificate that proves what it states, by a checker that was given none.
+fn check_bytes<K: Sink>(checker: &mut Checker, text: &[u8], out: &mut K) -> Status
+    requires plain { NoConditions (game_of checker.old.machine).scopes }
+    requires ready { IsReady checker.old.machine }
+    requires fresh { IsChecking checker.old [] }
+    requires none { checker.old.read ≡ 0 }
+    requires few { length text.now ≤ 1073741824 }
     ensures wrote { Wrote (K.written out.old) (K.written out.new) (K.faults out.old) (K.faults out.new) result
-        (ChecksBytes space.entry.now.problem.now text.now) }
+        (ChecksBytes (game_of checker.old.machine) text.now) }
     ensures rows { (result ≢ Status.Usage) × (result ≢ Status.BadProblem) × (result ≢ Status.TooLong) × (result ≢ Status.ReadFault) }
 {
-    match read_cert(alloc, text) {
-        Ok(cert) => match space.check(&cert) {
-            Answer::Yes => confirm(out, cert.outcome, cert.optimum),
-            Answer::NotProved => finish(out, b"no\n", Status::NotProved),
-        },
-        Err(CertFault::NotACertificate { at }) => refuse(out, b"bad certificate at ", at),
-        Err(CertFault::TooDeep { at }) => refuse(out, b"certificate too deep at ", at),
-        Err(CertFault::Memory(_)) => Status::Memory,
+    match checker.feed(text) {
+        Ok(()) => tell(out, checker.finish()),
+        Err(AllocError) => Status::Memory,
+    }
+}
+
+// Tells what the bytes of a certificate come to.
+fn tell<K: Sink>(out: &mut K, checked: Checked) -> Status
+    ensures wrote { Wrote (K.written out.old) (K.written out.new) (K.faults out.old) (K.faults out.new) result
+        (λ s t. (g : Game) (bytes : List ℕ) → Comes g bytes checked → ChecksBytes g bytes s t) }
+    ensures rows { (result ≡ Status.Done) ⊎ (result ≡ Status.NotProved) ⊎ (result ≡ Status.BadCertificate) ⊎ (result ≡ Status.WriteFault) }
+{
+    match checked {
+        Checked::Yes { outcome, optimum } => confirm(out, outcome, optimum),
+        Checked::NotProved => finish(out, b"no\n", Status::NotProved),
+        Checked::NotACertificate { at } => refuse(out, b"bad certificate at ", at),
+        Checked::TooDeep { at } => refuse(out, b"certificate too deep at ", at),
     }
 }
 

@@ -267,12 +267,7 @@ const GAME: &[u8] =
 
 // What a check of these bytes against the game answers and writes.
 fn checked(alloc: Global, certificate: &[u8]) -> Result<(Status, MemorySink), AllocError> {
-    let mut shelf = MemoryShelf::new(alloc);
-    shelf.add("p", GAME)?;
-    shelf.add("c", certificate)?;
-    let mut sink = MemorySink::new(alloc, 65_536, 65_536)?;
-    let status = run(alloc, &["check", "p", "c"], &mut shelf, &mut sink);
-    Ok((status, sink))
+    judged(alloc, GAME, certificate)
 }
 
 #[test]
@@ -354,14 +349,95 @@ fn certificates_are_judged(rt: HostRuntime) -> Result<(), Fail> {
             b"no\n",
         ),
     ];
-    let alloc = rt.alloc();
     for (problem, certificate, status, written) in rows {
-        let mut shelf = MemoryShelf::new(alloc);
-        shelf.add("p", problem)?;
-        shelf.add("c", certificate)?;
-        let mut sink = MemorySink::new(alloc, 65_536, 65_536)?;
-        let answer = run(alloc, &["check", "p", "c"], &mut shelf, &mut sink);
+        let (answer, sink) = judged(rt.alloc(), problem, certificate)?;
         assert_eq!(rt; answer, status, "at {certificate:?}");
+        assert!(rt; sink.bytes() == written, "at {certificate:?}");
+    }
+    Ok(())
+}
+
+// What a check of a certificate against a problem answers and writes.
+fn judged(
+    alloc: Global,
+    problem: &[u8],
+    certificate: &[u8],
+) -> Result<(Status, MemorySink), AllocError> {
+    let mut shelf = MemoryShelf::new(alloc);
+    shelf.add("p", problem)?;
+    shelf.add("c", certificate)?;
+    let mut sink = MemorySink::new(alloc, 65_536, 65_536)?;
+    let status = run(alloc, &["check", "p", "c"], &mut shelf, &mut sink);
+    Ok((status, sink))
+}
+
+// Removals that empty the player's domain; by the goal, which isn't in force where the opponent chooses; three values
+// for two numbers, and for three; two of one variable make an even number, but one removal alone empties nothing; a value
+// that isn't refuted.
+#[test]
+fn steps_are_judged(rt: HostRuntime) -> Result<(), Fail> {
+    let different: &[u8] =
+        b"exists; var 1..2: a; var 1..2: b; var 1..2: c; constraint all_different_int([a,b,c]); goal; solve;";
+    let roomy: &[u8] =
+        b"exists; var 1..2: a; var 1..2: b; var 1..3: c; constraint all_different_int([a,b,c]); goal; solve;";
+    let parity: &[u8] = b"exists; var bool: b; goal; constraint array_bool_xor([b,b]); solve;";
+    let rows: [(&[u8], &[u8], &[u8]); 7] = [
+        (
+            b"exists; var 0..1: x; constraint int_lt(1,x); goal; solve;",
+            b"qcert 1\nfalse\np 1 0 1 1\ne\n",
+            b"yes false\n",
+        ),
+        (
+            b"forall; var 0..1: y; goal; constraint int_lt(y,0); solve;",
+            b"qcert 1\ntrue\np 1 0 1 1\ne\n",
+            b"no\n",
+        ),
+        (different, b"qcert 1\nfalse\np 1 1 2 1\ne\n", b"yes false\n"),
+        (roomy, b"qcert 1\nfalse\np 1 1 2 1\ne\n", b"no\n"),
+        (
+            parity,
+            b"qcert 1\nfalse\np 1 0 0 1\np 1 1 1 1\ne\n",
+            b"yes false\n",
+        ),
+        (parity, b"qcert 1\nfalse\np 1 0 1 1\ne\n", b"no\n"),
+        (
+            b"exists; var 0..3: x; constraint int_le(x,1); goal; solve;",
+            b"qcert 1\ntrue\np 1 1 3 1\nn\ng\n",
+            b"no\n",
+        ),
+    ];
+    for (problem, certificate, written) in rows {
+        let (_, sink) = judged(rt.alloc(), problem, certificate)?;
+        assert!(rt; sink.bytes() == written, "at {certificate:?}");
+    }
+    Ok(())
+}
+
+// The player has no move at once; the player's last scope can't be passed, whatever was chosen before: with a case skipped
+// at the player's first, and without.
+#[test]
+fn horizons_are_judged(rt: HostRuntime) -> Result<(), Fail> {
+    let blocked: &[u8] =
+        b"exists; var 0..1: x; forall; var 0..1: y; exists; var 0..1: z; constraint int_lt(z,0); goal; solve;";
+    let rows: [(&[u8], &[u8], &[u8]); 3] = [
+        (
+            b"exists; var 0..1: x; constraint int_lt(1,x); goal; solve;",
+            b"qcert 1\nfalse\nh 1\np 1 0 1 1\n.\nt\n",
+            b"yes false\n",
+        ),
+        (
+            blocked,
+            b"qcert 1\nfalse\nh 3\np 3 0 1 1\n.\nv 1\nn\nv 2\nn\nt\ns\n.\ns\n.\n",
+            b"no\n",
+        ),
+        (
+            blocked,
+            b"qcert 1\nfalse\nh 3\np 3 0 1 1\n.\nv 1\nn\nv 2\nn\nt\ns\n.\nn\nv 2\nn\nt\ns\n.\n.\n",
+            b"yes false\n",
+        ),
+    ];
+    for (problem, certificate, written) in rows {
+        let (_, sink) = judged(rt.alloc(), problem, certificate)?;
         assert!(rt; sink.bytes() == written, "at {certificate:?}");
     }
     Ok(())
@@ -393,13 +469,12 @@ fn ranges_are_judged(rt: HostRuntime) -> Result<(), Fail> {
             b"yes true\n",
         ),
     ];
-    let alloc = rt.alloc();
     for (certificate, status, written) in rows {
-        let mut shelf = MemoryShelf::new(alloc);
-        shelf.add("p", b"exists; var 0..9: x; goal; solve;")?;
-        shelf.add("c", certificate)?;
-        let mut sink = MemorySink::new(alloc, 65_536, 65_536)?;
-        let answer = run(alloc, &["check", "p", "c"], &mut shelf, &mut sink);
+        let (answer, sink) = judged(
+            rt.alloc(),
+            b"exists; var 0..9: x; goal; solve;",
+            certificate,
+        )?;
         assert_eq!(rt; answer, status, "at {certificate:?}");
         assert!(rt; sink.bytes() == written, "at {certificate:?}");
     }

@@ -5,7 +5,7 @@ use Rattle.qc_program.proofs.check.check_plain.Goals as goal
 
 pub returns-in-Ok-open_file-clause-wrote : goal.returns-in-Ok-open_file-clause-wrote
 returns-in-Ok-open_file-clause-wrote g c =
-    let same : c.in-Ok.space.problem.now ≡ c.args.problem.now = c.in-Ok.ensures in
+    let same = c.in-Ok.ensures.same in
     wrote_from g.K.Sink.written g.K.Sink.faults c.args.out.now c.open_file.new.out _ _ c.check_bytes.result _ c.in-Ok-open_file.ensures.silent
     (Wrote-weaker _ _ _ _ c.check_bytes.result _ _
     (λ s t h. inr (

@@ -1,0 +1,114 @@
+-- What all bytes come to.
+use Rattle.std.proofs.Common.{◌≡◌, ◌≤◌, ◌<◌, ◌+◌, ℕ, List, [], ◌++◌, length, take, drop, refl, sym, ap, ◌∙◌, subst, arith, append_assoc, take-append-drop, Option, Some, None, Bool, true, false, ◌&&◌, inl, inr, IsTrue, ℤ}
+use Rattle.qc_model.specs.Content.{Game}
+use Rattle.proof_tree.specs.declared.tree.Version.{Version}
+use Rattle.proof_tree.specs.declared.tree.Outcome.{Outcome}
+use Rattle.proof_tree.specs.declared.line.Line.{Line}
+use Rattle.proof_tree.specs.Tree.{Tree}
+use Rattle.proof_tree.specs.InPlace.{root_in_place}
+use Rattle.proof_tree.specs.Lines.{tree_lines}
+use Rattle.proof_tree.specs.Proves.{proves}
+use Rattle.proof_tree.specs.Meaning.{OutcomeMeans}
+use Rattle.proof_tree.specs.Counts.{depth_of}
+use Rattle.proof_tree.specs.Text.{outcome_fits}
+use Rattle.proof_text.specs.declared.fault.CertFault.{CertFault}
+use Rattle.proof_text.specs.declared.fault.CertFault.TheVariants.{NotACertificate, TooDeep, Memory as Want}
+use Rattle.proof_text.specs.Answers.{nothing, headed, StandsFor, IsTold}
+use Rattle.proof_text.specs.Laws.{HasFault, IsTextOrFault}
+use Rattle.proof_text.specs.Places.{IsText, BeginsText, IsNotACertificate}
+use Rattle.proof_text.specs.Readings.{Reading}
+use Rattle.qc_rules.specs.Plain.{NoConditions}
+use Rattle.line_check.specs.declared.machine.Machine.{Machine}
+use Rattle.line_check.specs.declared.answer.Found.{Found}
+use Rattle.line_check.specs.Machine.{game_of, desk_of}
+use Rattle.line_check.specs.Turns.{first_desk, turns_on}
+use Rattle.line_check.specs.Found.{found_of, IsAnswer}
+use Rattle.qc_check.specs.declared.stated.Stated.{Stated}
+use Rattle.qc_check.specs.Shown.{found_shows}
+use Rattle.qc_check.specs.Checking.{lines_told, HeadIs, IsReading, IsCertificate, IsProof, IsNoProof}
+use Rattle.qc_check.proofs.Shows.{proves_shown}
+
+front_begins : (limit n : ℕ) (bytes : List ℕ) → BeginsText limit bytes → BeginsText limit (take n bytes)
+front_begins limit n bytes (rest, is) =
+    (drop n bytes ++ rest, subst (IsText limit) (ap (λ xs. xs ++ rest) (sym (take-append-drop n bytes)) ∙ append_assoc (take n bytes) (drop n bytes) rest) is)
+
+meet : (a n : ℕ) → a ≤ n → (a < n → ⊥) → a ≡ n
+meet a n le no_less = omega arith
+
+-- bytes that begin a text and aren't one
+pub unended : (r : Reading) (m : Machine) (h : Option Stated) (n : ℕ) (bytes : List ℕ) → IsTextOrFault → IsReading r m h n bytes → (IsText 1000 bytes → ⊥) → IsNotACertificate n bytes
+unended r m h n bytes either k none = elim (either bytes) [ inl t ↦ absurd (none t) | inr (fault, is) ↦ by fault is ]
+  where
+    by : (fault : CertFault) → HasFault fault bytes → IsNotACertificate n bytes
+    by (NotACertificate at) (is, known) =
+        let e : at ≡ length bytes = meet at (length bytes) is.within (λ lt. is.here lt 1000 (front_begins 1000 (at + 1) bytes k.begins)) in
+        subst (λ a. IsNotACertificate a bytes) (e ∙ sym k.counted) is
+    by (TooDeep at) (is, known) = absurd (is.deeper (front_begins 1000 (at + 1) bytes k.begins))
+    by (Want e) (is, known) = absurd (known tt)
+
+-- before the first byte
+pub nothing_read : (r : Reading) (m : Machine) (g : Game) → StandsFor r [] nothing → desk_of m ≡ Some (first_desk g) → game_of m ≡ g → BeginsText 1000 [] → IsReading r m None 0 []
+nothing_read r m g stands desk same begins = record {
+  told = nothing;
+  stands = stands;
+  begins = begins;
+  counted = refl;
+  head_is = refl;
+  desk = desk ∙ ap (λ h. Some (first_desk h)) (sym same);
+}
+
+-- a text has a head
+pub some_head : (r : Reading) (m : Machine) (h : Option Stated) (n : ℕ) (bytes : List ℕ) (k : IsReading r m h n bytes) → h ≡ None → IsTold bytes k.told → ⊥
+some_head r m h n bytes k none (v, o, p, t, fits, deep, text, told) =
+    let is : k.told ≡ nothing = subst (λ x. HeadIs x k.told) none k.head_is in
+    let e : nothing ≡ headed v o p (tree_lines t) = sym is ∙ told in cc
+
+same_outcome : (v w : Version) (o q : Outcome) (p u : Option ℤ) (ls ks : List Line) → headed v o p ls ≡ headed w q u ks → o ≡ q
+same_outcome v w o q p u ls ks e = cc
+
+same_optimum : (v w : Version) (o q : Outcome) (p u : Option ℤ) (ls ks : List Line) → headed v o p ls ≡ headed w q u ks → p ≡ u
+same_optimum v w o q p u ls ks e = cc
+
+first : (a b : Bool) → (a && b) ≡ true → a ≡ true
+first true b h = refl
+first false b h = cc
+
+-- the certificate whose text the bytes are, and that it proves what the lines come to
+pub record IsJudged (g : Game) (bytes : List ℕ) (st : Stated) (found : Option Found) : Type 0 where
+  pub version : Version
+  pub root : Tree
+  pub read : IsCertificate bytes version st.outcome st.optimum root
+  pub proved : proves g st.outcome st.optimum root ≡ found_shows found st.outcome st.optimum
+
+pub judged : (r : Reading) (m : Machine) (h : Option Stated) (st : Stated) (n : ℕ) (bytes : List ℕ) (k : IsReading r m h n bytes) → h ≡ Some st → NoConditions (game_of m).scopes →
+    ((t : Tree) → depth_of t ≤ 1000 → root_in_place (game_of m) t ≡ true → (f : Found) × (found_of (turns_on (game_of m) (Some (first_desk (game_of m))) (tree_lines t)) ≡ Some f) × IsAnswer (game_of m) t f) →
+    ((t : Tree) (f : Found) → found_of (turns_on (game_of m) (Some (first_desk (game_of m))) (tree_lines t)) ≡ Some f → IsAnswer (game_of m) t f) →
+    IsTold bytes k.told → (found : Option Found) → found ≡ found_of (desk_of m) → IsJudged (game_of m) bytes st found
+judged r m h st n bytes k some plain trees own (v, o, p, t, fits, deep, text, told) found is = by (subst (λ x. HeadIs x k.told) some k.head_is)
+  where
+    by : HeadIs (Some st) k.told → IsJudged (game_of m) bytes st found
+    by (w, ls, e) =
+        let both : headed v o p (tree_lines t) ≡ headed w st.outcome st.optimum ls = sym told ∙ e in
+        let eo : o ≡ st.outcome = same_outcome v w o st.outcome p st.optimum (tree_lines t) ls both in
+        let ep : p ≡ st.optimum = same_optimum v w o st.outcome p st.optimum (tree_lines t) ls both in
+        let lines : found_of (turns_on (game_of m) (Some (first_desk (game_of m))) (tree_lines t)) ≡ found =
+        ap (λ ks. found_of (turns_on (game_of m) (Some (first_desk (game_of m))) (lines_told ks))) (sym told) ∙ ap found_of (sym k.desk) ∙ sym is in
+        let whole : proves (game_of m) o p t ≡ found_shows found o p =
+        proves_shown (game_of m) t plain (λ q. trees t deep q) (own t) o p (first (outcome_fits o p) _ fits) ∙ ap (λ q. found_shows q o p) lines in
+        record {
+          version = v;
+          root = t;
+          read = subst (λ x. IsCertificate bytes v x st.optimum t) eo (subst (λ x. IsCertificate bytes v o x t) ep (record { spelled = text; spellable = fits; shallow = deep }));
+          proved = subst (λ x. proves (game_of m) x st.optimum t ≡ found_shows found x st.optimum) eo (subst (λ x. proves (game_of m) o x t ≡ found_shows found o x) ep whole);
+        }
+
+pub proof : (g : Game) (bytes : List ℕ) (st : Stated) (found : Option Found) → ((t : Tree) → IsTrue (proves g st.outcome st.optimum t) → OutcomeMeans st.outcome st.optimum g t) →
+    IsJudged g bytes st found → found_shows found st.outcome st.optimum ≡ true → IsProof g bytes st.outcome st.optimum
+proof g bytes st found means j e = record { version = j.version; root = j.root; read = j.read; proves = j.proved ∙ e; means = means j.root (j.proved ∙ e) }
+
+pub no_proof : (g : Game) (bytes : List ℕ) (st : Stated) (found : Option Found) → IsJudged g bytes st found → found_shows found st.outcome st.optimum ≡ false → IsNoProof g bytes
+no_proof g bytes st found j e = record { version = j.version; outcome = st.outcome; optimum = st.optimum; root = j.root; read = j.read; fails = λ p. let c : true ≡ false = sym p ∙ j.proved ∙ e in cc }
+
+pub opposed : (b : Bool) → b ≡ false → IsTrue b → ⊥
+opposed true e h = cc
+opposed false e h = cc

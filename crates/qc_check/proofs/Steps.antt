@@ -1,0 +1,136 @@
+-- What one byte more makes of a reading.
+use Rattle.std.proofs.Common.{◌≡◌, ◌<◌, ◌+◌, ℕ, zero, suc, List, [], ◌∷◌, ◌++◌, length, take, refl, sym, ap, ◌∙◌, subst, arith, length-append, append_assoc, Option, Some, None, Result, Ok, Err, OnOk, false}
+use Rattle.std.specs.Prelude.{slice_index}
+use Rattle.std.proofs.lemmas.List.{take-append-le}
+use Rattle.qc_model.specs.Content.{Game}
+use Rattle.proof_tree.specs.declared.tree.Version.{Version}
+use Rattle.proof_tree.specs.declared.tree.Outcome.{Outcome}
+use Rattle.proof_tree.specs.declared.line.Line.{Line}
+use Rattle.proof_text.specs.declared.answer.Read.{Read}
+use Rattle.proof_text.specs.declared.answer.Read.TheVariants.{Within, Head, Whole, TooDeep, Bad}
+use Rattle.proof_text.specs.Answers.{Told, nothing, headed, tell, is_nothing, StandsFor, Says}
+use Rattle.proof_text.specs.Places.{BeginsText, IsNotACertificate, IsTooDeep}
+use Rattle.proof_text.specs.Readings.{Reading}
+use Rattle.line_check.specs.declared.machine.Machine.{Machine}
+use Rattle.line_check.specs.Machine.{game_of, desk_of}
+use Rattle.line_check.specs.Desk.{Desk, turn}
+use Rattle.line_check.specs.Turns.{first_desk, turns_on}
+use Rattle.qc_check.specs.declared.stated.Stated.{Stated}
+use Rattle.qc_check.specs.declared.stated.Stop.{Stop}
+use Rattle.qc_check.specs.declared.stated.Stop.TheVariants.{Bad as BadStop, Deep as DeepStop}
+use Rattle.qc_check.specs.Checking.{lines_told, HeadIs, IsReading, IsStopped}
+
+pub on_ok : {T E : Type 0} (r : Result T E) (P Q : Type 0) → (P → Q) → OnOk r P → OnOk r Q
+on_ok (Ok x) P Q f h = f h
+on_ok (Err e) P Q f h = tt
+
+one_more : (n : ℕ) (bytes : List ℕ) (b : ℕ) → n ≡ length bytes → n + 1 ≡ length (bytes ++ b ∷ [])
+one_more n bytes b e = rw length-append (ap (λ k. k + 1) e)
+
+turns_more : (g : Game) (p : Option Desk) (ls : List Line) (l : Line) → turns_on g p (ls ++ l ∷ []) ≡ turn g (turns_on g p ls) l
+turns_more g p [] l = refl
+turns_more g p (k ∷ ls) l = turns_more g (turn g p k) ls l
+
+abbrev grown : Told → Line → Told
+grown nothing l = nothing
+grown (headed v o p ls) l = headed v o p (ls ++ l ∷ [])
+
+head_more : (h : Option Stated) (v : Version) (o : Outcome) (p : Option _) (ls : List Line) (l : Line) → HeadIs h (headed v o p ls) → HeadIs h (headed v o p (ls ++ l ∷ []))
+head_more None v o p ls l e = cc
+head_more (Some s) v o p ls l (w, ks, e) = (w, ks ++ l ∷ [], ap (λ t. grown t l) e)
+
+-- within a line
+pub within : (r s : Reading) (m : Machine) (h : Option Stated) (n : ℕ) (bytes : List ℕ) (b : ℕ) (k : IsReading r m h n bytes) (read : Read) → read ≡ Within →
+    StandsFor s (bytes ++ b ∷ []) (tell k.told read) → Says bytes k.told b read → IsReading s m h (n + 1) (bytes ++ b ∷ [])
+within r s m h n bytes b k read e stands says = record {
+  told = k.told;
+  stands = subst (λ q. StandsFor s (bytes ++ b ∷ []) (tell k.told q)) e stands;
+  begins = (subst (λ q. Says bytes k.told b q) e says).0;
+  counted = one_more n bytes b k.counted;
+  head_is = k.head_is;
+  desk = k.desk;
+}
+
+-- the head ends
+pub head_read : (r s : Reading) (m : Machine) (h : Option Stated) (n : ℕ) (bytes : List ℕ) (b : ℕ) (k : IsReading r m h n bytes) (read : Read) (v : Version) (st : Stated) →
+    read ≡ Head v st.outcome st.optimum → StandsFor s (bytes ++ b ∷ []) (tell k.told read) → Says bytes k.told b read → IsReading s m (Some st) (n + 1) (bytes ++ b ∷ [])
+head_read r s m h n bytes b k read v st e stands says =
+    let now = subst (λ q. Says bytes k.told b q) e says in
+    record {
+      told = headed v st.outcome st.optimum [];
+      stands = subst (λ q. StandsFor s (bytes ++ b ∷ []) (tell k.told q)) e stands;
+      begins = now.0;
+      counted = one_more n bytes b k.counted;
+      head_is = (v, [], refl);
+      desk = k.desk ∙ ap (λ t. turns_on (game_of m) (Some (first_desk (game_of m))) (lines_told t)) now.1;
+    }
+
+-- a line ends, and the machine is given it
+pub line_read : (r s : Reading) (m w : Machine) (h : Option Stated) (n : ℕ) (bytes : List ℕ) (b : ℕ) (k : IsReading r m h n bytes) (read : Read) (line : Line) → read ≡ Whole line →
+    StandsFor s (bytes ++ b ∷ []) (tell k.told read) → Says bytes k.told b read → game_of w ≡ game_of m → desk_of w ≡ turn (game_of m) (desk_of m) line → IsReading s w h (n + 1) (bytes ++ b ∷ [])
+line_read r s m w h n bytes b k read line e stands says same desk =
+    let now = subst (λ q. Says bytes k.told b q) e says in
+    by k.told (subst (λ q. StandsFor s (bytes ++ b ∷ []) (tell k.told q)) e stands) now.1 k.head_is k.desk now.0
+  where
+    by : (t : Told) → StandsFor s (bytes ++ b ∷ []) (tell t (Whole line)) → is_nothing t ≡ false → HeadIs h t →
+        desk_of m ≡ turns_on (game_of m) (Some (first_desk (game_of m))) (lines_told t) → BeginsText 1000 (bytes ++ b ∷ []) → IsReading s w h (n + 1) (bytes ++ b ∷ [])
+    by nothing st some hd dk begins = cc
+    by (headed v o p ls) st some hd dk begins = record {
+      told = headed v o p (ls ++ line ∷ []);
+      stands = st;
+      begins = begins;
+      counted = one_more n bytes b k.counted;
+      head_is = head_more h v o p ls line hd;
+      desk = subst (λ g. desk_of w ≡ turns_on g (Some (first_desk g)) (ls ++ line ∷ [])) (sym same)
+          (desk ∙ ap (λ d. turn (game_of m) d line) dk ∙ sym (turns_more (game_of m) (Some (first_desk (game_of m))) ls line));
+    }
+
+index_before : (xs ys : List ℕ) (n : ℕ) → n < length xs → slice_index (xs ++ ys) n ≡ slice_index xs n
+index_before [] ys n h = absurd (omega arith)
+index_before (x ∷ xs) ys zero h = refl
+index_before (x ∷ xs) ys (suc n) h = index_before xs ys n (omega arith)
+
+front_before : (xs ys : List ℕ) (n : ℕ) → n < length xs → take (n + 1) (xs ++ ys) ≡ take (n + 1) xs
+front_before xs ys n h = take-append-le (n + 1) xs ys (omega arith)
+
+-- a fault stays whatever bytes come
+deep_stays : (at : ℕ) (xs ys : List ℕ) → IsTooDeep at xs → IsTooDeep at (xs ++ ys)
+deep_stays at xs ys h = record {
+  within = rw length-append (let w = h.within in omega arith);
+  before = rw (take-append-le at xs ys (let w = h.within in omega arith)) h.before;
+  opens = rw (front_before xs ys at h.within) h.opens;
+  deeper = rw (front_before xs ys at h.within) h.deeper;
+  letter = rw (index_before xs ys at h.within) h.letter;
+}
+
+bad_stays : (at : ℕ) (xs ys : List ℕ) → at < length xs → IsNotACertificate at xs → IsNotACertificate at (xs ++ ys)
+bad_stays at xs ys lt h = record {
+  within = rw length-append (omega (arith, lt));
+  before = rw (take-append-le at xs ys (omega (arith, lt))) h.before;
+  here = λ l limit. rw (front_before xs ys at lt) (h.here lt limit);
+  unfinished = λ e limit t. let e' : at ≡ length xs + length ys = rw length-append at e in absurd (omega (arith, lt, e'));
+}
+
+last_lt : (bytes : List ℕ) (b at : ℕ) → at ≡ length bytes → at < length (bytes ++ b ∷ [])
+last_lt bytes b at e = rw length-append (omega (arith, e))
+
+-- the bytes nest too deep here
+pub deep_read : (r : Reading) (m : Machine) (h : Option Stated) (n : ℕ) (bytes : List ℕ) (b : ℕ) (k : IsReading r m h n bytes) (read : Read) → read ≡ TooDeep →
+    Says bytes k.told b read → (more : List ℕ) → IsTooDeep n (bytes ++ b ∷ [] ++ more)
+deep_read r m h n bytes b k read e says more =
+    let now = subst (λ q. Says bytes k.told b q) e says in
+    let here : now.at ≡ n = now.here k.begins ∙ sym k.counted in
+    subst (λ a. IsTooDeep a (bytes ++ b ∷ [] ++ more)) here (deep_stays now.at (bytes ++ b ∷ []) more now.is)
+
+-- they stop being a text here
+pub bad_read : (r : Reading) (m : Machine) (h : Option Stated) (n : ℕ) (bytes : List ℕ) (b : ℕ) (k : IsReading r m h n bytes) (read : Read) → read ≡ Bad →
+    Says bytes k.told b read → (more : List ℕ) → IsNotACertificate n (bytes ++ b ∷ [] ++ more)
+bad_read r m h n bytes b k read e says more =
+    let now = subst (λ q. Says bytes k.told b q) e says in
+    let here : now.at ≡ n = now.here k.begins ∙ sym k.counted in
+    subst (λ a. IsNotACertificate a (bytes ++ b ∷ [] ++ more)) here (bad_stays now.at (bytes ++ b ∷ []) more (last_lt bytes b now.at (now.here k.begins)) now.is)
+
+-- bytes after a fault
+pub still_stopped : (s : Stop) (n : ℕ) (bytes : List ℕ) (b : ℕ) → IsStopped s n bytes → IsStopped s n (bytes ++ b ∷ [])
+still_stopped BadStop n bytes b h = λ more. subst (IsNotACertificate n) (sym (append_assoc bytes (b ∷ []) more)) (h (b ∷ more))
+still_stopped DeepStop n bytes b h = λ more. subst (IsTooDeep n) (sym (append_assoc bytes (b ∷ []) more)) (h (b ∷ more))

@@ -1,0 +1,154 @@
+//! The checker, byte by byte.
+ghost use Rattle.std.specs.Prelude.{◌≡◌, ◌≤◌, ◌<◌, ◌+◌, ◌^◌, ◌++◌, ◌∷◌, [], None, length, IfOk, OnOk, ℕ, List};
+ghost use Rattle.qc_rules.specs.Plain.{NoConditions};
+ghost use Rattle.line_check.specs.Machine.{game_of, IsReady};
+ghost use Rattle.qc_model.specs.Content.{Game};
+ghost use Rattle.qc_check.specs.Checking.{Comes, IsChecking, IsStopped};
+
+use crate::finding::Checked;
+use crate::progress::Checker;
+use crate::shown::is_shown;
+use crate::stated::{Stated, Stop};
+use line_check::{Machine, answers_are_right};
+use proof_text::{LineReader, Read, bytes_are_one_text_or_have_one_fault, each_standing_is_right};
+use qc_meaning::outcomes_are_true;
+use qc_model::Problem;
+use std::alloc::{AllocError, Global};
+
+// What bytes with a fault at a place come to.
+fn stopped(stop: Stop, at: u64) -> Checked
+    ensures { (g : Game) (bytes : List ℕ) → IsStopped stop at bytes → Comes g bytes result }
+{
+    match stop {
+        Stop::Bad => Checked::NotACertificate { at },
+        Stop::Deep => Checked::TooDeep { at },
+    }
+}
+
+impl<'p> Checker<'p> {
+    /// A checker before the first byte. All memory but the pages of the box's trail is taken here.
+    pub fn new(alloc: Global, problem: &'p Problem) -> Result<Checker<'p>, AllocError>
+        ensures ready { IfOk result (λ c. IsReady c.machine) }
+        ensures same { IfOk result (λ c. game_of c.machine ≡ problem.now) }
+        ensures checking { IfOk result (λ c. IsChecking c []) }
+        ensures read { IfOk result (λ c. c.read ≡ 0) }
+    {
+        each_standing_is_right();
+        let machine = Machine::new(alloc, problem)?;
+        Ok(Checker {
+            problem,
+            reader: LineReader::new(),
+            machine,
+            head: None,
+            stop: None,
+            read: 0,
+        })
+    }
+
+    // Reads the next byte, where none was a fault.
+    fn next(&mut self, byte: u8) -> Result<(), AllocError>
+        requires ready { IsReady self.old.machine }
+        requires room { self.old.read + 1 < 2 ^ 64 }
+        requires going { self.old.stop ≡ None }
+        ensures ready { IsReady self.new.machine }
+        ensures same { game_of self.new.machine ≡ game_of self.old.machine }
+        ensures read { self.new.read ≤ self.old.read + 1 }
+        ensures checking { OnOk result ((bytes : List ℕ) → IsChecking self.old bytes → IsChecking self.new (bytes ++ byte ∷ [])) }
+    {
+        match self.reader.byte(byte) {
+            Read::Within => {
+                self.read += 1;
+                Ok(())
+            }
+            Read::Head {
+                version: _,
+                outcome,
+                optimum,
+            } => {
+                self.head = Some(Stated { outcome, optimum });
+                self.read += 1;
+                Ok(())
+            }
+            Read::Whole(line) => {
+                self.read += 1;
+                self.machine.line(line)
+            }
+            Read::TooDeep => {
+                self.stop = Some(Stop::Deep);
+                Ok(())
+            }
+            Read::Bad => {
+                self.stop = Some(Stop::Bad);
+                Ok(())
+            }
+        }
+    }
+
+    /// Reads the next byte.
+    fn byte(&mut self, byte: u8) -> Result<(), AllocError>
+        requires ready { IsReady self.old.machine }
+        requires room { self.old.read + 1 < 2 ^ 64 }
+        ensures ready { IsReady self.new.machine }
+        ensures same { game_of self.new.machine ≡ game_of self.old.machine }
+        ensures read { self.new.read ≤ self.old.read + 1 }
+        ensures checking { OnOk result ((bytes : List ℕ) → IsChecking self.old bytes → IsChecking self.new (bytes ++ byte ∷ [])) }
+    {
+        match self.stop {
+            Some(_) => Ok(()),
+            None => self.next(byte),
+        }
+    }
+
+    /// Reads the next bytes. After a fault they are passed over. It fails only where memory for the trail of the box runs
+    /// out.
+    pub fn feed(&mut self, bytes: &[u8]) -> Result<(), AllocError>
+        requires ready { IsReady self.old.machine }
+        requires room { self.old.read + length bytes.now < 2 ^ 64 }
+        ensures ready { IsReady self.new.machine }
+        ensures same { game_of self.new.machine ≡ game_of self.old.machine }
+        ensures read { self.new.read ≤ self.old.read + length bytes.now }
+        ensures checking { OnOk result ((before : List ℕ) → IsChecking self.old before → IsChecking self.new (before ++ bytes.now)) }
+    {
+        for byte in bytes {
+            self.byte(*byte)?;
+        }
+        Ok(())
+    }
+
+    // What the bytes come to, where none was a fault.
+    fn judged(&self) -> Checked
+        requires plain { NoConditions (game_of self.now.machine).scopes }
+        requires going { self.now.stop ≡ None }
+        ensures { (bytes : List ℕ) → IsChecking self.now bytes → Comes (game_of self.now.machine) bytes result }
+    {
+        self.problem.known();
+        bytes_are_one_text_or_have_one_fault();
+        answers_are_right();
+        outcomes_are_true();
+        if !self.reader.is_ended() {
+            return Checked::NotACertificate { at: self.read };
+        }
+        let Some(stated) = self.head else {
+            return Checked::NotACertificate { at: self.read };
+        };
+        if is_shown(self.machine.finish(), stated) {
+            Checked::Yes {
+                outcome: stated.outcome,
+                optimum: stated.optimum,
+            }
+        } else {
+            Checked::NotProved
+        }
+    }
+
+    /// What all bytes that were read come to.
+    pub fn finish(&self) -> Checked
+        requires plain { NoConditions (game_of self.now.machine).scopes }
+        ensures { (bytes : List ℕ) → IsChecking self.now bytes → Comes (game_of self.now.machine) bytes result }
+    {
+        match self.stop {
+            Some(stop) => stopped(stop, self.read),
+            None => self.judged(),
+        }
+    }
+}
