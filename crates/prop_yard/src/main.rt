@@ -124,3 +124,6 @@ fn tell<R: Print>(rt: &R, problem: &Problem, left: &Option<Store>) -> io::Result
         }
     }
 }
+
+#[cfg(test)]
+mod tests;
