@@ -16,3 +16,6 @@ pub mod Trails
 pub mod Kept
 pub mod Safe
 pub mod Ready
+pub mod LedgerClosing
+pub mod LedgerTurns
+pub mod LedgerRight

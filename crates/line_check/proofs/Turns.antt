@@ -42,22 +42,22 @@ and_false : (b : Bool) → (b && false) ≡ false
 and_false true = refl
 and_false false = refl
 
-or_false : (b : Bool) → (b || false) ≡ b
+pub or_false : (b : Bool) → (b || false) ≡ b
 or_false true = refl
 or_false false = refl
 
-or_true : (b : Bool) → (b || true) ≡ true
+pub or_true : (b : Bool) → (b || true) ≡ true
 or_true true = refl
 or_true false = refl
 
-some_open : (n : ℕ) → true ≡ nat_lt 0 (n + 1)
+pub some_open : (n : ℕ) → true ≡ nat_lt 0 (n + 1)
 some_open n = grind (arith, nat_tests)
 
-one_later : (n : ℕ) → min (min n (2 ^ 64 - 1) + 1) (2 ^ 64 - 1) ≡ min (n + 1) (2 ^ 64 - 1)
+pub one_later : (n : ℕ) → min (min n (2 ^ 64 - 1) + 1) (2 ^ 64 - 1) ≡ min (n + 1) (2 ^ 64 - 1)
 one_later n = omega arith
 
 -- a test that fails
-failed : (n : Tally) (k : Bool) → k ≡ false → (n.in_place && k) ≡ false
+pub failed : (n : Tally) (k : Bool) → k ≡ false → (n.in_place && k) ≡ false
 failed n k e = ap (λ b. n.in_place && b) e ∙ and_false n.in_place
 
 module _ (n : Tally) (d : Desk) (t : IsTallied n d) (k : Bool) (e : k ≡ true) where
@@ -81,13 +81,13 @@ mutual
   within_count g (whole_tree above) fs i h = above_count g above fs i h
   within_count g (in_case b around) fs i h = ap suc (within_count g around h.0 i h.2) ∙ sym (ap length h.1)
 
-too_deep : (m n : ℕ) → m ≡ n → nat_lt n 1000 ≡ false → 1000 < suc m
+pub too_deep : (m n : ℕ) → m ≡ n → nat_lt n 1000 ≡ false → 1000 < suc m
 too_deep m n e f = let h : 1000 ≤ n = least n f in omega (arith, h, e)
   where
     least : (n : ℕ) → nat_lt n 1000 ≡ false → 1000 ≤ n
     least n f = grind (arith, nat_tests)
 
-goal_at : (ss : List Scope) (i : ℕ) → is_goal (drop i ss) ≡ nat_le (length ss) i
+pub goal_at : (ss : List Scope) (i : ℕ) → is_goal (drop i ss) ≡ nat_le (length ss) i
 goal_at [] zero = refl
 goal_at [] (suc i) = grind (arith, nat_tests)
 goal_at (s ∷ ss) zero = grind (arith, nat_tests)
@@ -96,7 +96,7 @@ goal_at (s ∷ ss) (suc i) = goal_at ss i ∙ same (length ss) i
     same : (m n : ℕ) → nat_le m n ≡ nat_le (suc m) (suc n)
     same m n = grind (arith, nat_tests)
 
-next_drop : (ss : List Scope) (i : ℕ) → next_scopes (drop i ss) ≡ drop (suc i) ss
+pub next_drop : (ss : List Scope) (i : ℕ) → next_scopes (drop i ss) ≡ drop (suc i) ss
 next_drop [] zero = refl
 next_drop [] (suc i) = refl
 next_drop (s ∷ ss) zero = refl

@@ -9,3 +9,5 @@ pub mod Found
 pub mod Cases
 pub mod Tuples
 pub mod Machine
+pub mod Ledger
+pub mod LedgerHeld

@@ -6,7 +6,9 @@ mod begin;
 mod cases;
 mod cover;
 mod ends;
+mod judge;
 mod laws;
+mod ledgers;
 mod legal;
 mod machine;
 mod nesting;
@@ -15,10 +17,14 @@ mod open;
 mod owner;
 mod remains;
 mod standing;
+#[cfg(test)]
+mod tests;
 mod tuple;
 mod turn;
 
 pub use answer::Found;
+pub use judge::judge_lines;
 pub use laws::answers_are_right;
+pub use ledgers::ledgers_are_right;
 pub use machine::Machine;
 pub use standing::Standing;

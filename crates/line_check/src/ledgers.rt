@@ -1,0 +1,18 @@
+//! Of every game: a ledger that keeps all that was seen says what the definitions say of the tree.
+ghost use Rattle.std.specs.Prelude.{◌≡◌, ◌≤◌, true, List, Some};
+ghost use Rattle.qc_model.specs.Content.{Game};
+ghost use Rattle.proof_tree.specs.Tree.{Tree};
+ghost use Rattle.proof_tree.specs.Counts.{depth_of};
+ghost use Rattle.proof_tree.specs.InPlace.{root_in_place};
+ghost use Rattle.proof_tree.specs.Lines.{tree_lines};
+ghost use Rattle.proof_tree.specs.declared.line.Line.{Line as OneLine};
+ghost use Rattle.line_check.specs.Desk.{none_awaited};
+ghost use Rattle.line_check.specs.Ledger.{Ledger as Kept};
+ghost use Rattle.line_check.specs.LedgerHeld.{first_ledger, goes_through, TellsTree};
+
+/// In every game, with conditions and aggregates too: the lines of a tree that has each in place and nests at most 1,000
+/// deep lead to a ledger that tells the tree's verdict; and only such lines lead to one that waits for no line.
+pub fn ledgers_are_right()
+    ensures trees { (g : Game) (t : Tree) → depth_of t ≤ 1000 → root_in_place g t ≡ true → (d : Kept) × (goes_through g (Some (first_ledger g)) (tree_lines t) ≡ Some d) × TellsTree g t d }
+    ensures others { (g : Game) (ls : List OneLine) (d : Kept) → goes_through g (Some (first_ledger g)) ls ≡ Some d → d.awaited ≡ none_awaited → (t : Tree) × (ls ≡ tree_lines t) × TellsTree g t d }
+{}
