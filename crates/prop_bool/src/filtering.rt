@@ -11,7 +11,7 @@ use crate::predicates::{
 use fd_store::Store;
 use proof_tree::StepList;
 use prop_base::{Filtered, filter_by_ends};
-use prop_compare::{Comparison, Table, filter_comparison};
+use prop_compare::{Comparison, Table, filter_comparison, filter_reified};
 use qc_model::{ConId, Constraint, Pred, Problem};
 use std::alloc::{AllocError, Global};
 
@@ -41,6 +41,9 @@ fn filter_rule(
         Pred::BoolOr => filter_either(problem, c, rule, store, steps),
         Pred::BoolXor => filter_exactly_one(problem, c, rule, store, steps),
         Pred::ArrayBoolXor => filter_odd_items(problem, c, rule, store, steps),
+        Pred::BoolEqReif => filter_reified(problem, c, rule, Comparison::Equal, store, steps),
+        Pred::BoolLeReif => filter_reified(problem, c, rule, Comparison::AtMost, store, steps),
+        Pred::BoolLtReif => filter_reified(problem, c, rule, Comparison::Below, store, steps),
         _ => filter_by_ends(&Table {}, problem, c, rule, store, steps),
     }
 }

@@ -7,3 +7,8 @@ pub mod Narrowed
 pub mod Losing
 pub mod Rows
 pub mod Whole
+pub mod Decided
+pub mod Told
+pub mod Three
+pub mod Settled
+pub mod Lasts

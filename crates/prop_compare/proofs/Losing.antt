@@ -150,7 +150,7 @@ lost_keeps g c box new a b v p t s h d n =
     let new_b : left_to new b ≡ e = ap (λ z. left_to z b) n ∙ with_kept box b (λ z. not (is_within v v z)) p.open_second stay in
     let new_a : left_to new a ≡ da = ap (λ z. left_to z a) n ∙ with_other box b a e (apart_flipped a b p.apart) in
     let alike : AlikeBut a b box new = subst (λ z. AlikeBut a b box z) (sym n) (alike_second a b box box e (alike_same a b box)) in
-    p.own new alike
+    p.own new alike (ap is_none_left new_a ∙ some) (ap is_none_left new_b ∙ stay)
     (keeps_side c new a
     (λ x q w m.
     at_first c box new a b are_one_value x (w ∷ []) t alike p.apart (ap is_none_left new_a ∙ some) q
@@ -171,7 +171,7 @@ pub unfixed_keeps : (g : Game) (c : Rule) (box : Box) (a b : Arg) → IsPair g c
 unfixed_keeps g c box a b p t h k =
     let d = left_to box a in
     let e = left_to box b in
-    p.own box (alike_same a b box)
+    p.own box (alike_same a b box) (some_left d p.open_first) (some_left e p.open_second)
     (keeps_side c box a
     (λ x q w m.
     at_first c box box a b are_one_value x (w ∷ []) t (alike_same a b box) p.apart (some_left d p.open_first) q

@@ -88,7 +88,7 @@ reduces g c box a b test k p t r =
             ∙ (ap (λ z. test z u) one_a ∙ r.over_second u (subst (λ z. IsPart (λ v. int_lt k.second.hi v) u z) one_b (part_of (λ v. int_lt k.second.hi v) one b x u q part)));
       };
       closed =
-          p.own two alike_two
+          p.own two alike_two open_two_a open_two_b
           (keeps_side c two a
           (λ x q v w.
           at_first c box two a b test x (v ∷ []) t alike_two p.apart open_two_a q

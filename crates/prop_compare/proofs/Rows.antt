@@ -26,18 +26,19 @@ use Rattle.qc_refuter.specs.Met.{lefts, is_open, is_met}
 use Rattle.qc_refuter.proofs.Ready.{rule_met}
 use Rattle.prop_base.specs.Closed.{keeps_arg, keeps_argument}
 use Rattle.prop_base.proofs.Keeps.{keeps_all}
-use Rattle.prop_compare.specs.declared.filtering.Comparison.{Comparison}
-use Rattle.prop_compare.specs.declared.filtering.Comparison.TheVariants.{Equal, Different, AtMost, Below}
+use Rattle.prop_compare.specs.declared.comparing.Comparison.{Comparison}
+use Rattle.prop_compare.specs.declared.comparing.Comparison.TheVariants.{Equal, Different, AtMost, Below}
 use Rattle.prop_compare.specs.Compared.{same_variable, IsPair, IsTested, is_over, meant_by}
+use Rattle.prop_compare.specs.Telling.{refuting, entailing}
 
-abbrev is_compared : Meaning → Bool
+abbrev pub is_compared : Meaning → Bool
 is_compared equal = true
 is_compared different = true
 is_compared at_most = true
 is_compared below = true
 is_compared _ = false
 
-abbrev is_one_kind : ArgKind → Bool
+abbrev pub is_one_kind : ArgKind → Bool
 is_one_kind integer = true
 is_one_kind boolean = true
 is_one_kind _ = false
@@ -95,17 +96,17 @@ two_kinds BoolLeReif h = cc
 two_kinds BoolLtReif h = cc
 two_kinds BoolClauseReif h = cc
 
-compared_meant : (k : Comparison) → is_compared (meant_by k) ≡ true
+pub compared_meant : (k : Comparison) → is_compared (meant_by k) ≡ true
 compared_meant Equal = refl
 compared_meant Different = refl
 compared_meant AtMost = refl
 compared_meant Below = refl
 
-record IsOne (arg : Argument) : Type 0 where
-  it : Arg
-  is : arg ≡ One it
+pub record IsOne (arg : Argument) : Type 0 where
+  pub it : Arg
+  pub is : arg ≡ One it
 
-one_of : (xs : List Variable) (s : ArgKind) (arg : Argument) → is_one_kind s ≡ true → is_of_sort xs s arg ≡ true → IsOne arg
+pub one_of : (xs : List Variable) (s : ArgKind) (arg : Argument) → is_one_kind s ≡ true → is_of_sort xs s arg ≡ true → IsOne arg
 one_of xs s (One a) h k = record { it = a; is = refl }
 one_of xs integer (Many m) h k = cc
 one_of xs boolean (Many m) h k = cc
@@ -175,7 +176,7 @@ pair_of g c box k d a m s =
       sees_second = sees.1;
       open_first = opens.0;
       open_second = opens.1;
-      own = λ other f p q.
+      own = λ other f m n p q.
           keeps_all c other
           (ap (list_all (keeps_argument c other)) t.is
           ∙ together (keeps_arg c other t.left) (keeps_arg c other t.right && true) (ap (λ l. keeps_arg c other (arg_at l 0)) (sym t.is) ∙ p)
@@ -214,3 +215,13 @@ tested_at c box a b m test e f h t =
     let P : Arg → Type 0 = λ z. IsTested c box z b test in
     let Q : Arg → Type 0 = λ z. IsTested c box (arg_at c.args 0) z test in
     subst P (sym e) (subst Q (sym f) (tested_of c box m test h t))
+
+-- the tests of a comparison
+pub refuted_test : (k : Comparison) (args : Lefts) → refuted_as (meant_by k) args ≡ refuting k (left_at args 0) (left_at args 1)
+refuted_test Equal args = refl
+refuted_test Different args = refl
+refuted_test AtMost args = at_most_over args
+refuted_test Below args = below_over args
+
+pub tested_by : (c : Rule) (box : Box) (a b : Arg) (k : Comparison) → a ≡ arg_at c.args 0 → b ≡ arg_at c.args 1 → meaning_of c.pred ≡ meant_by k → IsTested c box a b (refuting k)
+tested_by c box a b k e f h = tested_at c box a b (meant_by k) (refuting k) e f h (refuted_test k)

@@ -104,5 +104,5 @@ pair_flipped g c box a b p = record {
   sees_second = p.sees_first;
   open_first = p.open_second;
   open_second = p.open_first;
-  own = λ other f k l. p.own other (alike_flipped b a box other f) l k;
+  own = λ other f m n k l. p.own other (alike_flipped b a box other f) n m l k;
 }

@@ -11,8 +11,8 @@ use Rattle.qc_model.specs.Refuted.{left_to, refuted_by}
 use Rattle.qc_model.specs.Valid.{is_number, arg_sees}
 use Rattle.qc_refuter.specs.Met.{is_open}
 use Rattle.prop_base.specs.Closed.{keeps_arg}
-use Rattle.prop_compare.specs.declared.filtering.Comparison.{Comparison}
-use Rattle.prop_compare.specs.declared.filtering.Comparison.TheVariants.{Equal, Different, AtMost, Below}
+use Rattle.prop_compare.specs.declared.comparing.Comparison.{Comparison}
+use Rattle.prop_compare.specs.declared.comparing.Comparison.TheVariants.{Equal, Different, AtMost, Below}
 
 -- the argument is the variable of this number
 abbrev pub is_variable : Arg → ℕ → Bool
@@ -37,14 +37,14 @@ box_kept box a low high = box_with box a (values_within low high (left_to box a)
 abbrev pub AlikeBut : Arg → Arg → Box → Box → Type 0
 AlikeBut a b box other = (k : ℕ) → IsFalse (is_variable a k) → IsFalse (is_variable b k) → values_left other k ≡ values_left box k
 
--- two arguments of a constraint, not the same variable, that alone decide whether it keeps its ends
+-- two arguments of a constraint, not the same variable, that alone decide whether it keeps its ends, where each has values left
 pub record IsPair (g : Game) (c : Rule) (box : Box) (a b : Arg) : Type 0 where
   pub apart : IsFalse (same_variable a b)
   pub sees_first : IsTrue (arg_sees g.variables c.owner.0 a)
   pub sees_second : IsTrue (arg_sees g.variables c.owner.0 b)
   pub open_first : IsTrue (is_open box a)
   pub open_second : IsTrue (is_open box b)
-  pub own : (other : Box) → AlikeBut a b box other → IsTrue (keeps_arg c other a) → IsTrue (keeps_arg c other b) → IsTrue (keeps_ends other c)
+  pub own : (other : Box) → AlikeBut a b box other → IsFalse (is_none_left (left_to other a)) → IsFalse (is_none_left (left_to other b)) → IsTrue (keeps_arg c other a) → IsTrue (keeps_arg c other b) → IsTrue (keeps_ends other c)
 
 -- a test of what is left to both says when the constraint refutes
 abbrev pub IsTested : Rule → Box → Arg → Arg → (Values → Values → Bool) → Type 0

@@ -1,2 +1,4 @@
 pub mod Compared
 pub mod Keeping
+pub mod Telling
+pub mod Untold

@@ -10,6 +10,7 @@ ghost use Rattle.prop_base.specs.Pruning.{IsPruning, IsFiltered, is_just};
 ghost use Rattle.prop_compare.specs.Compared.{IsPair, IsTested, is_over};
 ghost use Rattle.prop_compare.specs.Keeping.{IsReducing};
 
+use crate::asking::are_one;
 use crate::emptying::empty_one;
 use crate::keeping::Keeping;
 use crate::narrowing::{narrow_both, take_out};
@@ -93,15 +94,6 @@ pub(crate) fn ordered(
 {
     let keep = ordered_ranges(a, b, gap, store);
     keep_ranges(problem, c, rule, a, b, keep, store, steps)
-}
-
-// Whether both have one value left, the same.
-fn are_one(a: Arg, b: Arg, store: &Store) -> bool
-    requires a { IsTrue (is_open store.now.box a) }
-    requires b { IsTrue (is_open store.now.box b) }
-    ensures { result ≡ are_one_value (left_to store.now.box a) (left_to store.now.box b) }
-{
-    is_fixed(a, store) && is_fixed(b, store) && least(a, store) == least(b, store)
 }
 
 // The second loses the one value of the first, wherever it stands.

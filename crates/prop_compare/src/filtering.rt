@@ -5,7 +5,7 @@ ghost use Rattle.qc_arguments.specs.Asked.{IsAsked};
 ghost use Rattle.prop_base.specs.Pruning.{IsPruning, IsFiltered, is_just};
 ghost use Rattle.prop_compare.specs.Compared.{meant_by};
 
-use crate::engines::{different, equal, ordered};
+use crate::comparing::{Comparison, compare};
 use crate::reading::is_same;
 use crate::table::Table;
 use fd_store::Store;
@@ -14,15 +14,6 @@ use prop_base::{Filtered, filter_by_ends};
 use qc_arguments::{arguments, one_at};
 use qc_model::{ConId, Constraint, Problem};
 use std::alloc::AllocError;
-
-/// The comparisons of two arguments.
-#[derive(Clone, Copy, PartialEq, Eq)]
-pub enum Comparison {
-    Equal,
-    Different,
-    AtMost,
-    Below,
-}
 
 /// Removes values as the comparison c refutes them, until a domain is empty or the constraint refutes the box with none
 /// of its own variables at its least or greatest value. After a refusal the steps appended are exactly the removals made.
@@ -47,10 +38,5 @@ pub fn filter_comparison(
     if is_same(a, b) {
         return filter_by_ends(&Table {}, problem, c, rule, store, steps);
     }
-    match comparison {
-        Comparison::Equal => equal(problem, c, rule, a, b, store, steps),
-        Comparison::Different => different(problem, c, rule, a, b, store, steps),
-        Comparison::AtMost => ordered(problem, c, rule, a, b, 0, store, steps),
-        Comparison::Below => ordered(problem, c, rule, a, b, 1, store, steps),
-    }
+    compare(problem, c, rule, comparison, a, b, store, steps)
 }

@@ -4,9 +4,15 @@
 //! has three layers. The first says by values alone what both arguments may keep: a range for each, or nothing, where the
 //! comparison is refuted. The second takes the other values out, in at most two steps for each argument. The third reads
 //! a constraint's arguments. A variable compared with itself goes end by end.
+//!
+//! A third argument may tell whether the comparison holds. Once it has one value, the comparison or its contrary is
+//! filtered. Before that, nothing goes but a value of its own, where the comparison can't hold or can't fail any more.
+//! `filter_telling` does the latter for whatever a last argument tells of, by two questions to the refuter.
 #![tactic(auto)]
 
+mod asking;
 mod common;
+mod comparing;
 mod emptying;
 mod engines;
 mod filtering;
@@ -14,7 +20,13 @@ mod keeping;
 mod narrowing;
 mod ranges;
 mod reading;
+mod reified;
 mod table;
+mod truths;
+mod untold;
 
-pub use filtering::{Comparison, filter_comparison};
+pub use comparing::Comparison;
+pub use filtering::filter_comparison;
+pub use reified::filter_reified;
 pub use table::Table;
+pub use untold::filter_telling;

@@ -33,8 +33,8 @@ pub(crate) fn equal_ranges(a: Arg, b: Arg, store: &Store) -> Option<Keeping>
     })
 }
 
-// A number, the gap higher, and the gap lower.
-fn raised(v: i64, gap: i64) -> i64
+/// A number, the gap higher.
+pub(crate) fn raised(v: i64, gap: i64) -> i64
     requires number { IsTrue (is_number v) }
     requires gap { IsTrue (is_truth gap) }
     ensures { result ≡ v +ℤ gap }
@@ -42,6 +42,7 @@ fn raised(v: i64, gap: i64) -> i64
     v + gap
 }
 
+// And the gap lower.
 fn lowered(v: i64, gap: i64) -> i64
     requires number { IsTrue (is_number v) }
     requires gap { IsTrue (is_truth gap) }

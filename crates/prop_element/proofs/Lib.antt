@@ -1,0 +1,9 @@
+pub mod Keeping
+pub mod Sets
+pub mod Shapes
+pub mod Moved
+pub mod LeastHulls
+pub mod GreatestHulls
+pub mod ItemTests
+pub mod Supports
+pub mod Told

@@ -1,9 +1,18 @@
 //! The filter of items of arrays, members of sets, rows of tables, and integers that are to differ.
 //!
-//! Integers that are to differ go by full ranges. The others go end by end, which is right for each of them, and slow.
+//! For some predicates it is found at once which numbers each variable may keep, from one to another. All others below
+//! or above go in one removal, and where each end of each variable may stay nothing is left to do. Integers that are to
+//! differ go by full ranges. The other predicates go end by end, which is right for each of them, and slow.
 #![tactic(auto)]
 
+mod elements;
 mod filtering;
-mod table;
+mod forms;
+mod greatest;
+mod hulls;
+mod least;
+mod members;
+mod reading;
+mod settling;
 
 pub use filtering::filter;

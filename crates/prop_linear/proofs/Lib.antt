@@ -13,3 +13,4 @@ pub mod Hits
 pub mod Last
 pub mod Marks
 pub mod Sided
+pub mod Told

@@ -1,6 +1,6 @@
 -- The predicates of sums.
 use Rattle.qc_model.specs.declared.problem.Pred.{Pred}
-use Rattle.qc_model.specs.declared.problem.Pred.TheVariants.{IntLinLe, IntLinEq, IntLinNe}
+use Rattle.qc_model.specs.declared.problem.Pred.TheVariants.{IntLinLe, IntLinEq, IntLinNe, IntLinLeReif, IntLinEqReif, IntLinNeReif}
 use Rattle.prop_linear.specs.declared.filtering.Relation.{Relation}
 use Rattle.prop_linear.specs.declared.filtering.Relation.TheVariants.{AtMost, Equal, Different}
 
@@ -9,3 +9,9 @@ abbrev pub sum_pred : Relation → Pred
 sum_pred AtMost = IntLinLe
 sum_pred Equal = IntLinEq
 sum_pred Different = IntLinNe
+
+-- and the one with a last argument that tells whether it is so
+abbrev pub told_pred : Relation → Pred
+told_pred AtMost = IntLinLeReif
+told_pred Equal = IntLinEqReif
+told_pred Different = IntLinNeReif

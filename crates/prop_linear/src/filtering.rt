@@ -3,7 +3,7 @@ ghost use Rattle.std.specs.Prelude.{◌≡◌, ◌<◌, length, IfOk, slice_get,
 ghost use Rattle.qc_model.specs.Content.{Rule};
 ghost use Rattle.qc_arguments.specs.Asked.{IsAsked};
 ghost use Rattle.prop_base.specs.Pruning.{IsPruning, IsFiltered, is_just};
-ghost use Rattle.prop_linear.specs.Relations.{sum_pred};
+ghost use Rattle.prop_linear.specs.Relations.{sum_pred, told_pred};
 
 use crate::at_most::filter_at_most;
 use crate::different::filter_sum_different;
@@ -11,7 +11,7 @@ use crate::equal::filter_sum_equal;
 use fd_store::Store;
 use proof_tree::StepList;
 use prop_base::{Filtered, filter_by_ends};
-use prop_compare::{Comparison, Table, filter_comparison};
+use prop_compare::{Comparison, Table, filter_comparison, filter_reified, filter_telling};
 use qc_arguments::{arguments, items_at, numbers_at, one_at};
 use qc_model::{Arg, ConId, Constraint, Pred, Problem};
 use std::alloc::{AllocError, Global};
@@ -54,6 +54,25 @@ fn filter_sum(
     }
 }
 
+// The last argument tells whether the sum is that.
+fn filter_told_sum(
+    problem: &Problem,
+    c: ConId,
+    rule: &Constraint,
+    relation: Relation,
+    store: &mut Store,
+    steps: &mut StepList,
+) -> Result<Filtered, AllocError>
+    requires pred { rule.now.pred ≡ told_pred relation }
+    requires c { slice_get problem.now.constraints c.0 ≡ Some rule.now }
+    requires asked { IsAsked problem.now rule.now store.old.box }
+    ensures pruning { IsPruning (is_just c.0) problem.now store.old store.new steps.old steps.new }
+    ensures answer { IfOk result (λ f. IsFiltered f rule.now store.new.box steps.old steps.new) }
+{
+    let _ = relation;
+    filter_telling(problem, c, rule, store, steps)
+}
+
 fn filter_rule(
     problem: &Problem,
     c: ConId,
@@ -74,6 +93,13 @@ fn filter_rule(
         Pred::IntLinLe => filter_sum(problem, c, rule, Relation::AtMost, store, steps),
         Pred::IntLinEq => filter_sum(problem, c, rule, Relation::Equal, store, steps),
         Pred::IntLinNe => filter_sum(problem, c, rule, Relation::Different, store, steps),
+        Pred::IntEqReif => filter_reified(problem, c, rule, Comparison::Equal, store, steps),
+        Pred::IntNeReif => filter_reified(problem, c, rule, Comparison::Different, store, steps),
+        Pred::IntLeReif => filter_reified(problem, c, rule, Comparison::AtMost, store, steps),
+        Pred::IntLtReif => filter_reified(problem, c, rule, Comparison::Below, store, steps),
+        Pred::IntLinLeReif => filter_told_sum(problem, c, rule, Relation::AtMost, store, steps),
+        Pred::IntLinEqReif => filter_told_sum(problem, c, rule, Relation::Equal, store, steps),
+        Pred::IntLinNeReif => filter_told_sum(problem, c, rule, Relation::Different, store, steps),
         _ => filter_by_ends(&Table {}, problem, c, rule, store, steps),
     }
 }

@@ -5,7 +5,9 @@ use Rattle.qc_model.specs.Content.{Rule}
 use Rattle.qc_model.specs.Domains.{Box}
 use Rattle.qc_arguments.proofs.Boxes.{seen_place}
 use Rattle.prop_base.specs.Closed.{keeps_arg}
+use Rattle.qc_model.specs.Refuted.{left_to}
 use Rattle.prop_compare.specs.Compared.{is_literal_arg}
+use Rattle.prop_compare.proofs.Kept.{some_left}
 use Rattle.prop_compare.proofs.Sides.{alike_same}
 use Rattle.prop_compare.proofs.Whole.{whole_cut, whole_emptied}
 use Rattle.prop_compare.proofs.emptying.empty_one.Goals as goal
@@ -20,7 +22,7 @@ returns-in_default-clause-answer c =
     let n = c.in_default.ensures.none in (
       c.requires.asked.full,
       refl,
-      c.requires.pair.own box (alike_same c.args.a c.args.b box) (literal_keeps c.args.rule.now box c.args.a n.0) (literal_keeps c.args.rule.now box c.args.b n.1),
+      c.requires.pair.own box (alike_same c.args.a c.args.b box) (some_left (left_to box c.args.a) c.requires.pair.open_first) (some_left (left_to box c.args.b) c.requires.pair.open_second) (literal_keeps c.args.rule.now box c.args.a n.0) (literal_keeps c.args.rule.now box c.args.b n.1),
     )
 
 pub prune-requires-clause-cut : goal.prune-requires-clause-cut

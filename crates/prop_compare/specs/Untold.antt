@@ -1,0 +1,19 @@
+-- Constraints whose last argument tells whether something holds, while it can tell both.
+use Rattle.std.specs.Prelude.{◌≡◌, [], ◌∷◌, length, pos, IsFalse}
+use Rattle.qc_model.specs.declared.problem.Arg.{Arg}
+use Rattle.qc_model.specs.Content.{Rule}
+use Rattle.qc_model.specs.Domains.{Box, has_empty}
+use Rattle.qc_model.specs.Refuted.{left_to, refuted_by}
+use Rattle.prop_base.specs.declared.answer.Filtered.{Filtered}
+use Rattle.prop_base.specs.declared.answer.Filtered.TheVariants.{Emptied, Stable, Changed}
+
+-- the constraint refutes no box for these variables, without an empty domain, that leaves both truth values to r
+abbrev pub RefutesNone : Rule → Box → Arg → Type 0
+RefutesNone c box r =
+    (other : Box) → length other ≡ length box → IsFalse (has_empty other) → left_to other r ≡ pos 0 ∷ pos 1 ∷ [] → IsFalse (refuted_by c other)
+
+-- what is answered where something was removed before
+abbrev pub after_change : Filtered → Filtered
+after_change Emptied = Emptied
+after_change Stable = Changed
+after_change Changed = Changed

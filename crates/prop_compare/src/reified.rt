@@ -1,0 +1,148 @@
+//! The filter of a comparison with a third argument that tells whether it holds.
+ghost use Rattle.std.specs.Prelude.{◌≡◌, IsTrue, IsFalse, IfOk, slice_get, Some};
+ghost use Rattle.qc_model.specs.declared.problem.Arg.TheVariants.{Var};
+ghost use Rattle.qc_model.specs.Domains.{is_single, values_left};
+ghost use Rattle.qc_model.specs.Meaning.{meaning_of, reified};
+ghost use Rattle.qc_model.specs.Refuted.{left_to};
+ghost use Rattle.qc_arguments.specs.Asked.{IsAsked};
+ghost use Rattle.prop_base.specs.Pruning.{IsPruning, IsFiltered, is_just};
+ghost use Rattle.prop_compare.specs.Compared.{is_literal_arg, meant_by};
+ghost use Rattle.prop_compare.specs.Telling.{IsTelling, are_tangled, refuting_as};
+
+use crate::asking::{is_entailed, is_refuted};
+use crate::comparing::{Comparison, compare, contrast};
+use crate::reading::{is_same, least};
+use crate::table::Table;
+use crate::truths::{loose, truth_cut};
+use fd_store::Store;
+use proof_tree::StepList;
+use prop_base::{Filtered, filter_by_ends, prune};
+use qc_arguments::{arguments, one_at};
+use qc_model::{Arg, ConId, Constraint, Problem, VarId};
+use std::alloc::AllocError;
+
+fn is_literal(a: Arg) -> bool
+    ensures { result ≡ is_literal_arg a }
+{
+    match a {
+        Arg::Num(_) => true,
+        Arg::Var(_) => false,
+    }
+}
+
+// Whether the first two are numbers, or two of the three are the same variable.
+fn is_tangled(a: Arg, b: Arg, r: Arg) -> bool
+    ensures { result ≡ are_tangled a b r }
+{
+    (is_literal(a) && is_literal(b)) || (is_same(a, b) || (is_same(a, r) || is_same(b, r)))
+}
+
+// The variable that tells can't tell this.
+fn lose_truth(
+    problem: &Problem,
+    c: ConId,
+    rule: &Constraint,
+    comparison: Comparison,
+    a: Arg,
+    b: Arg,
+    x: VarId,
+    told: bool,
+    store: &mut Store,
+    steps: &mut StepList,
+) -> Result<Filtered, AllocError>
+    requires c { slice_get problem.now.constraints c.0 ≡ Some rule.now }
+    requires asked { IsAsked problem.now rule.now store.old.box }
+    requires telling { IsTelling problem.now rule.now store.old.box comparison a b (Var x) }
+    requires both { IsFalse (is_single (values_left store.old.box x.0)) }
+    requires refuted { IsTrue (refuting_as comparison told (left_to store.old.box a) (left_to store.old.box b)) }
+    ensures pruning { IsPruning (is_just c.0) problem.now store.old store.new steps.old steps.new }
+    ensures answer { IfOk result (λ f. IsFiltered f rule.now store.new.box steps.old steps.new) }
+{
+    let cut = truth_cut(x, told);
+    prune(problem, c, rule, cut, store, steps)?;
+    Ok(Filtered::Changed)
+}
+
+// Both truth values are left to the variable that tells.
+fn settle(
+    problem: &Problem,
+    c: ConId,
+    rule: &Constraint,
+    comparison: Comparison,
+    a: Arg,
+    b: Arg,
+    x: VarId,
+    store: &mut Store,
+    steps: &mut StepList,
+) -> Result<Filtered, AllocError>
+    requires c { slice_get problem.now.constraints c.0 ≡ Some rule.now }
+    requires asked { IsAsked problem.now rule.now store.old.box }
+    requires telling { IsTelling problem.now rule.now store.old.box comparison a b (Var x) }
+    requires both { IsFalse (is_single (values_left store.old.box x.0)) }
+    ensures pruning { IsPruning (is_just c.0) problem.now store.old store.new steps.old steps.new }
+    ensures answer { IfOk result (λ f. IsFiltered f rule.now store.new.box steps.old steps.new) }
+{
+    if is_refuted(comparison, a, b, store) {
+        return lose_truth(problem, c, rule, comparison, a, b, x, true, store, steps);
+    }
+    if is_entailed(comparison, a, b, store) {
+        return lose_truth(problem, c, rule, comparison, a, b, x, false, store, steps);
+    }
+    Ok(Filtered::Stable)
+}
+
+// The three aren't tangled.
+fn filter_told(
+    problem: &Problem,
+    c: ConId,
+    rule: &Constraint,
+    comparison: Comparison,
+    a: Arg,
+    b: Arg,
+    r: Arg,
+    store: &mut Store,
+    steps: &mut StepList,
+) -> Result<Filtered, AllocError>
+    requires c { slice_get problem.now.constraints c.0 ≡ Some rule.now }
+    requires asked { IsAsked problem.now rule.now store.old.box }
+    requires telling { IsTelling problem.now rule.now store.old.box comparison a b r }
+    ensures pruning { IsPruning (is_just c.0) problem.now store.old store.new steps.old steps.new }
+    ensures answer { IfOk result (λ f. IsFiltered f rule.now store.new.box steps.old steps.new) }
+{
+    if let Some(x) = loose(r, store) {
+        return settle(problem, c, rule, comparison, a, b, x, store, steps);
+    }
+    if least(r, store) > 0 {
+        compare(problem, c, rule, comparison, a, b, store, steps)
+    } else {
+        contrast(problem, c, rule, comparison, a, b, store, steps)
+    }
+}
+
+/// Removes values as the constraint c refutes them, whose last argument tells whether the comparison of the first two
+/// holds, until a domain is empty or the constraint refutes the box with none of its own variables at its least or
+/// greatest value. After a refusal the steps appended are exactly the removals made.
+pub fn filter_reified(
+    problem: &Problem,
+    c: ConId,
+    rule: &Constraint,
+    comparison: Comparison,
+    store: &mut Store,
+    steps: &mut StepList,
+) -> Result<Filtered, AllocError>
+    requires meaning { meaning_of rule.now.pred ≡ reified (meant_by comparison) }
+    requires c { slice_get problem.now.constraints c.0 ≡ Some rule.now }
+    requires asked { IsAsked problem.now rule.now store.old.box }
+    ensures pruning { IsPruning (is_just c.0) problem.now store.old store.new steps.old steps.new }
+    ensures answer { IfOk result (λ f. IsFiltered f rule.now store.new.box steps.old steps.new) }
+{
+    problem.known();
+    let args = arguments(rule);
+    let a = one_at(args, 0);
+    let b = one_at(args, 1);
+    let r = one_at(args, 2);
+    if is_tangled(a, b, r) {
+        return filter_by_ends(&Table {}, problem, c, rule, store, steps);
+    }
+    filter_told(problem, c, rule, comparison, a, b, r, store, steps)
+}

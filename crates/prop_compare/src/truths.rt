@@ -1,0 +1,35 @@
+//! Truth values of the argument that tells.
+ghost use Rattle.std.specs.Prelude.{◌≡◌, IsTrue, IsFalse, IfNone, IfSome};
+ghost use Rattle.qc_model.specs.declared.problem.Arg.TheVariants.{Var};
+ghost use Rattle.qc_model.specs.Domains.{is_single, values_left};
+ghost use Rattle.qc_model.specs.Refuted.{left_to};
+ghost use Rattle.qc_refuter.specs.Met.{is_open};
+ghost use Rattle.prop_compare.specs.Telling.{truth_of};
+
+use fd_store::Store;
+use prop_base::Cut;
+use qc_model::{Arg, VarId};
+
+/// The variable, where it has more than one value.
+pub(crate) fn loose(r: Arg, store: &Store) -> Option<VarId>
+    requires { IsTrue (is_open store.now.box r) }
+    ensures none { IfNone result (IsTrue (is_single (left_to store.now.box r))) }
+    ensures variable { IfSome result (λ x. r ≡ Var x) }
+    ensures some { IfSome result (λ x. IsFalse (is_single (values_left store.now.box x.0))) }
+{
+    match r {
+        Arg::Num(_) => None,
+        Arg::Var(x) => { if store.is_fixed(x) { None } else { Some(x) } }
+    }
+}
+
+/// One truth value of x.
+pub(crate) fn truth_cut(x: VarId, told: bool) -> Cut
+    ensures { result ≡ record { x = x; lo = truth_of told; hi = truth_of told } }
+{
+    if told {
+        Cut { x, lo: 1, hi: 1 }
+    } else {
+        Cut { x, lo: 0, hi: 0 }
+    }
+}

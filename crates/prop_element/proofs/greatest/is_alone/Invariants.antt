@@ -1,0 +1,11 @@
+use Rattle.std.proofs.Common.{◌≡◌, ◌<◌, ℕ, false}
+use Rattle.std.specs.Prelude.{◌<ℤ◌}
+use Rattle.qc_model.specs.Domains.{greatest_value, least_value}
+use Rattle.qc_model.specs.Refuted.{left_to}
+use Rattle.prop_compare.specs.Compared.{same_variable}
+use Rattle.prop_element.specs.Extremes.{item_at}
+use Rattle.prop_element.proofs.greatest.is_alone.Given as goal
+
+abbrev pub invariant-loop-k : goal.invariant-loop-k
+invariant-loop-k l =
+    (j : ℕ) → j < l.k → same_variable (item_at l.items l.p) (item_at l.items j) ≡ false → greatest_value (left_to l.store.box (item_at l.items j)) <ℤ least_value (left_to l.store.box l.fn.m)

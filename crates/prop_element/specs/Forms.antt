@@ -1,0 +1,13 @@
+-- The constraints that are filtered by what each variable may keep.
+use Rattle.std.specs.Prelude.{◌≡◌}
+use Rattle.qc_model.specs.declared.problem.Pred.TheVariants.{SetIn, ArrayIntMinimum, ArrayIntMaximum}
+use Rattle.qc_model.specs.Content.{Rule}
+use Rattle.prop_element.specs.Elements.{IsElementRule}
+use Rattle.prop_element.specs.declared.forms.Form.{Form}
+use Rattle.prop_element.specs.declared.forms.Form.TheVariants.{Member, Least, Greatest, Element}
+
+abbrev pub IsOfForm : Form → Rule → Type 0
+IsOfForm Member c = c.pred ≡ SetIn
+IsOfForm Least c = c.pred ≡ ArrayIntMinimum
+IsOfForm Greatest c = c.pred ≡ ArrayIntMaximum
+IsOfForm Element c = IsElementRule c

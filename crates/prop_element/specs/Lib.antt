@@ -1,0 +1,5 @@
+pub mod Hulls
+pub mod Forms
+pub mod Members
+pub mod Extremes
+pub mod Elements
