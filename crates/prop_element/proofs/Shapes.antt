@@ -1,14 +1,15 @@
 -- The arguments of the predicates that are filtered by what each variable may keep.
-use Rattle.std.proofs.Common.{◌≡◌, ◌⊎◌, inl, inr, ℕ, ◌<◌, ◌≤◌, true, false, not, ◌&&◌, List, [], ◌∷◌, Option, None, Some, length, refl, sym, ap, ◌∙◌, subst, arith, ℤ}
+use Rattle.std.proofs.Common.{map, ◌≡◌, ◌⊎◌, inl, inr, ℕ, ◌<◌, ◌≤◌, true, false, not, ◌&&◌, List, [], ◌∷◌, Option, None, Some, length, refl, sym, ap, ◌∙◌, subst, arith, ℤ}
 use Rattle.std.specs.Prelude.{nat_le, nat_lt, pos}
-use Rattle.std.specs.List.{list_all}
+use Rattle.std.specs.List.{list_any, list_all}
+use Rattle.std.proofs.lemmas.List.{length-map}
 use Rattle.std.proofs.lemmas.Bool.{leb-true}
 use Rattle.std.proofs.lemmas.Bool.Decides.{nat_tests}
 use Rattle.qc_model.specs.declared.problem.Arg.{Arg}
 use Rattle.qc_model.specs.declared.problem.Argument.{Argument}
 use Rattle.qc_model.specs.declared.problem.Argument.TheVariants.{One, Many, Numbers, Members}
 use Rattle.qc_model.specs.declared.problem.Pred.{Pred}
-use Rattle.qc_model.specs.declared.problem.Pred.TheVariants.{SetIn, ArrayIntMinimum, ArrayIntMaximum, ArrayIntElement, ArrayBoolElement}
+use Rattle.qc_model.specs.declared.problem.Pred.TheVariants.{SetIn, ArrayIntMinimum, ArrayIntMaximum, ArrayIntElement, ArrayBoolElement, TableInt}
 use Rattle.qc_model.specs.declared.problem.Set.{Set}
 use Rattle.qc_model.specs.declared.problem.Variable.{Variable}
 use Rattle.qc_model.specs.declared.signature.ArgKind.{ArgKind}
@@ -17,7 +18,8 @@ use Rattle.qc_model.specs.Closed.{keeps_ends}
 use Rattle.qc_model.specs.Content.{Game, Rule}
 use Rattle.qc_model.specs.Domains.{Box, least_value, greatest_value}
 use Rattle.qc_model.specs.Arguments.{numbers as numbers_in}
-use Rattle.qc_model.specs.Left.{left_at, some_item_in}
+use Rattle.qc_model.specs.Left.{left_at, some_item_in, row_fits}
+use Rattle.qc_model.specs.Holds.{rows}
 use Rattle.qc_model.specs.Meaning.{element, meaning_of}
 use Rattle.qc_model.specs.Refuted.{left_to, refuted_as}
 use Rattle.qc_model.specs.Signature.{arg_kinds_of}
@@ -25,13 +27,14 @@ use Rattle.qc_model.specs.Valid.{is_number, is_truth, is_domain, is_set, is_of_s
 use Rattle.qc_model.proofs.Readable.{first, second, together}
 use Rattle.qc_arguments.specs.Asked.{IsAsked}
 use Rattle.qc_arguments.specs.Written.{arg_at, args_at, ints_at, set_at}
-use Rattle.qc_arguments.proofs.Written.{left_written, numbers_written}
+use Rattle.qc_arguments.proofs.Written.{left_written, lefts_written, numbers_written}
 use Rattle.qc_refuter.specs.Met.{lefts, is_open, is_met, are_met}
 use Rattle.qc_refuter.proofs.Ready.{rule_met}
 use Rattle.prop_base.specs.Closed.{keeps_arg, keeps_argument}
 use Rattle.prop_base.proofs.Keeps.{keeps_all}
 use Rattle.prop_compare.specs.Compared.{same_variable}
 use Rattle.prop_element.specs.Elements.{IsElement}
+use Rattle.prop_element.specs.Tables.{has_repeat, IsTable}
 use Rattle.prop_element.specs.Members.{IsMembership}
 use Rattle.prop_element.specs.Extremes.{IsLeast, IsGreatest}
 use Rattle.prop_element.proofs.ItemTests.{least_tests, greatest_tests}
@@ -318,4 +321,41 @@ element_is xs c h e s =
           (ap (list_all (keeps_argument c box)) t.is
           ∙ together (keeps_arg c box t.place) (keeps_arg c box t.last && true) (ap (λ l. keeps_arg c box (arg_at l 0)) (sym t.is) ∙ p)
           (together (keeps_arg c box t.last) true (ap (λ l. keeps_arg c box (arg_at l 2)) (sym t.is) ∙ q) refl));
+    }
+
+-- an array and numbers
+record IsOverRows (args : List Argument) : Type 0 where
+  items : List Arg
+  ns : List ℤ
+  is : args ≡ Many items ∷ Numbers ns ∷ []
+
+over_rows : (xs : List Variable) (c : Rule) → is_constraint xs c ≡ true → c.pred ≡ TableInt → IsOverRows c.args
+over_rows xs c h e =
+    let t = two_of xs integers numbers c.args (sorts_of xs c TableInt h e) in
+    let m = many_integers xs t.left t.left_is in
+    let n = some_numbers xs t.right t.right_is in
+    record { items = m.items; ns = n.ns; is = t.is ∙ (ap (λ z. z ∷ t.right ∷ []) m.is ∙ ap (λ z. Many m.items ∷ z ∷ []) n.is) }
+
+pub table_open : (g : Game) (c : Rule) (box : Box) → list_all (λ x. is_domain x.domain) g.variables ≡ true → IsAsked g c box → c.pred ≡ TableInt → list_all (is_open box) (args_at c.args 0) ≡ true
+table_open g c box d a e =
+    let t = over_rows g.variables c a.rule e in
+    let u = ap (are_met box) (sym t.is) ∙ rule_met g box d a.declared a.full c a.rule in
+    let v = first (is_met box (Many t.items)) (list_all is_number t.ns && true) u in
+    ap (λ l. list_all (is_open box) (args_at l 0)) t.is ∙ second (nat_le (length t.items) 1000) (list_all (is_open box) t.items) v
+
+pub table_is : (xs : List Variable) (c : Rule) → is_constraint xs c ≡ true → c.pred ≡ TableInt → has_repeat (args_at c.args 0) ≡ false → IsTable c (args_at c.args 0) (rows (length (args_at c.args 0)) (ints_at c.args 1))
+table_is xs c h e s =
+    let t = over_rows xs c h e in
+    let items = args_at c.args 0 in
+    record {
+      once = s;
+      refuted = λ box.
+          ap (λ p. refuted_as (meaning_of p) (lefts box c.args)) e
+          ∙ (ap (λ ds. not (list_any (row_fits ds) (rows (length ds) (numbers_in (lefts box c.args) 1)))) (lefts_written box c.args 0)
+          ∙ (ap (λ ns. not (list_any (row_fits (map (left_to box) items)) (rows (length (map (left_to box) items)) ns))) (numbers_written box c.args 1)
+          ∙ ap (λ w. not (list_any (row_fits (map (left_to box) items)) (rows w (ints_at c.args 1)))) (length-map items (left_to box))));
+      own = λ box q.
+          keeps_all c box
+          (ap (list_all (keeps_argument c box)) t.is
+          ∙ together (list_all (keeps_arg c box) t.items) true (ap (λ l. list_all (keeps_arg c box) (args_at l 0)) (sym t.is) ∙ q) refl);
     }

@@ -3,3 +3,4 @@ pub mod Forms
 pub mod Members
 pub mod Extremes
 pub mod Elements
+pub mod Tables

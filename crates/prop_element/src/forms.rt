@@ -1,9 +1,11 @@
 //! The predicates that are filtered by what each variable may keep.
 ghost use Rattle.std.specs.Prelude.{◌≡◌, ◌⊎◌, IfSome};
-ghost use Rattle.qc_model.specs.declared.problem.Pred.TheVariants.{ArrayIntElement, ArrayBoolElement};
+ghost use Rattle.qc_model.specs.declared.problem.Pred.TheVariants.{ArrayIntElement, ArrayBoolElement, TableInt};
 ghost use Rattle.prop_element.specs.Forms.{IsOfForm};
 
 use crate::elements::is_own_place;
+use crate::repeats::is_repeated;
+use qc_arguments::{arguments, items_at};
 use qc_model::{Constraint, Pred};
 
 /// What such a constraint is about.
@@ -13,6 +15,7 @@ pub enum Form {
     Least,
     Greatest,
     Element,
+    Row,
 }
 
 fn element_form(rule: &Constraint) -> Option<Form>
@@ -25,6 +28,16 @@ fn element_form(rule: &Constraint) -> Option<Form>
     Some(Form::Element)
 }
 
+fn table_form(rule: &Constraint) -> Option<Form>
+    requires { rule.now.pred ≡ TableInt }
+    ensures { IfSome result (λ form. IsOfForm form rule.now) }
+{
+    if is_repeated(items_at(arguments(rule), 0)) {
+        return None;
+    }
+    Some(Form::Row)
+}
+
 /// The form of a constraint that is filtered so.
 pub(crate) fn form_of(rule: &Constraint) -> Option<Form>
     ensures { IfSome result (λ form. IsOfForm form rule.now) }
@@ -35,6 +48,7 @@ pub(crate) fn form_of(rule: &Constraint) -> Option<Form>
         Pred::ArrayIntMaximum => Some(Form::Greatest),
         Pred::ArrayIntElement => element_form(rule),
         Pred::ArrayBoolElement => element_form(rule),
+        Pred::TableInt => table_form(rule),
         _ => None,
     }
 }

@@ -11,6 +11,7 @@ use crate::forms::Form;
 use crate::greatest::maximum_cut;
 use crate::least::minimum_cut;
 use crate::members::member_cut;
+use crate::tables::table_cut;
 use fd_store::Store;
 use proof_tree::StepList;
 use prop_base::{Cut, Filtered, prune};
@@ -29,6 +30,7 @@ fn next_cut(form: Form, problem: &Problem, rule: &Constraint, store: &Store) -> 
         Form::Least => minimum_cut(problem, rule, store),
         Form::Greatest => maximum_cut(problem, rule, store),
         Form::Element => element_cut(problem, rule, store),
+        Form::Row => table_cut(problem, rule, store),
     }
 }
 

@@ -1,0 +1,53 @@
+-- Constraints that say that items are a row of a table.
+use Rattle.std.specs.Prelude.{◌≡◌, ◌⊎◌, ℕ, Bool, false, not, ◌||◌, List, [], ◌∷◌, map, get_or, ℤ, pos, ◌≤ℤ◌, IsTrue, IsFalse}
+use Rattle.std.specs.List.{list_any, list_all}
+use Rattle.qc_model.specs.declared.problem.Arg.{Arg}
+use Rattle.qc_model.specs.declared.problem.Pred.TheVariants.{TableInt}
+use Rattle.qc_model.specs.Closed.{keeps_ends}
+use Rattle.qc_model.specs.Content.{Rule}
+use Rattle.qc_model.specs.Domains.{Values, Box}
+use Rattle.qc_model.specs.Left.{row_fits}
+use Rattle.qc_model.specs.Lists.{Among}
+use Rattle.qc_model.specs.Refuted.{left_to, refuted_by}
+use Rattle.qc_arguments.specs.Written.{args_at}
+use Rattle.prop_base.specs.Closed.{keeps_arg}
+use Rattle.prop_compare.specs.Compared.{same_variable}
+
+-- a variable stands twice
+abbrev pub has_repeat : List Arg → Bool
+has_repeat [] = false
+has_repeat (a ∷ xs) = list_any (same_variable a) xs || has_repeat xs
+
+-- a constraint that says no more than that the items are one of the rows; no variable stands twice
+pub record IsTable (c : Rule) (items : List Arg) (rs : List (List ℤ)) : Type 0 where
+  pub once : IsFalse (has_repeat items)
+  pub refuted : (box : Box) → refuted_by c box ≡ not (list_any (row_fits (map (left_to box) items)) rs)
+  pub own : (box : Box) → IsTrue (list_all (keeps_arg c box) items) → IsTrue (keeps_ends box c)
+
+-- such a constraint by its predicate
+pub record IsTableRule (c : Rule) : Type 0 where
+  pub pred : c.pred ≡ TableInt
+  pub once : IsFalse (has_repeat (args_at c.args 0))
+
+-- one of the rows, which fits what is left
+pub record IsFitting (ds : List Values) (rs : List (List ℤ)) (row : List ℤ) : Type 0 where
+  pub among : Among row rs
+  pub fits : IsTrue (row_fits ds row)
+
+-- no row fits
+abbrev pub NoRow : List Values → List (List ℤ) → Type 0
+NoRow ds rs = (row : List ℤ) → Among row rs → IsFalse (row_fits ds row)
+
+-- the rows that are left are among all, and no other fits
+pub record IsWalk (ds : List Values) (rs rest : List (List ℤ)) : Type 0 where
+  pub sub : (row : List ℤ) → Among row rest → Among row rs
+  pub none : (row : List ℤ) → IsFitting ds rs row → Among row rest
+
+-- it fits, and none that fits has a lesser entry at the place, or a greater one, but for the rows that weren't seen
+pub record IsLowestRow (ds : List Values) (rs : List (List ℤ)) (k : ℕ) (best : List ℤ) (rest : List (List ℤ)) : Type 0 where
+  pub fitting : IsFitting ds rs best
+  pub all : (row : List ℤ) → IsFitting ds rs row → (get_or best k (pos 0) ≤ℤ get_or row k (pos 0)) ⊎ Among row rest
+
+pub record IsHighestRow (ds : List Values) (rs : List (List ℤ)) (k : ℕ) (best : List ℤ) (rest : List (List ℤ)) : Type 0 where
+  pub fitting : IsFitting ds rs best
+  pub all : (row : List ℤ) → IsFitting ds rs row → (get_or row k (pos 0) ≤ℤ get_or best k (pos 0)) ⊎ Among row rest
