@@ -6,4 +6,5 @@ pub mod LeastHulls
 pub mod GreatestHulls
 pub mod ItemTests
 pub mod Supports
+pub mod Told
 pub mod Rows
