@@ -12,7 +12,7 @@ use Rattle.qc_model.proofs.SizeProducts.{domain_at}
 use Rattle.fd_store.specs.declared.table.Cell.{Cell}
 use Rattle.fd_store.specs.Added.{AddsCell}
 use Rattle.fd_store.specs.Places.{is_kept, cell_values, box_of}
-use Rattle.fd_store.specs.Sound.{IsCell, IsRight, IsPlace, IsSound}
+use Rattle.fd_store.specs.Sound.{IsCell, IsRight, IsPlace, IsSound, cells_left}
 use Rattle.fd_store.specs.Trail.{words_before, cells_before}
 use Rattle.fd_store.proofs.Counts.{count_agree}
 use Rattle.fd_store.proofs.Cells.{kept_same, values_same, map_agree, AgreeAt}
@@ -73,11 +73,19 @@ pub right_none : IsRight [] []
 right_none = record { few = omega arith; each = λ x c h e. absurd (omega arith); apart = λ x y c d l h p q. absurd (omega arith) }
 
 pub sound_start : (words : List ℕ) (cells : List Cell) → IsRight words cells → IsSound words cells []
-sound_start words cells r = record { places = All-nil (IsPlace (length cells)); past = λ k h. step k h }
+sound_start words cells r = record {
+  places = All-nil (IsPlace (length cells));
+  past = λ k h. step k h;
+  few = λ k h. none k h;
+}
   where
     step : (k : ℕ) → k ≤ 0 → IsRight (words_before (drop k []) words) (cells_before (drop k []) cells)
     step zero h = r
     step (suc k) h = r
+
+    none : (k : ℕ) → k ≤ 0 → k + cells_left (cells_before (drop k []) cells) ≤ cells_left cells
+    none zero h = omega arith
+    none (suc k) h = absurd (omega arith)
 
 -- the variables so far, and one more
 abbrev pub values_of : Variable → Values

@@ -11,7 +11,7 @@ use Rattle.fd_store.specs.declared.table.Cell.{Cell}
 use Rattle.fd_store.specs.declared.table.Change.{Change}
 use Rattle.fd_store.specs.Places.{is_set, is_kept, is_inside, cell_values, values_below, box_of}
 use Rattle.fd_store.specs.Trail.{words_before, cells_before}
-use Rattle.fd_store.specs.Sound.{IsCell, AreApart, IsRight, IsPlace, IsSound}
+use Rattle.fd_store.specs.Sound.{IsCell, AreApart, IsRight, IsPlace, IsSound, cells_left}
 use Rattle.fd_store.proofs.Counts.{count_agree}
 use Rattle.fd_store.proofs.Past.{words_kept, cells_kept}
 use Rattle.fd_store.proofs.Values.{values_agree, values_cut}
@@ -140,16 +140,27 @@ drop_end (e ∷ es) zero h = absurd (omega arith)
 drop_end (e ∷ es) (suc k) h = drop_end es k (omega arith)
 
 pub sound_push : (words now : List ℕ) (cells then : List Cell) (trail : List Change) (e : Change) → IsSound words cells trail → IsRight now then → length then ≡ length cells → e.var < length cells →
-    set now e.word e.bits ≡ words → set then e.var e.cell ≡ cells → IsSound now then (trail ++ e ∷ [])
-sound_push words now cells then trail e i r len h w c = record {
+    set now e.word e.bits ≡ words → set then e.var e.cell ≡ cells → cells_left then + 1 ≤ cells_left cells → IsSound now then (trail ++ e ∷ [])
+sound_push words now cells then trail e i r len h w c fewer = record {
   places = All-append (IsPlace (length then)) trail (e ∷ []) (subst (λ n. All (IsPlace n) trail) (sym len) i.places) (All-cons (IsPlace (length then)) e [] (omega arith) (All-nil (IsPlace (length then))));
   past = λ k l. elim (near k (length trail) (omega (arith, l, length-append trail (e ∷ [])))) [
     | inl q ↦ subst (λ ws. IsRight ws (cells_before (drop k (trail ++ e ∷ [])) then)) (sym (words_kept words now trail (e ∷ []) k q w))
         (subst (IsRight (words_before (drop k trail) words)) (sym (cells_kept cells then trail (e ∷ []) k q c)) (i.past k q))
     | inr q ↦ subst (λ ds. IsRight (words_before ds now) (cells_before ds then)) (sym (drop_all k q)) r
   ];
+  few = λ k l. elim (near k (length trail) (omega (arith, l, length-append trail (e ∷ [])))) [
+    | inl q ↦
+        let small = i.few k q in
+        omega (arith, small, first, ap cells_left (cells_kept cells then trail (e ∷ []) k q c))
+    | inr q ↦
+        let whole = i.few (length trail) (omega arith) in
+        omega (arith, whole, first, fewer, q, ap cells_left (ap (λ ds. cells_before ds then) (drop_all k q)), ap cells_left (ap (λ ds. cells_before ds cells) (drop_end trail (length trail) (omega arith))))
+  ];
 }
   where
+    first : cells_left (cells_before (trail ++ e ∷ []) then) ≡ cells_left (cells_before trail cells)
+    first = ap cells_left (cells_kept cells then trail (e ∷ []) 0 (omega arith) c)
+
     near : (k n : ℕ) → k ≤ n + 1 → (k ≤ n) ⊎ (k ≡ n + 1)
     near k n l = grind arith
 

@@ -5,7 +5,7 @@ use Rattle.std.proofs.lemmas.List.{drop_more, take-take, length_push, length-tak
 use Rattle.std.proofs.lemmas.List.Elements.{All-take}
 use Rattle.fd_store.specs.declared.table.Cell.{Cell}
 use Rattle.fd_store.specs.declared.table.Change.{Change}
-use Rattle.fd_store.specs.Sound.{IsPlace, IsRight, IsSound}
+use Rattle.fd_store.specs.Sound.{IsPlace, IsRight, IsSound, cells_left}
 use Rattle.fd_store.specs.Trail.{words_before, cells_before}
 use Rattle.fd_store.proofs.Past.{words_before-append, cells_before-append, length-cells_before}
 
@@ -42,6 +42,14 @@ sound_undone words cells es at h i =
           sym (cells_before-append (drop k (take at es)) (drop at es) cells) ∙ ap (λ ds. cells_before ds cells) whole in
           subst (λ u. IsRight u (cells_before (drop k (take at es)) (cells_before (drop at es) cells))) (sym ws)
           (subst (IsRight (words_before (drop k es) words)) (sym cs) (i.past k (omega arith)));
+      few = λ k l.
+          let whole : drop k (take at es) ++ drop at es ≡ drop k es = sym (drop-append-le k (take at es) (drop at es) l) ∙ ap (drop k) (take-append-drop at es) in
+          let here : cells_before (drop k (take at es)) (cells_before (drop at es) cells) ≡ cells_before (drop k es) cells =
+          sym (cells_before-append (drop k (take at es)) (drop at es) cells) ∙ ap (λ ds. cells_before ds cells) whole in
+          let first : cells_before (take at es) (cells_before (drop at es) cells) ≡ cells_before es cells =
+          sym (cells_before-append (take at es) (drop at es) cells) ∙ ap (λ ds. cells_before ds cells) (take-append-drop at es) in
+          let small = i.few k (omega arith) in
+          omega (arith, small, ap cells_left here, ap cells_left first);
     }
 
 -- the places of a trail without its last one

@@ -1,5 +1,5 @@
 -- What a store holds, as its callers see it.
-use Rattle.std.specs.Prelude.{◌≡◌, ◌≤◌, ◌+◌, ◌/◌, ℕ, cond, List, [], ◌∷◌, length, slice_index_or, ℤ, ◌-ℤ◌, nat_abs, int_lt, int_le, filter, Option, None, Some}
+use Rattle.std.specs.Prelude.{◌≡◌, ◌≤◌, ◌+◌, ◌/◌, ℕ, cond, List, [], ◌∷◌, length, sum_by, slice_index_or, ℤ, ◌-ℤ◌, nat_abs, int_lt, int_le, filter, Option, None, Some}
 use Rattle.std.specs.Int.{int_min, int_max}
 use Rattle.qc_model.specs.Domains.{Box, Values, is_none_left, least_value, greatest_value}
 use Rattle.fd_store.specs.declared.answer.Removed.{Removed}
@@ -17,6 +17,10 @@ trail_len s = length s.past
 -- the box that undoing the trail down to n gives; at the trail's length it is the box itself
 abbrev pub past_box : Held → ℕ → Box
 past_box s n = slice_index_or s.past n s.box
+
+-- how many values are left to all variables together
+abbrev pub count_left : Box → ℕ
+count_left box = sum_by length box
 
 -- t comes after s, and undoing leads from t back to s
 pub record Follows (s t : Held) : Type 0 where

@@ -1,5 +1,5 @@
 -- What is true of the words and cells of each store, now and at each place of its trail.
-use Rattle.std.specs.Prelude.{◌≡◌, ◌≤◌, ◌<◌, ℕ, ◌+◌, ◌-◌, ◌*◌, true, List, length, drop, All, slice_index_or, pos, negsuc, ◌+ℤ◌, ◌≤ℤ◌}
+use Rattle.std.specs.Prelude.{◌≡◌, ◌≤◌, ◌<◌, ℕ, ◌+◌, ◌-◌, ◌*◌, true, List, length, sum_by, drop, All, slice_index_or, pos, negsuc, ◌+ℤ◌, ◌≤ℤ◌}
 use Rattle.fd_store.specs.declared.table.Cell.{Cell}
 use Rattle.fd_store.specs.declared.table.Change.{Change}
 use Rattle.fd_store.specs.Places.{is_set, is_kept, count_below}
@@ -26,6 +26,10 @@ pub record IsRight (words : List ℕ) (cells : List Cell) : Type 0 where
   pub each : (x : ℕ) (c : Cell) → x < length cells → slice_index_or cells x c ≡ c → IsCell words c
   pub apart : AreApart cells
 
+-- how many values are left to all cells together
+abbrev pub cells_left : List Cell → ℕ
+cells_left cells = sum_by (λ c. c.size) cells
+
 -- a change of a cell that exists; a word that doesn't exist was not changed
 abbrev pub IsPlace : ℕ → Change → Type 0
 IsPlace cells e = e.var < cells
@@ -33,3 +37,5 @@ IsPlace cells e = e.var < cells
 pub record IsSound (words : List ℕ) (cells : List Cell) (trail : List Change) : Type 0 where
   pub places : All (IsPlace (length cells)) trail
   pub past : (k : ℕ) → k ≤ length trail → IsRight (words_before (drop k trail) words) (cells_before (drop k trail) cells)
+  -- each change took a value at least
+  pub few : (k : ℕ) → k ≤ length trail → k + cells_left (cells_before (drop k trail) cells) ≤ cells_left (cells_before trail cells)

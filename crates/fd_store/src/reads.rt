@@ -1,9 +1,11 @@
 //! What a table tells of one variable.
-ghost use Rattle.std.specs.Prelude.{◌≡◌, ◌<◌, ◌≤◌, false, true, length};
+ghost use Rattle.std.specs.Prelude.{◌≡◌, ◌<◌, ◌≤◌, ◌+◌, ℕ, false, true, length, drop};
 ghost use Rattle.std.specs.List.{list_all};
 ghost use Rattle.qc_model.specs.Valid.{is_number};
 ghost use Rattle.qc_model.specs.Domains.{values_left, is_none_left, least_value, greatest_value, has_value, is_ascending};
 ghost use Rattle.fd_store.specs.Held.{removal_need, values_from, values_up_to, least_of, greatest_of};
+ghost use Rattle.fd_store.specs.Sound.{cells_left};
+ghost use Rattle.fd_store.specs.Trail.{cells_before};
 ghost use Rattle.fd_store.specs.Takes.{IsSoundTable, box_in};
 
 use crate::cuts::{end_of, offset_of, place_of, value_at};
@@ -19,6 +21,12 @@ impl Table {
     {
         let _cell = self.cell(x);
     }
+
+    // Each change took a value at least.
+    pub(crate) fn trail_known(&self)
+        requires sound { IsSoundTable self.now }
+        ensures few { (k : ℕ) → k ≤ length self.now.trail.items → k + cells_left (cells_before (drop k self.now.trail.items) self.now.cells.items) ≤ cells_left (cells_before self.now.trail.items self.now.cells.items) }
+    {}
 
     // How many values are left.
     pub(crate) fn size(&self, x: usize) -> u32

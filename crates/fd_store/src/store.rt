@@ -1,9 +1,9 @@
 //! The store as its callers see it.
-ghost use Rattle.std.specs.Prelude.{◌≡◌, ◌<◌, ◌≤◌, ◌+◌, false, true, [], length, IfOk, OnOk};
+ghost use Rattle.std.specs.Prelude.{◌≡◌, ◌<◌, ◌≤◌, ◌+◌, ℕ, false, true, [], length, IfOk, OnOk};
 ghost use Rattle.qc_model.specs.Domains.{declared_box, values_left, is_none_left, least_value, greatest_value, has_value, is_single, is_ascending, box_without, values_within, values_outside};
 ghost use Rattle.std.specs.List.{list_all};
 ghost use Rattle.qc_model.specs.Valid.{is_number};
-ghost use Rattle.fd_store.specs.Held.{trail_len, past_box, removal, removal_need, Follows, IsUndone, values_from, values_up_to, least_of, greatest_of};
+ghost use Rattle.fd_store.specs.Held.{trail_len, past_box, removal, removal_need, count_left, Follows, IsUndone, values_from, values_up_to, least_of, greatest_of};
 
 use crate::answer::Removed;
 use crate::declare::declared;
@@ -158,6 +158,14 @@ impl Store {
         Mark {
             at: self.table.trail.len(),
         }
+    }
+
+    /// Each place of the trail took a value at least: a past place and the values left there are together at most the
+    /// values at the trail's beginning.
+    pub fn trail_known(&self)
+        ensures { (k : ℕ) → k ≤ trail_len self.now → k + count_left (past_box self.now k) ≤ count_left (past_box self.now 0) }
+    {
+        self.table.trail_known();
     }
 
     /// How many places of the trail are enough for this removal, at most 16,400: one for each word between the ends that
