@@ -23,13 +23,13 @@ use Rattle.qc_model.proofs.Readable.{first, second}
 use Rattle.qc_arguments.specs.Asked.{IsAsked}
 use Rattle.qc_arguments.specs.Written.{arg_at}
 use Rattle.qc_arguments.proofs.Written.{left_written}
+use Rattle.qc_arguments.proofs.Kept.{ordered}
 use Rattle.qc_refuter.specs.Met.{lefts, is_open, are_met}
 use Rattle.qc_refuter.proofs.Ready.{rule_met}
 use Rattle.prop_base.specs.Closed.{keeps_arg, keeps_argument}
 use Rattle.prop_base.proofs.Keeps.{keeps_all}
 use Rattle.prop_linear.specs.Sides.{IsBalanced, AreOwn}
 use Rattle.prop_linear.specs.Tightening.{term_of}
-use Rattle.prop_linear.proofs.Ends.{ordered}
 use Rattle.prop_linear.proofs.Sides.{opposite_times}
 use Rattle.prop_linear.proofs.Spread.{low_of, high_of}
 

@@ -5,10 +5,10 @@ ghost use Rattle.qc_arguments.specs.Asked.{IsAsked};
 ghost use Rattle.prop_base.specs.Pruning.{IsPruning, IsFiltered, is_just};
 
 use crate::plus::filter_plus;
-use crate::table::Table;
 use fd_store::Store;
 use proof_tree::StepList;
 use prop_base::{Filtered, filter_by_ends};
+use prop_compare::Table;
 use qc_model::{ConId, Constraint, Pred, Problem};
 use std::alloc::{AllocError, Global};
 

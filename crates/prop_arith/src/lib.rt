@@ -8,6 +8,5 @@
 
 mod filtering;
 mod plus;
-mod table;
 
 pub use filtering::filter;

@@ -12,6 +12,7 @@ use Rattle.qc_model.specs.Closed.{refutes_at, keeps_ends}
 use Rattle.qc_model.specs.Content.{Rule}
 use Rattle.qc_model.specs.Domains.{Values, Box, values_left, values_within, box_within, box_at, is_none_left, is_ascending, has_value}
 use Rattle.qc_model.specs.Refuted.{refuted_by}
+use Rattle.qc_arguments.proofs.Bools.{not_true}
 use Rattle.prop_base.specs.Closed.{keeps_at, keeps_arg, keeps_argument}
 use Rattle.qc_arguments.proofs.Values.{only_within}
 
@@ -20,10 +21,6 @@ stays vs v a h = ap is_none_left (only_within v vs a h)
 
 pub within_one : (box : Box) (x : ℕ) (v : ℤ) → is_ascending (values_left box x) ≡ true → has_value (values_left box x) v ≡ true → box_within box x v v ≡ box_at box x v
 within_one box x v a h = ap (set box x) (only_within v (values_left box x) a h)
-
-not_true : (b : Bool) → b ≡ false → not b ≡ true
-not_true true h = cc
-not_true false h = refl
 
 pub keeps_end : (c : Rule) (box : Box) (x : ℕ) (v w : ℤ) → v ≡ w → is_ascending (values_left box x) ≡ true → has_value (values_left box x) w ≡ true → refuted_by c (box_within box x v v) ≡ false →
     not (refutes_at c box x w) ≡ true

@@ -2,3 +2,4 @@ pub mod Steps
 pub mod Keeps
 pub mod Widening
 mod OneEnd
+pub mod Whole

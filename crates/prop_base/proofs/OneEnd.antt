@@ -11,9 +11,9 @@ use Rattle.qc_model.specs.Valid.{is_number, is_domain}
 use Rattle.qc_arguments.specs.Asked.{IsAsked}
 use Rattle.qc_arguments.proofs.Boxes.{some_left, sub_ascending, value_small}
 use Rattle.qc_arguments.proofs.Values.{has_least, has_greatest}
+use Rattle.qc_arguments.proofs.Kept.{ordered}
 use Rattle.prop_base.specs.Closed.{IsCut}
 use Rattle.prop_base.proofs.Keeps.{stays}
-use Rattle.prop_base.proofs.Widening.{ordered}
 
 -- what is known of x, of which v is read as an end
 pub record IsEnd (g : Game) (r : Rule) (box : Box) (x : VarId) (v : ℤ) : Type 0 where

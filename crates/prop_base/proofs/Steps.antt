@@ -10,6 +10,7 @@ use Rattle.qc_model.specs.Content.{Game, Rule}
 use Rattle.qc_model.specs.Domains.{Values, Box, values_left, values_within, values_outside, box_within, box_without, is_none_left, has_empty, is_within, is_sub_box}
 use Rattle.qc_model.specs.Valid.{is_number}
 use Rattle.qc_model.proofs.Readable.{first, second, together}
+use Rattle.qc_arguments.proofs.Bools.{not_true, not_false}
 use Rattle.proof_tree.specs.declared.tree.Step.{Step}
 use Rattle.proof_tree.specs.declared.tree.Step.TheVariants.{Prune, Bound}
 use Rattle.proof_tree.specs.Steps.{removes_some, after_step, after_steps}
@@ -65,10 +66,6 @@ pruning_more ok g s t u a b c p q = record {
 -- one removal
 same_number : (k : ℕ) → (k == k) ≡ true
 same_number k = grind (arith, nat_tests)
-
-not_true : (b : Bool) → b ≡ false → not b ≡ true
-not_true true h = cc
-not_true false h = refl
 
 pub pruning_cut : (g : Game) (r : Rule) (s t : Held) (a b : List Step) (k : Cut) (c : ConId) → slice_get g.constraints c.0 ≡ Some r → has_empty s.box ≡ false → IsCut r s.box k →
     t.box ≡ box_without s.box k.x.0 k.lo k.hi → Follows s t → b ≡ a ++ Prune k.x k.lo k.hi c ∷ [] → IsPruning (is_just c.0) g s t a b
@@ -129,10 +126,6 @@ cut_smaller : (box : Box) (x : ℕ) (lo hi : ℤ) → is_none_left (values_withi
 cut_smaller box x lo hi k =
     let both = length-filter_both (is_within lo hi) (λ v. not (is_within lo hi v)) (λ v. refl) (values_left box x) in
     total_set box x (values_outside lo hi (values_left box x)) (within_box box x lo hi k) (omega (arith, both, some_length (values_within lo hi (values_left box x)) k))
-
-not_false : (b : Bool) → not b ≡ true → b ≡ false
-not_false true h = cc
-not_false false h = refl
 
 -- what a step that passes has
 removed_some : (ok : ℕ → Bool) (g : Game) (x : VarId) (lo hi : ℤ) (c : ConId) (box : Box) → is_pruned_by ok g (Prune x lo hi c) box ≡ true → is_none_left (values_within lo hi (values_left box x.0)) ≡ false

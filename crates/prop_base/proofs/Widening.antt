@@ -1,30 +1,14 @@
 -- Ranges that grow at one end.
-use Rattle.std.proofs.Common.{◌≡◌, ℕ, ◌≤◌, Bool, true, false, ◌||◌, cond, [], ◌∷◌, inl, inr, refl, sym, subst, arith, ℤ}
-use Rattle.std.specs.Prelude.{pos, ◌+ℤ◌, ◌-ℤ◌, ◌≤ℤ◌, unsigned_abs}
-use Rattle.std.specs.Ordering.{int_eq}
+use Rattle.std.proofs.Common.{◌≡◌, ℕ, ◌≤◌, Bool, true, false, cond, [], ◌∷◌, refl, sym, subst, arith, ℤ}
+use Rattle.std.specs.Prelude.{pos, ◌+ℤ◌, ◌-ℤ◌, ◌≤ℤ◌}
 use Rattle.std.proofs.lemmas.Int.{ints}
-use Rattle.std.proofs.lemmas.Bool.{leb-true}
-use Rattle.std.proofs.lemmas.Bool.Decides.{Decides-int_eq, nat_tests}
 use Rattle.qc_model.specs.Content.{Rule}
-use Rattle.qc_model.specs.Domains.{Values, Box, values_left, values_within, is_within, is_none_left, has_value, least_value, greatest_value}
-use Rattle.qc_model.specs.Lists.{Among}
+use Rattle.qc_model.specs.Domains.{Values, Box, values_left, values_within, is_within, is_none_left}
 use Rattle.qc_model.specs.Valid.{is_number}
-use Rattle.qc_model.proofs.Sound.{lo_of}
-use Rattle.qc_arguments.proofs.Values.{has_greatest}
+use Rattle.qc_arguments.proofs.Kept.{small_between}
 use Rattle.prop_base.specs.declared.cuts.Cut.{Cut}
 use Rattle.prop_base.specs.Closed.{IsCut}
 use Rattle.prop_base.specs.Wider.{wider, refutes_range}
-
-among_of : (v : ℤ) (vs : Values) → has_value vs v ≡ true → Among v vs
-among_of v [] h = cc
-among_of v (x ∷ vs) h = by (int_eq v x) (Decides-int_eq v x).0 (among_of v vs) h
-  where
-    by : (b : Bool) → (b ≡ true → v ≡ x) → (has_value vs v ≡ true → Among v vs) → (b || has_value vs v) ≡ true → Among v (x ∷ vs)
-    by true e f h = inl (e refl)
-    by false e f h = inr (f h)
-
-pub ordered : (vs : Values) → is_none_left vs ≡ false → least_value vs ≤ℤ greatest_value vs
-ordered vs n = lo_of (greatest_value vs) vs (among_of (greatest_value vs) vs (has_greatest vs n))
 
 -- a range in another has no value that the other has not
 some_more : (lo hi low high : ℤ) (vs : Values) → low ≤ℤ lo → hi ≤ℤ high → is_none_left (values_within lo hi vs) ≡ false → is_none_left (values_within low high vs) ≡ false
@@ -52,12 +36,6 @@ same v = grind (arith, ints)
 pub wider_some : (after : Bool) (k : Cut) (n : ℕ) (vs : Values) → is_none_left (values_within k.lo k.hi vs) ≡ false → is_none_left (values_within (wider after k n).lo (wider after k n).hi vs) ≡ false
 wider_some true k n vs h = some_more k.lo k.hi k.lo (k.hi +ℤ pos n) vs (same k.lo) (high_up k.hi n) h
 wider_some false k n vs h = some_more k.lo k.hi (k.lo -ℤ pos n) k.hi vs (low_down k.lo n) (same k.hi) h
-
-small_between : (a b v : ℤ) → is_number a ≡ true → is_number b ≡ true → a ≤ℤ v → v ≤ℤ b → is_number v ≡ true
-small_between a b v h k l m = by (leb-true (unsigned_abs a) 1000000000 h) (leb-true (unsigned_abs b) 1000000000 k)
-  where
-    by : unsigned_abs a ≤ 1000000000 → unsigned_abs b ≤ 1000000000 → is_number v ≡ true
-    by p q = grind (arith, nat_tests, ints)
 
 less_down : (lo : ℤ) (n m : ℕ) → n ≤ m → (lo -ℤ pos m) ≤ℤ (lo -ℤ pos n)
 less_down lo n m h = grind (arith, ints)

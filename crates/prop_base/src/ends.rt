@@ -11,12 +11,12 @@ ghost use Rattle.prop_base.specs.Pruning.{IsPruning, IsFiltered, is_just};
 
 use crate::answer::Filtered;
 use crate::cuts::Cut;
-use crate::ranges::{widest, width};
+use crate::ranges::widest;
 use crate::refuting::Refuter;
 use crate::removal::prune;
 use fd_store::Store;
 use proof_tree::StepList;
-use qc_arguments::arguments;
+use qc_arguments::{arguments, width};
 use qc_model::{Arg, Argument, ConId, Constraint, Problem, VarId};
 use std::alloc::AllocError;
 

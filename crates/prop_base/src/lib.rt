@@ -3,11 +3,13 @@
 //! A filter removes values that a constraint refutes, and writes a step for each removal. `prune` does one removal; every
 //! filter goes through it. `filter_by_ends` serves any predicate: it tries the least and the greatest value of each
 //! variable of the constraint by a refuter, and removes those that are refuted, each with as many values beside it as are
-//! refuted as one range, until none is. Faster filters take its place one by one; their contract is the same.
+//! refuted as one range, until none is. Faster filters take its place one by one; their contract is the same. Where they
+//! find that a constraint refutes the whole box, `empty_first` takes all values of one variable.
 #![tactic(auto)]
 
 mod answer;
 mod cuts;
+mod emptying;
 mod ends;
 mod ranges;
 mod refuting;
@@ -15,6 +17,7 @@ mod removal;
 
 pub use answer::Filtered;
 pub use cuts::Cut;
+pub use emptying::{empty_first, first_variable};
 pub use ends::filter_by_ends;
 pub use refuting::Refuter;
 pub use removal::prune;

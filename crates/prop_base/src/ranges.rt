@@ -15,17 +15,6 @@ use crate::refuting::Refuter;
 use fd_store::Store;
 use qc_model::{Constraint, Problem};
 
-/// How far the second number is above the first.
-pub(crate) fn width(low: i64, high: i64) -> u32
-    requires low { IsTrue (is_number low) }
-    requires high { IsTrue (is_number high) }
-    requires order { low ≤ℤ high }
-    ensures value { low +ℤ pos result ≡ high }
-    ensures small { result ≤ 2000000000 }
-{
-    (high - low) as u32
-}
-
 // The range with so many numbers more, after it or before it.
 fn widened(range: Cut, after: bool, more: u32) -> Cut
     requires low { IsTrue (is_number range.lo) }

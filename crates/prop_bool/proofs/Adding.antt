@@ -11,8 +11,8 @@ use Rattle.qc_model.specs.Holds.{same_truth}
 use Rattle.qc_model.specs.Left.{is_only}
 use Rattle.qc_model.specs.Refuted.{left_to}
 use Rattle.qc_model.proofs.Readable.{first, second, together}
-use Rattle.prop_compare.specs.Compared.{is_variable, same_variable}
-use Rattle.prop_compare.proofs.Kept.{never}
+use Rattle.qc_arguments.specs.Repeats.{is_variable, same_variable}
+use Rattle.qc_arguments.proofs.Bools.{never, or_left, or_right}
 use Rattle.prop_bool.specs.declared.chances.Chance.{Chance}
 use Rattle.prop_bool.specs.declared.literals.Literal.{Literal}
 use Rattle.prop_bool.specs.Literals.{truth_number, both_truths, surely_holds, surely_fails, IsUnfixed, same_literal}
@@ -48,14 +48,6 @@ fails_stays box y v l k h =
 pub all_weaker : (p q : Literal → Bool) → ((l : Literal) → p l ≡ true → q l ≡ true) → (ls : List Literal) → list_all p ls ≡ true → list_all q ls ≡ true
 all_weaker p q f [] h = refl
 all_weaker p q f (l ∷ ls) h = together (q l) (list_all q ls) (f l (first (p l) (list_all p ls) h)) (all_weaker p q f ls (second (p l) (list_all p ls) h))
-
-pub or_left : (a b : Bool) → a ≡ true → (a || b) ≡ true
-or_left true b h = refl
-or_left false b h = cc
-
-pub or_right : (a b : Bool) → b ≡ true → (a || b) ≡ true
-or_right true b h = refl
-or_right false b h = h
 
 pub any_weaker : (p q : Literal → Bool) → ((l : Literal) → p l ≡ true → q l ≡ true) → (ls : List Literal) → list_any p ls ≡ true → list_any q ls ≡ true
 any_weaker p q f [] h = cc

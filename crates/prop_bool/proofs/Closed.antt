@@ -1,5 +1,5 @@
 -- Constraints that no value of a variable, given alone, makes refute the box.
-use Rattle.std.proofs.Common.{◌≡◌, ℕ, ◌<◌, true, false, not, ◌&&◌, List, [], ◌∷◌, length, set, refl, ℤ}
+use Rattle.std.proofs.Common.{◌≡◌, ℕ, ◌<◌, true, false, not, List, [], ◌∷◌, length, set, refl, ℤ}
 use Rattle.std.specs.List.{list_all}
 use Rattle.qc_model.specs.declared.problem.Arg.{Arg}
 use Rattle.qc_model.specs.declared.problem.Arg.TheVariants.{Var, Num}
@@ -8,17 +8,16 @@ use Rattle.qc_model.specs.declared.problem.Argument.TheVariants.{One, Many, Numb
 use Rattle.qc_model.specs.Closed.{keeps_ends, refutes_at}
 use Rattle.qc_model.specs.Content.{Game, Rule}
 use Rattle.qc_model.specs.Domains.{Box, values_left, has_value, least_value, greatest_value}
-use Rattle.qc_model.specs.Meaning.{meaning_of}
 use Rattle.qc_model.specs.Refuted.{refuted_by}
-use Rattle.qc_model.specs.Signature.{arg_kinds_of}
-use Rattle.qc_model.specs.Valid.{arg_sees, argument_sees, are_of_sorts, have_lengths}
+use Rattle.qc_model.specs.Valid.{arg_sees, argument_sees}
 use Rattle.qc_model.proofs.Readable.{first, second, together}
 use Rattle.qc_arguments.specs.Asked.{IsAsked}
 use Rattle.qc_arguments.proofs.Boxes.{some_left, seen_place}
 use Rattle.qc_arguments.proofs.Values.{has_least, has_greatest}
+use Rattle.qc_arguments.proofs.Bools.{not_true}
 use Rattle.prop_base.specs.Closed.{keeps_at, keeps_arg, keeps_argument}
 use Rattle.prop_base.proofs.Keeps.{keeps_all}
-use Rattle.prop_compare.proofs.Kept.{not_true}
+use Rattle.prop_base.proofs.Whole.{all_seen}
 
 abbrev pub NeverRefuted : Rule → Box → Type 0
 NeverRefuted c box = (y : ℕ) (v : ℤ) → has_value (values_left box y) v ≡ true → refuted_by c (set box y (v ∷ [])) ≡ false
@@ -52,10 +51,6 @@ kept_arguments g c box a f [] h = refl
 kept_arguments g c box a f (b ∷ bs) h =
     let sees = argument_sees g.variables c.owner.0 in
     together (keeps_argument c box b) (list_all (keeps_argument c box) bs) (kept_argument g c box a f b (first (sees b) (list_all sees bs) h)) (kept_arguments g c box a f bs (second (sees b) (list_all sees bs) h))
-
-pub all_seen : (g : Game) (c : Rule) (box : Box) → IsAsked g c box → list_all (argument_sees g.variables c.owner.0) c.args ≡ true
-all_seen g c box a =
-    second (are_of_sorts g.variables (arg_kinds_of c.pred) c.args && have_lengths (meaning_of c.pred) c.args) (list_all (argument_sees g.variables c.owner.0) c.args) a.rule
 
 pub closed_by : (g : Game) (c : Rule) (box : Box) → IsAsked g c box → NeverRefuted c box → keeps_ends box c ≡ true
 closed_by g c box a f = keeps_all c box (kept_arguments g c box a f c.args (all_seen g c box a))

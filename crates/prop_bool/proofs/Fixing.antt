@@ -11,7 +11,7 @@ use Rattle.qc_model.specs.Refuted.{left_to}
 use Rattle.qc_arguments.specs.Asked.{IsAsked}
 use Rattle.qc_arguments.proofs.Boxes.{sub_ascending, sub_within, set_full}
 use Rattle.prop_base.proofs.Keeps.{within_one}
-use Rattle.prop_compare.specs.Compared.{is_variable}
+use Rattle.qc_arguments.specs.Repeats.{is_variable}
 use Rattle.prop_bool.proofs.Truths.{only_value}
 
 pub has_place : (box : Box) (y : ℕ) (v : ℤ) → has_value (values_left box y) v ≡ true → y < length box

@@ -9,7 +9,7 @@ use Rattle.qc_model.specs.Left.{is_only}
 use Rattle.qc_model.specs.Refuted.{left_to, refuted_by}
 use Rattle.qc_model.specs.Valid.{is_truth}
 use Rattle.qc_arguments.specs.Asked.{IsAsked}
-use Rattle.prop_compare.specs.Compared.{same_variable}
+use Rattle.qc_arguments.specs.Repeats.{same_variable}
 use Rattle.prop_bool.specs.declared.literals.Literal.{Literal}
 
 -- the number of a truth value

@@ -1,13 +1,13 @@
 //! What the disjunction of some literals comes to.
 ghost use Rattle.std.specs.Prelude.{◌≡◌, ◌≤◌, ◌+◌, ◌++◌, ◌∷◌, [], IsTrue, List, length};
-ghost use Rattle.std.specs.List.{list_all, list_any};
+ghost use Rattle.std.specs.List.{list_all};
 ghost use Rattle.prop_bool.specs.Findings.{StandsAny};
 ghost use Rattle.prop_bool.specs.Literals.{is_opposed, is_truth_at, literals};
 ghost use Rattle.prop_bool.specs.declared.literals.Literal.{Literal};
-ghost use Rattle.prop_compare.specs.Compared.{same_variable};
 
 use crate::literals::{Literal, Standing, literal_at, standing_of};
 use fd_store::Store;
+use qc_arguments::is_among;
 use qc_model::Arg;
 
 // With one literal more.
@@ -43,36 +43,13 @@ pub(crate) fn outcome_of(plain: &[Arg], negated: &[Arg], store: &Store) -> Stand
     outcome
 }
 
-fn is_same_variable(a: Arg, b: Arg) -> bool
-    ensures { result ≡ same_variable a b }
-{
-    match a {
-        Arg::Num(_) => false,
-        Arg::Var(x) => match b {
-            Arg::Num(_) => false,
-            Arg::Var(y) => y.0 == x.0,
-        },
-    }
-}
-
-fn stands_in(a: Arg, items: &[Arg]) -> bool
-    ensures { result ≡ list_any (same_variable a) items.now }
-{
-    for item in items {
-        if is_same_variable(a, *item) {
-            return true;
-        }
-    }
-    false
-}
-
 /// Whether the variable of the head stands among the literals as its negation.
 pub(crate) fn is_opposed_by(plain: &[Arg], negated: &[Arg], head: Literal) -> bool
     ensures { result ≡ is_opposed plain.now negated.now head }
 {
     if head.positive {
-        stands_in(head.arg, negated)
+        is_among(head.arg, negated)
     } else {
-        stands_in(head.arg, plain)
+        is_among(head.arg, plain)
     }
 }

@@ -1,6 +1,6 @@
 -- The tests of comparisons: they stay true of fewer values, and never both refute and entail.
 use Rattle.std.proofs.Common.{◌≡◌, ◌⊎◌, inl, inr, Bool, true, false, not, ◌&&◌, ◌||◌, [], ◌∷◌, Option, Some, None, refl, sym, ap, ◌∙◌, subst, ℤ, arith}
-use Rattle.std.specs.Prelude.{IfNone, IfSome, is_some, pos, ◌+ℤ◌, ◌≤ℤ◌, ◌<ℤ◌, int_lt}
+use Rattle.std.specs.Prelude.{IfNone, IfSome, is_some, pos, ◌+ℤ◌, ◌≤ℤ◌, int_lt}
 use Rattle.std.specs.List.{list_all}
 use Rattle.std.specs.Ordering.{int_eq}
 use Rattle.std.proofs.lemmas.Int.{ints}
@@ -10,15 +10,17 @@ use Rattle.qc_model.specs.Left.{are_one_value}
 use Rattle.qc_model.specs.Valid.{is_truth}
 use Rattle.qc_model.proofs.Readable.{first, second}
 use Rattle.qc_model.proofs.Sound.{misses_apart}
-use Rattle.qc_arguments.proofs.Values.{has_first, has_least}
+use Rattle.qc_arguments.proofs.Values.{has_least}
+use Rattle.qc_arguments.proofs.Kept.{among_of, low_end, high_end, lower, reaches, is_lower}
+use Rattle.qc_arguments.proofs.Bools.{never}
+use Rattle.qc_refuter.proofs.Domains.{none_common, some_common, some_left, ascending_left}
 use Rattle.qc_refuter.specs.Met.{is_domain_left}
-use Rattle.qc_refuter.proofs.Seen.{among_of}
 use Rattle.prop_compare.specs.Compared.{is_over}
-use Rattle.prop_compare.specs.Keeping.{IsLeastCommon}
+use Rattle.qc_refuter.specs.Commons.{IsLeastCommon}
 use Rattle.prop_compare.specs.Telling.{refuting, entailing, truth_of, refuting_as, is_mistold}
 use Rattle.prop_compare.specs.declared.comparing.Comparison.{Comparison}
 use Rattle.prop_compare.specs.declared.comparing.Comparison.TheVariants.{Equal, Different, AtMost, Below}
-use Rattle.prop_compare.proofs.Kept.{low_end, high_end, none_common, some_common, single_value, lower, reaches, is_lower, never, some_left, ascending_left}
+use Rattle.prop_compare.proofs.Kept.{single_value}
 use Rattle.prop_compare.proofs.Losing.{swapped}
 
 -- values in common

@@ -1,19 +1,17 @@
 -- A last argument that is a truth value.
-use Rattle.std.proofs.Common.{◌≡◌, Bool, true, false, not, ◌&&◌, ◌||◌, List, [], ◌∷◌, Option, Some, None, map, length, refl, sym, ap, ◌∙◌, subst}
+use Rattle.std.proofs.Common.{◌≡◌, Bool, true, false, not, ◌&&◌, ◌||◌, List, [], ◌∷◌, Option, Some, None, length, refl, sym, ap, ◌∙◌, subst}
 use Rattle.std.specs.Prelude.{pos}
 use Rattle.std.specs.List.{list_all}
 use Rattle.qc_model.specs.declared.problem.Arg.{Arg}
-use Rattle.qc_model.specs.declared.problem.Arg.TheVariants.{Num}
 use Rattle.qc_model.specs.declared.problem.Argument.{Argument}
 use Rattle.qc_model.specs.declared.problem.Argument.TheVariants.{One}
 use Rattle.qc_model.specs.declared.problem.Variable.{Variable}
-use Rattle.qc_model.specs.Arguments.{fill, as_one, last_of}
+use Rattle.qc_model.specs.Arguments.{last_of}
 use Rattle.qc_model.specs.Content.{Game, Rule}
-use Rattle.qc_model.specs.Domains.{Values, Box, has_value, has_empty}
+use Rattle.qc_model.specs.Domains.{Box, has_value, has_empty}
 use Rattle.qc_model.specs.Entailed.{entailed_as}
-use Rattle.qc_model.specs.Left.{last_left}
 use Rattle.qc_model.specs.Meaning.{Meaning, reified, meaning_of}
-use Rattle.qc_model.specs.Refuted.{left_to, refuted_as, refuted_by}
+use Rattle.qc_model.specs.Refuted.{left_to, refuted_as}
 use Rattle.qc_model.specs.declared.signature.ArgKind.{ArgKind}
 use Rattle.qc_model.specs.declared.signature.ArgKind.TheVariants.{Boolean}
 use Rattle.qc_model.specs.Signature.{arg_kinds_of}

@@ -1,12 +1,10 @@
 pub mod Kept
-pub mod Commons
 pub mod Sides
 pub mod Reduced
 pub mod Reducing
 pub mod Narrowed
 pub mod Losing
 pub mod Rows
-pub mod Whole
 pub mod Decided
 pub mod Told
 pub mod Three

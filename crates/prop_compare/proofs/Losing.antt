@@ -14,10 +14,14 @@ use Rattle.qc_model.specs.Left.{are_one_value}
 use Rattle.qc_model.specs.Refuted.{left_to, refuted_by}
 use Rattle.qc_model.proofs.Readable.{first}
 use Rattle.qc_arguments.proofs.Values.{has_first, only_within, has_greatest}
+use Rattle.qc_arguments.proofs.Bools.{never, bools_same, not_true}
+use Rattle.qc_arguments.proofs.Kept.{lower, keeps, some_of, least_kept, greatest_kept, at_least, at_most}
+use Rattle.qc_refuter.proofs.Domains.{some_left, ascending_left}
 use Rattle.qc_refuter.specs.Met.{is_domain_left}
 use Rattle.prop_compare.specs.Compared.{box_with, IsPair, IsTested, AlikeBut}
-use Rattle.prop_compare.proofs.Kept.{never, bools_same, lower, not_true, keeps, some_of, some_left, ascending_left, least_kept, greatest_kept, at_least, at_most, single_value}
-use Rattle.prop_compare.proofs.Sides.{with_full, with_other, with_kept, apart_flipped, alike_same, alike_second}
+use Rattle.prop_compare.proofs.Kept.{single_value}
+use Rattle.qc_arguments.proofs.Items.{flipped}
+use Rattle.prop_compare.proofs.Sides.{with_full, with_other, with_kept, alike_same, alike_second}
 use Rattle.prop_compare.proofs.Reducing.{keeps_side, at_first, at_second}
 
 equal_values : (v : ℤ) → int_eq v v ≡ true
@@ -148,7 +152,7 @@ lost_keeps g c box new a b v p t s h d n =
     let stay = others_stay g c box a b v p s h d in
     let some = some_left da p.open_first in
     let new_b : left_to new b ≡ e = ap (λ z. left_to z b) n ∙ with_kept box b (λ z. not (is_within v v z)) p.open_second stay in
-    let new_a : left_to new a ≡ da = ap (λ z. left_to z a) n ∙ with_other box b a e (apart_flipped a b p.apart) in
+    let new_a : left_to new a ≡ da = ap (λ z. left_to z a) n ∙ with_other box b a e (flipped a b p.apart) in
     let alike : AlikeBut a b box new = subst (λ z. AlikeBut a b box z) (sym n) (alike_second a b box box e (alike_same a b box)) in
     p.own new alike (ap is_none_left new_a ∙ some) (ap is_none_left new_b ∙ stay)
     (keeps_side c new a

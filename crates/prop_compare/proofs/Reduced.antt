@@ -8,10 +8,12 @@ use Rattle.qc_model.specs.Domains.{Values, values_within, is_within, has_value, 
 use Rattle.qc_model.specs.Valid.{is_number, is_truth}
 use Rattle.qc_model.proofs.Readable.{first, second}
 use Rattle.qc_arguments.proofs.Values.{has_least, has_greatest, has_first}
+use Rattle.qc_arguments.proofs.Kept.{keeps, passes, some_of, low_end, high_end, inside, at_least, at_most, lower, is_lower, not_lower, reaches, apart, least_kept, greatest_kept, small_between}
+use Rattle.qc_refuter.proofs.Domains.{some_left, small_left, none_common, some_common}
 use Rattle.qc_refuter.specs.Met.{is_domain_left}
 use Rattle.prop_compare.specs.Compared.{IsPart, is_over}
-use Rattle.prop_compare.specs.Keeping.{IsReduction, IsLeastCommon, IsGreatestCommon}
-use Rattle.prop_compare.proofs.Kept.{keeps, passes, some_of, low_end, high_end, some_left, small_left, inside, at_least, at_most, lower, is_lower, not_lower, reaches, apart, none_common, some_common, least_kept, greatest_kept, small_between}
+use Rattle.qc_refuter.specs.Commons.{IsLeastCommon, IsGreatestCommon}
+use Rattle.prop_compare.specs.Keeping.{IsReduction}
 
 -- a value of a part is one of all, and passes
 part_passes : (q : ℤ → Bool) (p d : Values) (v : ℤ) → IsPart q p d → has_value p v ≡ true → q v ≡ true

@@ -9,12 +9,15 @@ use Rattle.qc_model.specs.Content.{Game, Rule}
 use Rattle.qc_model.specs.Domains.{Values, Box, values_left, values_within, is_within, is_none_left, least_value, greatest_value}
 use Rattle.qc_model.specs.Refuted.{left_to, refuted_by}
 use Rattle.qc_model.proofs.Readable.{together}
+use Rattle.qc_arguments.proofs.Bools.{not_true}
+use Rattle.qc_refuter.proofs.Domains.{some_left}
 use Rattle.prop_base.specs.Closed.{keeps_arg}
 use Rattle.prop_compare.specs.declared.keeping.Keeping.{Keeping}
-use Rattle.prop_compare.specs.Compared.{same_variable, box_kept, AlikeBut, IsPair, IsTested, IsPart}
+use Rattle.qc_arguments.specs.Repeats.{same_variable}
+use Rattle.prop_compare.specs.Compared.{box_kept, AlikeBut, IsPair, IsTested, IsPart}
 use Rattle.prop_compare.specs.Keeping.{IsReduction, IsReducing, kept}
-use Rattle.prop_compare.proofs.Kept.{not_true, some_left}
-use Rattle.prop_compare.proofs.Sides.{apart_flipped, set_to, kept_there, var_of, with_kept, with_other, alike_same, alike_first, alike_second}
+use Rattle.qc_arguments.proofs.Items.{flipped}
+use Rattle.prop_compare.proofs.Sides.{set_to, kept_there, var_of, with_kept, with_other, alike_same, alike_first, alike_second}
 
 -- an argument keeps its ends where the test fails at both
 pub keeps_side : (c : Rule) (box : Box) (a : Arg) → ((x : VarId) → a ≡ Var x → (v : ℤ) → (v ≡ least_value (left_to box a)) ⊎ (v ≡ greatest_value (left_to box a)) → refuted_by c (set box x.0 (v ∷ [])) ≡ false) → keeps_arg c box a ≡ true
@@ -50,7 +53,7 @@ at_second c box other a (Var y) test x d t f s o q = subst (λ (z : VarId). refu
     here : refuted_by c (set other y.0 d) ≡ test (left_to other a) d
     here =
         t (set other y.0 d) (alike_second a (Var y) box other d f)
-        ∙ (ap (λ z. test z (values_left (set other y.0 d) y.0)) (with_other other (Var y) a d (apart_flipped a (Var y) s)) ∙ ap (test (left_to other a)) (set_to other y d o))
+        ∙ (ap (λ z. test z (values_left (set other y.0 d) y.0)) (with_other other (Var y) a d (flipped a (Var y) s)) ∙ ap (test (left_to other a)) (set_to other y d o))
 
 pub reduces : (g : Game) (c : Rule) (box : Box) (a b : Arg) (test : Values → Values → Bool) (k : Keeping) → IsPair g c box a b → IsTested c box a b test → IsReduction test (left_to box a) (left_to box b) k → IsReducing c box a b k
 reduces g c box a b test k p t r =
@@ -64,7 +67,7 @@ reduces g c box a b test k p t r =
     let one_b : left_to one b ≡ e = with_other box a b (kept k.first d) p.apart in
     let some_b : is_none_left (values_within k.second.lo k.second.hi (left_to one b)) ≡ false = ap (λ z. is_none_left (kept k.second z)) one_b ∙ r.some_second in
     let two_b : left_to two b ≡ kept k.second e = kept_there one b k.second.lo k.second.hi (ap is_none_left one_b ∙ some_left e p.open_second) some_b ∙ ap (kept k.second) one_b in
-    let two_a : left_to two a ≡ kept k.first d = with_other one b a (values_within k.second.lo k.second.hi (left_to one b)) (apart_flipped a b p.apart) ∙ one_a in
+    let two_a : left_to two a ≡ kept k.first d = with_other one b a (values_within k.second.lo k.second.hi (left_to one b)) (flipped a b p.apart) ∙ one_a in
     let open_a = some_left d p.open_first in
     let open_two_a = ap is_none_left two_a ∙ r.some_first in
     let open_two_b = ap is_none_left two_b ∙ r.some_second in

@@ -28,8 +28,9 @@ use Rattle.prop_base.specs.Closed.{keeps_arg, keeps_argument}
 use Rattle.prop_base.proofs.Keeps.{keeps_all}
 use Rattle.prop_compare.specs.declared.comparing.Comparison.{Comparison}
 use Rattle.prop_compare.specs.declared.comparing.Comparison.TheVariants.{Equal, Different, AtMost, Below}
-use Rattle.prop_compare.specs.Compared.{same_variable, IsPair, IsTested, is_over, meant_by}
-use Rattle.prop_compare.specs.Telling.{refuting, entailing}
+use Rattle.qc_arguments.specs.Repeats.{same_variable}
+use Rattle.prop_compare.specs.Compared.{IsPair, IsTested, is_over, meant_by}
+use Rattle.prop_compare.specs.Telling.{refuting}
 
 abbrev pub is_compared : Meaning → Bool
 is_compared equal = true

@@ -2,19 +2,19 @@
 use Rattle.std.proofs.Common.{◌≡◌, ◌≢◌, ℕ, zero, suc, ◌<◌, ◌+◌, Bool, true, false, not, ◌&&◌, List, [], ◌∷◌, ◌++◌, length, set, refl, sym, ap, ◌∙◌, subst, arith, ℤ, length-append}
 use Rattle.std.specs.Prelude.{pos, ◌==◌}
 use Rattle.std.specs.List.{list_all}
-use Rattle.std.proofs.lemmas.List.{get_or-set_same, get_or-set_other}
+use Rattle.std.proofs.lemmas.List.{get_or-set_other}
 use Rattle.std.proofs.lemmas.Bool.Decides.{nat_tests}
 use Rattle.qc_model.specs.declared.problem.VarId.{VarId}
 use Rattle.qc_model.specs.declared.problem.Arg.TheVariants.{Var}
 use Rattle.qc_model.specs.Arguments.{variables_of}
 use Rattle.qc_model.specs.Closed.{refutes_at, keeps_ends}
-use Rattle.qc_model.specs.Content.{Game, Rule}
-use Rattle.qc_model.specs.Domains.{Values, Box, values_left, values_within, values_outside, box_at, box_within, box_without, declared_box, is_none_left, has_empty, least_value, greatest_value}
-use Rattle.qc_model.specs.Refuted.{left_to, refuted_by}
+use Rattle.qc_model.specs.Content.{Rule}
+use Rattle.qc_model.specs.Domains.{Values, Box, values_left, values_within, values_outside, box_at, box_within, box_without, is_none_left, has_empty, least_value, greatest_value}
+use Rattle.qc_model.specs.Refuted.{refuted_by}
 use Rattle.qc_model.specs.Valid.{is_number}
 use Rattle.qc_model.proofs.Readable.{together}
-use Rattle.qc_arguments.specs.Asked.{IsAsked}
 use Rattle.qc_arguments.proofs.Boxes.{set_full}
+use Rattle.qc_arguments.proofs.Bools.{not_true}
 use Rattle.proof_tree.specs.declared.tree.Step.{Step}
 use Rattle.prop_base.specs.declared.answer.Filtered.{Filtered}
 use Rattle.prop_base.specs.declared.answer.Filtered.TheVariants.{Emptied, Stable, Changed}
@@ -23,7 +23,6 @@ use Rattle.prop_base.specs.Closed.{IsCut}
 use Rattle.prop_base.specs.Pruning.{IsFiltered}
 use Rattle.prop_compare.specs.Telling.{truth_of}
 use Rattle.prop_compare.specs.Untold.{RefutesNone, after_change}
-use Rattle.prop_compare.proofs.Kept.{not_true}
 use Rattle.prop_compare.proofs.Told.{one_within, one_without, small_truth}
 
 place : (box : Box) (x : ℕ) → values_left box x ≡ pos 0 ∷ pos 1 ∷ [] → x < length box

@@ -9,10 +9,13 @@ use Rattle.qc_model.specs.declared.problem.VarId.{VarId}
 use Rattle.qc_model.specs.Content.{Game, Rule}
 use Rattle.qc_model.specs.Domains.{Values, Box, values_left, values_within, is_within, is_none_left, has_empty}
 use Rattle.qc_model.specs.Refuted.{left_to}
-use Rattle.qc_arguments.proofs.Boxes.{set_full}
+use Rattle.qc_arguments.proofs.Boxes.{set_full, set_same}
+use Rattle.qc_arguments.proofs.Items.{flipped}
+use Rattle.qc_refuter.proofs.Domains.{some_left}
 use Rattle.qc_refuter.specs.Met.{is_open}
-use Rattle.prop_compare.specs.Compared.{is_variable, same_variable, box_with, AlikeBut, IsPair}
-use Rattle.prop_compare.proofs.Kept.{some_left, one_kept}
+use Rattle.qc_arguments.specs.Repeats.{is_variable, same_variable}
+use Rattle.prop_compare.specs.Compared.{box_with, AlikeBut, IsPair}
+use Rattle.prop_compare.proofs.Kept.{one_kept}
 
 abbrev pub var_of : Arg → VarId
 var_of (Var x) = x
@@ -23,12 +26,6 @@ distinct a b h = grind (arith, nat_tests)
 
 flip : (a b : ℕ) → (a == b) ≡ false → (b == a) ≡ false
 flip a b h = grind (arith, nat_tests)
-
-pub apart_flipped : (a b : Arg) → same_variable a b ≡ false → same_variable b a ≡ false
-apart_flipped (Var x) (Var y) h = flip y.0 x.0 h
-apart_flipped (Var x) (Num n) h = refl
-apart_flipped (Num n) (Var x) h = refl
-apart_flipped (Num n) (Num m) h = refl
 
 in_range : (box : Box) (x : ℕ) → is_none_left (values_left box x) ≡ false → x < length box
 in_range [] x h = cc
@@ -50,11 +47,6 @@ set_twice (vs ∷ box) (suc x) d e = ap (λ l. vs ∷ l) (set_twice box x d e)
 pub with_twice : (box : Box) (a : Arg) (d e : Values) → box_with (box_with box a d) a e ≡ box_with box a e
 with_twice box (Var x) d e = set_twice box x.0 d e
 with_twice box (Num n) d e = refl
-
-set_same : (box : Box) (x : ℕ) (us : Values) → us ≡ values_left box x → set box x us ≡ box
-set_same [] x us h = refl
-set_same (vs ∷ box) zero us h = ap (λ l. l ∷ box) h
-set_same (vs ∷ box) (suc x) us h = ap (λ l. vs ∷ l) (set_same box x us h)
 
 pub with_same : (box : Box) (a : Arg) (d : Values) → d ≡ left_to box a → box_with box a d ≡ box
 with_same box (Var x) d h = set_same box x.0 d h
@@ -99,7 +91,7 @@ alike_flipped a b box other f k h l = f k l h
 
 pub pair_flipped : (g : Game) (c : Rule) (box : Box) (a b : Arg) → IsPair g c box a b → IsPair g c box b a
 pair_flipped g c box a b p = record {
-  apart = apart_flipped a b p.apart;
+  apart = flipped a b p.apart;
   sees_first = p.sees_second;
   sees_second = p.sees_first;
   open_first = p.open_second;

@@ -16,11 +16,11 @@ use Rattle.qc_model.specs.declared.problem.Variable.{Variable}
 use Rattle.qc_model.specs.declared.signature.ArgKind.{ArgKind}
 use Rattle.qc_model.specs.declared.signature.ArgKind.TheVariants.{Integer as integer, Boolean as boolean, Integers as integers, Booleans as booleans, Numbers as numbers, Truths as truths, Members as members}
 use Rattle.qc_model.specs.Content.{Game, Rule}
-use Rattle.qc_model.specs.Domains.{Values, Box, domain_values, values_left, has_value, has_empty, is_ascending, is_sub_box, least_value, greatest_value}
+use Rattle.qc_model.specs.Domains.{Values, Box, domain_values, values_left, has_value, is_ascending, is_sub_box, least_value, greatest_value}
 use Rattle.qc_model.specs.Entailed.{entailed_as}
 use Rattle.qc_model.specs.Left.{Lefts, left_at, last_left}
-use Rattle.qc_model.specs.Meaning.{Meaning, equal, different, at_most, below, reified, meaning_of}
-use Rattle.qc_model.specs.Refuted.{left_to, refuted_as, refuted_by}
+use Rattle.qc_model.specs.Meaning.{Meaning, reified, meaning_of}
+use Rattle.qc_model.specs.Refuted.{left_to, refuted_as}
 use Rattle.qc_model.specs.Signature.{arg_kinds_of}
 use Rattle.qc_model.specs.Valid.{is_domain, is_truth, is_bits, is_boolean, is_variable_with, is_of_sort, are_of_sorts, have_lengths, arg_sees, argument_sees, is_constraint}
 use Rattle.qc_model.proofs.Readable.{first, second, together}
@@ -32,9 +32,9 @@ use Rattle.prop_base.specs.Closed.{keeps_arg, keeps_argument}
 use Rattle.prop_base.proofs.Keeps.{keeps_all}
 use Rattle.prop_compare.specs.declared.comparing.Comparison.{Comparison}
 use Rattle.prop_compare.specs.declared.comparing.Comparison.TheVariants.{Equal, Different, AtMost, Below}
-use Rattle.prop_compare.specs.Compared.{is_over, meant_by}
+use Rattle.prop_compare.specs.Compared.{meant_by}
 use Rattle.prop_compare.specs.Telling.{refuting, entailing, is_mistold, are_tangled, IsTelling}
-use Rattle.prop_compare.proofs.Rows.{is_compared, compared_meant, is_one_kind, IsOne, one_of, refuted_test}
+use Rattle.prop_compare.proofs.Rows.{is_compared, compared_meant, is_one_kind, one_of, refuted_test}
 
 abbrev is_told : Meaning → Bool
 is_told (reified m) = is_compared m

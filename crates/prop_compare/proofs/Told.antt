@@ -12,15 +12,19 @@ use Rattle.qc_model.specs.Valid.{is_number}
 use Rattle.qc_model.proofs.Readable.{first}
 use Rattle.qc_arguments.proofs.Boxes.{set_full}
 use Rattle.qc_arguments.proofs.Values.{has_least, has_greatest}
+use Rattle.qc_arguments.proofs.Bools.{never, not_false, clash}
+use Rattle.qc_refuter.proofs.Domains.{some_left}
 use Rattle.prop_base.specs.declared.cuts.Cut.{Cut}
 use Rattle.prop_base.specs.Closed.{IsCut, keeps_arg}
-use Rattle.prop_compare.specs.Compared.{is_variable, same_variable, is_literal_arg, AlikeBut, IsPair, IsTested}
+use Rattle.qc_arguments.specs.Repeats.{is_variable, same_variable}
+use Rattle.prop_compare.specs.Compared.{is_literal_arg, AlikeBut, IsPair, IsTested}
 use Rattle.prop_compare.specs.Telling.{truth_of, refuting_as, is_mistold, are_tangled, IsTelling}
 use Rattle.prop_compare.specs.declared.comparing.Comparison.{Comparison}
 use Rattle.prop_compare.proofs.Decided.{as_first, as_second, other_fails, mistold_one, mistold_both, both_truths, two_values}
-use Rattle.prop_compare.proofs.Kept.{never, some_left, not_false, single_value}
+use Rattle.prop_compare.proofs.Kept.{single_value}
 use Rattle.prop_compare.proofs.Reducing.{keeps_side}
-use Rattle.prop_compare.proofs.Sides.{var_of, apart_flipped, open_place, set_to, with_other}
+use Rattle.qc_arguments.proofs.Items.{flipped}
+use Rattle.prop_compare.proofs.Sides.{var_of, open_place, set_to, with_other}
 
 -- the three aren't tangled
 record AreApart (a b r : Arg) : Type 0 where
@@ -81,11 +85,11 @@ keeps_three g c box other k a b r d e f t p q s l m n h =
           ∙ h.first v (ap (λ z. has_value z v) (sym p) ∙ end_there (left_to other a) v some_a w)),
       keeps_side c other b
           (λ x u v w.
-          told_by g c box (set other x.0 (v ∷ [])) k a b r d (v ∷ []) f t (set_there other b a x (v ∷ []) u (apart_flipped a b i.pair) ∙ p) (set_here other b x (v ∷ []) u some_b) (set_there other b r x (v ∷ []) u i.second_last ∙ s)
+          told_by g c box (set other x.0 (v ∷ [])) k a b r d (v ∷ []) f t (set_there other b a x (v ∷ []) u (flipped a b i.pair) ∙ p) (set_here other b x (v ∷ []) u some_b) (set_there other b r x (v ∷ []) u i.second_last ∙ s)
           ∙ h.second v (ap (λ z. has_value z v) (sym q) ∙ end_there (left_to other b) v some_b w)),
       keeps_side c other r
           (λ x u v w.
-          told_by g c box (set other x.0 (v ∷ [])) k a b r d e (v ∷ []) t (set_there other r a x (v ∷ []) u (apart_flipped a r i.first_last) ∙ p) (set_there other r b x (v ∷ []) u (apart_flipped b r i.second_last) ∙ q) (set_here other r x (v ∷ []) u some_r)
+          told_by g c box (set other x.0 (v ∷ [])) k a b r d e (v ∷ []) t (set_there other r a x (v ∷ []) u (flipped a r i.first_last) ∙ p) (set_there other r b x (v ∷ []) u (flipped b r i.second_last) ∙ q) (set_here other r x (v ∷ []) u some_r)
           ∙ h.last v (ap (λ z. has_value z v) (sym s) ∙ end_there (left_to other r) v some_r w)),
     )
 
@@ -159,8 +163,8 @@ truth_goes g c box k a b x t cut i s h q = subst (IsCut c box) (sym q) here
           some = ap is_none_left within;
           refuted =
               told_by g c box only k a b (Var x) (left_to box a) (left_to box b) (v ∷ []) i
-              (with_other box (Var x) a (values_within v v (values_left box x.0)) (apart_flipped a (Var x) p.first_last))
-              (with_other box (Var x) b (values_within v v (values_left box x.0)) (apart_flipped b (Var x) p.second_last))
+              (with_other box (Var x) a (values_within v v (values_left box x.0)) (flipped a (Var x) p.first_last))
+              (with_other box (Var x) b (values_within v v (values_left box x.0)) (flipped b (Var x) p.second_last))
               (set_to box x (values_within v v (values_left box x.0)) (some_left (values_left box x.0) i.open_last) ∙ within)
               ∙ (mistold_one k t (left_to box a) (left_to box b) ∙ h);
         }
@@ -189,7 +193,7 @@ truth_lost g c box new k a b x t cut i full s h q n = subst (IsLost c) (sym is) 
         let e = left_to box b in
         let f = truth_of (not t) ∷ [] in
         let u = set box x.0 f in
-        let w = keeps_three g c box u k a b (Var x) d e f i (with_other box (Var x) a f (apart_flipped a (Var x) p.first_last)) (with_other box (Var x) b f (apart_flipped b (Var x) p.second_last))
+        let w = keeps_three g c box u k a b (Var x) d e f i (with_other box (Var x) a f (flipped a (Var x) p.first_last)) (with_other box (Var x) b f (flipped b (Var x) p.second_last))
         (set_to box x f (some_left (values_left box x.0) i.open_last)) (some_left d i.open_first) (some_left e i.open_second) refl (told k t d e (some_left d i.open_first) (some_left e i.open_second) h) in
         record {
           full = set_full box x.0 f full refl;
@@ -198,7 +202,7 @@ truth_lost g c box new k a b x t cut i full s h q n = subst (IsLost c) (sym is) 
 
 -- the last argument has one value
 not_here : (a : Arg) (x : VarId) → same_variable a (Var x) ≡ false → is_variable a x.0 ≡ false
-not_here a x h = apart_flipped a (Var x) h
+not_here a x h = flipped a (Var x) h
 
 last_alike : (a b r : Arg) (box other : Box) → AlikeBut a b box other → same_variable a r ≡ false → same_variable b r ≡ false → left_to other r ≡ left_to box r
 last_alike a b (Num n) box other f p q = refl
@@ -215,10 +219,6 @@ least_not : (c : Rule) (box : Box) (x : VarId) → keeps_arg c box (Var x) ≡ t
 least_not c box x h =
     let d = values_left box x.0 in
     not_false (refutes_at c box x.0 (least_value d)) (first (not (refutes_at c box x.0 (least_value d))) (not (refutes_at c box x.0 (greatest_value d))) h)
-
-clash : (b : Bool) → b ≡ true → b ≡ false → ⊥
-clash true h k = cc
-clash false h k = cc
 
 -- where a variable of both keeps its ends, what is left of both isn't refuted
 unrefuted : (g : Game) (c : Rule) (box other : Box) (k : Comparison) (a b r : Arg) (t : Bool) → IsTelling g c box k a b r → left_to other r ≡ truth_of t ∷ [] → is_none_left (left_to other a) ≡ false → is_none_left (left_to other b) ≡ false →
@@ -253,7 +253,7 @@ fixed_pair g c box k a b r t i s =
           i.own other l q
           (keeps_side c other r
           (λ x u v w.
-          told_by g c box (set other x.0 (v ∷ [])) k a b r (left_to other a) (left_to other b) (truth_of t ∷ []) i (set_there other r a x (v ∷ []) u (apart_flipped a r p.first_last)) (set_there other r b x (v ∷ []) u (apart_flipped b r p.second_last))
+          told_by g c box (set other x.0 (v ∷ [])) k a b r (left_to other a) (left_to other b) (truth_of t ∷ []) i (set_there other r a x (v ∷ []) u (flipped a r p.first_last)) (set_there other r b x (v ∷ []) u (flipped b r p.second_last))
           (set_here other r x (v ∷ []) u (ap is_none_left o) ∙ ap (λ z. z ∷ []) (single_value (truth_of t ∷ []) v refl (ap (λ z. has_value z v) (sym o) ∙ end_there (left_to other r) v (ap is_none_left o) w)))
           ∙ (mistold_one k t (left_to other a) (left_to other b) ∙ never (refuting_as k t (left_to other a) (left_to other b)) (unrefuted g c box other k a b r t i o m n l q))));
     }

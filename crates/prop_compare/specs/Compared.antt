@@ -1,5 +1,5 @@
 -- Constraints that compare two arguments, and what filtering does to their boxes.
-use Rattle.std.specs.Prelude.{◌≡◌, ◌==◌, ℕ, Bool, true, false, ◌&&◌, set, int_lt, ℤ, ◌+ℤ◌, IsTrue, IsFalse}
+use Rattle.std.specs.Prelude.{◌≡◌, ℕ, Bool, true, false, ◌&&◌, set, int_lt, ℤ, ◌+ℤ◌, IsTrue, IsFalse}
 use Rattle.qc_model.specs.declared.problem.Arg.{Arg}
 use Rattle.qc_model.specs.declared.problem.Arg.TheVariants.{Var, Num}
 use Rattle.qc_model.specs.declared.problem.VarId.{VarId}
@@ -9,20 +9,11 @@ use Rattle.qc_model.specs.Domains.{Values, Box, values_left, values_within, is_n
 use Rattle.qc_model.specs.Meaning.{Meaning, equal, different, at_most, below}
 use Rattle.qc_model.specs.Refuted.{left_to, refuted_by}
 use Rattle.qc_model.specs.Valid.{is_number, arg_sees}
+use Rattle.qc_arguments.specs.Repeats.{is_variable, same_variable}
 use Rattle.qc_refuter.specs.Met.{is_open}
 use Rattle.prop_base.specs.Closed.{keeps_arg}
 use Rattle.prop_compare.specs.declared.comparing.Comparison.{Comparison}
 use Rattle.prop_compare.specs.declared.comparing.Comparison.TheVariants.{Equal, Different, AtMost, Below}
-
--- the argument is the variable of this number
-abbrev pub is_variable : Arg → ℕ → Bool
-is_variable (Var x) k = x.0 == k
-is_variable (Num n) k = false
-
--- both are the same variable
-abbrev pub same_variable : Arg → Arg → Bool
-same_variable (Var x) b = is_variable b x.0
-same_variable (Num n) b = false
 
 -- the argument has these values, where it is a variable
 abbrev pub box_with : Box → Arg → Values → Box

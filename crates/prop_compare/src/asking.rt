@@ -24,8 +24,8 @@ pub(crate) fn are_one(a: Arg, b: Arg, store: &Store) -> bool
     is_fixed(a, store) && is_fixed(b, store) && least(a, store) == least(b, store)
 }
 
-// Whether they have no value in common.
-fn are_apart(a: Arg, b: Arg, store: &Store) -> bool
+/// Whether both have no value left in common.
+pub fn are_apart(a: Arg, b: Arg, store: &Store) -> bool
     requires a { IsTrue (is_open store.now.box a) }
     requires b { IsTrue (is_open store.now.box b) }
     ensures { result ≡ misses (left_to store.now.box a) (left_to store.now.box b) }

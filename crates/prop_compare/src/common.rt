@@ -3,7 +3,7 @@ ghost use Rattle.std.specs.Prelude.{◌≡◌, IsTrue, IfNone, IfSome};
 ghost use Rattle.qc_model.specs.Domains.{misses};
 ghost use Rattle.qc_model.specs.Refuted.{left_to};
 ghost use Rattle.qc_refuter.specs.Met.{is_open};
-ghost use Rattle.prop_compare.specs.Keeping.{AllAbove, AllBelow, IsGreatestCommon, IsLeastCommon, IsNext, IsPrevious};
+ghost use Rattle.qc_refuter.specs.Commons.{AllAbove, AllBelow, IsGreatestCommon, IsLeastCommon, IsNext, IsPrevious};
 
 use crate::reading::{greatest, least, next_of, previous_of};
 use fd_store::Store;
@@ -35,8 +35,8 @@ fn previous_both(a: Arg, b: Arg, v: i64, store: &Store) -> Option<i64>
     }
 }
 
-/// The least common value. None comes exactly where there is none.
-pub(crate) fn least_common(a: Arg, b: Arg, store: &Store) -> Option<i64>
+/// The least value left to both. None comes exactly where there is none.
+pub fn least_common(a: Arg, b: Arg, store: &Store) -> Option<i64>
     requires a { IsTrue (is_open store.now.box a) }
     requires b { IsTrue (is_open store.now.box b) }
     ensures none { IfNone result (IsTrue (misses (left_to store.now.box a) (left_to store.now.box b))) }
@@ -52,8 +52,8 @@ pub(crate) fn least_common(a: Arg, b: Arg, store: &Store) -> Option<i64>
     None
 }
 
-/// The greatest common value. None comes exactly where there is none.
-pub(crate) fn greatest_common(a: Arg, b: Arg, store: &Store) -> Option<i64>
+/// The greatest value left to both. None comes exactly where there is none.
+pub fn greatest_common(a: Arg, b: Arg, store: &Store) -> Option<i64>
     requires a { IsTrue (is_open store.now.box a) }
     requires b { IsTrue (is_open store.now.box b) }
     ensures none { IfNone result (IsTrue (misses (left_to store.now.box a) (left_to store.now.box b))) }

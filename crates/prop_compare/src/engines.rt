@@ -11,14 +11,13 @@ ghost use Rattle.prop_compare.specs.Compared.{IsPair, IsTested, is_over};
 ghost use Rattle.prop_compare.specs.Keeping.{IsReducing};
 
 use crate::asking::are_one;
-use crate::emptying::empty_one;
 use crate::keeping::Keeping;
 use crate::narrowing::{narrow_both, take_out};
 use crate::ranges::{equal_ranges, ordered_ranges};
 use crate::reading::{is_fixed, least};
 use fd_store::Store;
 use proof_tree::StepList;
-use prop_base::Filtered;
+use prop_base::{Filtered, empty_first};
 use qc_model::{Arg, ConId, Constraint, Problem};
 use std::alloc::AllocError;
 
@@ -42,7 +41,7 @@ fn keep_ranges(
     ensures answer { IfOk result (λ f. IsFiltered f rule.now store.new.box steps.old steps.new) }
 {
     let Some(keep) = keep else {
-        return empty_one(problem, c, rule, a, b, store, steps);
+        return empty_first(problem, c, rule, store, steps);
     };
     let narrowed = narrow_both(problem, c, rule, a, b, keep, store, steps)?;
     if narrowed {
@@ -142,7 +141,7 @@ pub(crate) fn different(
     ensures answer { IfOk result (λ f. IsFiltered f rule.now store.new.box steps.old steps.new) }
 {
     if are_one(a, b, store) {
-        return empty_one(problem, c, rule, a, b, store, steps);
+        return empty_first(problem, c, rule, store, steps);
     }
     if is_fixed(a, store) {
         return lose_value(problem, c, rule, a, b, store, steps);

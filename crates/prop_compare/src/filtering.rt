@@ -6,12 +6,11 @@ ghost use Rattle.prop_base.specs.Pruning.{IsPruning, IsFiltered, is_just};
 ghost use Rattle.prop_compare.specs.Compared.{meant_by};
 
 use crate::comparing::{Comparison, compare};
-use crate::reading::is_same;
 use crate::table::Table;
 use fd_store::Store;
 use proof_tree::StepList;
 use prop_base::{Filtered, filter_by_ends};
-use qc_arguments::{arguments, one_at};
+use qc_arguments::{arguments, is_same, one_at};
 use qc_model::{ConId, Constraint, Problem};
 use std::alloc::AllocError;
 

@@ -8,12 +8,13 @@
 //! A third argument may tell whether the comparison holds. Once it has one value, the comparison or its contrary is
 //! filtered. Before that, nothing goes but a value of its own, where the comparison can't hold or can't fail any more.
 //! `filter_telling` does the latter for whatever a last argument tells of, by two questions to the refuter.
+//!
+//! What is left to one argument, and to two in common, is read here for the crates above too.
 #![tactic(auto)]
 
 mod asking;
 mod common;
 mod comparing;
-mod emptying;
 mod engines;
 mod filtering;
 mod keeping;
@@ -25,8 +26,11 @@ mod table;
 mod truths;
 mod untold;
 
+pub use asking::are_apart;
+pub use common::{greatest_common, least_common};
 pub use comparing::Comparison;
 pub use filtering::filter_comparison;
+pub use reading::{greatest, has, is_fixed, least, next_of, previous_of};
 pub use reified::filter_reified;
 pub use table::Table;
 pub use untold::filter_telling;

@@ -11,13 +11,13 @@ ghost use Rattle.prop_compare.specs.Telling.{IsTelling, are_tangled, refuting_as
 
 use crate::asking::{is_entailed, is_refuted};
 use crate::comparing::{Comparison, compare, contrast};
-use crate::reading::{is_same, least};
+use crate::reading::least;
 use crate::table::Table;
 use crate::truths::{loose, truth_cut};
 use fd_store::Store;
 use proof_tree::StepList;
 use prop_base::{Filtered, filter_by_ends, prune};
-use qc_arguments::{arguments, one_at};
+use qc_arguments::{arguments, is_same, one_at};
 use qc_model::{Arg, ConId, Constraint, Problem, VarId};
 use std::alloc::AllocError;
 

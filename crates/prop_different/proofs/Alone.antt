@@ -1,14 +1,14 @@
 -- What full ranges take from an item, and what they leave alone.
-use Rattle.std.proofs.Common.{◌≡◌, inl, inr, ℕ, zero, suc, ◌-◌, ◌<◌, ◌≤◌, Bool, true, false, not, ◌&&◌, List, [], ◌∷◌, length, get_or, refl, sym, ◌∙◌, subst, arith, ℤ}
+use Rattle.std.proofs.Common.{◌≡◌, inl, inr, ℕ, zero, suc, ◌-◌, ◌<◌, ◌≤◌, Bool, true, false, ◌&&◌, List, [], ◌∷◌, length, get_or, refl, sym, ◌∙◌, subst, arith, ℤ}
 use Rattle.std.specs.Prelude.{pos, ◌+ℤ◌, ◌≤ℤ◌, ◌<ℤ◌, int_le, int_lt}
-use Rattle.std.specs.List.{list_all}
 use Rattle.std.proofs.lemmas.Int.{ints}
 use Rattle.std.proofs.lemmas.Bool.Decides.{nat_tests}
 use Rattle.std.proofs.lemmas.List.Sums.{count_by-le-length}
-use Rattle.qc_model.specs.Domains.{Values, values_within, least_value, greatest_value, has_value, is_within, is_none_left, is_ascending}
+use Rattle.qc_model.specs.Domains.{Values, values_within, least_value, greatest_value, has_value, is_within, is_none_left}
 use Rattle.qc_model.specs.Valid.{is_number}
-use Rattle.qc_model.proofs.Readable.{first, together}
+use Rattle.qc_model.proofs.Readable.{together}
 use Rattle.qc_arguments.proofs.Values.{has_least, has_greatest}
+use Rattle.qc_refuter.proofs.Domains.{some_left}
 use Rattle.qc_refuter.specs.Full.{lies_in, held, IsWidest, AreWidest}
 use Rattle.qc_refuter.specs.Met.{is_domain_left}
 use Rattle.qc_refuter.proofs.Fill.{least_to_greatest, held_roomy}
@@ -108,13 +108,6 @@ some_within low high v vs h a b = by (values_within low high vs) (has_within vs 
     by : (us : Values) → has_value us v ≡ true → is_none_left us ≡ false
     by [] e = cc
     by (u ∷ us) e = refl
-
-some_left : (d : Values) → is_domain_left d ≡ true → is_none_left d ≡ false
-some_left d h = not_false (is_none_left d) (first (not (is_none_left d)) (is_ascending d) (first (not (is_none_left d) && is_ascending d) (list_all is_number d) h))
-  where
-    not_false : (b : Bool) → not b ≡ true → b ≡ false
-    not_false true e = cc
-    not_false false e = refl
 
 begins_before : (l a b : ℤ) (n : ℕ) → a <ℤ l → (int_le l a && int_lt b (l +ℤ pos n)) ≡ false
 begins_before l a b n h = grind (arith, ints, h)

@@ -1,10 +1,8 @@
 -- Items of a constraint whose variables stand once, and what a box leaves to them.
-use Rattle.std.proofs.Common.{◌≡◌, ◌≢◌, ◌⊎◌, inl, inr, ℕ, zero, suc, ◌<◌, Bool, true, false, not, ◌||◌, List, [], ◌∷◌, length, map, set, get_or, refl, sym, ap, ◌∙◌, subst, arith, ℤ}
-use Rattle.std.specs.Prelude.{pos, ◌+ℤ◌, ◌≤ℤ◌, ◌<ℤ◌, ◌==◌}
-use Rattle.std.specs.List.{list_any, list_all}
+use Rattle.std.proofs.Common.{◌≡◌, ◌⊎◌, inl, inr, ℕ, ◌<◌, Bool, true, false, not, List, [], ◌∷◌, length, map, get_or, refl, sym, ap, ◌∙◌, subst, arith, ℤ}
+use Rattle.std.specs.Prelude.{pos, ◌+ℤ◌, ◌≤ℤ◌, ◌<ℤ◌}
 use Rattle.std.proofs.lemmas.Int.{ints}
-use Rattle.std.proofs.lemmas.List.{get_or-set_same, get_or-set_other, get_or-map, length-map}
-use Rattle.std.proofs.lemmas.Bool.Decides.{nat_tests}
+use Rattle.std.proofs.lemmas.List.{get_or-map, length-map}
 use Rattle.qc_model.specs.declared.problem.Arg.{Arg}
 use Rattle.qc_model.specs.declared.problem.Arg.TheVariants.{Var, Num}
 use Rattle.qc_model.specs.declared.problem.VarId.{VarId}
@@ -15,6 +13,7 @@ use Rattle.qc_model.specs.Left.{has_crowd}
 use Rattle.qc_model.specs.Refuted.{left_to, refuted_by}
 use Rattle.qc_model.proofs.Readable.{first, together}
 use Rattle.qc_arguments.proofs.Values.{has_least, has_greatest}
+use Rattle.qc_arguments.proofs.Items.{one_left, all_by}
 use Rattle.qc_refuter.specs.Full.{lies_in, held}
 use Rattle.qc_refuter.proofs.Fill.{crowd_of_held}
 use Rattle.qc_refuter.proofs.Seen.{has_within}
@@ -22,54 +21,7 @@ use Rattle.prop_base.specs.Closed.{IsCut, keeps_arg}
 use Rattle.prop_base.specs.declared.cuts.Cut.{Cut}
 use Rattle.prop_different.specs.Different.{IsDifferent, IsFullCut}
 use Rattle.prop_different.specs.Quiet.{AllQuiet}
-use Rattle.prop_different.specs.Repeats.{same_variable, has_repeat}
 use Rattle.prop_different.proofs.Hall.{lies_from, quiet_keeps, full_refutes}
-
-neither : (a b : Bool) → (a || b) ≡ false → (a ≡ false) × (b ≡ false)
-neither true b h = cc
-neither false b h = (refl, h)
-
-none_at : (p : Arg → Bool) (xs : List Arg) (k : ℕ) (d : Arg) → list_any p xs ≡ false → k < length xs → p (get_or xs k d) ≡ false
-none_at p [] k d h l = absurd (omega (arith, l))
-none_at p (x ∷ xs) zero d h l = (neither (p x) (list_any p xs) h).0
-none_at p (x ∷ xs) (suc k) d h l = none_at p xs k d (neither (p x) (list_any p xs) h).1 (omega (arith, l))
-
--- another variable keeps its values
-other_left : (box : Box) (x : VarId) (us : Values) (a : Arg) → same_variable a (Var x) ≡ false → left_to (set box x.0 us) a ≡ left_to box a
-other_left box x us (Var y) h = get_or-set_other box x.0 y.0 us [] (apart y.0 x.0 h)
-  where
-    apart : (a b : ℕ) → (a == b) ≡ false → a ≢ b
-    apart a b h = grind (arith, nat_tests)
-other_left box x us (Num n) h = refl
-
-flipped : (a b : Arg) → same_variable a b ≡ false → same_variable b a ≡ false
-flipped (Var x) (Var y) h = flip x.0 y.0 h
-  where
-    flip : (a b : ℕ) → (a == b) ≡ false → (b == a) ≡ false
-    flip a b h = grind (arith, nat_tests)
-flipped (Var x) (Num n) h = refl
-flipped (Num n) (Var x) h = refl
-flipped (Num n) (Num m) h = refl
-
-others_left : (box : Box) (x : VarId) (us : Values) (xs : List Arg) → list_any (same_variable (Var x)) xs ≡ false → map (left_to (set box x.0 us)) xs ≡ map (left_to box) xs
-others_left box x us [] h = refl
-others_left box x us (a ∷ xs) h =
-    let p = neither (same_variable (Var x) a) (list_any (same_variable (Var x)) xs) h in
-    ap (λ d. d ∷ map (left_to (set box x.0 us)) xs) (other_left box x us a (flipped (Var x) a p.0)) ∙ ap (λ ds. left_to box a ∷ ds) (others_left box x us xs p.1)
-
--- a variable that stands once is one item
-one_left : (box : Box) (x : VarId) (us : Values) (xs : List Arg) (k : ℕ) (e : Arg) → has_repeat xs ≡ false → k < length xs → get_or xs k e ≡ Var x → x.0 < length box →
-    map (left_to (set box x.0 us)) xs ≡ set (map (left_to box) xs) k us
-one_left box x us [] k e r l q m = absurd (omega (arith, l))
-one_left box x us (a ∷ xs) zero e r l q m =
-    let p = neither (list_any (same_variable a) xs) (has_repeat xs) r in
-    ap (λ d. d ∷ map (left_to (set box x.0 us)) xs) (ap (left_to (set box x.0 us)) q ∙ get_or-set_same box x.0 us [] m)
-    ∙ ap (λ ds. us ∷ ds) (others_left box x us xs (sym (ap (λ z. list_any (same_variable z) xs) q) ∙ p.0))
-one_left box x us (a ∷ xs) (suc k) e r l q m =
-    let p = neither (list_any (same_variable a) xs) (has_repeat xs) r in
-    let apart = ap (same_variable a) (sym q) ∙ none_at (same_variable a) xs k e p.0 (omega (arith, l)) in
-    ap (λ d. d ∷ map (left_to (set box x.0 us)) xs) (other_left box x us a apart)
-    ∙ ap (λ ds. left_to box a ∷ ds) (one_left box x us xs k e p.1 (omega (arith, l)) q m)
 
 -- what is left to it, among what is left to all
 here : (box : Box) (x : VarId) (xs : List Arg) (k : ℕ) (e : Arg) → k < length xs → get_or xs k e ≡ Var x → get_or (map (left_to box) xs) k [] ≡ values_left box x.0
@@ -102,10 +54,6 @@ keeps_item g c xs box k (Var x) e d all l q f =
     together (not (refutes_at c box x.0 (least_value (values_left box x.0)))) (not (refutes_at c box x.0 (greatest_value (values_left box x.0))))
     (keeps_value g c xs box k x (least_value (values_left box x.0)) e d all l q (f x refl) (inl refl))
     (keeps_value g c xs box k x (greatest_value (values_left box x.0)) e d all l q (f x refl) (inr refl))
-
-all_by : (p : Arg → Bool) (xs : List Arg) (e : Arg) → ((k : ℕ) → k < length xs → p (get_or xs k e) ≡ true) → list_all p xs ≡ true
-all_by p [] e f = refl
-all_by p (x ∷ xs) e f = together (p x) (list_all p xs) (f 0 (omega arith)) (all_by p xs e (λ k h. f (suc k) (omega (arith, h))))
 
 -- where all is quiet, no end is refuted
 pub quiet_items : (g : Game) (c : Rule) (xs : List Arg) (box : Box) (e : Arg) → IsDifferent g c xs → ((k : ℕ) (x : VarId) → k < length xs → get_or xs k e ≡ Var x → x.0 < length box) → AllQuiet (map (left_to box) xs) →

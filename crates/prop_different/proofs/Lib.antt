@@ -1,7 +1,6 @@
 pub mod Hall
 pub mod Items
 pub mod Alone
-pub mod Marks
 pub mod Placed
 pub mod Shapes
 pub mod Options

@@ -1,11 +1,9 @@
 -- The items of a constraint that says that integers differ.
-use Rattle.std.proofs.Common.{◌≡◌, ℕ, ◌<◌, ◌≤◌, true, false, ◌&&◌, List, [], ◌∷◌, length, refl, sym, ap, ◌∙◌, subst, arith}
-use Rattle.std.specs.Prelude.{nat_le, nat_lt}
+use Rattle.std.proofs.Common.{◌≡◌, ◌≤◌, true, false, ◌&&◌, List, [], ◌∷◌, length, refl, sym, ap, ◌∙◌, subst}
+use Rattle.std.specs.Prelude.{nat_le}
 use Rattle.std.specs.List.{list_all}
 use Rattle.std.proofs.lemmas.Bool.{leb-true}
-use Rattle.std.proofs.lemmas.Bool.Decides.{nat_tests}
 use Rattle.qc_model.specs.declared.problem.Arg.{Arg}
-use Rattle.qc_model.specs.declared.problem.Arg.TheVariants.{Var, Num}
 use Rattle.qc_model.specs.declared.problem.Argument.{Argument}
 use Rattle.qc_model.specs.declared.problem.Argument.TheVariants.{One, Many, Numbers, Members}
 use Rattle.qc_model.specs.declared.problem.Pred.TheVariants.{AllDifferentInt}
@@ -18,17 +16,16 @@ use Rattle.qc_model.specs.Meaning.{meaning_of}
 use Rattle.qc_model.specs.Refuted.{refuted_as}
 use Rattle.qc_model.specs.Signature.{arg_kinds_of}
 use Rattle.qc_model.specs.Valid.{is_integer, is_domain, are_of_sorts, have_lengths, arg_sees, argument_sees, is_constraint}
-use Rattle.qc_model.proofs.Readable.{first, second, together}
+use Rattle.qc_model.proofs.Readable.{first, second}
 use Rattle.qc_arguments.specs.Asked.{IsAsked}
 use Rattle.qc_arguments.specs.Written.{args_at}
-use Rattle.qc_arguments.proofs.Boxes.{declared_below}
 use Rattle.qc_arguments.proofs.Written.{lefts_written}
 use Rattle.qc_refuter.specs.Met.{lefts, is_open, is_met, are_met}
 use Rattle.qc_refuter.proofs.Ready.{rule_met}
 use Rattle.prop_base.specs.Closed.{keeps_arg, keeps_argument}
 use Rattle.prop_base.proofs.Keeps.{keeps_all}
 use Rattle.prop_different.specs.Different.{IsDifferent}
-use Rattle.prop_different.specs.Repeats.{has_repeat, has_place, is_number_arg}
+use Rattle.qc_arguments.specs.Repeats.{has_repeat}
 
 -- one array
 record IsArray (args : List Argument) : Type 0 where
@@ -86,27 +83,3 @@ items_differ g c d h e r =
       sees = items_see g.variables c h e;
       opens = λ box a. items_open g c box d a e;
     }
-
--- each variable has a place among the marks
-pub items_placed : (g : Game) (c : Rule) → length g.variables ≤ 500 → is_constraint g.variables c ≡ true → c.pred ≡ AllDifferentInt → list_all (has_place 500) (args_at c.args 0) ≡ true
-items_placed g c few h e = all_placed (args_at c.args 0) (items_see g.variables c h e)
-  where
-    below : (n : ℕ) → n < 500 → nat_lt n 500 ≡ true
-    below n h = grind (arith, nat_tests, h)
-
-    one : (a : Arg) → arg_sees g.variables c.owner.0 a ≡ true → has_place 500 a ≡ true
-    one (Var x) s = below x.0 (omega (arith, few, declared_below g.variables c.owner.0 x.0 s))
-    one (Num n) s = refl
-
-    all_placed : (items : List Arg) → list_all (arg_sees g.variables c.owner.0) items ≡ true → list_all (has_place 500) items ≡ true
-    all_placed [] s = refl
-    all_placed (a ∷ items) s =
-        together (has_place 500 a) (list_all (has_place 500) items)
-        (one a (first (arg_sees g.variables c.owner.0 a) (list_all (arg_sees g.variables c.owner.0) items) s))
-        (all_placed items (second (arg_sees g.variables c.owner.0 a) (list_all (arg_sees g.variables c.owner.0) items) s))
-
--- numbers have no ends to keep
-pub numbers_keep : (c : Rule) (box : Box) (items : List Arg) → list_all is_number_arg items ≡ true → list_all (keeps_arg c box) items ≡ true
-numbers_keep c box [] h = refl
-numbers_keep c box (Var x ∷ items) h = cc
-numbers_keep c box (Num n ∷ items) h = numbers_keep c box items h

@@ -13,7 +13,7 @@ use Rattle.qc_refuter.specs.Full.{lies_in, held, AreWidest}
 use Rattle.qc_refuter.specs.Met.{is_open}
 use Rattle.prop_base.specs.Closed.{keeps_arg}
 use Rattle.prop_different.specs.Quiet.{IsApart}
-use Rattle.prop_different.specs.Repeats.{has_repeat}
+use Rattle.qc_arguments.specs.Repeats.{has_repeat}
 
 -- it is refuted by a crowd of items, its own variables are among them, and each stands once
 pub record IsDifferent (g : Game) (c : Rule) (items : List Arg) : Type 0 where

@@ -1,4 +1,3 @@
 pub mod Quiet
-pub mod Repeats
 pub mod Different
 pub mod Parts

@@ -1,40 +1,21 @@
 //! The filter.
-ghost use Rattle.std.specs.Prelude.{◌≡◌, IsTrue, IfNone, IfSome, IfOk, slice_get, Some};
-ghost use Rattle.std.specs.List.{list_all};
-ghost use Rattle.qc_model.specs.declared.problem.Arg.TheVariants.{Var};
+ghost use Rattle.std.specs.Prelude.{◌≡◌, IfOk, slice_get, Some};
 ghost use Rattle.qc_model.specs.declared.problem.Pred.TheVariants.{AllDifferentInt};
-ghost use Rattle.qc_model.specs.Valid.{arg_sees};
 ghost use Rattle.qc_arguments.specs.Asked.{IsAsked};
 ghost use Rattle.prop_base.specs.Pruning.{IsPruning, IsFiltered, is_just};
 ghost use Rattle.prop_different.specs.Different.{IsDifferent};
-ghost use Rattle.prop_different.specs.Repeats.{is_number_arg};
 
-use crate::repeats::is_repeated;
 use crate::rounds::settle_all;
 use fd_store::Store;
 use proof_tree::StepList;
-use prop_base::{Filtered, filter_by_ends};
+use prop_base::{Filtered, filter_by_ends, first_variable};
 use prop_compare::Table;
-use qc_arguments::{arguments, items_at};
-use qc_model::{Arg, ConId, Constraint, Problem, VarId};
+use qc_arguments::{arguments, is_repeated, items_at};
+use qc_model::{Arg, ConId, Constraint, Problem};
 use std::alloc::AllocError;
 
 /// As many items as an array of a constraint can have.
 const MOST_ITEMS: usize = 1000;
-
-fn first_variable(problem: &Problem, rule: &Constraint, items: &[Arg]) -> Option<VarId>
-    requires { IsTrue (list_all (arg_sees problem.now.variables rule.now.owner.0) items.now) }
-    ensures none { IfNone result (IsTrue (list_all is_number_arg items.now)) }
-    ensures some { IfSome result (λ x. IsTrue (arg_sees problem.now.variables rule.now.owner.0 (Var x))) }
-{
-    let _ = (problem.constraints(), rule.pred);
-    for item in items {
-        if let Arg::Var(x) = *item {
-            return Some(x);
-        }
-    }
-    None
-}
 
 fn filter_items(
     problem: &Problem,
@@ -50,7 +31,7 @@ fn filter_items(
     ensures pruning { IsPruning (is_just c.0) problem.now store.old store.new steps.old steps.new }
     ensures answer { IfOk result (λ f. IsFiltered f rule.now store.new.box steps.old steps.new) }
 {
-    let Some(spare) = first_variable(problem, rule, items) else {
+    let Some(spare) = first_variable(problem, rule) else {
         return Ok(Filtered::Stable);
     };
     let mut buffer = [0u16; MOST_ITEMS];

@@ -7,7 +7,6 @@
 
 mod filtering;
 mod ranges;
-mod repeats;
 mod rounds;
 mod walk;
 

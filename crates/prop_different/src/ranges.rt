@@ -1,35 +1,15 @@
 //! What full ranges from one number on take from one variable.
-ghost use Rattle.std.specs.Prelude.{◌≡◌, ◌≤◌, ◌<◌, ◌^◌, ℕ, List, IsTrue, IfNone, IfSome, length, get_or, pos, ◌+ℤ◌, ◌≤ℤ◌, ◌<ℤ◌};
-ghost use Rattle.qc_model.specs.Domains.{Values, values_left, least_value, greatest_value};
-ghost use Rattle.qc_model.specs.Refuted.{left_to};
+ghost use Rattle.std.specs.Prelude.{◌≡◌, ◌≤◌, ◌<◌, ◌^◌, ℕ, List, IsTrue, IfNone, IfSome, length, pos, ◌+ℤ◌, ◌≤ℤ◌, ◌<ℤ◌};
+ghost use Rattle.qc_model.specs.Domains.{Values, values_left};
 ghost use Rattle.qc_model.specs.Valid.{is_number};
 ghost use Rattle.qc_refuter.specs.Full.{AreWidest};
-ghost use Rattle.qc_refuter.specs.Met.{is_open, is_domain_left};
+ghost use Rattle.qc_refuter.specs.Met.{is_domain_left};
 ghost use Rattle.prop_different.specs.Different.{IsLeftAlone, IsFullCut, IsRoom, AreRooms};
 
 use fd_store::Store;
 use prop_base::Cut;
-use qc_model::{Arg, VarId};
-
-pub(crate) fn least(arg: Arg, store: &Store) -> i64
-    requires { IsTrue (is_open store.now.box arg) }
-    ensures { result ≡ least_value (left_to store.now.box arg) }
-{
-    match arg {
-        Arg::Num(n) => n,
-        Arg::Var(x) => store.min(x),
-    }
-}
-
-// How far the second number is above the first.
-fn width(low: i64, high: i64) -> usize
-    requires low { IsTrue (is_number low) }
-    requires high { IsTrue (is_number high) }
-    requires order { low ≤ℤ high }
-    ensures { low +ℤ pos result ≡ high }
-{
-    (high - low) as usize
-}
+use qc_arguments::width;
+use qc_model::VarId;
 
 // How many numbers the widest full range has that ends before the number so far past its first.
 fn room_before(past: usize, rooms: &[u16], last: usize) -> usize
@@ -52,7 +32,7 @@ fn cut_before(x: VarId, low: i64, end: i64, last: usize) -> Option<Cut>
     ensures none { IfNone result ((low +ℤ pos last) ≤ℤ end) }
     ensures some { IfSome result (λ k. (k.x ≡ x) × (k.lo ≡ low) × (k.hi ≡ end) × (end <ℤ (low +ℤ pos last))) }
 {
-    if width(low, end) < last {
+    if (width(low, end) as usize) < last {
         Some(Cut {
             x,
             lo: low,
@@ -72,7 +52,7 @@ fn cut_after(x: VarId, low: i64, start: i64, room: usize) -> Option<Cut>
     ensures none { IfNone result ((low +ℤ pos room) ≤ℤ start) }
     ensures some { IfSome result (λ k. (k.x ≡ x) × (k.lo ≡ start) × ((k.hi +ℤ pos 1) ≡ low +ℤ pos room) × (start ≤ℤ k.hi)) }
 {
-    if width(low, start) < room {
+    if (width(low, start) as usize) < room {
         let hi = low + room as i64 - 1;
         Some(Cut { x, lo: start, hi })
     } else {
@@ -103,6 +83,6 @@ pub(crate) fn range_cut(
     if start < low {
         return cut_before(x, low, end, last);
     }
-    let room = room_before(width(low, end), rooms, last);
+    let room = room_before(width(low, end) as usize, rooms, last);
     cut_after(x, low, start, room)
 }

@@ -14,11 +14,11 @@ ghost use Rattle.prop_different.specs.Different.{IsDifferent};
 ghost use Rattle.prop_different.specs.Parts.{IsPart};
 ghost use Rattle.prop_different.specs.Quiet.{IsQuiet, IsQuietNext, AllQuiet};
 
-use crate::ranges::least;
 use crate::walk::first_cut;
 use fd_store::Store;
 use proof_tree::StepList;
 use prop_base::{Filtered, prune};
+use prop_compare::least;
 use qc_model::{Arg, ConId, Constraint, Problem, VarId};
 use std::alloc::AllocError;
 

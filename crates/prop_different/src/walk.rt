@@ -9,9 +9,10 @@ ghost use Rattle.prop_base.specs.Closed.{IsCut};
 ghost use Rattle.prop_different.specs.Different.{IsDifferent, IsLeftAlone, AreRooms};
 ghost use Rattle.prop_different.specs.Quiet.{IsQuiet};
 
-use crate::ranges::{least, range_cut};
+use crate::ranges::range_cut;
 use fd_store::Store;
 use prop_base::Cut;
+use prop_compare::least;
 use qc_model::{Arg, Constraint, Problem, VarId};
 use qc_refuter::widest_full;
 

@@ -3,26 +3,22 @@ use Rattle.std.proofs.Common.{◌≡◌, ℕ, ◌<◌, ◌⊎◌, inl, inr, Bool
 use Rattle.std.specs.Prelude.{negsuc, ◌≤ℤ◌, ◌<ℤ◌, int_le}
 use Rattle.std.specs.List.{list_all}
 use Rattle.qc_model.specs.declared.problem.Arg.{Arg}
-use Rattle.qc_model.specs.declared.problem.Arg.TheVariants.{Var, Num}
+use Rattle.qc_model.specs.declared.problem.Arg.TheVariants.{Var}
 use Rattle.qc_model.specs.declared.problem.VarId.{VarId}
 use Rattle.qc_model.specs.Closed.{refutes_at}
 use Rattle.qc_model.specs.Content.{Rule}
 use Rattle.qc_model.specs.Domains.{Values, Box, values_left, values_within, box_within, is_none_left, greatest_value, least_value}
 use Rattle.qc_model.specs.Refuted.{left_to, refuted_by}
-use Rattle.qc_model.specs.Valid.{is_number}
-use Rattle.qc_model.proofs.Readable.{first, second}
-use Rattle.qc_arguments.proofs.Values.{has_least, has_greatest}
+use Rattle.qc_refuter.proofs.Domains.{some_left, small_left}
 use Rattle.qc_refuter.specs.Met.{is_open}
-use Rattle.qc_refuter.proofs.Terms.{open_at}
-use Rattle.prop_base.specs.Closed.{keeps_arg, keeps_at}
-use Rattle.prop_base.proofs.Widening.{ordered}
-use Rattle.prop_compare.specs.Compared.{same_variable}
-use Rattle.prop_compare.proofs.Kept.{not_false, some_left, small_left, high_end, low_end, apart, over_low}
-use Rattle.prop_compare.proofs.Commons.{through}
-use Rattle.prop_compare.proofs.Sides.{open_place, with_other, apart_flipped}
+use Rattle.prop_base.specs.Closed.{keeps_at}
+use Rattle.qc_arguments.specs.Repeats.{same_variable}
+use Rattle.qc_arguments.proofs.Kept.{through, ordered, high_end, low_end, apart, over_low}
+use Rattle.qc_arguments.proofs.Items.{flipped}
+use Rattle.prop_compare.proofs.Sides.{open_place, with_other}
 use Rattle.prop_element.specs.Hulls.{IsHull}
 use Rattle.prop_element.specs.Extremes.{IsGreatest, IsHighestAt, IsGreatestReady, IsAloneHigh, HasOtherHigh, item_at, some_high, all_low}
-use Rattle.prop_element.proofs.Moved.{IsHere, IsElsewhere, moved, set_here, equal, same_tests, any_at, none_any, all_each, fails_at, at_most_is, above_not, over_least, under_most, itself, part_of}
+use Rattle.prop_element.proofs.Moved.{IsHere, IsElsewhere, moved, set_here, same_tests, any_at, none_any, all_each, fails_at, at_most_is, above_not, over_least, under_most, itself, part_of, open_item, small_least, small_greatest, keeps_same, least_kept, greatest_kept}
 
 -- by the two tests
 none_high : (c : Rule) (m : Arg) (items : List Arg) (b : Box) (v : ℤ) → IsGreatest c m items → least_value (left_to b m) ≡ v → some_high b items v ≡ false → refuted_by c b ≡ true
@@ -53,15 +49,6 @@ pub low_refuted : (c : Rule) (box : Box) (m : Arg) (items : List Arg) (q : ℕ) 
 low_refuted c box m items q r l h =
     not_low c m items box (greatest_value (left_to box m)) r refl
     (fails_at (λ x. int_le (least_value (left_to box x)) (greatest_value (left_to box m))) items q l (above_not (least_value (left_to box (item_at items q))) (greatest_value (left_to box m)) h))
-
-open_item : (box : Box) (items : List Arg) (k : ℕ) → list_all (is_open box) items ≡ true → k < length items → is_open box (item_at items k) ≡ true
-open_item box items k o h = open_at box items k (Var (record { 0 = 0 })) h o
-
-small_least : (box : Box) (a : Arg) → is_open box a ≡ true → is_number (least_value (left_to box a)) ≡ true
-small_least box a o = small_left (left_to box a) (least_value (left_to box a)) o (has_least (left_to box a) (some_left (left_to box a) o))
-
-small_greatest : (box : Box) (a : Arg) → is_open box a ≡ true → is_number (greatest_value (left_to box a)) ≡ true
-small_greatest box a o = small_left (left_to box a) (greatest_value (left_to box a)) o (has_greatest (left_to box a) (some_left (left_to box a) o))
 
 -- m at a value between the greatest greatest value and the greatest least one
 m_stays : (c : Rule) (box : Box) (x : VarId) (items : List Arg) (p q : ℕ) (v : ℤ) → x.0 < length box → IsGreatest c (Var x) items → IsHighestAt (λ y. greatest_value (left_to box y)) items p → IsHighestAt (λ y. least_value (left_to box y)) items q →
@@ -146,11 +133,6 @@ m_hull c box x items p q o os r high low =
       first = λ g f. m_stays c box x items p q (least_value d) lx r high low (through (least_value d) (greatest_value d) (greatest_value (left_to box (item_at items p))) s f) g;
     }
 
--- an item that is a variable
-keeps_same : (c : Rule) (box : Box) (x : VarId) (m : Arg) → same_variable (Var x) m ≡ true → keeps_arg c box m ≡ true → keeps_at c box x.0 ≡ true
-keeps_same c box x (Num n) s k = cc
-keeps_same c box x (Var y) s k = subst (λ z. keeps_at c box z ≡ true) (equal y.0 x.0 s) k
-
 -- another item than the variable that may be at most v
 record HasHighBeside (box : Box) (items : List Arg) (x : VarId) (v : ℤ) : Type 0 where
   at : ℕ
@@ -234,12 +216,6 @@ x_below c box m items x l h lx r f n t = by (moved box x (values_within l h (val
         none_high c m items (box_within box x.0 l h) (least_value (left_to box m)) r (ap least_value i.stays)
         (none_any (λ y. int_le (least_value (left_to box m)) (greatest_value (left_to (box_within box x.0 l h) y))) items (λ j q. each j q (moved box x (values_within l h (values_left box x.0)) (item_at items j) lx)))
 
-least_kept : (c : Rule) (box : Box) (x : ℕ) → keeps_at c box x ≡ true → refutes_at c box x (least_value (values_left box x)) ≡ false
-least_kept c box x k = not_false (refutes_at c box x (least_value (values_left box x))) (first (not (refutes_at c box x (least_value (values_left box x)))) (not (refutes_at c box x (greatest_value (values_left box x)))) k)
-
-greatest_kept : (c : Rule) (box : Box) (x : ℕ) → keeps_at c box x ≡ true → refutes_at c box x (greatest_value (values_left box x)) ≡ false
-greatest_kept c box x k = not_false (refutes_at c box x (greatest_value (values_left box x))) (second (not (refutes_at c box x (least_value (values_left box x)))) (not (refutes_at c box x (greatest_value (values_left box x)))) k)
-
 -- where another item may be at most what m may be, x has no upper bound
 free_hull : (c : Rule) (box : Box) (m : Arg) (items : List Arg) (p k : ℕ) (x : VarId) → is_open box m ≡ true → list_all (is_open box) items ≡ true → IsGreatest c m items → IsGreatestReady c box m items p → k < length items → item_at items k ≡ Var x →
     HasHighBeside box items x (least_value (left_to box m)) → IsHull c box x.0 (negsuc 999999999) (greatest_value (left_to box m))
@@ -285,7 +261,7 @@ item_free c box m items p k x alone om os r y kl e u s =
     free_hull c box m items p k x om os r y kl e (by (same_variable (item_at items p) (Var x)) refl alone u (ap (λ z. alone && same_variable (item_at items p) z) (sym e) ∙ s))
   where
     by : (b : Bool) → same_variable (item_at items p) (Var x) ≡ b → (a : Bool) → (a ≡ false → HasOtherHigh box items p (least_value (left_to box m))) → (a && same_variable (item_at items p) (Var x)) ≡ false → HasHighBeside box items x (least_value (left_to box m))
-    by false q a v t = record { at = p; place = y.place; other = apart_flipped (item_at items p) (Var x) q; high = y.reached }
+    by false q a v t = record { at = p; place = y.place; other = flipped (item_at items p) (Var x) q; high = y.reached }
     by true q true v t = cc
     by true q false v t =
         let w = v refl in

@@ -9,16 +9,12 @@ use Rattle.qc_model.specs.Domains.{Box, values_left, values_within, is_within, l
 use Rattle.qc_model.specs.Valid.{is_number}
 use Rattle.qc_model.proofs.Readable.{together}
 use Rattle.qc_arguments.proofs.Values.{has_least, has_greatest}
+use Rattle.qc_arguments.proofs.Bools.{not_true}
+use Rattle.qc_arguments.proofs.Kept.{some_of, keeps, over_low, under_high, small_of, lower, inside}
+use Rattle.qc_refuter.proofs.Domains.{some_left, small_left}
 use Rattle.qc_refuter.specs.Met.{is_domain_left}
 use Rattle.prop_base.specs.Closed.{IsCut, keeps_at}
-use Rattle.prop_compare.proofs.Kept.{not_true, some_left, some_of, keeps, small_left, over_low, under_high, small_of}
 use Rattle.prop_element.specs.Hulls.{IsHull}
-
-inside : (l h v : ℤ) → l ≤ℤ v → v ≤ℤ h → is_within l h v ≡ true
-inside l h v p q = grind (arith, ints)
-
-lower : (a b : ℤ) → int_lt a b ≡ true → a <ℤ b
-lower a b h = grind (arith, ints)
 
 pub cut_below : (c : Rule) (box : Box) (x : VarId) (low high l h : ℤ) → x.0 < length box → is_domain_left (values_left box x.0) ≡ true → IsHull c box x.0 low high → l ≡ least_value (values_left box x.0) → h ≡ low -ℤ pos 1 → int_lt l low ≡ true →
     IsCut c box (record { x = x; lo = l; hi = h })

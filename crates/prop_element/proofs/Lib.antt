@@ -8,3 +8,4 @@ pub mod ItemTests
 pub mod Supports
 pub mod Told
 pub mod Rows
+pub mod ChosenItems

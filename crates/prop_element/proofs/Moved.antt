@@ -1,5 +1,5 @@
 -- A variable that has other values, and the items of an array.
-use Rattle.std.proofs.Common.{◌≡◌, ℕ, zero, suc, ◌<◌, ◌⊎◌, inl, inr, Bool, true, false, ◌&&◌, ◌||◌, List, [], ◌∷◌, length, set, refl, sym, ap, ◌∙◌, subst, arith, ℤ}
+use Rattle.std.proofs.Common.{◌≡◌, ℕ, zero, suc, ◌<◌, ◌⊎◌, inl, inr, Bool, true, false, not, ◌&&◌, List, [], ◌∷◌, length, set, refl, sym, ap, ◌∙◌, subst, arith, ℤ}
 use Rattle.std.specs.Prelude.{◌==◌, ◌≤ℤ◌, ◌<ℤ◌, int_le, int_lt}
 use Rattle.std.specs.List.{list_any, list_all}
 use Rattle.std.proofs.lemmas.Int.{ints}
@@ -10,10 +10,18 @@ use Rattle.qc_model.specs.declared.problem.Arg.TheVariants.{Var, Num}
 use Rattle.qc_model.specs.declared.problem.VarId.{VarId}
 use Rattle.qc_model.specs.Domains.{Values, Box, values_left, values_within, is_within, is_none_left, has_value, least_value, greatest_value}
 use Rattle.qc_model.specs.Refuted.{left_to}
-use Rattle.qc_model.proofs.Readable.{together}
+use Rattle.qc_model.specs.Closed.{refutes_at}
+use Rattle.qc_model.specs.Content.{Rule}
+use Rattle.qc_model.specs.Valid.{is_number}
+use Rattle.qc_model.proofs.Readable.{first, second, together}
 use Rattle.qc_arguments.proofs.Values.{has_least, has_greatest}
-use Rattle.prop_compare.specs.Compared.{is_variable, same_variable}
-use Rattle.prop_compare.proofs.Kept.{passes, was_left, at_least, at_most, lower, reaches}
+use Rattle.qc_arguments.specs.Repeats.{is_variable, same_variable}
+use Rattle.qc_arguments.proofs.Kept.{passes, was_left, at_least, at_most, lower, reaches}
+use Rattle.qc_arguments.proofs.Bools.{or_left, or_right, or_none, not_false}
+use Rattle.qc_refuter.specs.Met.{is_open}
+use Rattle.qc_refuter.proofs.Domains.{some_left, small_left}
+use Rattle.qc_refuter.proofs.Terms.{open_at}
+use Rattle.prop_base.specs.Closed.{keeps_arg, keeps_at}
 use Rattle.prop_compare.proofs.Sides.{with_other}
 use Rattle.prop_element.specs.Extremes.{item_at}
 
@@ -54,19 +62,6 @@ moved box x us a l = by (same_variable (Var x) a) refl
 
 pub set_here : (box : Box) (x : VarId) (us : Values) → x.0 < length box → left_to (set box x.0 us) (Var x) ≡ us
 set_here box x us l = get_or-set_same box x.0 us [] l
-
--- a test of items by their places
-or_left : (a b : Bool) → a ≡ true → (a || b) ≡ true
-or_left true b h = refl
-or_left false b h = cc
-
-or_right : (a b : Bool) → b ≡ true → (a || b) ≡ true
-or_right true b h = refl
-or_right false b h = h
-
-or_none : (a b : Bool) → a ≡ false → b ≡ false → (a || b) ≡ false
-or_none true b h k = cc
-or_none false b h k = k
 
 and_left : (a b : Bool) → a ≡ false → (a && b) ≡ false
 and_left true b h = cc
@@ -139,3 +134,24 @@ part_of d l h n =
       least = at_least l h (least_value w) (passes (is_within l h) d (least_value w) p);
       greatest = at_most l h (greatest_value w) (passes (is_within l h) d (greatest_value w) q);
     }
+
+-- items and ends of open arguments
+pub open_item : (box : Box) (items : List Arg) (k : ℕ) → list_all (is_open box) items ≡ true → k < length items → is_open box (item_at items k) ≡ true
+open_item box items k o h = open_at box items k (Var (record { 0 = 0 })) h o
+
+pub small_least : (box : Box) (a : Arg) → is_open box a ≡ true → is_number (least_value (left_to box a)) ≡ true
+small_least box a o = small_left (left_to box a) (least_value (left_to box a)) o (has_least (left_to box a) (some_left (left_to box a) o))
+
+pub small_greatest : (box : Box) (a : Arg) → is_open box a ≡ true → is_number (greatest_value (left_to box a)) ≡ true
+small_greatest box a o = small_left (left_to box a) (greatest_value (left_to box a)) o (has_greatest (left_to box a) (some_left (left_to box a) o))
+
+-- an item that is a variable
+pub keeps_same : (c : Rule) (box : Box) (x : VarId) (m : Arg) → same_variable (Var x) m ≡ true → keeps_arg c box m ≡ true → keeps_at c box x.0 ≡ true
+keeps_same c box x (Num n) s k = cc
+keeps_same c box x (Var y) s k = subst (λ z. keeps_at c box z ≡ true) (equal y.0 x.0 s) k
+
+pub least_kept : (c : Rule) (box : Box) (x : ℕ) → keeps_at c box x ≡ true → refutes_at c box x (least_value (values_left box x)) ≡ false
+least_kept c box x k = not_false (refutes_at c box x (least_value (values_left box x))) (first (not (refutes_at c box x (least_value (values_left box x)))) (not (refutes_at c box x (greatest_value (values_left box x)))) k)
+
+pub greatest_kept : (c : Rule) (box : Box) (x : ℕ) → keeps_at c box x ≡ true → refutes_at c box x (greatest_value (values_left box x)) ≡ false
+greatest_kept c box x k = not_false (refutes_at c box x (greatest_value (values_left box x))) (second (not (refutes_at c box x (least_value (values_left box x)))) (not (refutes_at c box x (greatest_value (values_left box x)))) k)

@@ -1,5 +1,5 @@
 -- Rows that fit what is left, and what each variable may keep.
-use Rattle.std.proofs.Common.{◌≡◌, ℕ, zero, suc, ◌<◌, ◌⊎◌, inl, inr, Bool, true, false, not, ◌||◌, List, [], ◌∷◌, length, map, set, get_or, refl, sym, ap, ◌∙◌, subst, arith, ℤ}
+use Rattle.std.proofs.Common.{◌≡◌, ℕ, zero, suc, ◌<◌, ◌⊎◌, inl, inr, Bool, true, false, not, List, [], ◌∷◌, length, map, set, get_or, refl, sym, ap, ◌∙◌, subst, arith, ℤ}
 use Rattle.std.specs.Prelude.{pos, ◌≤ℤ◌, int_le}
 use Rattle.std.specs.List.{list_any}
 use Rattle.std.proofs.lemmas.Int.{ints}
@@ -14,14 +14,16 @@ use Rattle.qc_model.specs.Lists.{Among}
 use Rattle.qc_model.specs.Refuted.{left_to, refuted_by}
 use Rattle.qc_model.proofs.Readable.{first, second, together}
 use Rattle.qc_arguments.proofs.Values.{has_first}
+use Rattle.qc_arguments.proofs.Bools.{never, or_left, or_right, or_none, neither, clash}
+use Rattle.qc_refuter.proofs.Domains.{small_left}
 use Rattle.qc_refuter.specs.Met.{is_open}
-use Rattle.prop_compare.specs.Compared.{same_variable}
-use Rattle.prop_compare.proofs.Kept.{never, small_left, low_end, high_end, apart, at_least, at_most, passes, was_left}
-use Rattle.prop_compare.proofs.Commons.{through}
-use Rattle.prop_compare.proofs.Sides.{open_place, with_other, apart_flipped}
+use Rattle.qc_arguments.specs.Repeats.{same_variable, has_repeat}
+use Rattle.qc_arguments.proofs.Kept.{through, low_end, high_end, apart, at_least, at_most, passes, was_left, same_end}
+use Rattle.qc_arguments.proofs.Items.{flipped, others_left, none_at}
+use Rattle.prop_compare.proofs.Sides.{open_place, with_other}
 use Rattle.prop_element.specs.Hulls.{IsHull}
 use Rattle.prop_element.specs.Extremes.{item_at}
-use Rattle.prop_element.specs.Tables.{has_repeat, IsTable, IsFitting, IsWalk, NoRow, IsLowestRow, IsHighestRow}
+use Rattle.prop_element.specs.Tables.{IsTable, IsFitting, IsWalk, NoRow, IsLowestRow, IsHighestRow}
 use Rattle.prop_element.proofs.Moved.{IsHere, IsElsewhere, moved, set_here}
 
 -- an entry of a row that fits
@@ -46,22 +48,6 @@ was_fitting box x us (a ∷ items) (n ∷ row) l g f =
     by (inl i) h = ap (λ vs. has_value vs n) i.was ∙ g n (sym (ap (λ vs. has_value vs n) i.now) ∙ h)
     by (inr i) h = sym (ap (λ vs. has_value vs n) i.stays) ∙ h
 
-neither : (a b : Bool) → (a || b) ≡ false → (a ≡ false) × (b ≡ false)
-neither true b h = cc
-neither false b h = (refl, h)
-
--- another variable's place
-others_fit : (box : Box) (x : VarId) (us : Values) (items : List Arg) → list_any (same_variable (Var x)) items ≡ false → map (left_to (set box x.0 us)) items ≡ map (left_to box) items
-others_fit box x us [] h = refl
-others_fit box x us (a ∷ items) h =
-    let p = neither (same_variable (Var x) a) (list_any (same_variable (Var x)) items) h in
-    ap (λ d. d ∷ map (left_to (set box x.0 us)) items) (with_other box (Var x) a us p.0) ∙ ap (λ ds. left_to box a ∷ ds) (others_fit box x us items p.1)
-
-none_at : (a : Arg) (xs : List Arg) (k : ℕ) → list_any (same_variable a) xs ≡ false → k < length xs → same_variable a (item_at xs k) ≡ false
-none_at a [] k h l = absurd (omega arith)
-none_at a (x ∷ xs) zero h l = (neither (same_variable a x) (list_any (same_variable a) xs) h).0
-none_at a (x ∷ xs) (suc k) h l = none_at a xs k (neither (same_variable a x) (list_any (same_variable a) xs) h).1 (omega arith)
-
 -- a row that fits does so where the one variable keeps its entry
 still_fitting : (box : Box) (x : VarId) (us : Values) (items : List Arg) (row : List ℤ) (k : ℕ) → x.0 < length box → has_repeat items ≡ false → k < length items → item_at items k ≡ Var x → row_fits (map (left_to box) items) row ≡ true → has_value us (get_or row k (pos 0)) ≡ true →
     row_fits (map (left_to (set box x.0 us)) items) row ≡ true
@@ -71,26 +57,13 @@ still_fitting box x us (a ∷ items) (n ∷ row) zero l o h e f t =
     let p = neither (list_any (same_variable a) items) (has_repeat items) o in
     together (has_value (left_to (set box x.0 us) a) n) (row_fits (map (left_to (set box x.0 us)) items) row)
     (ap (λ vs. has_value vs n) (ap (left_to (set box x.0 us)) e ∙ set_here box x us l) ∙ t)
-    (ap (λ ds. row_fits ds row) (others_fit box x us items (sym (ap (λ z. list_any (same_variable z) items) e) ∙ p.0)) ∙ second (has_value (left_to box a) n) (row_fits (map (left_to box) items) row) f)
+    (ap (λ ds. row_fits ds row) (others_left box x us items (sym (ap (λ z. list_any (same_variable z) items) e) ∙ p.0)) ∙ second (has_value (left_to box a) n) (row_fits (map (left_to box) items) row) f)
 still_fitting box x us (a ∷ items) (n ∷ row) (suc k) l o h e f t =
     let p = neither (list_any (same_variable a) items) (has_repeat items) o in
-    let q = apart_flipped a (Var x) (ap (same_variable a) (sym e) ∙ none_at a items k p.0 (omega arith)) in
+    let q = flipped a (Var x) (ap (same_variable a) (sym e) ∙ none_at (same_variable a) items k (Var (record { 0 = 0 })) p.0 (omega arith)) in
     together (has_value (left_to (set box x.0 us) a) n) (row_fits (map (left_to (set box x.0 us)) items) row)
     (ap (λ vs. has_value vs n) (with_other box (Var x) a us q) ∙ first (has_value (left_to box a) n) (row_fits (map (left_to box) items) row) f)
     (still_fitting box x us items row k l p.1 (omega arith) e (second (has_value (left_to box a) n) (row_fits (map (left_to box) items) row) f) t)
-
--- rows by whether they fit
-or_left : (a b : Bool) → a ≡ true → (a || b) ≡ true
-or_left true b h = refl
-or_left false b h = cc
-
-or_right : (a b : Bool) → b ≡ true → (a || b) ≡ true
-or_right true b h = refl
-or_right false b h = h
-
-or_none : (a b : Bool) → a ≡ false → b ≡ false → (a || b) ≡ false
-or_none true b h k = cc
-or_none false b h k = k
 
 some_row : (p : List ℤ → Bool) (rs : List (List ℤ)) (row : List ℤ) → Among row rs → p row ≡ true → list_any p rs ≡ true
 some_row p [] row a t = absurd a
@@ -109,9 +82,6 @@ stays c box items rs x row k v l t h e p q =
     t.refuted (set box x.0 (v ∷ []))
     ∙ ap not (some_row (row_fits (map (left_to (set box x.0 (v ∷ []))) items)) rs row p.among
     (still_fitting box x (v ∷ []) items row k l t.once h e p.fits (subst (λ z. has_value (z ∷ []) (get_or row k (pos 0)) ≡ true) (sym q) (has_first (get_or row k (pos 0)) []))))
-
-same_end : (a b : ℤ) → a ≤ℤ b → b ≤ℤ a → a ≡ b
-same_end a b h k = grind (arith, ints)
 
 none_left : {X : Type 0} (row : List ℤ) → X ⊎ Among row [] → X
 none_left row (inl x) = x
@@ -146,11 +116,6 @@ column_hull c box items rs x k low high o t kl e p q =
       first = λ f g. stays c box items rs x low k (least_value d) lx t kl e p.fitting (same_end (least_value d) from (low_end d from s) f);
       last = λ f g. stays c box items rs x high k (greatest_value d) lx t kl e q.fitting (same_end (greatest_value d) to g (high_end d to u));
     }
-
--- the walk
-clash : (b : Bool) → b ≡ true → b ≡ false → ⊥
-clash true p q = cc
-clash false p q = cc
 
 pub ordered_by : (a b : ℤ) → int_le a b ≡ true → a ≤ℤ b
 ordered_by a b h = grind (arith, ints)

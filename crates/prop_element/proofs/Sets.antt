@@ -20,12 +20,13 @@ use Rattle.qc_model.specs.Domains.{Values, Box, values_left, box_within, box_at,
 use Rattle.qc_model.specs.Refuted.{refuted_by, left_to}
 use Rattle.qc_model.proofs.Readable.{first, second}
 use Rattle.qc_arguments.proofs.Values.{value_passes, above_first, ascending_rest, has_first}
+use Rattle.qc_arguments.proofs.Bools.{never, clash}
+use Rattle.qc_refuter.proofs.Domains.{some_left, small_left}
 use Rattle.fd_store.specs.Held.{values_from, values_up_to, least_of, greatest_of}
 use Rattle.qc_refuter.specs.Met.{is_open}
-use Rattle.prop_compare.proofs.Kept.{never, low_end, high_end, passes, was_left, some_left, small_left, apart, at_least, at_most}
-use Rattle.prop_compare.proofs.Commons.{from_some, from_none, up_to_some, up_to_none, through}
+use Rattle.qc_refuter.proofs.Commons.{from_some, from_none, up_to_some, up_to_none}
+use Rattle.qc_arguments.proofs.Kept.{through, within_at, low_end, high_end, passes, was_left, apart, at_least, at_most, same_end}
 use Rattle.prop_compare.proofs.Sides.{set_to}
-use Rattle.qc_refuter.proofs.Seen.{within_at}
 use Rattle.prop_element.specs.Hulls.{IsHull}
 use Rattle.prop_element.specs.Members.{IsMembership, IsFirstMember, IsLastMember, NoMember}
 
@@ -153,10 +154,6 @@ left_none d v h = never (has_value d v) (λ k. apart v (least_value d) h (low_en
 pub left_none_over : (d : Values) (v : ℤ) → greatest_value d <ℤ v → has_value d v ≡ false
 left_none_over d v h = never (has_value d v) (λ k. apart (greatest_value d) v h (high_end d v k))
 
-clash : (b : Bool) → b ≡ true → b ≡ false → ⊥
-clash true p q = cc
-clash false p q = cc
-
 -- u is one of the first or among the others
 one_of : (u x : ℤ) (xs : List ℤ) → list_any (int_eq u) (x ∷ xs) ≡ true → (u ≡ x) ⊎ (list_any (int_eq u) xs ≡ true)
 one_of u x xs h = by (int_eq u x) (Decides-int_eq u x).0 h
@@ -276,9 +273,6 @@ one_member s v h = by (set_has s v) h
     by : (b : Bool) → b ≡ true → not (b || false) ≡ false
     by true e = refl
     by false e = cc
-
-same_end : (a b : ℤ) → a ≤ℤ b → b ≤ℤ a → a ≡ b
-same_end a b h k = grind (arith, ints)
 
 pub members_hull : (c : Rule) (box : Box) (x : VarId) (s : Set) (low high : ℤ) → is_open box (Var x) ≡ true → IsMembership c (Var x) s → IsFirstMember s (values_left box x.0) low → IsLastMember s (values_left box x.0) high → IsHull c box x.0 low high
 members_hull c box x s low high o m p q =

@@ -9,18 +9,18 @@ use Rattle.qc_model.specs.declared.problem.Arg.{Arg}
 use Rattle.qc_model.specs.declared.problem.Argument.{Argument}
 use Rattle.qc_model.specs.declared.problem.Argument.TheVariants.{One, Many, Numbers, Members}
 use Rattle.qc_model.specs.declared.problem.Pred.{Pred}
-use Rattle.qc_model.specs.declared.problem.Pred.TheVariants.{SetIn, ArrayIntMinimum, ArrayIntMaximum, ArrayIntElement, ArrayBoolElement, TableInt}
+use Rattle.qc_model.specs.declared.problem.Pred.TheVariants.{SetIn, ArrayIntMinimum, ArrayIntMaximum, ArrayIntElement, ArrayBoolElement, ArrayVarIntElement, ArrayVarBoolElement, TableInt}
 use Rattle.qc_model.specs.declared.problem.Set.{Set}
 use Rattle.qc_model.specs.declared.problem.Variable.{Variable}
 use Rattle.qc_model.specs.declared.signature.ArgKind.{ArgKind}
-use Rattle.qc_model.specs.declared.signature.ArgKind.TheVariants.{Integer as integer, Boolean as boolean, Integers as integers, Numbers as numbers, Truths as truths, Members as members}
+use Rattle.qc_model.specs.declared.signature.ArgKind.TheVariants.{Integer as integer, Boolean as boolean, Integers as integers, Booleans as booleans, Numbers as numbers, Truths as truths, Members as members}
 use Rattle.qc_model.specs.Closed.{keeps_ends}
 use Rattle.qc_model.specs.Content.{Game, Rule}
 use Rattle.qc_model.specs.Domains.{Box, least_value, greatest_value}
 use Rattle.qc_model.specs.Arguments.{numbers as numbers_in}
-use Rattle.qc_model.specs.Left.{left_at, some_item_in, row_fits}
+use Rattle.qc_model.specs.Left.{left_at, lefts_at, some_item_in, some_item_meets, row_fits}
 use Rattle.qc_model.specs.Holds.{rows}
-use Rattle.qc_model.specs.Meaning.{element, meaning_of}
+use Rattle.qc_model.specs.Meaning.{element, variable_element, meaning_of}
 use Rattle.qc_model.specs.Refuted.{left_to, refuted_as}
 use Rattle.qc_model.specs.Signature.{arg_kinds_of}
 use Rattle.qc_model.specs.Valid.{is_number, is_truth, is_domain, is_set, is_of_sort, are_of_sorts, have_lengths, argument_sees, is_constraint}
@@ -32,9 +32,10 @@ use Rattle.qc_refuter.specs.Met.{lefts, is_open, is_met, are_met}
 use Rattle.qc_refuter.proofs.Ready.{rule_met}
 use Rattle.prop_base.specs.Closed.{keeps_arg, keeps_argument}
 use Rattle.prop_base.proofs.Keeps.{keeps_all}
-use Rattle.prop_compare.specs.Compared.{same_variable}
+use Rattle.qc_arguments.specs.Repeats.{same_variable, has_repeat}
+use Rattle.prop_element.specs.Choices.{IsChoice}
 use Rattle.prop_element.specs.Elements.{IsElement}
-use Rattle.prop_element.specs.Tables.{has_repeat, IsTable}
+use Rattle.prop_element.specs.Tables.{IsTable}
 use Rattle.prop_element.specs.Members.{IsMembership}
 use Rattle.prop_element.specs.Extremes.{IsLeast, IsGreatest}
 use Rattle.prop_element.proofs.ItemTests.{least_tests, greatest_tests}
@@ -358,4 +359,77 @@ table_is xs c h e s =
           keeps_all c box
           (ap (list_all (keeps_argument c box)) t.is
           ∙ together (list_all (keeps_arg c box) t.items) true (ap (λ l. list_all (keeps_arg c box) (args_at l 0)) (sym t.is) ∙ q) refl);
+    }
+
+-- a place, items, and an item
+record IsChosen (args : List Argument) : Type 0 where
+  place : Arg
+  items : List Arg
+  last : Arg
+  is : args ≡ One place ∷ Many items ∷ One last ∷ []
+
+chosen : (args : List Argument) (a b d : Argument) → args ≡ a ∷ b ∷ d ∷ [] → IsOne a → IsMany b → IsOne d → IsChosen args
+chosen args a b d e p q r = record {
+  place = p.it;
+  items = q.items;
+  last = r.it;
+  is = e ∙ (ap (λ z. z ∷ b ∷ d ∷ []) p.is ∙ (ap (λ z. One p.it ∷ z ∷ d ∷ []) q.is ∙ ap (λ z. One p.it ∷ Many q.items ∷ z ∷ []) r.is));
+}
+
+many_booleans : (xs : List Variable) (a : Argument) → is_of_sort xs booleans a ≡ true → IsMany a
+many_booleans xs (One a) h = cc
+many_booleans xs (Many items) h = record { items = items; is = refl }
+many_booleans xs (Numbers ns) h = cc
+many_booleans xs (Members s) h = cc
+
+choice_of : (xs : List Variable) (c : Rule) → is_constraint xs c ≡ true → (c.pred ≡ ArrayVarIntElement) ⊎ (c.pred ≡ ArrayVarBoolElement) → IsChosen c.args
+choice_of xs c h (inl e) =
+    let t = three_of xs integer integers integer c.args (sorts_of xs c ArrayVarIntElement h e) in
+    chosen c.args t.left t.middle t.right t.is (one_integer xs t.left t.left_is) (many_integers xs t.middle t.middle_is) (one_integer xs t.right t.right_is)
+choice_of xs c h (inr e) =
+    let t = three_of xs integer booleans boolean c.args (sorts_of xs c ArrayVarBoolElement h e) in
+    chosen c.args t.left t.middle t.right t.is (one_integer xs t.left t.left_is) (many_booleans xs t.middle t.middle_is) (one_boolean xs t.right t.right_is)
+
+choice_meant : (c : Rule) → (c.pred ≡ ArrayVarIntElement) ⊎ (c.pred ≡ ArrayVarBoolElement) → meaning_of c.pred ≡ variable_element
+choice_meant c (inl e) = ap meaning_of e
+choice_meant c (inr e) = ap meaning_of e
+
+-- what is left to the three
+pub record AreOpen (box : Box) (args : List Argument) : Type 0 where
+  pub first : is_open box (arg_at args 0) ≡ true
+  pub items : list_all (is_open box) (args_at args 1) ≡ true
+  pub few : length (args_at args 1) ≤ 1000
+  pub last : is_open box (arg_at args 2) ≡ true
+
+pub choice_open : (g : Game) (c : Rule) (box : Box) → list_all (λ x. is_domain x.domain) g.variables ≡ true → IsAsked g c box → (c.pred ≡ ArrayVarIntElement) ⊎ (c.pred ≡ ArrayVarBoolElement) → AreOpen box c.args
+choice_open g c box d a e =
+    let t = choice_of g.variables c a.rule e in
+    let u = ap (are_met box) (sym t.is) ∙ rule_met g box d a.declared a.full c a.rule in
+    let many = is_met box (Many t.items) in
+    let v = second (is_open box t.place) (many && (is_open box t.last && true)) u in
+    let m = first many (is_open box t.last && true) v in
+    record {
+      first = ap (λ l. is_open box (arg_at l 0)) t.is ∙ first (is_open box t.place) (many && (is_open box t.last && true)) u;
+      items = ap (λ l. list_all (is_open box) (args_at l 1)) t.is ∙ second (nat_le (length t.items) 1000) (list_all (is_open box) t.items) m;
+      few = subst (λ l. length (args_at l 1) ≤ 1000) (sym t.is) (leb-true (length t.items) 1000 (first (nat_le (length t.items) 1000) (list_all (is_open box) t.items) m));
+      last = ap (λ l. is_open box (arg_at l 2)) t.is ∙ first (is_open box t.last) true (second many (is_open box t.last && true) v);
+    }
+
+pub choice_is : (xs : List Variable) (c : Rule) → is_constraint xs c ≡ true → (c.pred ≡ ArrayVarIntElement) ⊎ (c.pred ≡ ArrayVarBoolElement) → has_repeat (arg_at c.args 0 ∷ arg_at c.args 2 ∷ args_at c.args 1) ≡ false →
+    IsChoice c (arg_at c.args 0) (args_at c.args 1) (arg_at c.args 2)
+choice_is xs c h e s =
+    let t = choice_of xs c h e in
+    record {
+      once = s;
+      refuted = λ box.
+          ap (λ m. refuted_as m (lefts box c.args)) (choice_meant c e)
+          ∙ (ap (λ d. not (some_item_meets (pos 1) d (lefts_at (lefts box c.args) 1) (left_at (lefts box c.args) 2))) (left_written box c.args 0)
+          ∙ (ap (λ ds. not (some_item_meets (pos 1) (left_to box (arg_at c.args 0)) ds (left_at (lefts box c.args) 2))) (lefts_written box c.args 1)
+          ∙ ap (λ d. not (some_item_meets (pos 1) (left_to box (arg_at c.args 0)) (map (left_to box) (args_at c.args 1)) d)) (left_written box c.args 2)));
+      own = λ box p q r.
+          keeps_all c box
+          (ap (list_all (keeps_argument c box)) t.is
+          ∙ together (keeps_arg c box t.place) (list_all (keeps_arg c box) t.items && (keeps_arg c box t.last && true)) (ap (λ l. keeps_arg c box (arg_at l 0)) (sym t.is) ∙ p)
+          (together (list_all (keeps_arg c box) t.items) (keeps_arg c box t.last && true) (ap (λ l. list_all (keeps_arg c box) (args_at l 1)) (sym t.is) ∙ q)
+          (together (keeps_arg c box t.last) true (ap (λ l. keeps_arg c box (arg_at l 2)) (sym t.is) ∙ r) refl)));
     }

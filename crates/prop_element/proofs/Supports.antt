@@ -1,5 +1,5 @@
 -- Places of an array of numbers that fit what is left, and what each variable may keep.
-use Rattle.std.proofs.Common.{◌≡◌, ℕ, zero, suc, ◌+◌, ◌<◌, ◌≤◌, ◌⊎◌, inl, inr, Bool, true, false, not, ◌&&◌, ◌||◌, List, [], ◌∷◌, length, set, get_or, refl, sym, ap, ◌∙◌, subst, arith, ℤ}
+use Rattle.std.proofs.Common.{◌≡◌, ℕ, zero, suc, ◌+◌, ◌<◌, ◌≤◌, ◌⊎◌, inl, inr, true, false, not, ◌&&◌, List, [], ◌∷◌, length, set, get_or, refl, sym, ap, ◌∙◌, subst, arith, ℤ}
 use Rattle.std.specs.Prelude.{pos, ◌+ℤ◌, ◌≤ℤ◌, int_le}
 use Rattle.std.proofs.lemmas.Int.{ints}
 use Rattle.std.proofs.lemmas.Bool.Decides.{nat_tests}
@@ -13,10 +13,12 @@ use Rattle.qc_model.specs.Left.{some_item_in}
 use Rattle.qc_model.specs.Refuted.{left_to, refuted_by}
 use Rattle.qc_model.proofs.Readable.{first, second, together}
 use Rattle.qc_arguments.proofs.Values.{has_first}
+use Rattle.qc_arguments.proofs.Bools.{never, or_left, or_right, or_none, clash}
+use Rattle.qc_refuter.proofs.Domains.{small_left}
 use Rattle.qc_refuter.specs.Met.{is_open}
-use Rattle.prop_compare.proofs.Kept.{never, small_left, low_end, high_end, apart, at_least, at_most, passes, was_left}
-use Rattle.prop_compare.proofs.Commons.{through}
-use Rattle.prop_compare.proofs.Sides.{open_place, with_other, apart_flipped}
+use Rattle.qc_arguments.proofs.Kept.{through, low_end, high_end, apart, at_least, at_most, passes, was_left, same_end}
+use Rattle.qc_arguments.proofs.Items.{flipped}
+use Rattle.prop_compare.proofs.Sides.{open_place, with_other}
 use Rattle.prop_element.specs.Hulls.{IsHull}
 use Rattle.prop_element.specs.Elements.{IsElement, place_fits, IsFirstPlace, IsLastPlace, NoPlace, IsLowerPlace, IsHigherPlace, IsLowestPlace, IsHighestPlace}
 use Rattle.prop_element.proofs.Moved.{set_here}
@@ -24,18 +26,6 @@ use Rattle.prop_element.proofs.Moved.{set_here}
 -- some place fits, counted from any number on
 next_place : (n : ℕ) → pos n +ℤ pos 1 ≡ pos (n + 1)
 next_place n = omega (arith, ints)
-
-or_left : (a b : Bool) → a ≡ true → (a || b) ≡ true
-or_left true b h = refl
-or_left false b h = cc
-
-or_right : (a b : Bool) → b ≡ true → (a || b) ≡ true
-or_right true b h = refl
-or_right false b h = h
-
-or_none : (a b : Bool) → a ≡ false → b ≡ false → (a || b) ≡ false
-or_none true b h k = cc
-or_none false b h k = k
 
 shifted : (n k : ℕ) → n + suc k ≡ (n + 1) + k
 shifted n k = omega arith
@@ -68,13 +58,6 @@ none_refuted c box a ns r e f =
 
 stays : (c : Rule) (box : Box) (a : Arg) (ns : List ℤ) (r : Arg) (k : ℕ) → IsElement c a ns r → k < length ns → has_value (left_to box a) (pos (k + 1)) ≡ true → has_value (left_to box r) (get_or ns k (pos 0)) ≡ true → refuted_by c box ≡ false
 stays c box a ns r k e h p q = e.refuted box ∙ ap not (some_from 1 (left_to box a) ns (left_to box r) k h (ap (λ z. has_value (left_to box a) (pos z)) (turned k) ∙ p) q)
-
-clash : (b : Bool) → b ≡ true → b ≡ false → ⊥
-clash true p q = cc
-clash false p q = cc
-
-same_end : (a b : ℤ) → a ≤ℤ b → b ≤ℤ a → a ≡ b
-same_end a b h k = grind (arith, ints)
 
 place_up : (j k : ℕ) → pos (k + 1) ≤ℤ pos (j + 1) → k ≤ j
 place_up j k h = grind (arith, ints)
@@ -130,7 +113,7 @@ place_hull c box x ns r k m o e p q =
 kept_number : (c : Rule) (box : Box) (x : VarId) (ns : List ℤ) (a : Arg) (k : ℕ) (v : ℤ) → x.0 < length box → IsElement c a ns (Var x) → k < length ns → place_fits (left_to box a) ns (values_left box x.0) k ≡ true → v ≡ get_or ns k (pos 0) → refutes_at c box x.0 v ≡ false
 kept_number c box x ns a k v l e h f q =
     stays c (set box x.0 (v ∷ [])) a ns (Var x) k e h
-    (ap (λ us. has_value us (pos (k + 1))) (with_other box (Var x) a (v ∷ []) (apart_flipped a (Var x) e.apart)) ∙ first (has_value (left_to box a) (pos (k + 1))) (has_value (values_left box x.0) (get_or ns k (pos 0))) f)
+    (ap (λ us. has_value us (pos (k + 1))) (with_other box (Var x) a (v ∷ []) (flipped a (Var x) e.apart)) ∙ first (has_value (left_to box a) (pos (k + 1))) (has_value (values_left box x.0) (get_or ns k (pos 0))) f)
     (ap (λ us. has_value us (get_or ns k (pos 0))) (set_here box x (v ∷ []) l) ∙ subst (λ z. has_value (z ∷ []) (get_or ns k (pos 0)) ≡ true) (sym q) (has_first (get_or ns k (pos 0)) []))
 
 was_number : (c : Rule) (box : Box) (x : VarId) (ns : List ℤ) (a : Arg) (l h : ℤ) (j : ℕ) → x.0 < length box → IsElement c a ns (Var x) → place_fits (left_to (box_within box x.0 l h) a) ns (left_to (box_within box x.0 l h) (Var x)) j ≡ true →
@@ -138,7 +121,7 @@ was_number : (c : Rule) (box : Box) (x : VarId) (ns : List ℤ) (a : Arg) (l h :
 was_number c box x ns a l h j lx e f =
     let d = values_left box x.0 in
     let n = get_or ns j (pos 0) in
-    let p = sym (ap (λ us. has_value us (pos (j + 1))) (with_other box (Var x) a (values_within l h d) (apart_flipped a (Var x) e.apart))) ∙ first (has_value (left_to (box_within box x.0 l h) a) (pos (j + 1))) (has_value (left_to (box_within box x.0 l h) (Var x)) n) f in
+    let p = sym (ap (λ us. has_value us (pos (j + 1))) (with_other box (Var x) a (values_within l h d) (flipped a (Var x) e.apart))) ∙ first (has_value (left_to (box_within box x.0 l h) a) (pos (j + 1))) (has_value (left_to (box_within box x.0 l h) (Var x)) n) f in
     let q = sym (ap (λ us. has_value us n) (set_here box x (values_within l h d) lx)) ∙ second (has_value (left_to (box_within box x.0 l h) a) (pos (j + 1))) (has_value (left_to (box_within box x.0 l h) (Var x)) n) f in
     (together (has_value (left_to box a) (pos (j + 1))) (has_value d n) p (was_left (is_within l h) d n q), passes (is_within l h) d n q)
 

@@ -11,10 +11,9 @@ use Rattle.qc_model.specs.declared.signature.ArgKind.TheVariants.{Boolean}
 use Rattle.qc_model.specs.Arguments.{members, last_of}
 use Rattle.qc_model.specs.Content.{Game, Rule}
 use Rattle.qc_model.specs.Domains.{Values, Box, is_none_left, has_empty, set_has}
-use Rattle.qc_model.specs.Entailed.{entailed_as}
 use Rattle.qc_model.specs.Left.{left_at}
 use Rattle.qc_model.specs.Meaning.{member, meaning_of}
-use Rattle.qc_model.specs.Refuted.{left_to, refuted_as}
+use Rattle.qc_model.specs.Refuted.{left_to}
 use Rattle.qc_model.specs.Signature.{arg_kinds_of}
 use Rattle.qc_model.specs.Valid.{are_of_sorts, have_lengths, arg_sees, argument_sees}
 use Rattle.qc_model.proofs.Readable.{first, second}

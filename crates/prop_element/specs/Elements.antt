@@ -9,7 +9,7 @@ use Rattle.qc_model.specs.Domains.{Values, Box, has_value}
 use Rattle.qc_model.specs.Left.{some_item_in}
 use Rattle.qc_model.specs.Refuted.{left_to, refuted_by}
 use Rattle.prop_base.specs.Closed.{keeps_arg}
-use Rattle.prop_compare.specs.Compared.{same_variable}
+use Rattle.qc_arguments.specs.Repeats.{same_variable}
 
 -- a constraint that says no more than that the number at the place a is r
 pub record IsElement (c : Rule) (a : Arg) (ns : List ℤ) (r : Arg) : Type 0 where

@@ -2,10 +2,11 @@
 use Rattle.std.specs.Prelude.{◌≡◌}
 use Rattle.qc_model.specs.declared.problem.Pred.TheVariants.{SetIn, ArrayIntMinimum, ArrayIntMaximum}
 use Rattle.qc_model.specs.Content.{Rule}
+use Rattle.prop_element.specs.Choices.{IsChoiceRule}
 use Rattle.prop_element.specs.Elements.{IsElementRule}
 use Rattle.prop_element.specs.Tables.{IsTableRule}
 use Rattle.prop_element.specs.declared.forms.Form.{Form}
-use Rattle.prop_element.specs.declared.forms.Form.TheVariants.{Member, Least, Greatest, Element, Row}
+use Rattle.prop_element.specs.declared.forms.Form.TheVariants.{Member, Least, Greatest, Element, Row, Choice}
 
 abbrev pub IsOfForm : Form → Rule → Type 0
 IsOfForm Member c = c.pred ≡ SetIn
@@ -13,3 +14,4 @@ IsOfForm Least c = c.pred ≡ ArrayIntMinimum
 IsOfForm Greatest c = c.pred ≡ ArrayIntMaximum
 IsOfForm Element c = IsElementRule c
 IsOfForm Row c = IsTableRule c
+IsOfForm Choice c = IsChoiceRule c

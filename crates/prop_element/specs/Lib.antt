@@ -4,3 +4,4 @@ pub mod Members
 pub mod Extremes
 pub mod Elements
 pub mod Tables
+pub mod Choices

@@ -1,5 +1,5 @@
 -- Constraints that say that items are a row of a table.
-use Rattle.std.specs.Prelude.{◌≡◌, ◌⊎◌, ℕ, Bool, false, not, ◌||◌, List, [], ◌∷◌, map, get_or, ℤ, pos, ◌≤ℤ◌, IsTrue, IsFalse}
+use Rattle.std.specs.Prelude.{◌≡◌, ◌⊎◌, ℕ, not, List, map, get_or, ℤ, pos, ◌≤ℤ◌, IsTrue, IsFalse}
 use Rattle.std.specs.List.{list_any, list_all}
 use Rattle.qc_model.specs.declared.problem.Arg.{Arg}
 use Rattle.qc_model.specs.declared.problem.Pred.TheVariants.{TableInt}
@@ -11,12 +11,7 @@ use Rattle.qc_model.specs.Lists.{Among}
 use Rattle.qc_model.specs.Refuted.{left_to, refuted_by}
 use Rattle.qc_arguments.specs.Written.{args_at}
 use Rattle.prop_base.specs.Closed.{keeps_arg}
-use Rattle.prop_compare.specs.Compared.{same_variable}
-
--- a variable stands twice
-abbrev pub has_repeat : List Arg → Bool
-has_repeat [] = false
-has_repeat (a ∷ xs) = list_any (same_variable a) xs || has_repeat xs
+use Rattle.qc_arguments.specs.Repeats.{has_repeat}
 
 -- a constraint that says no more than that the items are one of the rows; no variable stands twice
 pub record IsTable (c : Rule) (items : List Arg) (rs : List (List ℤ)) : Type 0 where

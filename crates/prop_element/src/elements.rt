@@ -6,14 +6,14 @@ ghost use Rattle.qc_model.specs.Refuted.{left_to, refuted_by};
 ghost use Rattle.qc_arguments.specs.Asked.{IsAsked};
 ghost use Rattle.qc_refuter.specs.Met.{is_open};
 ghost use Rattle.prop_base.specs.Closed.{IsCut, keeps_arg};
-ghost use Rattle.prop_compare.specs.Compared.{same_variable};
+ghost use Rattle.qc_arguments.specs.Repeats.{same_variable};
 ghost use Rattle.prop_element.specs.Elements.{IsElement, IsElementRule, place_fits, IsFirstPlace, IsLastPlace, NoPlace, IsLowerPlace, IsHigherPlace, IsLowestPlace, IsHighestPlace};
 
 use crate::hulls::{arg_cut, whole_cut};
-use crate::reading::{greatest, has, is_same, least};
 use fd_store::Store;
 use prop_base::Cut;
-use qc_arguments::{arguments, numbers_at, one_at};
+use prop_compare::{greatest, has, least};
+use qc_arguments::{arguments, is_same, numbers_at, one_at};
 use qc_model::{Arg, Constraint, Problem};
 
 // Whether place k, counted from 0, and its number are both left.
@@ -127,8 +127,8 @@ fn highest_place(a: Arg, numbers: &[i64], r: Arg, from: usize, store: &Store) ->
     best
 }
 
-// The number of a place, counted from 1.
-fn counted(k: usize) -> i64
+/// The number of a place, counted from 1.
+pub(crate) fn counted(k: usize) -> i64
     requires { k < 1000000 }
     ensures { result ≡ pos (k + 1) }
 {

@@ -1,11 +1,11 @@
 //! The predicates that are filtered by what each variable may keep.
 ghost use Rattle.std.specs.Prelude.{◌≡◌, ◌⊎◌, IfSome};
-ghost use Rattle.qc_model.specs.declared.problem.Pred.TheVariants.{ArrayIntElement, ArrayBoolElement, TableInt};
+ghost use Rattle.qc_model.specs.declared.problem.Pred.TheVariants.{ArrayIntElement, ArrayBoolElement, ArrayVarIntElement, ArrayVarBoolElement, TableInt};
 ghost use Rattle.prop_element.specs.Forms.{IsOfForm};
 
+use crate::choices::is_tangled;
 use crate::elements::is_own_place;
-use crate::repeats::is_repeated;
-use qc_arguments::{arguments, items_at};
+use qc_arguments::{arguments, is_repeated, items_at};
 use qc_model::{Constraint, Pred};
 
 /// What such a constraint is about.
@@ -16,6 +16,7 @@ pub enum Form {
     Greatest,
     Element,
     Row,
+    Choice,
 }
 
 fn element_form(rule: &Constraint) -> Option<Form>
@@ -26,6 +27,16 @@ fn element_form(rule: &Constraint) -> Option<Form>
         return None;
     }
     Some(Form::Element)
+}
+
+fn choice_form(rule: &Constraint) -> Option<Form>
+    requires { (rule.now.pred ≡ ArrayVarIntElement) ⊎ (rule.now.pred ≡ ArrayVarBoolElement) }
+    ensures { IfSome result (λ form. IsOfForm form rule.now) }
+{
+    if is_tangled(rule) {
+        return None;
+    }
+    Some(Form::Choice)
 }
 
 fn table_form(rule: &Constraint) -> Option<Form>
@@ -48,6 +59,8 @@ pub(crate) fn form_of(rule: &Constraint) -> Option<Form>
         Pred::ArrayIntMaximum => Some(Form::Greatest),
         Pred::ArrayIntElement => element_form(rule),
         Pred::ArrayBoolElement => element_form(rule),
+        Pred::ArrayVarIntElement => choice_form(rule),
+        Pred::ArrayVarBoolElement => choice_form(rule),
         Pred::TableInt => table_form(rule),
         _ => None,
     }

@@ -7,6 +7,7 @@
 //! variable stands twice.
 #![tactic(auto)]
 
+mod choices;
 mod elements;
 mod filtering;
 mod forms;
@@ -14,8 +15,6 @@ mod greatest;
 mod hulls;
 mod least;
 mod members;
-mod reading;
-mod repeats;
 mod settling;
 mod tables;
 

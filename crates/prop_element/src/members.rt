@@ -12,9 +12,9 @@ ghost use Rattle.prop_base.specs.Closed.{IsCut, keeps_arg};
 ghost use Rattle.prop_element.specs.Members.{IsMembership, IsFirstMember, IsLastMember, NoMember};
 
 use crate::hulls::{arg_cut, whole_cut};
-use crate::reading::{greatest, has, least, next_of, previous_of};
 use fd_store::Store;
 use prop_base::Cut;
+use prop_compare::{greatest, has, least, next_of, previous_of};
 use qc_arguments::{arguments, members_at, one_at};
 use qc_model::{Arg, Constraint, Problem, Set};
 

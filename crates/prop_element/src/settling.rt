@@ -6,6 +6,7 @@ ghost use Rattle.prop_base.specs.Closed.{IsCut};
 ghost use Rattle.prop_base.specs.Pruning.{IsPruning, IsFiltered, is_just};
 ghost use Rattle.prop_element.specs.Forms.{IsOfForm};
 
+use crate::choices::choice_cut;
 use crate::elements::element_cut;
 use crate::forms::Form;
 use crate::greatest::maximum_cut;
@@ -31,6 +32,7 @@ fn next_cut(form: Form, problem: &Problem, rule: &Constraint, store: &Store) -> 
         Form::Greatest => maximum_cut(problem, rule, store),
         Form::Element => element_cut(problem, rule, store),
         Form::Row => table_cut(problem, rule, store),
+        Form::Choice => choice_cut(problem, rule, store),
     }
 }
 

@@ -13,9 +13,9 @@ ghost use Rattle.prop_element.specs.Extremes.{item_at};
 ghost use Rattle.prop_element.specs.Tables.{IsTable, IsTableRule, IsFitting, NoRow, IsLowestRow, IsHighestRow};
 
 use crate::hulls::{any_cut, arg_cut};
-use crate::reading::{greatest, has, least};
 use fd_store::Store;
 use prop_base::Cut;
+use prop_compare::{greatest, has, least};
 use qc_arguments::{arguments, items_at, numbers_at};
 use qc_model::{Arg, Constraint, Problem};
 

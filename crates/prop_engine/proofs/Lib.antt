@@ -3,3 +3,4 @@ pub mod Own
 mod Watched
 mod Kept
 pub mod Means
+pub mod Room

@@ -6,6 +6,7 @@ use Rattle.qc_model.specs.Closed.{keeps_ends, is_closed}
 use Rattle.qc_model.specs.Content.{Game, Rule}
 use Rattle.qc_model.specs.Domains.{Box, has_empty}
 use Rattle.qc_model.proofs.Readable.{together}
+use Rattle.qc_arguments.proofs.Bools.{not_true}
 use Rattle.prop_engine.specs.Closing.{IsClosedFor}
 
 kept_filter : (p q : Rule → Bool) (cs : List Rule) → ((k : ℕ) (c : Rule) → slice_get cs k ≡ Some c → p c ≡ true → q c ≡ true) → list_all q (filter p cs) ≡ true
@@ -15,10 +16,6 @@ kept_filter p q (c ∷ cs) f = by (p c) (λ e. f zero c refl e) (kept_filter p q
     by : (b : Bool) → (b ≡ true → q c ≡ true) → list_all q (filter p cs) ≡ true → list_all q (cond b (c ∷ filter p cs) (filter p cs)) ≡ true
     by true e h = together (q c) (list_all q (filter p cs)) (e refl) h
     by false e h = h
-
-not_true : (b : Bool) → b ≡ false → not b ≡ true
-not_true true h = cc
-not_true false h = refl
 
 -- for the constraints that pass a test, where the number of each passes
 pub closed_for : (ok : ℕ → Bool) (g : Game) (p : Rule → Bool) (box : Box) → IsClosedFor ok g box → ((k : ℕ) (c : Rule) → slice_get g.constraints k ≡ Some c → p c ≡ true → ok k ≡ true) →

@@ -1,5 +1,5 @@
 -- Whether a constraint keeps its ends depends on what is left to its own variables alone.
-use Rattle.std.proofs.Common.{◌≡◌, ◌≢◌, ℕ, zero, suc, Bool, true, false, not, ◌&&◌, ◌||◌, List, [], ◌∷◌, ◌++◌, length, map, set, refl, ap, ◌∙◌, arith, ℤ}
+use Rattle.std.proofs.Common.{◌≡◌, ◌≢◌, ℕ, zero, suc, Bool, true, false, not, ◌&&◌, List, [], ◌∷◌, ◌++◌, length, map, set, refl, ap, ◌∙◌, arith, ℤ}
 use Rattle.std.specs.Prelude.{flat_map, ◌==◌}
 use Rattle.std.specs.List.{list_any, list_all}
 use Rattle.std.proofs.lemmas.Bool.Decides.{nat_tests}
@@ -15,6 +15,7 @@ use Rattle.qc_model.specs.Content.{Rule}
 use Rattle.qc_model.specs.Domains.{Values, Box, values_left, box_at, least_value, greatest_value, box_without, values_outside}
 use Rattle.qc_model.specs.Meaning.{meaning_of}
 use Rattle.qc_model.specs.Refuted.{left_to, refuted_as}
+use Rattle.qc_arguments.proofs.Bools.{or_left, or_right, neither}
 use Rattle.proof_tree.specs.declared.tree.Step.{Step}
 use Rattle.proof_tree.specs.declared.tree.Step.TheVariants.{Prune, Bound}
 use Rattle.proof_tree.specs.Steps.{after_steps}
@@ -31,14 +32,6 @@ equal_numbers j k h = grind (arith, nat_tests)
 
 apart : (j k : ℕ) → (j == k) ≡ false → k ≢ j
 apart j k h e = grind (arith, nat_tests)
-
-or_left : (a b : Bool) → a ≡ true → (a || b) ≡ true
-or_left true b h = refl
-or_left false b h = cc
-
-or_right : (a b : Bool) → b ≡ true → (a || b) ≡ true
-or_right true b h = refl
-or_right false b h = h
 
 among_left : (xs ys : List ℕ) (x : ℕ) → among xs x ≡ true → among (xs ++ ys) x ≡ true
 among_left xs ys x h = list_any-append (λ y. y == x) xs ys ∙ or_left (among xs x) (among ys x) h
@@ -111,10 +104,6 @@ pub after_length : (steps : List Step) (box : Box) → length (after_steps steps
 after_length [] box = refl
 after_length (Prune x lo hi c ∷ steps) box = after_length steps (box_without box x.0 lo hi) ∙ length-set box x.0 (values_outside lo hi (values_left box x.0))
 after_length (Bound x lo hi ∷ steps) box = after_length steps (box_without box x.0 lo hi) ∙ length-set box x.0 (values_outside lo hi (values_left box x.0))
-
-neither : (a b : Bool) → (a || b) ≡ false → (a ≡ false) × (b ≡ false)
-neither true b h = cc
-neither false b h = (refl, h)
 
 pub after_others : (steps : List Step) (box : Box) (y : ℕ) → names (changed_by steps) y ≡ false → values_left (after_steps steps box) y ≡ values_left box y
 after_others [] box y h = refl

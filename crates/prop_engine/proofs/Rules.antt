@@ -11,6 +11,7 @@ use Rattle.qc_model.specs.Domains.{Box, box_within, has_empty, is_sub_box, decla
 use Rattle.qc_model.specs.Valid.{IsValid, is_constraint, is_number}
 use Rattle.qc_model.proofs.Readable.{first, second, together}
 use Rattle.qc_arguments.specs.Asked.{IsAsked}
+use Rattle.qc_arguments.proofs.Bools.{or_right}
 use Rattle.proof_tree.specs.declared.tree.Step.{Step}
 use Rattle.proof_tree.specs.declared.tree.Step.TheVariants.{Prune, Bound}
 use Rattle.proof_tree.specs.Steps.{removes_some, after_step, after_steps}
@@ -39,10 +40,6 @@ same_number k = grind (arith, nat_tests)
 
 equal_numbers : (j k : ℕ) → (j == k) ≡ true → j ≡ k
 equal_numbers j k h = grind (arith, nat_tests)
-
-or_right : (a b : Bool) → b ≡ true → (a || b) ≡ true
-or_right true b h = refl
-or_right false b h = h
 
 pub has_at : (cs : List ConId) (i : ℕ) (d : ConId) → i < length cs → has_constraint cs (get_or cs i d).0 ≡ true
 has_at [] i d h = absurd (omega arith)

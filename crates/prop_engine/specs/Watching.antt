@@ -1,5 +1,5 @@
 -- Which constraints a change wakes, and which of them wait.
-use Rattle.std.specs.Prelude.{◌≡◌, ◌<◌, ◌==◌, ℕ, Bool, false, Option, Some, None, List, [], map, drop, length, slice_get, slice_index_or, IsTrue, IsFalse}
+use Rattle.std.specs.Prelude.{◌≡◌, ◌<◌, ◌≤◌, ◌+◌, ◌==◌, ℕ, Bool, true, false, Option, Some, None, List, [], ◌∷◌, map, drop, length, slice_get, slice_index_or, IsTrue, IsFalse}
 use Rattle.std.specs.List.{list_any, list_all}
 use Rattle.qc_model.specs.declared.problem.ConId.{ConId}
 use Rattle.qc_model.specs.declared.problem.VarId.{VarId}
@@ -17,6 +17,17 @@ use Rattle.prop_engine.specs.Closing.{has_constraint, EachRule, IsClosedFor}
 pub record Waiting : Type 0 where
   pub marks : List Bool
   pub queue : List ConId
+
+-- so many marks are set
+abbrev pub marked : List Bool → ℕ
+marked [] = 0
+marked (true ∷ marks) = marked marks + 1
+marked (false ∷ marks) = marked marks
+
+-- no more wait than are marked, and there is a place for each mark
+pub record HasRoom (waiting room : ℕ) (marks : List Bool) : Type 0 where
+  pub few : waiting ≤ marked marks
+  pub places : length marks ≤ room
 
 abbrev pub is_marked : Waiting → ℕ → Bool
 is_marked w k = slice_index_or w.marks k false

@@ -11,11 +11,12 @@ use crate::filtering::Filter;
 use crate::found::Found;
 use crate::running::run_filter;
 use crate::waiting::WorkList;
-use crate::waking::{Span, wake_changed, wake_span, wake_variables};
+use crate::waking::{wake_changed, wake_span, wake_variables};
 use crate::watching::Watches;
 use fd_store::Store;
 use proof_tree::StepList;
 use prop_base::Filtered;
+use qc_arguments::Span;
 use qc_model::{Problem, VarId};
 use std::alloc::{AllocError, Global};
 use std::marker::Model;
@@ -30,19 +31,19 @@ fn next_change<F: Filter>(
     store: &mut Store,
     steps: &mut StepList,
 ) -> Result<Found, AllocError>
-    requires span { span.last ≤ length problem.now.constraints }
-    requires known { EachRule (is_between span.first span.last) problem.now F.knows }
+    requires span { span.end ≤ length problem.now.constraints }
+    requires known { EachRule (is_between span.first span.end) problem.now F.knows }
     requires declared { IsTrue (is_box_of problem.now store.old.box) }
     requires full { IsFalse (has_empty store.old.box) }
     requires count { length list.old.marks ≡ length problem.now.constraints }
     requires waiting { MarkedWait list.old }
-    requires inside { IsTrue (all_waiting (is_between span.first span.last) list.old) }
-    requires kept { KeepsUnmarked (is_between span.first span.last) problem.now list.old store.old.box }
-    ensures pruning { IsPruning (is_between span.first span.last) problem.now store.old store.new steps.old steps.new }
+    requires inside { IsTrue (all_waiting (is_between span.first span.end) list.old) }
+    requires kept { KeepsUnmarked (is_between span.first span.end) problem.now list.old store.old.box }
+    ensures pruning { IsPruning (is_between span.first span.end) problem.now store.old store.new steps.old steps.new }
     ensures count { length list.new.marks ≡ length problem.now.constraints }
     ensures waiting { MarkedWait list.new }
-    ensures inside { IsTrue (all_waiting (is_between span.first span.last) list.new) }
-    ensures answer { IfOk result (λ f. IsFound f (is_between span.first span.last) problem.now list.new store.new.box steps.old steps.new) }
+    ensures inside { IsTrue (all_waiting (is_between span.first span.end) list.new) }
+    ensures answer { IfOk result (λ f. IsFound f (is_between span.first span.end) problem.now list.new store.new.box steps.old steps.new) }
 {
     while let Some(c) = list.pop() {
         match run_filter(filter, alloc, problem, c, store, steps)? {
@@ -65,20 +66,20 @@ fn settle<F: Filter>(
     store: &mut Store,
     steps: &mut StepList,
 ) -> Result<Closed, AllocError>
-    requires span { span.last ≤ length problem.now.constraints }
-    requires known { EachRule (is_between span.first span.last) problem.now F.knows }
+    requires span { span.end ≤ length problem.now.constraints }
+    requires known { EachRule (is_between span.first span.end) problem.now F.knows }
     requires watches { IsWatchOf problem.now watches.now }
     requires declared { IsTrue (is_box_of problem.now store.old.box) }
     requires full { IsFalse (has_empty store.old.box) }
     requires count { length list.old.marks ≡ length problem.now.constraints }
     requires waiting { MarkedWait list.old }
-    requires inside { IsTrue (all_waiting (is_between span.first span.last) list.old) }
-    requires kept { KeepsUnmarked (is_between span.first span.last) problem.now list.old store.old.box }
-    ensures pruning { IsPruning (is_between span.first span.last) problem.now store.old store.new steps.old steps.new }
+    requires inside { IsTrue (all_waiting (is_between span.first span.end) list.old) }
+    requires kept { KeepsUnmarked (is_between span.first span.end) problem.now list.old store.old.box }
+    ensures pruning { IsPruning (is_between span.first span.end) problem.now store.old store.new steps.old steps.new }
     ensures count { length list.new.marks ≡ length problem.now.constraints }
     ensures waiting { MarkedWait list.new }
-    ensures inside { IsTrue (all_waiting (is_between span.first span.last) list.new) }
-    ensures answer { IfOk result (λ a. IsClosing a (is_between span.first span.last) problem.now store.new.box) }
+    ensures inside { IsTrue (all_waiting (is_between span.first span.end) list.new) }
+    ensures answer { IfOk result (λ a. IsClosing a (is_between span.first span.end) problem.now store.new.box) }
 {
     loop {
         let before = steps.items().len();
@@ -87,7 +88,7 @@ fn settle<F: Filter>(
             Found::Emptied => return Ok(Closed::Empty),
             Found::Changed(own) => {
                 let fresh = &steps.items()[before..];
-                wake_changed(watches, span, own, fresh, list)?
+                wake_changed(watches, span, own, fresh, list);
             }
         }
     }
@@ -105,22 +106,22 @@ fn close_woken<F: Filter>(
     store: &mut Store,
     steps: &mut StepList,
 ) -> Result<Closed, AllocError>
-    requires span { span.last ≤ length problem.now.constraints }
-    requires known { EachRule (is_between span.first span.last) problem.now F.knows }
+    requires span { span.end ≤ length problem.now.constraints }
+    requires known { EachRule (is_between span.first span.end) problem.now F.knows }
     requires watches { IsWatchOf problem.now watches.now }
     requires declared { IsTrue (is_box_of problem.now store.old.box) }
     requires full { IsFalse (has_empty store.old.box) }
     requires count { length list.old.marks ≡ length problem.now.constraints }
     requires waiting { MarkedWait list.old }
-    requires inside { IsTrue (all_waiting (is_between span.first span.last) list.old) }
-    requires earlier { WasKept (is_between span.first span.last) problem.now changed.now store.old.box }
-    ensures pruning { IsPruning (is_between span.first span.last) problem.now store.old store.new steps.old steps.new }
+    requires inside { IsTrue (all_waiting (is_between span.first span.end) list.old) }
+    requires earlier { WasKept (is_between span.first span.end) problem.now changed.now store.old.box }
+    ensures pruning { IsPruning (is_between span.first span.end) problem.now store.old store.new steps.old steps.new }
     ensures count { length list.new.marks ≡ length problem.now.constraints }
     ensures waiting { MarkedWait list.new }
-    ensures inside { IsTrue (all_waiting (is_between span.first span.last) list.new) }
-    ensures answer { IfOk result (λ a. IsClosing a (is_between span.first span.last) problem.now store.new.box) }
+    ensures inside { IsTrue (all_waiting (is_between span.first span.end) list.new) }
+    ensures answer { IfOk result (λ a. IsClosing a (is_between span.first span.end) problem.now store.new.box) }
 {
-    wake_variables(watches, span, changed, list)?;
+    wake_variables(watches, span, changed, list);
     settle(filter, alloc, problem, watches, span, list, store, steps)
 }
 
@@ -135,21 +136,21 @@ fn close_all<F: Filter>(
     store: &mut Store,
     steps: &mut StepList,
 ) -> Result<Closed, AllocError>
-    requires span { span.last ≤ length problem.now.constraints }
-    requires known { EachRule (is_between span.first span.last) problem.now F.knows }
+    requires span { span.end ≤ length problem.now.constraints }
+    requires known { EachRule (is_between span.first span.end) problem.now F.knows }
     requires watches { IsWatchOf problem.now watches.now }
     requires declared { IsTrue (is_box_of problem.now store.old.box) }
     requires full { IsFalse (has_empty store.old.box) }
     requires count { length list.old.marks ≡ length problem.now.constraints }
     requires waiting { MarkedWait list.old }
-    requires inside { IsTrue (all_waiting (is_between span.first span.last) list.old) }
-    ensures pruning { IsPruning (is_between span.first span.last) problem.now store.old store.new steps.old steps.new }
+    requires inside { IsTrue (all_waiting (is_between span.first span.end) list.old) }
+    ensures pruning { IsPruning (is_between span.first span.end) problem.now store.old store.new steps.old steps.new }
     ensures count { length list.new.marks ≡ length problem.now.constraints }
     ensures waiting { MarkedWait list.new }
-    ensures inside { IsTrue (all_waiting (is_between span.first span.last) list.new) }
-    ensures answer { IfOk result (λ a. IsClosing a (is_between span.first span.last) problem.now store.new.box) }
+    ensures inside { IsTrue (all_waiting (is_between span.first span.end) list.new) }
+    ensures answer { IfOk result (λ a. IsClosing a (is_between span.first span.end) problem.now store.new.box) }
 {
-    wake_span(span, problem, list)?;
+    wake_span(span, problem, list);
     settle(filter, alloc, problem, watches, span, list, store, steps)
 }
 
@@ -167,7 +168,8 @@ fn clear(list: &mut WorkList)
 }
 
 /// What closing needs besides a problem and a store, made once for a problem: which constraints mention each variable, and
-/// a queue with room for all of them. Between its calls the queue is empty.
+/// a queue with room for all of them, which asks for no memory from then on: a refusal is always one of a filter. Between
+/// its calls the queue is empty.
 #[derive(Drop)]
 pub struct Engine {
     watches: Watches,
@@ -207,14 +209,14 @@ impl Engine {
         steps: &mut StepList,
     ) -> Result<Closed, AllocError>
         requires ready { IsReady problem.now self.old }
-        requires span { span.last ≤ length problem.now.constraints }
-        requires known { EachRule (is_between span.first span.last) problem.now F.knows }
+        requires span { span.end ≤ length problem.now.constraints }
+        requires known { EachRule (is_between span.first span.end) problem.now F.knows }
         requires declared { IsTrue (is_box_of problem.now store.old.box) }
         requires full { IsFalse (has_empty store.old.box) }
-        requires earlier { WasKept (is_between span.first span.last) problem.now changed.now store.old.box }
+        requires earlier { WasKept (is_between span.first span.end) problem.now changed.now store.old.box }
         ensures ready { IsReady problem.now self.new }
-        ensures pruning { IsPruning (is_between span.first span.last) problem.now store.old store.new steps.old steps.new }
-        ensures answer { IfOk result (λ a. IsClosing a (is_between span.first span.last) problem.now store.new.box) }
+        ensures pruning { IsPruning (is_between span.first span.end) problem.now store.old store.new steps.old steps.new }
+        ensures answer { IfOk result (λ a. IsClosing a (is_between span.first span.end) problem.now store.new.box) }
     {
         let answer = close_woken(
             filter,
@@ -243,13 +245,13 @@ impl Engine {
         steps: &mut StepList,
     ) -> Result<Closed, AllocError>
         requires ready { IsReady problem.now self.old }
-        requires span { span.last ≤ length problem.now.constraints }
-        requires known { EachRule (is_between span.first span.last) problem.now F.knows }
+        requires span { span.end ≤ length problem.now.constraints }
+        requires known { EachRule (is_between span.first span.end) problem.now F.knows }
         requires declared { IsTrue (is_box_of problem.now store.old.box) }
         requires full { IsFalse (has_empty store.old.box) }
         ensures ready { IsReady problem.now self.new }
-        ensures pruning { IsPruning (is_between span.first span.last) problem.now store.old store.new steps.old steps.new }
-        ensures answer { IfOk result (λ a. IsClosing a (is_between span.first span.last) problem.now store.new.box) }
+        ensures pruning { IsPruning (is_between span.first span.end) problem.now store.old store.new steps.old steps.new }
+        ensures answer { IfOk result (λ a. IsClosing a (is_between span.first span.end) problem.now store.new.box) }
     {
         let answer = close_all(
             filter,

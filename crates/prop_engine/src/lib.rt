@@ -19,4 +19,3 @@ pub use answer::Closed;
 pub use engine::Engine;
 pub use filtering::Filter;
 pub use rounds::close;
-pub use waking::Span;

@@ -1,5 +1,5 @@
 //! The constraints that wait, each once.
-ghost use Rattle.std.specs.Prelude.{◌≡◌, ◌≢◌, ◌<◌, ℕ, Bool, length, [], ◌∷◌, false, IsTrue, IfOk, OnOk, IfNone, IfSome, nat_lt};
+ghost use Rattle.std.specs.Prelude.{◌≡◌, ◌≢◌, ◌<◌, ℕ, Bool, length, [], ◌∷◌, false, IsTrue, IfOk, IfNone, IfSome, nat_lt};
 ghost use Rattle.prop_engine.specs.Watching.{is_marked, MarkedWait, all_waiting};
 
 use qc_model::ConId;
@@ -7,7 +7,8 @@ use std::alloc::{AllocError, Global};
 use std::collections::VecDeque;
 use std::marker::Model;
 
-/// A queue of constraints, with a mark for each constraint that stands in it.
+/// A queue of constraints, with a mark for each constraint that stands in it. No more wait than are marked, and the queue
+/// has a place for each mark, so it asks for no memory once it is made.
 #[derive(Drop)]
 pub(crate) struct WorkList {
     marks: Vec<bool>,
@@ -15,11 +16,14 @@ pub(crate) struct WorkList {
 }
 
 impl Model for WorkList {
-    ghost use Rattle.prop_engine.specs.Watching.{Waiting};
+    ghost use Rattle.std.specs.VecDeque.{deque_capacity, deque_len};
+    ghost use Rattle.prop_engine.specs.Watching.{HasRoom, Waiting};
 
     ghost Value = { Waiting };
 
     ghost view = { λ a. record { marks = a.marks.items; queue = a.queue.items } };
+
+    ghost invariant = { λ a. HasRoom (deque_len a.queue) (deque_capacity a.queue) a.marks.items };
 }
 
 impl WorkList {
@@ -43,22 +47,21 @@ impl WorkList {
         self.marks[c.0 as usize]
     }
 
-    /// Lets c wait behind the others, unless it waits already. After a refusal nothing has changed.
-    pub(crate) fn add(&mut self, c: ConId) -> Result<(), AllocError>
+    /// Lets c wait behind the others, unless it waits already.
+    pub(crate) fn add(&mut self, c: ConId)
         requires c { c.0 < length self.old.marks }
         requires waiting { MarkedWait self.old }
         ensures waiting { MarkedWait self.new }
         ensures allowed { (ok : ℕ → Bool) → IsTrue (ok c.0) → IsTrue (all_waiting ok self.old) → IsTrue (all_waiting ok self.new) }
         ensures count { length self.new.marks ≡ length self.old.marks }
         ensures kept { (k : ℕ) → IsTrue (is_marked self.old k) → IsTrue (is_marked self.new k) }
-        ensures marked { OnOk result (IsTrue (is_marked self.new c.0)) }
+        ensures marked { IsTrue (is_marked self.new c.0) }
     {
         if self.marks[c.0 as usize] {
-            return Ok(());
+            return;
         }
-        self.queue.push_back(c)?;
+        self.queue.push_back_reserved(c);
         self.marks[c.0 as usize] = true;
-        Ok(())
     }
 
     /// Takes the first of the queue out.

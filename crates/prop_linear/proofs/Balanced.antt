@@ -1,5 +1,5 @@
 -- A sum that is to be one number, and lies within s above its least and t below its greatest.
-use Rattle.std.proofs.Common.{◌≡◌, ℕ, ◌<◌, Bool, true, false, not, ◌||◌, List, length, get_or, map, refl, sym, ap, ◌∙◌, subst, arith, ℤ}
+use Rattle.std.proofs.Common.{◌≡◌, ℕ, ◌<◌, true, false, not, List, length, get_or, map, refl, sym, ap, ◌∙◌, subst, arith, ℤ}
 use Rattle.std.specs.Prelude.{pos, ◌+ℤ◌, ◌-ℤ◌, ◌≤ℤ◌, int_lt}
 use Rattle.std.proofs.lemmas.Int.{ints}
 use Rattle.qc_model.specs.declared.problem.Arg.{Arg}
@@ -12,15 +12,15 @@ use Rattle.qc_model.specs.Left.{sum_range}
 use Rattle.qc_model.specs.Ranges.{Range}
 use Rattle.qc_model.specs.Refuted.{left_to, refuted_by}
 use Rattle.qc_model.proofs.Readable.{together}
+use Rattle.qc_arguments.proofs.Items.{all_by}
+use Rattle.qc_arguments.proofs.Bools.{not_true, or_none, or_right, or_left}
+use Rattle.qc_arguments.proofs.Kept.{not_lower}
 use Rattle.prop_base.specs.Closed.{keeps_arg}
-use Rattle.prop_linear.specs.Tightening.{IsNear, AllNear, has_repeat, least_sum}
+use Rattle.qc_arguments.specs.Repeats.{has_repeat}
+use Rattle.prop_linear.specs.Tightening.{IsNear, AllNear, least_sum}
 use Rattle.prop_linear.specs.Sides.{greatest_sum, signed, IsBalanced, IsPast}
-use Rattle.prop_linear.proofs.Moves.{value_near, times_low, times_high, near_at, all_by, not_true, not_below}
+use Rattle.prop_linear.proofs.Moves.{value_near, times_low, times_high, near_at}
 use Rattle.prop_linear.proofs.Sides.{sum_opposite, signed_length, balanced_past, balanced_short}
-
-neither : (a b : Bool) → a ≡ false → b ≡ false → (a || b) ≡ false
-neither true b h k = cc
-neither false b h k = k
 
 balanced_value : (c : Rule) (ns : List ℤ) (xs : List Arg) (bound : ℤ) (s t : ℕ) (box : Box) (x : VarId) (v : ℤ) → IsBalanced c ns xs bound → bound ≡ least_sum ns xs box +ℤ pos s → greatest_sum ns xs box ≡ bound +ℤ pos t →
     least_sum ns xs (box_at box x.0 v) ≤ℤ (least_sum ns xs box +ℤ pos s) → least_sum (signed true ns) xs (box_at box x.0 v) ≤ℤ (least_sum (signed true ns) xs box +ℤ pos t) → not (refutes_at c box x.0 v) ≡ true
@@ -28,9 +28,9 @@ balanced_value c ns xs bound s t box x v b e f m n =
     let at = box_at box x.0 v in
     not_true (refutes_at c box x.0 v)
     (b.refuted at
-    ∙ neither (int_lt (greatest_sum ns xs at) bound) (int_lt bound (least_sum ns xs at))
-    (not_below (greatest_sum ns xs at) bound (high (greatest_sum ns xs at) (greatest_sum ns xs box) (least_sum (signed true ns) xs at) (least_sum (signed true ns) xs box) (sum_opposite ns xs at) (sum_opposite ns xs box) f n))
-    (not_below bound (least_sum ns xs at) (low (least_sum ns xs at) (least_sum ns xs box) e m)))
+    ∙ or_none (int_lt (greatest_sum ns xs at) bound) (int_lt bound (least_sum ns xs at))
+    (not_lower (greatest_sum ns xs at) bound (high (greatest_sum ns xs at) (greatest_sum ns xs box) (least_sum (signed true ns) xs at) (least_sum (signed true ns) xs box) (sum_opposite ns xs at) (sum_opposite ns xs box) f n))
+    (not_lower bound (least_sum ns xs at) (low (least_sum ns xs at) (least_sum ns xs box) e m)))
   where
     low : (a u : ℤ) → bound ≡ u +ℤ pos s → a ≤ℤ (u +ℤ pos s) → a ≤ℤ bound
     low a u h k = omega (arith, ints, h, k)
@@ -61,22 +61,13 @@ balanced_keeps c ns xs bound s t box b r l f e g near far =
     (all_by (keeps_arg c box) xs (Num (pos 0))
     (λ k h. balanced_place c ns xs bound s t box k (get_or xs k (Num (pos 0))) b r l h refl (λ x q. f k x h q) e g (near_at s ns xs k box (pos 0) (Num (pos 0)) (omega (arith, l, h)) h near) (near_at t (signed true ns) xs k box (pos 0) (Num (pos 0)) (omega (arith, signed_length true ns, l, h)) h far)))
 
--- the ends of the sum against the number
-or_true : (a b : Bool) → b ≡ true → (a || b) ≡ true
-or_true true b h = refl
-or_true false b h = h
-
-true_or : (a b : Bool) → a ≡ true → (a || b) ≡ true
-true_or true b h = refl
-true_or false b h = cc
-
 pub balanced_over : (c : Rule) (ns : List ℤ) (xs : List Arg) (bound : ℤ) (box : Box) (r : Range) → IsBalanced c ns xs bound → r ≡ sum_range ns (map (left_to box) xs) → int_lt bound r.from ≡ true → refuted_by c box ≡ true
 balanced_over c ns xs bound box r b e h =
-    b.refuted box ∙ or_true (int_lt (greatest_sum ns xs box) bound) (int_lt bound (least_sum ns xs box)) (ap (λ (z : Range). int_lt bound z.from) (sym e) ∙ h)
+    b.refuted box ∙ or_right (int_lt (greatest_sum ns xs box) bound) (int_lt bound (least_sum ns xs box)) (ap (λ (z : Range). int_lt bound z.from) (sym e) ∙ h)
 
 pub balanced_under : (c : Rule) (ns : List ℤ) (xs : List Arg) (bound : ℤ) (box : Box) (r : Range) → IsBalanced c ns xs bound → r ≡ sum_range ns (map (left_to box) xs) → int_lt r.to bound ≡ true → refuted_by c box ≡ true
 balanced_under c ns xs bound box r b e h =
-    b.refuted box ∙ true_or (int_lt (greatest_sum ns xs box) bound) (int_lt bound (least_sum ns xs box)) (ap (λ (z : Range). int_lt z.to bound) (sym e) ∙ h)
+    b.refuted box ∙ or_left (int_lt (greatest_sum ns xs box) bound) (int_lt bound (least_sum ns xs box)) (ap (λ (z : Range). int_lt z.to bound) (sym e) ∙ h)
 
 pub over_past : (c : Rule) (ns : List ℤ) (xs : List Arg) (bound : ℤ) (s : ℕ) (box : Box) → IsBalanced c ns xs bound → bound ≡ least_sum ns xs box +ℤ pos s → IsPast c ns xs (least_sum ns xs box +ℤ pos s)
 over_past c ns xs bound s box b e = subst (IsPast c ns xs) e (balanced_past c ns xs bound b)

@@ -1,114 +1,19 @@
 -- The values that a place of a sum lets go.
-use Rattle.std.proofs.Common.{◌≡◌, ℕ, suc, ◌+◌, ◌*◌, ◌<◌, ◌≤◌, Bool, true, false, not, ◌&&◌, ◌||◌, cond, [], ◌∷◌, inl, inr, leb, refl, sym, ap, ◌∙◌, subst, arith, ℤ}
-use Rattle.std.specs.Prelude.{pos, negsuc, ◌+ℤ◌, ◌-ℤ◌, ◌≤ℤ◌, ◌<ℤ◌, unsigned_abs, nat_abs, filter, int_lt}
-use Rattle.std.specs.List.{list_all}
-use Rattle.std.specs.Ordering.{int_eq}
+use Rattle.std.proofs.Common.{◌≡◌, ℕ, suc, ◌+◌, ◌*◌, ◌<◌, ◌≤◌, Bool, true, false, not, leb, refl, sym, ap, ◌∙◌, subst, arith, ℤ}
+use Rattle.std.specs.Prelude.{pos, negsuc, ◌+ℤ◌, ◌-ℤ◌, ◌≤ℤ◌, ◌<ℤ◌, unsigned_abs, nat_abs, int_lt}
 use Rattle.std.proofs.Math.Nat.{mul-le-mul_left}
 use Rattle.std.proofs.lemmas.Int.{ints}
 use Rattle.std.proofs.lemmas.Bool.{leb-true}
-use Rattle.std.proofs.lemmas.Bool.Decides.{Decides-int_eq, nat_tests}
-use Rattle.qc_model.specs.Domains.{Values, values_within, values_outside, is_within, has_value, is_none_left, is_ascending, least_value, greatest_value}
-use Rattle.qc_model.specs.Lists.{Among}
+use Rattle.std.proofs.lemmas.Bool.Decides.{nat_tests}
+use Rattle.qc_model.specs.Domains.{Values, values_within, values_outside, is_within, is_none_left, least_value, greatest_value}
 use Rattle.qc_model.specs.Ranges.{range_of, point, product}
-use Rattle.qc_model.specs.Valid.{is_number}
-use Rattle.qc_model.proofs.Readable.{first, second, together}
-use Rattle.qc_model.proofs.Sound.{lo_of, hi_of}
 use Rattle.qc_arguments.proofs.Values.{has_least, has_greatest}
+use Rattle.qc_arguments.proofs.Kept.{at_least, at_most, is_out_low, is_out_high, out_low, out_high, keeps, passes, was_left, some_of, low_end, high_end, same_end, ordered, inside, small_between}
+use Rattle.qc_refuter.proofs.Domains.{some_left}
 use Rattle.qc_refuter.specs.Met.{is_domain_left}
 use Rattle.qc_refuter.proofs.Terms.{least_small, greatest_small}
 use Rattle.prop_linear.specs.Tightening.{IsNear, IsTightening}
 use Rattle.prop_linear.proofs.Spread.{near_up, near_down, far_up, far_down, same_up, same_down}
-
-has_branch : (w : Bool) (x v : ℤ) (us : Values) → has_value (cond w (x ∷ us) us) v ≡ cond w (int_eq v x || has_value us v) (has_value us v)
-has_branch true x v us = refl
-has_branch false x v us = refl
-
-has_table : (w u b p q : Bool) → (b ≡ true → u ≡ w) → p ≡ (u && q) → cond w (b || p) p ≡ (u && (b || q))
-has_table true true true p q f h = refl
-has_table true true false p q f h = h
-has_table true false true p q f h = let e = f refl in cc
-has_table true false false p q f h = h
-has_table false true true p q f h = let e = f refl in cc
-has_table false true false p q f h = h
-has_table false false b p q f h = h
-
-and_false : (b : Bool) → false ≡ (b && false)
-and_false true = refl
-and_false false = refl
-
--- a value that is left, and passes
-has_kept : (q : ℤ → Bool) (vs : Values) (v : ℤ) → has_value (filter q vs) v ≡ (q v && has_value vs v)
-has_kept q [] v = and_false (q v)
-has_kept q (x ∷ vs) v =
-    has_branch (q x) x v (filter q vs)
-    ∙ has_table (q x) (q v) (int_eq v x) (has_value (filter q vs) v) (has_value vs v) (λ e. ap q ((Decides-int_eq v x).0 e)) (has_kept q vs v)
-
-pub keeps : (q : ℤ → Bool) (vs : Values) (v : ℤ) → q v ≡ true → has_value vs v ≡ true → has_value (filter q vs) v ≡ true
-keeps q vs v h k = has_kept q vs v ∙ together (q v) (has_value vs v) h k
-
-pub passes : (q : ℤ → Bool) (vs : Values) (v : ℤ) → has_value (filter q vs) v ≡ true → q v ≡ true
-passes q vs v h = first (q v) (has_value vs v) (sym (has_kept q vs v) ∙ h)
-
-pub was_left : (q : ℤ → Bool) (vs : Values) (v : ℤ) → has_value (filter q vs) v ≡ true → has_value vs v ≡ true
-was_left q vs v h = second (q v) (has_value vs v) (sym (has_kept q vs v) ∙ h)
-
-pub some_of : (vs : Values) (v : ℤ) → has_value vs v ≡ true → is_none_left vs ≡ false
-some_of [] v h = cc
-some_of (x ∷ vs) v h = refl
-
-among_of : (v : ℤ) (vs : Values) → has_value vs v ≡ true → Among v vs
-among_of v [] h = cc
-among_of v (x ∷ vs) h = by (int_eq v x) (Decides-int_eq v x).0 (among_of v vs) h
-  where
-    by : (b : Bool) → (b ≡ true → v ≡ x) → (has_value vs v ≡ true → Among v vs) → (b || has_value vs v) ≡ true → Among v (x ∷ vs)
-    by true e f h = inl (e refl)
-    by false e f h = inr (f h)
-
-pub low_end : (vs : Values) (v : ℤ) → has_value vs v ≡ true → least_value vs ≤ℤ v
-low_end vs v h = lo_of v vs (among_of v vs h)
-
-pub high_end : (vs : Values) (v : ℤ) → has_value vs v ≡ true → v ≤ℤ greatest_value vs
-high_end vs v h = hi_of v vs (among_of v vs h)
-
-same_end : (a b : ℤ) → a ≤ℤ b → b ≤ℤ a → a ≡ b
-same_end a b h k = grind (arith, ints)
-
-pub ordered : (vs : Values) → is_none_left vs ≡ false → least_value vs ≤ℤ greatest_value vs
-ordered vs n = low_end vs (greatest_value vs) (has_greatest vs n)
-
-pub some_left : (d : Values) → is_domain_left d ≡ true → is_none_left d ≡ false
-some_left d h = some (is_none_left d) (first (not (is_none_left d)) (is_ascending d) (first (not (is_none_left d) && is_ascending d) (list_all is_number d) h))
-  where
-    some : (b : Bool) → not b ≡ true → b ≡ false
-    some true e = cc
-    some false e = refl
-
-inside : (lo hi v : ℤ) → lo ≤ℤ v → v ≤ℤ hi → is_within lo hi v ≡ true
-inside lo hi v h k = grind (arith, ints)
-
-above : (lo hi v : ℤ) → is_within lo hi v ≡ true → lo ≤ℤ v
-above lo hi v h = grind (arith, ints)
-
-under : (lo hi v : ℤ) → is_within lo hi v ≡ true → v ≤ℤ hi
-under lo hi v h = grind (arith, ints)
-
-out_below : (lo hi v : ℤ) → v <ℤ lo → not (is_within lo hi v) ≡ true
-out_below lo hi v h = grind (arith, ints)
-
-out_above : (lo hi v : ℤ) → hi <ℤ v → not (is_within lo hi v) ≡ true
-out_above lo hi v h = grind (arith, ints)
-
-not_in_low : (lo hi v : ℤ) → not (is_within lo hi v) ≡ true → v ≤ℤ hi → v <ℤ lo
-not_in_low lo hi v h k = grind (arith, ints)
-
-not_in_high : (lo hi v : ℤ) → not (is_within lo hi v) ≡ true → lo ≤ℤ v → hi <ℤ v
-not_in_high lo hi v h k = grind (arith, ints)
-
-small_between : (a b v : ℤ) → is_number a ≡ true → is_number b ≡ true → a ≤ℤ v → v ≤ℤ b → is_number v ≡ true
-small_between a b v h k l m = by (leb-true (unsigned_abs a) 1000000000 h) (leb-true (unsigned_abs b) 1000000000 k)
-  where
-    by : unsigned_abs a ≤ 1000000000 → unsigned_abs b ≤ 1000000000 → is_number v ≡ true
-    by p q = grind (arith, nat_tests, ints)
 
 -- the ends of what is kept lie within the ends
 pub end_kept_low : (lo hi : ℤ) (d : Values) → is_none_left (values_outside lo hi d) ≡ false → least_value d ≤ℤ least_value (values_outside lo hi d)
@@ -121,7 +26,7 @@ end_kept_high lo hi d n =
     let out = values_outside lo hi d in
     high_end d (greatest_value out) (was_left (λ v. not (is_within lo hi v)) d (greatest_value out) (has_greatest out n))
 
--- a factor above 0: the values far above the least
+-- a factor at_least 0: the values far at_least the least
 pub cut_up : (p s q : ℕ) (d : Values) (lo : ℤ) → is_domain_left d ≡ true → p * q ≤ s → s < p * (q + 1) → lo ≡ least_value d +ℤ pos (q + 1) → lo ≤ℤ greatest_value d →
     IsTightening (pos p) s d lo (greatest_value d)
 cut_up p s q d lo o m n e h =
@@ -137,13 +42,13 @@ cut_up p s q d lo o m n e h =
     let in_has = keeps isin d high (inside lo high high h (omega (arith, ints))) hh in
     let in_some = some_of ins high in_has in
     let below : low <ℤ lo = omega (arith, ints, e) in
-    let out_has = keeps isout d low (out_below lo high low below) hl in
+    let out_has = keeps isout d low (is_out_low lo high low below) hl in
     let out_some = some_of out low out_has in
     let l_in = has_least ins in_some in
     let g_out = has_greatest out out_some in
     let l_same : least_value out ≡ low = same_end (least_value out) low (low_end out low out_has) (low_end d (least_value out) (was_left isout d (least_value out) (has_least out out_some))) in
-    let g_low : greatest_value out <ℤ lo = not_in_low lo high (greatest_value out) (passes isout d (greatest_value out) g_out) (high_end d (greatest_value out) (was_left isout d (greatest_value out) g_out)) in
-    let in_low : lo ≤ℤ least_value ins = above lo high (least_value ins) (passes isin d (least_value ins) l_in) in
+    let g_low : greatest_value out <ℤ lo = out_low lo high (greatest_value out) (passes isout d (greatest_value out) g_out) (high_end d (greatest_value out) (was_left isout d (greatest_value out) g_out)) in
+    let in_low : lo ≤ℤ least_value ins = at_least lo high (least_value ins) (passes isin d (least_value ins) l_in) in
     record {
       small_low = small_between low high lo (least_small d o) (greatest_small d o) (omega (arith, ints, e)) h;
       small_high = greatest_small d o;
@@ -172,13 +77,13 @@ cut_down p s q d hi o m n e h =
     let in_has = keeps isin d low (inside low hi low (omega (arith, ints)) h) hl in
     let in_some = some_of ins low in_has in
     let over : hi <ℤ high = omega (arith, ints, e) in
-    let out_has = keeps isout d high (out_above low hi high over) hh in
+    let out_has = keeps isout d high (is_out_high low hi high over) hh in
     let out_some = some_of out high out_has in
     let g_in = has_greatest ins in_some in
     let l_out = has_least out out_some in
     let g_same : greatest_value out ≡ high = same_end (greatest_value out) high (high_end d (greatest_value out) (was_left isout d (greatest_value out) (has_greatest out out_some))) (high_end out high out_has) in
-    let l_high : hi <ℤ least_value out = not_in_high low hi (least_value out) (passes isout d (least_value out) l_out) (low_end d (least_value out) (was_left isout d (least_value out) l_out)) in
-    let in_high : greatest_value ins ≤ℤ hi = under low hi (greatest_value ins) (passes isin d (greatest_value ins) g_in) in
+    let l_high : hi <ℤ least_value out = out_high low hi (least_value out) (passes isout d (least_value out) l_out) (low_end d (least_value out) (was_left isout d (least_value out) l_out)) in
+    let in_high : greatest_value ins ≤ℤ hi = at_most low hi (greatest_value ins) (passes isin d (greatest_value ins) g_in) in
     record {
       small_low = least_small d o;
       small_high = small_between low high hi (least_small d o) (greatest_small d o) h (omega (arith, ints, e));

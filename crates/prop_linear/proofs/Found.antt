@@ -15,7 +15,8 @@ use Rattle.qc_refuter.specs.Met.{is_domain_left}
 use Rattle.qc_refuter.proofs.Ready.{var_open}
 use Rattle.prop_base.specs.declared.cuts.Cut.{Cut}
 use Rattle.prop_base.specs.Closed.{IsCut}
-use Rattle.prop_linear.specs.Tightening.{IsTightening, has_repeat, least_sum}
+use Rattle.qc_arguments.specs.Repeats.{has_repeat}
+use Rattle.prop_linear.specs.Tightening.{IsTightening, least_sum}
 use Rattle.prop_linear.specs.Sides.{IsPast}
 use Rattle.prop_linear.proofs.Moves.{cut_refuted}
 

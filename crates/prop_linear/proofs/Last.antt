@@ -19,16 +19,20 @@ use Rattle.qc_model.specs.Refuted.{left_to, refuted_by}
 use Rattle.qc_model.specs.Valid.{is_number}
 use Rattle.qc_model.proofs.Readable.{first, second, together}
 use Rattle.qc_arguments.proofs.Values.{value_passes, has_least, has_greatest}
+use Rattle.qc_arguments.proofs.Kept.{keeps, passes, was_left, some_of}
+use Rattle.qc_arguments.proofs.Bools.{not_false, neither, never}
+use Rattle.qc_arguments.proofs.Items.{none_at, other_left, flipped, all_by}
+use Rattle.qc_refuter.proofs.Domains.{some_left}
 use Rattle.qc_refuter.specs.Met.{is_domain_left, is_open}
 use Rattle.qc_refuter.proofs.Terms.{open_at}
 use Rattle.prop_base.specs.Closed.{IsCut, keeps_arg}
 use Rattle.prop_base.proofs.Keeps.{within_one, stays}
-use Rattle.prop_linear.specs.Tightening.{term_of, least_sum, same_variable, has_repeat}
+use Rattle.qc_arguments.specs.Repeats.{same_variable, has_repeat}
+use Rattle.prop_linear.specs.Tightening.{term_of, least_sum}
 use Rattle.prop_linear.specs.Unequal.{is_loose, loose_at, IsUnequal, IsHit}
-use Rattle.prop_linear.proofs.Ends.{keeps, passes, was_left, some_of, some_left}
 use Rattle.prop_linear.proofs.Hits.{one_hit}
-use Rattle.prop_linear.proofs.Loose.{two_apart, loose_apart, sum_apart, apart_point, left_at_place, length_left, keeps_both, open_some, no_term, not_false, stays_sum}
-use Rattle.prop_linear.proofs.Moves.{neither, none_at, other_left, flipped, moved, all_by}
+use Rattle.prop_linear.proofs.Loose.{two_apart, loose_apart, sum_apart, apart_point, left_at_place, length_left, keeps_both, open_some, no_term, stays_sum}
+use Rattle.prop_linear.proofs.Moves.{moved}
 use Rattle.prop_linear.proofs.Spread.{low_of, high_of}
 
 -- the items of two places differ
@@ -107,10 +111,6 @@ hit_of ns xs box p x v bound r l k q m h =
     let e = (Decides-int_eq s.from bound).0 (first (int_eq s.from bound) (int_eq s.to bound) h) in
     sym (ap (λ z. z +ℤ (term_of (get_or ns p (pos 0)) (values_left box x.0)).from) (sym e) ∙ least_at ns xs box p x v r l k q m)
 
-not_hit : (b : Bool) → (b ≡ true → ⊥) → b ≡ false
-not_hit true f = absurd (f refl)
-not_hit false f = refl
-
 -- the open box with the variable at a value
 open_set : (box : Box) (x : VarId) (v : ℤ) (xs : List Arg) → x.0 < length box → is_number v ≡ true → list_all (is_open box) xs ≡ true → list_all (is_open (box_at box x.0 v)) xs ≡ true
 open_set box x v [] m n o = refl
@@ -130,7 +130,7 @@ open_set box x v (a ∷ xs) m n o =
     one false a e h = ap is_domain_left (other_left box x (v ∷ []) a e) ∙ h
     one true (Num k) e h = cc
     one true (Var y) e h =
-        ap is_domain_left (ap (values_left (box_at box x.0 v)) (same y.0 x.0 e) ∙ get_or-set_same box x.0 (v ∷ []) [] m) ∙ alone (is_number v) n
+        ap is_domain_left (ap (values_left (box_at box x.0 v)) (sym (same x.0 y.0 e)) ∙ get_or-set_same box x.0 (v ∷ []) [] m) ∙ alone (is_number v) n
 
 -- the value that is hit may go
 pub hit_cut : (c : Rule) (ns : List ℤ) (xs : List Arg) (bound : ℤ) (box : Box) (p : ℕ) (x : VarId) (v : ℤ) → IsUnequal c ns xs bound → has_repeat xs ≡ false → length ns ≡ length xs → p < length xs → get_or xs p (Num (pos 0)) ≡ Var x → x.0 < length box →
@@ -193,7 +193,7 @@ sum_off : (ns : List ℤ) (xs : List Arg) (bound : ℤ) (box : Box) (p : ℕ) (x
     int_eq (get_or ns p (pos 0)) (pos 0) ≡ false → ((w : ℤ) → has_value us w ≡ true → IsHit (least_sum ns xs box) (get_or ns p (pos 0)) (values_left box x.0) bound w → ⊥) → is_point bound (sum_range ns (map (left_to (set box x.0 us)) xs)) ≡ false
 sum_off ns xs bound box p x [] r l k q m o z f = cc
 sum_off ns xs bound box p x (w ∷ []) r l k q m o z f =
-    not_hit (is_point bound (sum_range ns (map (left_to (set box x.0 (w ∷ []))) xs))) (λ h. f w (self w) (hit_of ns xs box p x w bound r l k q m h))
+    never (is_point bound (sum_range ns (map (left_to (set box x.0 (w ∷ []))) xs))) (λ h. f w (self w) (hit_of ns xs box p x w bound r l k q m h))
   where
     self : (w : ℤ) → has_value (w ∷ []) w ≡ true
     self w = by (int_eq w w) ((Decides-int_eq w w).1 refl)
@@ -231,9 +231,6 @@ last_keeps c ns xs bound box p x us u r l k q m o t z f =
     differ : (a b : ℕ) → (a == b) ≡ false → a ≢ b
     differ a b h = grind (arith, nat_tests)
 
-    turned : (a b : ℕ) → (a == b) ≡ false → (b == a) ≡ false
-    turned a b h = grind (arith, nat_tests)
-
     left_here : values_left b2 x.0 ≡ us
     left_here = get_or-set_same box x.0 us [] m
 
@@ -243,13 +240,13 @@ last_keeps c ns xs bound box p x us u r l k q m o t z f =
     here : (w : ℤ) → has_value us w ≡ true → refutes_at c b2 x.0 w ≡ false
     here w h =
         ap (refuted_by c) (set_twice box x.0 us (w ∷ []))
-        ∙ (u.refuted (box_at box x.0 w) ∙ not_hit (is_point bound (sum_range ns (map (left_to (box_at box x.0 w)) xs))) (λ g. f w h (hit_of ns xs box p x w bound r l k q m g)))
+        ∙ (u.refuted (box_at box x.0 w) ∙ never (is_point bound (sum_range ns (map (left_to (box_at box x.0 w)) xs))) (λ g. f w h (hit_of ns xs box p x w bound r l k q m g)))
 
     apart : (y : VarId) → (y.0 == x.0) ≡ false → (j : ℕ) → j < length xs → (is_loose (get_or ns j (pos 0)) (left_to b2 (get_or xs j (Num (pos 0)))) ≡ false) ⊎ (same_variable (get_or xs j (Num (pos 0))) (Var y) ≡ false)
     apart y e j h = split (j == p) (same j p) (differ j p)
       where
         split : (b : Bool) → (b ≡ true → j ≡ p) → (b ≡ false → j ≢ p) → (is_loose (get_or ns j (pos 0)) (left_to b2 (get_or xs j (Num (pos 0)))) ≡ false) ⊎ (same_variable (get_or xs j (Num (pos 0))) (Var y) ≡ false)
-        split true g n = inr (ap (λ i. same_variable (get_or xs i (Num (pos 0))) (Var y)) (g refl) ∙ (ap (λ a. same_variable a (Var y)) q ∙ turned y.0 x.0 e))
+        split true g n = inr (ap (λ i. same_variable (get_or xs i (Num (pos 0))) (Var y)) (g refl) ∙ (ap (λ a. same_variable a (Var y)) q ∙ e))
         split false g n = inl (others_tight ns xs box p x us r k q t j h (n refl))
 
     by : (b : Bool) (y : VarId) (w : ℤ) → ((y.0 == x.0) ≡ true → y.0 ≡ x.0) → (y.0 == x.0) ≡ b → has_value (values_left b2 y.0) w ≡ true → refutes_at c b2 y.0 w ≡ false

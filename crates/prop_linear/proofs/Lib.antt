@@ -3,7 +3,6 @@ pub mod Ends
 pub mod Moves
 pub mod Found
 pub mod Shapes
-pub mod Numbers
 pub mod Sides
 pub mod Balanced
 pub mod Still
@@ -11,6 +10,5 @@ pub mod Small
 pub mod Loose
 pub mod Hits
 pub mod Last
-pub mod Marks
 pub mod Sided
 pub mod Told

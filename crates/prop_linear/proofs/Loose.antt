@@ -21,18 +21,17 @@ use Rattle.qc_model.specs.Refuted.{left_to}
 use Rattle.qc_model.specs.Valid.{is_number}
 use Rattle.qc_model.proofs.Readable.{first, second, together}
 use Rattle.qc_arguments.proofs.Values.{has_least, has_greatest}
+use Rattle.qc_arguments.proofs.Kept.{low_end, high_end}
+use Rattle.qc_arguments.proofs.Items.{other_left, all_by}
+use Rattle.qc_arguments.proofs.Bools.{not_true, not_false, or_left, or_right}
+use Rattle.qc_refuter.proofs.Domains.{some_left}
 use Rattle.qc_refuter.specs.Met.{is_domain_left, is_open}
 use Rattle.qc_refuter.proofs.Terms.{open_at}
 use Rattle.prop_base.specs.Closed.{keeps_arg}
-use Rattle.prop_linear.specs.Tightening.{term_of, same_variable}
+use Rattle.qc_arguments.specs.Repeats.{same_variable}
+use Rattle.prop_linear.specs.Tightening.{term_of}
 use Rattle.prop_linear.specs.Unequal.{is_loose, IsUnequal}
-use Rattle.prop_linear.proofs.Ends.{some_left, low_end, high_end}
-use Rattle.prop_linear.proofs.Moves.{other_left, all_by, not_true}
 use Rattle.prop_linear.proofs.Spread.{low_of, high_of, up_gap, down_gap}
-
-pub not_false : (b : Bool) → not b ≡ true → b ≡ false
-not_false true h = cc
-not_false false h = refl
 
 -- a term and a sum are in order
 term_order : (a : ℤ) (d : Values) → (term_of a d).from ≤ℤ (term_of a d).to
@@ -61,14 +60,6 @@ two_apart (v ∷ w ∷ vs) o s =
   where
     same : (v : ℤ) → int_eq v v ≡ true
     same v = (Decides-int_eq v v).1 refl
-
-    or_left : (a b : Bool) → a ≡ true → (a || b) ≡ true
-    or_left true b h = refl
-    or_left false b h = cc
-
-    or_right : (a b : Bool) → b ≡ true → (a || b) ≡ true
-    or_right true b h = refl
-    or_right false b h = h
 
     first_has : (v : ℤ) (vs : Values) → has_value (v ∷ vs) v ≡ true
     first_has v vs = or_left (int_eq v v) (has_value vs v) (same v)
@@ -165,7 +156,7 @@ loose_keeps c ns xs bound box x v k e u o h l s n =
 either_differs : (a b z : Arg) → same_variable a b ≡ false → same_variable a z ≡ true → same_variable b z ≡ true → ⊥
 either_differs (Var x) (Var y) (Var z) h k l = no x.0 y.0 z.0 h k l
   where
-    no : (x y z : ℕ) → (x == y) ≡ false → (x == z) ≡ true → (y == z) ≡ true → ⊥
+    no : (x y z : ℕ) → (y == x) ≡ false → (z == x) ≡ true → (z == y) ≡ true → ⊥
     no x y z h k l = grind (arith, nat_tests)
 either_differs (Var x) (Var y) (Num n) h k l = cc
 either_differs (Var x) (Num n) z h k l = cc
@@ -225,7 +216,7 @@ tight_left box x v a m h s = by (same_variable a (Var x)) a refl s
     by false a e s = other_left box x (v ∷ []) a e
     by true (Num n) e s = cc
     by true (Var y) e s =
-        let q : y.0 ≡ x.0 = same y.0 x.0 e in
+        let q : y.0 ≡ x.0 = sym (same x.0 y.0 e) in
         let one : values_left (box_at box x.0 v) y.0 ≡ v ∷ [] = ap (values_left (box_at box x.0 v)) q ∙ get_or-set_same box x.0 (v ∷ []) [] m in
         let here : has_value (values_left box y.0) v ≡ true = ap (λ k. has_value (values_left box k) v) q ∙ h in
         one ∙ only_value (values_left box y.0) v s here

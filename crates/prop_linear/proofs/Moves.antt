@@ -1,11 +1,10 @@
 -- One place of a sum, and the others.
-use Rattle.std.proofs.Common.{◌≡◌, ◌≢◌, ℕ, zero, suc, ◌<◌, Bool, true, false, not, ◌||◌, List, [], ◌∷◌, length, map, take, set, get_or, refl, sym, ap, ◌∙◌, subst, arith, ℤ}
-use Rattle.std.specs.Prelude.{pos, ◌+ℤ◌, ◌*ℤ◌, ◌≤ℤ◌, ◌<ℤ◌, int_lt, ◌==◌}
+use Rattle.std.proofs.Common.{◌≡◌, ℕ, zero, suc, ◌<◌, true, false, not, List, [], ◌∷◌, length, map, take, set, get_or, refl, sym, ap, ◌∙◌, subst, arith, ℤ}
+use Rattle.std.specs.Prelude.{pos, ◌+ℤ◌, ◌*ℤ◌, ◌≤ℤ◌, ◌<ℤ◌}
 use Rattle.std.specs.Int.{int_min, int_max}
-use Rattle.std.specs.List.{list_any, list_all}
+use Rattle.std.specs.List.{list_any}
 use Rattle.std.proofs.lemmas.Int.{ints, clamps}
-use Rattle.std.proofs.lemmas.List.{get_or-set_same, get_or-set_other}
-use Rattle.std.proofs.lemmas.Bool.Decides.{nat_tests}
+use Rattle.std.proofs.lemmas.List.{get_or-set_same}
 use Rattle.qc_model.specs.declared.problem.Arg.{Arg}
 use Rattle.qc_model.specs.declared.problem.Arg.TheVariants.{Var, Num}
 use Rattle.qc_model.specs.declared.problem.VarId.{VarId}
@@ -15,42 +14,14 @@ use Rattle.qc_model.specs.Domains.{Values, Box, values_left, values_within, valu
 use Rattle.qc_model.specs.Left.{sum_range}
 use Rattle.qc_model.specs.Refuted.{left_to, refuted_by}
 use Rattle.qc_model.proofs.Readable.{together}
+use Rattle.qc_arguments.proofs.Bools.{neither, not_true}
+use Rattle.qc_arguments.proofs.Items.{none_at, other_left, others_left, all_by}
+use Rattle.qc_arguments.proofs.Kept.{not_lower}
 use Rattle.prop_base.specs.Closed.{keeps_arg}
-use Rattle.prop_linear.specs.Tightening.{term_of, IsNear, IsTightening, AllNear, same_variable, has_repeat, least_sum, IsBounded}
+use Rattle.qc_arguments.specs.Repeats.{same_variable, has_repeat}
+use Rattle.prop_linear.specs.Tightening.{term_of, IsNear, IsTightening, AllNear, least_sum, IsBounded}
 use Rattle.prop_linear.specs.Sides.{IsPast}
 use Rattle.prop_linear.proofs.Spread.{low_of, high_of}
-
-pub neither : (a b : Bool) → (a || b) ≡ false → (a ≡ false) × (b ≡ false)
-neither true b h = cc
-neither false b h = (refl, h)
-
-pub none_at : (p : Arg → Bool) (xs : List Arg) (k : ℕ) (d : Arg) → list_any p xs ≡ false → k < length xs → p (get_or xs k d) ≡ false
-none_at p [] k d h l = absurd (omega arith)
-none_at p (x ∷ xs) zero d h l = (neither (p x) (list_any p xs) h).0
-none_at p (x ∷ xs) (suc k) d h l = none_at p xs k d (neither (p x) (list_any p xs) h).1 (omega arith)
-
--- another variable keeps its values
-pub other_left : (box : Box) (x : VarId) (us : Values) (a : Arg) → same_variable a (Var x) ≡ false → left_to (set box x.0 us) a ≡ left_to box a
-other_left box x us (Var y) h = get_or-set_other box x.0 y.0 us [] (apart y.0 x.0 h)
-  where
-    apart : (a b : ℕ) → (a == b) ≡ false → a ≢ b
-    apart a b h = grind (arith, nat_tests)
-other_left box x us (Num n) h = refl
-
-pub flipped : (a b : Arg) → same_variable a b ≡ false → same_variable b a ≡ false
-flipped (Var x) (Var y) h = flip x.0 y.0 h
-  where
-    flip : (a b : ℕ) → (a == b) ≡ false → (b == a) ≡ false
-    flip a b h = grind (arith, nat_tests)
-flipped (Var x) (Num n) h = refl
-flipped (Num n) (Var x) h = refl
-flipped (Num n) (Num m) h = refl
-
-pub others_left : (box : Box) (x : VarId) (us : Values) (xs : List Arg) → list_any (same_variable (Var x)) xs ≡ false → map (left_to (set box x.0 us)) xs ≡ map (left_to box) xs
-others_left box x us [] h = refl
-others_left box x us (a ∷ xs) h =
-    let p = neither (same_variable (Var x) a) (list_any (same_variable (Var x)) xs) h in
-    ap (λ d. d ∷ map (left_to (set box x.0 us)) xs) (other_left box x us a (flipped (Var x) a p.0)) ∙ ap (λ ds. left_to box a ∷ ds) (others_left box x us xs p.1)
 
 -- the sum moves by its one place
 pub moved : (ns : List ℤ) (xs : List Arg) (k : ℕ) (box : Box) (x : VarId) (us : Values) (d : ℤ) (e : Arg) → has_repeat xs ≡ false → k < length ns → k < length xs → get_or xs k e ≡ Var x → x.0 < length box →
@@ -108,17 +79,6 @@ near_at s (n ∷ ns) [] k box d e h l a = absurd (omega arith)
 near_at s (n ∷ ns) (x ∷ xs) zero box d e h l a = a.0
 near_at s (n ∷ ns) (x ∷ xs) (suc k) box d e h l a = near_at s ns xs k box d e (omega arith) (omega arith) a.1
 
-pub all_by : (p : Arg → Bool) (xs : List Arg) (e : Arg) → ((k : ℕ) → k < length xs → p (get_or xs k e) ≡ true) → list_all p xs ≡ true
-all_by p [] e f = refl
-all_by p (x ∷ xs) e f = together (p x) (list_all p xs) (f 0 (omega arith)) (all_by p xs e (λ k h. f (suc k) (omega arith)))
-
-pub not_true : (b : Bool) → b ≡ false → not b ≡ true
-not_true true h = cc
-not_true false h = refl
-
-pub not_below : (a b : ℤ) → b ≤ℤ a → int_lt a b ≡ false
-not_below a b h = grind (arith, ints)
-
 -- the ends are no more than the greatest of the term
 pub times_low : (n : ℤ) (d : Values) → (n *ℤ least_value d) ≤ℤ (term_of n d).to
 times_low n d = low (n *ℤ least_value d) (n *ℤ greatest_value d) (term_of n d).to (high_of n (least_value d) (greatest_value d))
@@ -149,7 +109,7 @@ value_near ns xs s box k x v r l h q m near t =
 keeps_value : (c : Rule) (ns : List ℤ) (xs : List Arg) (bound : ℤ) (s : ℕ) (box : Box) (x : VarId) (v : ℤ) → IsBounded c ns xs bound → bound ≡ least_sum ns xs box +ℤ pos s →
     least_sum ns xs (box_at box x.0 v) ≤ℤ (least_sum ns xs box +ℤ pos s) → not (refutes_at c box x.0 v) ≡ true
 keeps_value c ns xs bound s box x v b e n =
-    not_true (refutes_at c box x.0 v) (b.refuted (box_at box x.0 v) ∙ not_below bound (least_sum ns xs (box_at box x.0 v)) (subst (λ z. least_sum ns xs (box_at box x.0 v) ≤ℤ z) (sym e) n))
+    not_true (refutes_at c box x.0 v) (b.refuted (box_at box x.0 v) ∙ not_lower bound (least_sum ns xs (box_at box x.0 v)) (subst (λ z. least_sum ns xs (box_at box x.0 v) ≤ℤ z) (sym e) n))
 
 -- near places keep their ends
 keeps_place : (c : Rule) (ns : List ℤ) (xs : List Arg) (bound : ℤ) (s : ℕ) (box : Box) (k : ℕ) (a : Arg) → IsBounded c ns xs bound → has_repeat xs ≡ false → length ns ≡ length xs → k < length xs →

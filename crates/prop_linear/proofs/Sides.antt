@@ -1,5 +1,5 @@
 -- The two sides of a sum: the least of its negative is its greatest, and both only come nearer as values go.
-use Rattle.std.proofs.Common.{◌≡◌, ℕ, zero, suc, ◌<◌, Bool, true, false, ◌||◌, List, [], ◌∷◌, length, map, get_or, refl, sym, ap, ◌∙◌, subst, arith, ℤ}
+use Rattle.std.proofs.Common.{◌≡◌, ℕ, zero, suc, ◌<◌, Bool, true, false, List, [], ◌∷◌, length, map, get_or, refl, sym, ap, ◌∙◌, subst, arith, ℤ}
 use Rattle.std.specs.Prelude.{pos, negsuc, ◌+ℤ◌, ◌-ℤ◌, ◌*ℤ◌, ◌≤ℤ◌, ◌<ℤ◌, int_lt}
 use Rattle.std.specs.Int.{int_min, int_max}
 use Rattle.std.proofs.Math.IntN.{*ℤ_comm, *ℤ-negsuc, neg_ℤ}
@@ -13,9 +13,12 @@ use Rattle.qc_model.specs.Domains.{Values, Box, values_left, values_outside, box
 use Rattle.qc_model.specs.Left.{sum_range}
 use Rattle.qc_model.specs.Ranges.{range_of, point, product}
 use Rattle.qc_model.specs.Refuted.{left_to}
-use Rattle.prop_linear.specs.Tightening.{term_of, IsNear, least_sum, has_repeat, IsBounded}
+use Rattle.qc_arguments.specs.Repeats.{has_repeat}
+use Rattle.qc_arguments.proofs.Kept.{ordered, is_lower}
+use Rattle.qc_arguments.proofs.Bools.{or_left, or_right}
+use Rattle.prop_linear.specs.Tightening.{term_of, IsNear, least_sum, IsBounded}
 use Rattle.prop_linear.specs.Sides.{greatest_sum, opposite, signed, IsPast, IsBalanced}
-use Rattle.prop_linear.proofs.Ends.{ordered, end_kept_low, end_kept_high}
+use Rattle.prop_linear.proofs.Ends.{end_kept_low, end_kept_high}
 use Rattle.prop_linear.proofs.Moves.{moved}
 use Rattle.prop_linear.proofs.Spread.{low_of, high_of, rise_up, rise_down}
 
@@ -69,31 +72,19 @@ range_opposite (n ∷ ns) (d ∷ ds) =
 pub sum_opposite : (ns : List ℤ) (xs : List Arg) (box : Box) → least_sum (signed true ns) xs box ≡ opposite (greatest_sum ns xs box)
 sum_opposite ns xs box = range_opposite ns (map (left_to box) xs)
 
--- when a constraint is past its bound
-below : (a b : ℤ) → a <ℤ b → int_lt a b ≡ true
-below a b h = grind (arith, ints)
-
-or_left : (a b : Bool) → a ≡ true → (a || b) ≡ true
-or_left true b h = refl
-or_left false b h = cc
-
-or_right : (a b : Bool) → b ≡ true → (a || b) ≡ true
-or_right true b h = refl
-or_right false b h = h
-
 pub bounded_past : (c : Rule) (ns : List ℤ) (xs : List Arg) (bound : ℤ) → IsBounded c ns xs bound → IsPast c ns xs bound
-bounded_past c ns xs bound b = λ box h. b.refuted box ∙ below bound (least_sum ns xs box) h
+bounded_past c ns xs bound b = λ box h. b.refuted box ∙ is_lower bound (least_sum ns xs box) h
 
 pub balanced_past : (c : Rule) (ns : List ℤ) (xs : List Arg) (bound : ℤ) → IsBalanced c ns xs bound → IsPast c ns xs bound
 balanced_past c ns xs bound b = λ box h.
-    b.refuted box ∙ or_right (int_lt (greatest_sum ns xs box) bound) (int_lt bound (least_sum ns xs box)) (below bound (least_sum ns xs box) h)
+    b.refuted box ∙ or_right (int_lt (greatest_sum ns xs box) bound) (int_lt bound (least_sum ns xs box)) (is_lower bound (least_sum ns xs box) h)
 
 pub balanced_short : (c : Rule) (ns : List ℤ) (xs : List Arg) (bound : ℤ) → IsBalanced c ns xs bound → IsPast c (signed true ns) xs (opposite bound)
 balanced_short c ns xs bound b = λ box h.
     b.refuted box ∙ or_left (int_lt (greatest_sum ns xs box) bound) (int_lt bound (least_sum ns xs box)) (under (greatest_sum ns xs box) bound (least_sum (signed true ns) xs box) (sum_opposite ns xs box) h)
   where
     under : (g b l : ℤ) → l ≡ pos 0 -ℤ g → (pos 0 -ℤ b) <ℤ l → int_lt g b ≡ true
-    under g b l h k = below g b (omega (arith, ints, h, k))
+    under g b l h k = is_lower g b (omega (arith, ints, h, k))
 
 pub past_more : (c : Rule) (ns : List ℤ) (xs : List Arg) (b d : ℤ) → b ≤ℤ d → IsPast c ns xs b → IsPast c ns xs d
 past_more c ns xs b d h p = λ box k. p box (trans b d (least_sum ns xs box) h k)

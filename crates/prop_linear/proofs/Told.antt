@@ -1,5 +1,5 @@
 -- Sums that aren't both refuted and entailed.
-use Rattle.std.proofs.Common.{◌≡◌, ◌⊎◌, inl, inr, Bool, true, false, ◌&&◌, ◌||◌, [], ◌∷◌, Some, refl, sym, ap, ◌∙◌, arith, ℤ}
+use Rattle.std.proofs.Common.{◌≡◌, Bool, true, false, ◌||◌, [], ◌∷◌, Some, refl, ap, arith, ℤ}
 use Rattle.std.specs.Prelude.{◌≤ℤ◌, int_lt, int_le}
 use Rattle.std.specs.Ordering.{int_eq}
 use Rattle.std.proofs.lemmas.Int.{ints}
@@ -16,8 +16,8 @@ use Rattle.qc_model.specs.Refuted.{refuted_as}
 use Rattle.qc_model.specs.Signature.{arg_kinds_of}
 use Rattle.qc_model.proofs.Readable.{first, second}
 use Rattle.qc_arguments.specs.Written.{last_arg}
+use Rattle.qc_arguments.proofs.Kept.{ordered}
 use Rattle.qc_refuter.specs.Met.{lefts}
-use Rattle.prop_base.proofs.Widening.{ordered}
 use Rattle.prop_compare.specs.Untold.{RefutesNone}
 use Rattle.prop_compare.proofs.Lasts.{refutes_none}
 use Rattle.prop_linear.specs.declared.filtering.Relation.{Relation}

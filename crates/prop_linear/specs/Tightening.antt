@@ -1,8 +1,7 @@
 -- What one place of a sum lets go.
-use Rattle.std.specs.Prelude.{true, ◌≡◌, ◌==◌, ◌||◌, ⊤, ℕ, Bool, false, List, [], ◌∷◌, map, int_lt, ℤ, pos, ◌+ℤ◌, ◌≤ℤ◌, ◌<ℤ◌, IsTrue, IsFalse}
-use Rattle.std.specs.List.{list_any, list_all}
+use Rattle.std.specs.Prelude.{◌≡◌, ⊤, ℕ, List, [], ◌∷◌, map, int_lt, ℤ, pos, ◌+ℤ◌, ◌≤ℤ◌, ◌<ℤ◌, IsTrue, IsFalse}
+use Rattle.std.specs.List.{list_all}
 use Rattle.qc_model.specs.declared.problem.Arg.{Arg}
-use Rattle.qc_model.specs.declared.problem.Arg.TheVariants.{Var, Num}
 use Rattle.qc_model.specs.Closed.{keeps_ends}
 use Rattle.qc_model.specs.Content.{Rule}
 use Rattle.qc_model.specs.Domains.{Values, Box, values_within, values_outside, is_none_left}
@@ -36,16 +35,6 @@ AllNear s [] xs box = ⊤
 AllNear s (n ∷ ns) [] box = ⊤
 AllNear s (n ∷ ns) (x ∷ xs) box = IsNear n s (left_to box x) × AllNear s ns xs box
 
--- the same variable, and one that stands twice
-abbrev pub same_variable : Arg → Arg → Bool
-same_variable (Var x) (Var y) = x.0 == y.0
-same_variable (Var x) (Num n) = false
-same_variable (Num n) a = false
-
-abbrev pub has_repeat : List Arg → Bool
-has_repeat [] = false
-has_repeat (a ∷ xs) = list_any (same_variable a) xs || has_repeat xs
-
 -- the least that the sum can be
 abbrev pub least_sum : List ℤ → List Arg → Box → ℤ
 least_sum ns xs box = (sum_range ns (map (left_to box) xs)).from
@@ -54,7 +43,3 @@ least_sum ns xs box = (sum_range ns (map (left_to box) xs)).from
 pub record IsBounded (c : Rule) (ns : List ℤ) (xs : List Arg) (bound : ℤ) : Type 0 where
   pub refuted : (box : Box) → refuted_by c box ≡ int_lt bound (least_sum ns xs box)
   pub own : (box : Box) → IsTrue (list_all (keeps_arg c box) xs) → IsTrue (keeps_ends box c)
-
-abbrev pub is_number_arg : Arg → Bool
-is_number_arg (Var x) = false
-is_number_arg (Num n) = true

@@ -7,14 +7,13 @@ ghost use Rattle.qc_refuter.specs.Met.{is_open};
 ghost use Rattle.prop_base.specs.Pruning.{IsPruning, IsFiltered, is_just};
 ghost use Rattle.prop_linear.specs.Tightening.{IsBounded};
 
-use crate::failing::empty_first;
-use crate::repeats::is_repeated;
 use crate::slacks::slack;
 use crate::tighten::tighten_all;
 use fd_store::Store;
 use proof_tree::StepList;
-use prop_base::{Filtered, filter_by_ends};
+use prop_base::{Filtered, empty_first, filter_by_ends};
 use prop_compare::Table;
+use qc_arguments::is_repeated;
 use qc_model::{Arg, ConId, Constraint, Problem};
 use qc_refuter::sum_extent;
 use std::alloc::AllocError;
@@ -47,7 +46,7 @@ pub(crate) fn filter_at_most(
     }
     let least = sum_extent(problem, rule, factors, items, store).from;
     if (bound as i128) < least {
-        return empty_first(problem, c, rule, items, store, steps);
+        return empty_first(problem, c, rule, store, steps);
     }
     let s = slack(bound, least);
     if tighten_all(problem, c, rule, factors, items, s, store, steps)? {

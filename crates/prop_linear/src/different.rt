@@ -12,15 +12,14 @@ ghost use Rattle.qc_arguments.specs.Asked.{IsAsked};
 ghost use Rattle.qc_refuter.specs.Met.{is_open};
 ghost use Rattle.prop_base.specs.Pruning.{IsPruning, IsFiltered, is_just};
 ghost use Rattle.prop_linear.specs.Unequal.{IsUnequal, is_loose, loose_at};
-ghost use Rattle.prop_linear.specs.Tightening.{has_repeat};
+ghost use Rattle.qc_arguments.specs.Repeats.{has_repeat};
 
-use crate::failing::empty_first;
 use crate::missing::missing_value;
-use crate::repeats::{is_repeated, is_same};
 use fd_store::Store;
 use proof_tree::StepList;
-use prop_base::{Cut, Filtered, filter_by_ends, prune};
+use prop_base::{Cut, Filtered, empty_first, filter_by_ends, prune};
 use prop_compare::Table;
+use qc_arguments::{is_repeated, is_same};
 use qc_model::{Arg, ConId, Constraint, Problem};
 use qc_refuter::{Extent, sum_extent};
 use std::alloc::AllocError;
@@ -88,7 +87,7 @@ fn decide(
 {
     let sum = sum_extent(problem, rule, factors, items, store);
     if is_only(sum, bound) {
-        empty_first(problem, c, rule, items, store, steps)
+        empty_first(problem, c, rule, store, steps)
     } else {
         Ok(Filtered::Stable)
     }

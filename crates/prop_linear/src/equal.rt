@@ -7,16 +7,15 @@ ghost use Rattle.qc_refuter.specs.Met.{is_open};
 ghost use Rattle.prop_base.specs.declared.answer.Filtered.TheVariants.{Changed, Stable};
 ghost use Rattle.prop_base.specs.Pruning.{IsPruning, IsFiltered, is_just};
 ghost use Rattle.prop_linear.specs.Sides.{IsBalanced, IsRound};
-ghost use Rattle.prop_linear.specs.Tightening.{has_repeat};
+ghost use Rattle.qc_arguments.specs.Repeats.{has_repeat};
 
-use crate::failing::empty_first;
-use crate::repeats::is_repeated;
 use crate::rounds::tighten_round;
 use crate::slacks::{excess, slack};
 use fd_store::Store;
 use proof_tree::StepList;
-use prop_base::{Filtered, filter_by_ends};
+use prop_base::{Filtered, empty_first, filter_by_ends};
 use prop_compare::Table;
+use qc_arguments::is_repeated;
 use qc_model::{Arg, ConId, Constraint, Problem};
 use qc_refuter::sum_extent;
 use std::alloc::AllocError;
@@ -47,10 +46,10 @@ fn run_round(
     problem.known();
     let sum = sum_extent(problem, rule, factors, items, store);
     if (bound as i128) < sum.from {
-        return empty_first(problem, c, rule, items, store, steps);
+        return empty_first(problem, c, rule, store, steps);
     }
     if sum.to < bound as i128 {
-        return empty_first(problem, c, rule, items, store, steps);
+        return empty_first(problem, c, rule, store, steps);
     }
     let s = slack(bound, sum.from);
     let t = excess(sum.to, bound);

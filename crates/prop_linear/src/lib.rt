@@ -8,11 +8,9 @@
 mod at_most;
 mod different;
 mod equal;
-mod failing;
 mod filtering;
 mod missing;
 mod places;
-mod repeats;
 mod rounds;
 mod signs;
 mod slacks;

@@ -6,9 +6,9 @@ ghost use Rattle.qc_model.specs.Valid.{is_number};
 ghost use Rattle.qc_refuter.specs.Met.{is_domain_left};
 ghost use Rattle.prop_linear.specs.Unequal.{IsHit};
 
-use crate::places::width;
 use crate::slacks::slack;
 use fd_store::Store;
+use qc_arguments::width;
 use qc_model::VarId;
 
 // How many steps of a factor go into a number, where it is whole.
@@ -64,7 +64,7 @@ pub(crate) fn missing_value(
     };
     let low = store.min(x);
     let high = store.max(x);
-    if width(low, high) < steps {
+    if (width(low, high) as u128) < steps {
         return None;
     }
     let v = stepped(factor, low, high, steps);

@@ -7,6 +7,7 @@ ghost use Rattle.prop_linear.specs.Tightening.{IsNear, IsTightening};
 
 use fd_store::Store;
 use prop_base::Cut;
+use qc_arguments::width;
 use qc_model::VarId;
 
 // How many steps of a factor are within s.
@@ -18,23 +19,12 @@ fn steps_within(s: u128, factor: i64) -> u128
     s / factor.unsigned_abs() as u128
 }
 
-/// How far the second number is above the first.
-pub(crate) fn width(low: i64, high: i64) -> u128
-    requires low { IsTrue (is_number low) }
-    requires high { IsTrue (is_number high) }
-    requires order { low ≤ℤ high }
-    ensures value { low +ℤ pos result ≡ high }
-    ensures small { result ≤ 2000000000 }
-{
-    (high - low) as u128
-}
-
 /// How far a term of this factor moves over so many values.
-pub(crate) fn moves(factor: i64, width: u128) -> u128
+pub(crate) fn moves(factor: i64, width: u32) -> u128
     requires { width ≤ 2000000000 }
     ensures { result ≡ unsigned_abs factor * width }
 {
-    factor.unsigned_abs() as u128 * width
+    factor.unsigned_abs() as u128 * width as u128
 }
 
 // The first number more than so many steps above another.

@@ -10,12 +10,14 @@ ghost use Rattle.qc_arguments.specs.Asked.{IsAsked};
 ghost use Rattle.qc_refuter.specs.Met.{is_domain_left};
 ghost use Rattle.prop_base.specs.Pruning.{IsPruning, is_just};
 ghost use Rattle.prop_linear.specs.Sides.{IsPast, AreNear, signed};
-ghost use Rattle.prop_linear.specs.Tightening.{IsNear, has_repeat, least_sum};
+ghost use Rattle.qc_arguments.specs.Repeats.{has_repeat};
+ghost use Rattle.prop_linear.specs.Tightening.{IsNear, least_sum};
 
-use crate::places::{moves, width};
+use crate::places::moves;
 use crate::tighten::tighten_place;
 use fd_store::Store;
 use proof_tree::StepList;
+use qc_arguments::width;
 use qc_model::{Arg, ConId, Constraint, Problem, VarId};
 use std::alloc::AllocError;
 

@@ -11,7 +11,8 @@ ghost use Rattle.qc_model.specs.Valid.{arg_sees, is_number};
 ghost use Rattle.qc_arguments.specs.Asked.{IsAsked};
 ghost use Rattle.prop_base.specs.Pruning.{IsPruning, is_just};
 ghost use Rattle.prop_linear.specs.Sides.{IsPast, signed};
-ghost use Rattle.prop_linear.specs.Tightening.{AllNear, IsBounded, has_repeat, least_sum};
+ghost use Rattle.qc_arguments.specs.Repeats.{has_repeat};
+ghost use Rattle.prop_linear.specs.Tightening.{AllNear, IsBounded, least_sum};
 
 use crate::places::place_cut;
 use crate::signs::factor_at;

@@ -8,7 +8,8 @@ ghost use Rattle.prop_yard.specs.Closing.{IsChangedAt, IsClosedBox, is_any};
 use crate::cutting::take;
 use fd_store::{Removed, Store};
 use proof_tree::StepList;
-use prop_engine::{Closed, Engine, Filter, Span};
+use prop_engine::{Closed, Engine, Filter};
+use qc_arguments::Span;
 use qc_model::{Problem, VarId};
 use qc_table::valid_is_ordered;
 use std::alloc::{AllocError, Global};
@@ -16,11 +17,11 @@ use std::alloc::{AllocError, Global};
 // All constraints.
 fn all(problem: &Problem) -> Span
     ensures first { result.first ≡ 0 }
-    ensures last { result.last ≡ length problem.now.constraints }
+    ensures end { result.end ≡ length problem.now.constraints }
 {
     Span {
         first: 0,
-        last: problem.constraints(),
+        end: problem.constraints(),
     }
 }
 

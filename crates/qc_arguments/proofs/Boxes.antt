@@ -92,7 +92,7 @@ kept_all q (v ∷ vs) h = by (q v) (first (q v) (list_all q vs) h) (kept_all q v
     by true e f = ap (λ l. v ∷ l) f
     by false e f = cc
 
-set_same : (box : Box) (x : ℕ) (us : Values) → us ≡ values_left box x → set box x us ≡ box
+pub set_same : (box : Box) (x : ℕ) (us : Values) → us ≡ values_left box x → set box x us ≡ box
 set_same [] x us h = refl
 set_same (vs ∷ box) zero us h = ap (λ l. l ∷ box) h
 set_same (vs ∷ box) (suc x) us h = ap (λ l. vs ∷ l) (set_same box x us h)

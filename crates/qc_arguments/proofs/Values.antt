@@ -7,6 +7,7 @@ use Rattle.std.proofs.lemmas.Int.{ints}
 use Rattle.std.proofs.lemmas.Bool.Decides.{Decides-int_eq}
 use Rattle.qc_model.specs.Domains.{Values, least_from, greatest_from, least_value, greatest_value, has_value, is_none_left, is_within, values_within, is_ascending}
 use Rattle.qc_model.proofs.Readable.{first, second, together}
+use Rattle.qc_arguments.proofs.Bools.{or_right}
 
 pub value_passes : (p : ℤ → Bool) (vs : Values) (v : ℤ) → list_all p vs ≡ true → has_value vs v ≡ true → p v ≡ true
 value_passes p [] v a h = cc
@@ -89,10 +90,6 @@ only_within v (x ∷ vs) a h =
     by true false f g e i k = let z = f refl in cc
     by false true f g e i k = let z = g refl in cc
     by false false f g e i k = i k
-
-or_right : (a b : Bool) → b ≡ true → (a || b) ≡ true
-or_right true b h = refl
-or_right false b h = h
 
 or_skip : (a b c : Bool) → (a || c) ≡ true → (a || (b || c)) ≡ true
 or_skip true b c h = refl

@@ -1,3 +1,4 @@
 pub mod Written
 pub mod Asked
 pub mod Apart
+pub mod Repeats

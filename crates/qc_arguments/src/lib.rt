@@ -10,11 +10,15 @@
 #![tactic(auto)]
 
 mod reading;
+mod repeats;
 mod sets;
+mod spans;
 mod variables;
 
 pub use reading::{arguments, items_at, last_one, members_at, numbers_at, one_at};
+pub use repeats::{is_among, is_repeated, is_same};
 pub use sets::contains;
+pub use spans::{Span, width};
 pub use variables::{are_distinct, own_variables};
 
 #[cfg(test)]

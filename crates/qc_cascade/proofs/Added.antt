@@ -10,7 +10,7 @@ use Rattle.proof_tree.specs.declared.tree.Step.{Step}
 use Rattle.fd_store.specs.Held.{Held}
 use Rattle.prop_base.specs.Pruning.{IsPruning, total}
 use Rattle.prop_base.proofs.Steps.{pruning_more, pruning_total}
-use Rattle.prop_engine.specs.declared.waking.Span.{Span}
+use Rattle.qc_arguments.specs.declared.spans.Span.{Span}
 use Rattle.prop_engine.specs.Closing.{EachRule, is_between}
 use Rattle.prop_engine.specs.Watching.{WasKept, names, changed_by}
 use Rattle.prop_engine.proofs.Own.{keeps_same, after_length, after_others}
@@ -32,18 +32,18 @@ or_turn false true = refl
 or_turn false false = refl
 
 pub either_turn : (s t : Span) (k : ℕ) → is_either s t k ≡ is_either t s k
-either_turn s t k = or_turn (is_between s.first s.last k) (is_between t.first t.last k)
+either_turn s t k = or_turn (is_between s.first s.end k) (is_between t.first t.end k)
 
-pub in_first : (s t : Span) (k : ℕ) → is_between s.first s.last k ≡ true → is_either s t k ≡ true
-in_first s t k h = or_left (is_between s.first s.last k) (is_between t.first t.last k) h
+pub in_first : (s t : Span) (k : ℕ) → is_between s.first s.end k ≡ true → is_either s t k ≡ true
+in_first s t k h = or_left (is_between s.first s.end k) (is_between t.first t.end k) h
 
-pub in_second : (s t : Span) (k : ℕ) → is_between t.first t.last k ≡ true → is_either s t k ≡ true
-in_second s t k h = or_right (is_between s.first s.last k) (is_between t.first t.last k) h
+pub in_second : (s t : Span) (k : ℕ) → is_between t.first t.end k ≡ true → is_either s t k ≡ true
+in_second s t k h = or_right (is_between s.first s.end k) (is_between t.first t.end k) h
 
-pub each_either : (s t : Span) (g : Game) (p : Rule → Bool) → EachRule (is_between s.first s.last) g p → EachRule (is_between t.first t.last) g p → EachRule (is_either s t) g p
-each_either s t g p e f k c o l = by (is_between s.first s.last k) refl o
+pub each_either : (s t : Span) (g : Game) (p : Rule → Bool) → EachRule (is_between s.first s.end) g p → EachRule (is_between t.first t.end) g p → EachRule (is_either s t) g p
+each_either s t g p e f k c o l = by (is_between s.first s.end k) refl o
   where
-    by : (b : Bool) → is_between s.first s.last k ≡ b → (b || is_between t.first t.last k) ≡ true → p c ≡ true
+    by : (b : Bool) → is_between s.first s.end k ≡ b → (b || is_between t.first t.end k) ≡ true → p c ≡ true
     by true h o = e k c h l
     by false h o = f k c o l
 
@@ -68,15 +68,15 @@ kept_still ok g box w k c o e = keeps_same c box w.earlier w.count (λ x a. w.ot
 
 -- one more turn of one of the two
 pub pruned_turn : (s t now then : Span) (g : Game) (r u v : Held) (xs ys zs : List Step) → ((k : ℕ) → is_either now then k ≡ is_either s t k) → IsPruning (is_either s t) g r u xs ys →
-    IsPruning (is_between now.first now.last) g u v ys zs → IsPruning (is_either s t) g r v xs zs
+    IsPruning (is_between now.first now.end) g u v ys zs → IsPruning (is_either s t) g r v xs zs
 pruned_turn s t now then g r u v xs ys zs e p q =
-    pruning_more (is_either s t) g r u v xs ys zs p (pruning_weaker (is_between now.first now.last) (is_either s t) g u v ys zs (λ k h. sym (e k) ∙ in_first now then k h) q)
+    pruning_more (is_either s t) g r u v xs ys zs p (pruning_weaker (is_between now.first now.end) (is_either s t) g u v ys zs (λ k h. sym (e k) ∙ in_first now then k h) q)
 
 -- nothing has changed since the first of the two kept its ends
 pub both_kept : (s t now then : Span) (g : Game) (box : Box) (changed : List VarId) → ((k : ℕ) → is_either now then k ≡ is_either s t k) → changed ≡ [] →
-    WasKept (is_between now.first now.last) g changed box → EachRule (is_between then.first then.last) g (keeps_ends box) → EachRule (is_either s t) g (keeps_ends box)
+    WasKept (is_between now.first now.end) g changed box → EachRule (is_between then.first then.end) g (keeps_ends box) → EachRule (is_either s t) g (keeps_ends box)
 both_kept s t now then g box changed e n w k j c o l =
-    each_either now then g (keeps_ends box) (kept_still (is_between now.first now.last) g box (subst (λ xs. WasKept (is_between now.first now.last) g xs box) n w)) k j c (e j ∙ o) l
+    each_either now then g (keeps_ends box) (kept_still (is_between now.first now.end) g box (subst (λ xs. WasKept (is_between now.first now.end) g xs box) n w)) k j c (e j ∙ o) l
 
 pub is_longer : (ok : ℕ → Bool) (g : Game) (s t : Held) (xs ys : List Step) → IsPruning ok g s t xs ys → length xs ≤ length ys
 is_longer ok g s t xs ys p = omega (arith, ap length p.appended, length-append xs p.more)

@@ -17,7 +17,7 @@ use Rattle.prop_base.specs.Pruning.{IsPruning, are_pruned_by}
 use Rattle.prop_base.proofs.Steps.{pruning_sub, pruning_more}
 use Rattle.prop_engine.specs.declared.answer.Closed.{Closed}
 use Rattle.prop_engine.specs.declared.answer.Closed.TheVariants.{Open, Empty}
-use Rattle.prop_engine.specs.declared.waking.Span.{Span}
+use Rattle.qc_arguments.specs.declared.spans.Span.{Span}
 use Rattle.prop_engine.specs.Closing.{EachRule, IsClosedFor, IsClosing, is_between}
 use Rattle.qc_cascade.specs.Adding.{is_either}
 use Rattle.prop_engine.proofs.Means.{closed_for}
@@ -77,18 +77,18 @@ found_here g i k s t steps up to p e f = record {
 of_both : (i k o : ℕ) → i ≤ k → (nat_le i o && nat_lt o (suc k)) ≡ ((nat_le i o && nat_lt o k) || (nat_le k o && nat_lt o (suc k)))
 of_both i k o l = grind (arith, nat_tests)
 
-either_within : (g : Game) (i k : ℕ) (s t : Span) (c : ℕ) → i ≤ k → IsSpanOf g i k s.first s.last → IsSpanOf g k (suc k) t.first t.last → is_either s t c ≡ is_number_within g i (suc k) c
-either_within g i k s t c l p q = ap (λ b. b || is_between t.first t.last c) (p.numbers c) ∙ (ap (λ b. is_number_within g i k c || b) (q.numbers c) ∙ by (slice_get g.constraints c))
+either_within : (g : Game) (i k : ℕ) (s t : Span) (c : ℕ) → i ≤ k → IsSpanOf g i k s.first s.end → IsSpanOf g k (suc k) t.first t.end → is_either s t c ≡ is_number_within g i (suc k) c
+either_within g i k s t c l p q = ap (λ b. b || is_between t.first t.end c) (p.numbers c) ∙ (ap (λ b. is_number_within g i k c || b) (q.numbers c) ∙ by (slice_get g.constraints c))
   where
     by : (o : Option Rule) → (is_rule_within i k o || is_rule_within k (suc k) o) ≡ is_rule_within i (suc k) o
     by None = refl
     by (Some r) = sym (of_both i k r.owner.0 l)
 
-pub joint_pruned : (g : Game) (i k : ℕ) (a b : Span) (s t : Held) (xs ys : List Step) → i ≤ k → IsSpanOf g i k a.first a.last → IsSpanOf g k (suc k) b.first b.last →
+pub joint_pruned : (g : Game) (i k : ℕ) (a b : Span) (s t : Held) (xs ys : List Step) → i ≤ k → IsSpanOf g i k a.first a.end → IsSpanOf g k (suc k) b.first b.end →
     IsPruning (is_either a b) g s t xs ys → IsPruning (is_number_within g i (suc k)) g s t xs ys
 joint_pruned g i k a b s t xs ys l p q h = pruning_weaker (is_either a b) (is_number_within g i (suc k)) g s t xs ys (λ c e. sym (either_within g i k a b c l p q) ∙ e) h
 
-pub joint_closing : (r : Result Closed AllocError) (g : Game) (i k : ℕ) (a b : Span) (box : Box) → i ≤ k → IsSpanOf g i k a.first a.last → IsSpanOf g k (suc k) b.first b.last →
+pub joint_closing : (r : Result Closed AllocError) (g : Game) (i k : ℕ) (a b : Span) (box : Box) → i ≤ k → IsSpanOf g i k a.first a.end → IsSpanOf g k (suc k) b.first b.end →
     IfOk r (λ f. IsClosing f (is_either a b) g box) → IfOk r (λ f. IsClosing f (is_number_within g i (suc k)) g box)
 joint_closing (Ok Open) g i k a b box l p q h = (h.0, λ c d o e. h.1 c d (either_within g i k a b c l p q ∙ o) e)
 joint_closing (Ok Empty) g i k a b box l p q h = h

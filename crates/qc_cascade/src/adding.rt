@@ -11,7 +11,8 @@ ghost use Rattle.qc_cascade.specs.Ahead.{EachKnown};
 
 use fd_store::Store;
 use proof_tree::{Step, StepList};
-use prop_engine::{Closed, Engine, Filter, Span};
+use prop_engine::{Closed, Engine, Filter};
+use qc_arguments::Span;
 use qc_model::{Problem, VarId};
 use std::alloc::{AllocError, Global};
 
@@ -52,14 +53,14 @@ fn close_in_turn<F: Filter>(
     steps: &mut StepList,
 ) -> Result<Closed, AllocError>
     requires ready { IsReady problem.now engine.old }
-    requires behind { behind.last ≤ length problem.now.constraints }
-    requires settled { settled.last ≤ length problem.now.constraints }
+    requires behind { behind.end ≤ length problem.now.constraints }
+    requires settled { settled.end ≤ length problem.now.constraints }
     requires known { EachKnown problem.now F.knows }
     requires declared { IsTrue (is_box_of problem.now store.old.box) }
     requires full { IsFalse (has_empty store.old.box) }
     requires from { from ≤ length steps.old }
-    requires earlier { WasKept (is_between behind.first behind.last) problem.now (changed_by (drop from steps.old)) store.old.box }
-    requires kept { EachRule (is_between settled.first settled.last) problem.now (keeps_ends store.old.box) }
+    requires earlier { WasKept (is_between behind.first behind.end) problem.now (changed_by (drop from steps.old)) store.old.box }
+    requires kept { EachRule (is_between settled.first settled.end) problem.now (keeps_ends store.old.box) }
     ensures ready { IsReady problem.now engine.new }
     ensures pruning { IsPruning (is_either behind settled) problem.now store.old store.new steps.old steps.new }
     ensures answer { IfOk result (λ a. IsClosing a (is_either behind settled) problem.now store.new.box) }
@@ -96,12 +97,12 @@ pub(crate) fn close_added<F: Filter>(
     steps: &mut StepList,
 ) -> Result<Closed, AllocError>
     requires ready { IsReady problem.now engine.old }
-    requires closed { closed.last ≤ length problem.now.constraints }
-    requires fresh { fresh.last ≤ length problem.now.constraints }
+    requires closed { closed.end ≤ length problem.now.constraints }
+    requires fresh { fresh.end ≤ length problem.now.constraints }
     requires known { EachKnown problem.now F.knows }
     requires declared { IsTrue (is_box_of problem.now store.old.box) }
     requires full { IsFalse (has_empty store.old.box) }
-    requires kept { EachRule (is_between closed.first closed.last) problem.now (keeps_ends store.old.box) }
+    requires kept { EachRule (is_between closed.first closed.end) problem.now (keeps_ends store.old.box) }
     ensures ready { IsReady problem.now engine.new }
     ensures pruning { IsPruning (is_either closed fresh) problem.now store.old store.new steps.old steps.new }
     ensures answer { IfOk result (λ a. IsClosing a (is_either closed fresh) problem.now store.new.box) }

@@ -14,35 +14,23 @@ use crate::adding::close_added;
 use crate::entered::Entered;
 use fd_store::Store;
 use proof_tree::StepList;
-use prop_engine::{Closed, Engine, Filter, Span};
+use prop_engine::{Closed, Engine, Filter};
+use qc_arguments::Span;
 use qc_model::ScopeId;
 use qc_rules::Levels;
 use std::alloc::{AllocError, Global};
-
-// The numbers of the constraints of the scopes, or the goal, from i to k.
-fn joint_span(levels: &Levels, i: ScopeId, k: ScopeId) -> Span
-    requires ahead { i.0 ≤ k.0 }
-    requires to { k.0 ≤ length levels.now.problem.now.scopes }
-    ensures { IsSpanOf levels.now.problem.now i.0 (suc k.0) result.first result.last }
-{
-    let rules = levels.constraints_between(i, k);
-    Span {
-        first: rules.first,
-        last: rules.end,
-    }
-}
 
 // The numbers of the constraints of the scopes from i to the one before k.
 #[tactic(auto, using(crate::proofs::Joint::none_yet))]
 fn span_before(levels: &Levels, i: ScopeId, k: ScopeId) -> Span
     requires ahead { i.0 ≤ k.0 }
     requires to { k.0 ≤ length levels.now.problem.now.scopes }
-    ensures { IsSpanOf levels.now.problem.now i.0 k.0 result.first result.last }
+    ensures { IsSpanOf levels.now.problem.now i.0 k.0 result.first result.end }
 {
     if i.0 == k.0 {
-        return Span { first: 0, last: 0 };
+        return Span { first: 0, end: 0 };
     }
-    joint_span(levels, i, ScopeId(k.0 - 1))
+    levels.constraints_between(i, ScopeId(k.0 - 1))
 }
 
 // Closes the joint store of scopes i to k in what that of the scopes before k has left.
@@ -68,7 +56,7 @@ fn close_joint<F: Filter>(
     ensures answer { IfOk result (λ a. IsClosing a (is_number_within levels.now.problem.now i.0 (suc k.0)) levels.now.problem.now store.new.box) }
 {
     let closed = span_before(levels, i, k);
-    let fresh = joint_span(levels, k, k);
+    let fresh = levels.constraints_between(k, k);
     close_added(
         filter,
         alloc,

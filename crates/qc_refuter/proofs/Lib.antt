@@ -6,3 +6,5 @@ pub mod Places
 pub mod Walks
 pub mod Results
 pub mod Fill
+pub mod Domains
+pub mod Commons

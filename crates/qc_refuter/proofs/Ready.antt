@@ -26,6 +26,7 @@ use Rattle.qc_arguments.specs.Asked.{IsAsked}
 use Rattle.qc_arguments.proofs.Boxes.{some_left, sub_ascending, sub_length, left_small, sub_within, set_full}
 use Rattle.std.proofs.lemmas.List.{length-map}
 use Rattle.std.proofs.Common.{arith}
+use Rattle.qc_arguments.proofs.Bools.{not_true}
 use Rattle.qc_refuter.specs.Met.{lefts, is_domain_left, is_open, is_met, are_met}
 
 placed : (p : Domain → Bool) (xs : List Variable) (k : ℕ) → is_variable_with p (slice_get xs k) ≡ true → k < length xs
@@ -33,10 +34,6 @@ placed p [] zero h = cc
 placed p [] (suc k) h = cc
 placed p (x ∷ xs) zero h = omega arith
 placed p (x ∷ xs) (suc k) h = omega (arith, placed p xs k h)
-
-not_true : (b : Bool) → b ≡ false → not b ≡ true
-not_true true h = cc
-not_true false h = refl
 
 truth_is_number : (n : ℤ) → is_truth n ≡ true → is_number n ≡ true
 truth_is_number n h = cases (int_eq n (pos 0)) (Decides-int_eq n (pos 0)).0 h

@@ -1,17 +1,23 @@
--- A walk over numbers, from the least value left to the greatest.
-use Rattle.std.proofs.Common.{◌≡◌, inl, inr, Bool, true, false, not, ◌&&◌, ◌||◌, [], ◌∷◌, refl, sym, subst, arith, ℤ}
-use Rattle.std.specs.Prelude.{int_le, ◌<ℤ◌, ◌≤ℤ◌, ◌+ℤ◌, pos}
+-- A walk from value to value, from the least that is left on.
+use Rattle.std.proofs.Common.{◌≡◌, ◌<◌, inl, inr, Bool, true, false, not, ◌&&◌, ◌||◌, [], ◌∷◌, None, refl, sym, subst, arith, ℤ}
+use Rattle.std.specs.Prelude.{int_lt, ◌<ℤ◌, ◌≤ℤ◌, ◌+ℤ◌, ◌-ℤ◌, nat_abs, FitsSigned, pos, negsuc}
 use Rattle.std.specs.List.{list_any, list_all}
 use Rattle.std.specs.Ordering.{int_eq}
 use Rattle.std.proofs.lemmas.Int.{ints}
 use Rattle.std.proofs.lemmas.Bool.Decides.{Decides-int_eq}
-use Rattle.qc_model.specs.Domains.{Values, has_value, least_value, greatest_value}
+use Rattle.qc_model.specs.Domains.{Values, has_value, least_value}
 use Rattle.qc_model.specs.Lists.{Among}
-use Rattle.qc_model.proofs.Sound.{lo_of, hi_of, has_it}
+use Rattle.qc_model.proofs.Sound.{has_it}
+use Rattle.qc_arguments.proofs.Kept.{low_end, same_end, lower, reaches, less_of, apart, over_low, under_high}
+use Rattle.fd_store.specs.Held.{values_from, least_of}
+use Rattle.qc_refuter.specs.Met.{is_domain_left}
+use Rattle.qc_refuter.proofs.Domains.{small_left}
+use Rattle.qc_refuter.proofs.Commons.{IsFrom, from_none}
+use mir.Syntax.{w64}
 
--- all values from the least to below v were tried, and none passes
+-- all values below v were tried, and none passes
 abbrev pub IsWalked : (ℤ → Bool) → Values → ℤ → Type 0
-IsWalked p d v = (w : ℤ) → least_value d ≤ℤ w → w <ℤ v → has_value d w ≡ true → p w ≡ false
+IsWalked p d v = (w : ℤ) → has_value d w ≡ true → w <ℤ v → p w ≡ false
 
 pub some_found : (p : ℤ → Bool) (d : Values) (v : ℤ) → has_value d v ≡ true → p v ≡ true → true ≡ list_any p d
 some_found p [] v h k = cc
@@ -37,28 +43,34 @@ none_of p (u ∷ us) g = or_none (p u) (list_any p us) (g u (inl refl)) (none_of
     or_none true b h k = cc
     or_none false b h k = k
 
-pub none_walked : (p : ℤ → Bool) (d : Values) (v : ℤ) → IsWalked p d v → int_le v (greatest_value d) ≡ false → false ≡ list_any p d
-none_walked p d v f h = none_of p d (λ w a. f w (lo_of w d a) (below w (greatest_value d) v (hi_of w d a) h) (has_it d w a))
-  where
-    below : (w g v : ℤ) → w ≤ℤ g → int_le v g ≡ false → w <ℤ v
-    below w g v p q = grind (arith, ints)
+pub none_walked : (p : ℤ → Bool) (d : Values) (v : ℤ) → IsWalked p d v → None ≡ least_of (values_from v d) → false ≡ list_any p d
+none_walked p d v f h = none_of p d (λ w a. let k = has_it d w a in f w k (less_of w v (λ l. from_none d v w h k l)))
 
-pub none_before : (p : ℤ → Bool) (d : Values) → IsWalked p d (least_value d)
-none_before p d w l m h = absurd (apart w (least_value d) l m)
-  where
-    apart : (w u : ℤ) → u ≤ℤ w → w <ℤ u → ⊥
-    apart w u l m = omega (arith, ints, l, m)
+pub none_before : (p : ℤ → Bool) (d : Values) (v : ℤ) → v ≡ least_value d → IsWalked p d v
+none_before p d v e w h m = absurd (apart w v m (subst (λ z. z ≤ℤ w) (sym e) (low_end d w h)))
 
 -- one more value
-pub walked_on : (p : ℤ → Bool) (d : Values) (v : ℤ) → IsWalked p d v → (has_value d v ≡ true → p v ≡ false) → IsWalked p d (v +ℤ pos 1)
-walked_on p d v f here w l m h = by (int_eq w v) (Decides-int_eq w v).0 (apart w v m)
+pub walked_on : (p : ℤ → Bool) (d : Values) (v w : ℤ) → IsWalked p d v → IsFrom d v w → p w ≡ false → IsWalked p d (w +ℤ pos 1)
+walked_on p d v w f n here u h m = by (int_lt u v) (lower u v) (λ e. same_end u w (back u w m) (n.all u h (reaches u v e)))
   where
-    apart : (w v : ℤ) → w <ℤ (v +ℤ pos 1) → int_eq w v ≡ false → w <ℤ v
-    apart w v m n = grind (arith, ints)
+    back : (u w : ℤ) → u <ℤ (w +ℤ pos 1) → u ≤ℤ w
+    back u w m = omega (arith, ints, m)
 
-    by : (b : Bool) → (b ≡ true → w ≡ v) → (b ≡ false → w <ℤ v) → p w ≡ false
-    by true e q = let E : ℤ → Type 0 = λ z. p z ≡ false in subst E (sym (e refl)) (here (let D : ℤ → Type 0 = λ z. has_value d z ≡ true in subst D (e refl) h))
-    by false e q = f w l (q refl) h
+    by : (b : Bool) → (b ≡ true → u <ℤ v) → (b ≡ false → u ≡ w) → p u ≡ false
+    by true e q = f u h (e refl)
+    by false e q = subst (λ z. p z ≡ false) (sym (q refl)) here
+
+pub walk_smaller : (d : Values) (v w : ℤ) → is_domain_left d ≡ true → IsFrom d v w → nat_abs (pos 1000000001 -ℤ (w +ℤ pos 1)) < nat_abs (pos 1000000001 -ℤ v)
+walk_smaller d v w o n = smaller v w n.up (under_high w (small_left d w o n.there))
+  where
+    smaller : (v w : ℤ) → v ≤ℤ w → w ≤ℤ pos 1000000000 → nat_abs (pos 1000000001 -ℤ (w +ℤ pos 1)) < nat_abs (pos 1000000001 -ℤ v)
+    smaller v w h k = grind (arith, ints)
+
+pub next_fits : (d : Values) (v w : ℤ) → is_domain_left d ≡ true → IsFrom d v w → FitsSigned w64 (w +ℤ pos 1)
+next_fits d v w o n = fits w (over_low w (small_left d w o n.there)) (under_high w (small_left d w o n.there))
+  where
+    fits : (w : ℤ) → negsuc 999999999 ≤ℤ w → w ≤ℤ pos 1000000000 → FitsSigned w64 (w +ℤ pos 1)
+    fits w h k = grind (arith, ints)
 
 pub all_passed : (p : ℤ → Bool) (d : Values) → not (list_any (λ v. not (p v)) d) ≡ list_all p d
 all_passed p [] = refl

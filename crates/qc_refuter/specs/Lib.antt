@@ -1,3 +1,4 @@
 pub mod Met
 pub mod Spanned
 pub mod Full
+pub mod Commons

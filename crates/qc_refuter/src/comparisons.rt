@@ -5,8 +5,9 @@ ghost use Rattle.qc_model.specs.Meaning.{equal as Equal, different as Different,
 ghost use Rattle.qc_model.specs.Refuted.{refuted_as};
 ghost use Rattle.qc_refuter.specs.Met.{seen, lefts, are_met};
 
+use crate::common::meet;
 use crate::reading::{arg_met, greatest_at, least_at};
-use crate::view::{View, is_fixed, least, meet};
+use crate::view::{View, is_fixed, least};
 use qc_model::Argument;
 
 // No value is left to both.

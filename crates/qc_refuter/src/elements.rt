@@ -8,8 +8,9 @@ ghost use Rattle.qc_model.specs.Meaning.{element as Element, variable_element as
 ghost use Rattle.qc_model.specs.Refuted.{left_to, refuted_as};
 ghost use Rattle.qc_refuter.specs.Met.{seen, lefts, are_met, is_open};
 
+use crate::common::meet;
 use crate::reading::{arg_met, items_met, numbers_met};
-use crate::view::{View, has, meet};
+use crate::view::{View, has};
 use qc_model::{Arg, Argument};
 
 // Whether the place and the item both are left.

@@ -14,6 +14,7 @@ ghost use Rattle.qc_refuter.specs.Full.{held, ends_past, first_sum, AreWidest};
 
 use crate::view::{View, greatest, least, whole};
 use fd_store::Store;
+use qc_arguments::width;
 use qc_model::{Arg, Constraint, Problem};
 
 fn clear(counts: &mut [u16])
@@ -23,16 +24,6 @@ fn clear(counts: &mut [u16])
     for k in 0..counts.len() {
         counts[k] = 0;
     }
-}
-
-// How far the second number is above the first.
-fn width(low: i64, high: i64) -> usize
-    requires low { IsTrue (is_number low) }
-    requires high { IsTrue (is_number high) }
-    requires order { low ≤ℤ high }
-    ensures { low +ℤ pos result ≡ high }
-{
-    (high - low) as usize
 }
 
 // How far past the number the argument ends, if it doesn't begin before.
@@ -45,7 +36,7 @@ fn end_past(arg: Arg, low: i64, view: &View) -> Option<usize>
     if least(arg, view) < low {
         return None;
     }
-    Some(width(low, greatest(arg, view)))
+    Some(width(low, greatest(arg, view)) as usize)
 }
 
 fn count_end(arg: Arg, low: i64, view: &View, counts: &mut [u16])

@@ -4,6 +4,7 @@
 //! one function over the arguments and a view, with the same clause, as the table of what holds has them over values.
 #![tactic(auto)]
 
+mod common;
 mod comparisons;
 mod differing;
 mod elements;

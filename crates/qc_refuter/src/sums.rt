@@ -68,7 +68,8 @@ pub(crate) fn sum_of(factors: &[i64], items: &[Arg], view: &View) -> Extent
     requires items { IsTrue (list_all (is_open (seen view.now)) items.now) }
     requires few { length items.now ≤ 1000 }
     ensures value { range_of result.from result.to ≡ sum_range factors.now (map (left_to (seen view.now)) items.now) }
-    ensures small { unsigned_abs result.from ≤ 10 ^ 21 }
+    ensures small_from { unsigned_abs result.from ≤ 10 ^ 21 }
+    ensures small_to { unsigned_abs result.to ≤ 10 ^ 21 }
 {
     let count = factors.len().min(items.len());
     let mut from: i128 = 0;
@@ -148,7 +149,8 @@ pub fn sum_extent(
     requires items { IsTrue (list_all (is_open store.now.box) items.now) }
     requires few { length items.now ≤ 1000 }
     ensures value { range_of result.from result.to ≡ sum_range factors.now (map (left_to store.now.box) items.now) }
-    ensures small { unsigned_abs result.from ≤ 10 ^ 21 }
+    ensures small_from { unsigned_abs result.from ≤ 10 ^ 21 }
+    ensures small_to { unsigned_abs result.to ≤ 10 ^ 21 }
 {
     problem.known();
     let _ = rule.pred;

@@ -11,7 +11,7 @@ ghost use Rattle.qc_arguments.specs.Asked.{IsAsked};
 ghost use Rattle.qc_refuter.specs.Met.{seen, lefts, are_met};
 
 use crate::reading::last_met;
-use crate::view::{View, has};
+use crate::view::{View, has, whole};
 use crate::{comparisons, differing, elements, ends, members, spans, sums, truths};
 use fd_store::Store;
 use qc_arguments::arguments;
@@ -119,7 +119,7 @@ fn refutes_view(rule: &Constraint, view: &View) -> bool
 /// Whether a constraint of the problem refutes the box in which x keeps only its values from lo to hi. It takes no
 /// memory, and time in the order of the constraint's size. Where values in common are asked for (`int_eq`, `int_ne_reif`,
 /// `set_in` and their like, and each place of an element constraint's array of variables) it takes time in the order of
-/// the domains' widths, and for `all_different_int` up to the cube of the number of items.
+/// the values left up to the first that is found, and for `all_different_int` up to the cube of the number of items.
 pub fn rule_refutes_in(
     problem: &Problem,
     rule: &Constraint,
@@ -157,12 +157,5 @@ pub fn refutes(problem: &Problem, c: ConId, store: &Store) -> bool
 {
     problem.known();
     let rule = problem.constraint(c);
-    // The whole range of numbers keeps every value.
-    let view = View {
-        store,
-        x: VarId(0),
-        lo: -1_000_000_000,
-        hi: 1_000_000_000,
-    };
-    refutes_view(rule, &view)
+    refutes_view(rule, &whole(store))
 }

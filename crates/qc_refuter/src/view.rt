@@ -1,7 +1,8 @@
 //! What is left to an argument.
-ghost use Rattle.std.specs.Prelude.{◌≡◌, ◌&&◌, IsTrue, not, pos, negsuc};
-ghost use Rattle.qc_model.specs.Domains.{box_within, least_value, greatest_value, has_value, is_single, misses};
+ghost use Rattle.std.specs.Prelude.{◌≡◌, ◌<◌, ◌≤ℤ◌, ℤ, IsTrue, length, pos, negsuc};
+ghost use Rattle.qc_model.specs.Domains.{box_within, values_left, values_within, least_value, greatest_value, has_value, is_single};
 ghost use Rattle.qc_model.specs.Refuted.{left_to};
+ghost use Rattle.fd_store.specs.Held.{values_from, least_of};
 ghost use Rattle.qc_refuter.specs.Met.{seen, is_open};
 
 use fd_store::Store;
@@ -94,28 +95,40 @@ pub(crate) fn is_fixed(arg: Arg, view: &View) -> bool
     high <= low
 }
 
-// Whether both have the value left.
-fn both_have(a: Arg, b: Arg, v: i64, view: &View) -> bool
-    requires a { IsTrue (is_open (seen view.now) a) }
-    requires b { IsTrue (is_open (seen view.now) b) }
-    ensures { result ≡ (has_value (left_to (seen view.now) a) v && has_value (left_to (seen view.now) b) v) }
+// The greater of two numbers.
+fn later(a: i64, b: i64) -> i64
+    ensures first { a ≤ℤ result }
+    ensures second { b ≤ℤ result }
+    ensures least { (u : ℤ) → a ≤ℤ u → b ≤ℤ u → result ≤ℤ u }
 {
-    has(a, v, view) && has(b, v, view)
+    if a < b { b } else { a }
 }
 
-/// Whether two arguments have a value in common.
-pub(crate) fn meet(a: Arg, b: Arg, view: &View) -> bool
-    requires a { IsTrue (is_open (seen view.now) a) }
-    requires b { IsTrue (is_open (seen view.now) b) }
-    ensures { result ≡ not (misses (left_to (seen view.now) a) (left_to (seen view.now) b)) }
+// The least value from v on that the view shows of its own variable.
+fn next_within(v: i64, view: &View) -> Option<i64>
+    requires { view.now.x.0 < length view.now.store.now.box }
+    ensures { result ≡ least_of (values_from v (values_within view.now.lo view.now.hi (values_left view.now.store.now.box view.now.x.0))) }
 {
-    let mut v = least(a, view);
-    let high = greatest(a, view);
-    while v <= high {
-        if both_have(a, b, v, view) {
-            return true;
-        }
-        v += 1;
+    match view.store.next(view.x, later(v, view.lo)) {
+        None => None,
+        Some(w) => { if w <= view.hi { Some(w) } else { None } }
     }
-    false
+}
+
+/// The least value left to an argument that is at least v. None comes exactly where there is none.
+pub(crate) fn next(arg: Arg, v: i64, view: &View) -> Option<i64>
+    requires { IsTrue (is_open (seen view.now) arg) }
+    ensures { result ≡ least_of (values_from v (left_to (seen view.now) arg)) }
+{
+    match arg {
+        Arg::Num(n) if v <= n => Some(n),
+        Arg::Num(_) => None,
+        Arg::Var(y) => {
+            if y.0 == view.x.0 {
+                next_within(v, view)
+            } else {
+                view.store.next(y, v)
+            }
+        }
+    }
 }

@@ -6,7 +6,7 @@ ghost use Rattle.qc_model.specs.BlockEnd.{block_end_of};
 ghost use Rattle.qc_model.specs.Game.{before, restriction};
 ghost use Rattle.qc_rules.specs.Spans.{IsSpanOf, kind_at};
 
-use crate::span::Span;
+use qc_arguments::Span;
 use qc_model::{Constraint, Kind, Problem};
 
 /// One scope of a problem: who owns it, its restriction, and where its variables and constraints begin

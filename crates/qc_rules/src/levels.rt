@@ -7,7 +7,7 @@ ghost use Rattle.qc_rules.specs.Tables.{AreLevelsOf};
 use crate::level::Level;
 use crate::places::{constraint_places, span_between};
 use crate::scopes::levels_of;
-use crate::span::Span;
+use qc_arguments::Span;
 use qc_model::{Constraint, Problem, ScopeId};
 use std::alloc::{AllocError, Global};
 

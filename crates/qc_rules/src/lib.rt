@@ -11,7 +11,6 @@ mod marks;
 mod places;
 mod rules;
 mod scopes;
-mod span;
 mod start;
 #[cfg(test)]
 mod tests;
@@ -21,4 +20,3 @@ pub use conditions::has_no_condition;
 pub use level::Level;
 pub use levels::Levels;
 pub use rules::{all_hold, goal_holds, is_allowed};
-pub use span::Span;

@@ -2,7 +2,7 @@
 ghost use Rattle.std.specs.Prelude.{◌≡◌, ◌≤◌, ◌+◌, length, IfOk};
 ghost use Rattle.qc_rules.specs.Spans.{IsSpanOf, ArePlaces};
 
-use crate::span::Span;
+use qc_arguments::Span;
 use qc_model::Problem;
 use std::alloc::{AllocError, Global};
 

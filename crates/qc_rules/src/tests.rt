@@ -1,5 +1,6 @@
 //! One game, worked through by hand.
-use crate::{Board, Levels, Span};
+use crate::{Board, Levels};
+use qc_arguments::Span;
 use qc_model::{
     Arg, Argument, Constraint, Domain, Draft, Kind, Name, Pred, Problem, Scope, ScopeId, VarId,
     Variable, build,

@@ -1,6 +1,6 @@
 use Rattle.std.specs.Prelude.{◌+ℤ◌, pos, nat_abs}
 use Rattle.qc_model.specs.Refuted.{left_to}
-use Rattle.prop_compare.proofs.Commons.{IsWalkedBack}
+use Rattle.qc_refuter.proofs.Commons.{IsWalkedBack}
 use Rattle.prop_compare.proofs.common.greatest_common.Given as goal
 
 abbrev pub invariant-loop-w : goal.invariant-loop-w

@@ -3,8 +3,8 @@ use Rattle.std.proofs.lemmas.Int.{to_z-of_z}
 use mir.Val.{SFits}
 use mir.Syntax.{w64}
 use Rattle.qc_model.specs.Refuted.{left_to}
-use Rattle.prop_compare.proofs.Kept.{some_left}
-use Rattle.prop_compare.proofs.Commons.{walk_start, walk_smaller, walk_none}
+use Rattle.qc_refuter.proofs.Domains.{some_left}
+use Rattle.qc_refuter.proofs.Commons.{walk_start, walk_smaller, walk_none}
 use Rattle.prop_compare.proofs.common.least_common.Goals as goal
 
 pub loop-w-init : goal.loop-w-init

@@ -4,7 +4,7 @@ use mir.Val.{SFits}
 use mir.Syntax.{w64}
 use Rattle.qc_model.specs.Refuted.{left_to}
 use Rattle.fd_store.specs.Held.{values_from, least_of}
-use Rattle.prop_compare.proofs.Commons.{from_some, below_first, next_none, next_found}
+use Rattle.qc_refuter.proofs.Commons.{from_some, below_first, next_none, next_found}
 use Rattle.prop_compare.proofs.common.next_both.Goals as goal
 
 pub returns-in-None-clause-none : goal.returns-in-None-clause-none

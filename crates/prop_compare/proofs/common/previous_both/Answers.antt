@@ -4,7 +4,7 @@ use mir.Val.{SFits}
 use mir.Syntax.{w64}
 use Rattle.qc_model.specs.Refuted.{left_to}
 use Rattle.fd_store.specs.Held.{values_up_to, greatest_of}
-use Rattle.prop_compare.proofs.Commons.{up_to_some, above_first, previous_none, previous_found}
+use Rattle.qc_refuter.proofs.Commons.{up_to_some, above_first, previous_none, previous_found}
 use Rattle.prop_compare.proofs.common.previous_both.Goals as goal
 
 pub returns-in-None-clause-none : goal.returns-in-None-clause-none

@@ -1,16 +1,10 @@
 use Rattle.std.proofs.Common.{◌∙◌, sym, ap, subst, List}
-use Rattle.std.specs.List.{list_all}
 use Rattle.qc_model.specs.declared.problem.Arg.{Arg}
 use Rattle.qc_arguments.specs.Written.{args_at}
 use Rattle.prop_different.specs.Different.{IsDifferent}
-use Rattle.prop_different.specs.Repeats.{has_repeat, has_place}
-use Rattle.prop_different.proofs.Shapes.{items_differ, items_placed}
+use Rattle.qc_arguments.specs.Repeats.{has_repeat}
+use Rattle.prop_different.proofs.Shapes.{items_differ}
 use Rattle.prop_different.proofs.filtering.filter_different.Goals as goal
-
-pub is_repeated-requires : goal.is_repeated-requires
-is_repeated-requires c =
-    let xs = c.items_at-items.ensures ∙ ap (λ a. args_at a 0) c.arguments.ensures in
-    ap (list_all (has_place 500)) xs ∙ items_placed c.args.problem.now c.args.rule.now c.known.ensures.few_variables c.requires.asked.rule c.requires.pred
 
 pub filter_items-requires-clause-different : goal.filter_items-requires-clause-different
 filter_items-requires-clause-different c =

@@ -1,8 +1,13 @@
-use Rattle.std.proofs.Common.{refl}
-use Rattle.prop_different.proofs.Shapes.{numbers_keep}
+use Rattle.std.proofs.Common.{refl, ap}
+use Rattle.std.specs.List.{list_all}
+use Rattle.prop_base.specs.Closed.{keeps_at}
+use Rattle.prop_base.proofs.Whole.{all_seen}
 use Rattle.prop_different.proofs.filtering.filter_items.Goals as goal
+
+pub first_variable-requires : goal.first_variable-requires
+first_variable-requires c = all_seen c.args.problem.now c.args.rule.now c.args.store.now.box c.requires.asked
 
 pub returns-in_default-clause-answer : goal.returns-in_default-clause-answer
 returns-in_default-clause-answer c =
     let box = c.args.store.now.box in
-    (c.requires.asked.full, refl, c.requires.different.own box (numbers_keep c.args.rule.now box c.args.items.now c.in_default.ensures.none))
+    (c.requires.asked.full, refl, ap (list_all (keeps_at c.args.rule.now box)) c.in_default.ensures.none)

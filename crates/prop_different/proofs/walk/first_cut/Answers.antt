@@ -10,7 +10,7 @@ use Rattle.qc_model.specs.Valid.{is_number}
 use Rattle.qc_arguments.proofs.Boxes.{seen_place}
 use Rattle.qc_refuter.specs.Full.{held, AreWidest}
 use Rattle.qc_refuter.proofs.Terms.{least_small}
-use Rattle.prop_compare.proofs.Whole.{whole_cut}
+use Rattle.prop_base.proofs.Whole.{whole_cut}
 use Rattle.prop_different.specs.Different.{IsLeftAlone, AreRooms}
 use Rattle.prop_different.specs.Quiet.{IsQuiet}
 use Rattle.prop_different.proofs.Alone.{quiet_of, quiet_none}

@@ -1,7 +1,7 @@
 use Rattle.std.proofs.Common.{◌≡◌, subst, true}
 use Rattle.qc_refuter.specs.Met.{is_open}
 use Rattle.prop_compare.proofs.Sides.{open_place}
-use Rattle.prop_compare.proofs.Whole.{whole_cut}
+use Rattle.prop_base.proofs.Whole.{whole_cut}
 use Rattle.prop_element.proofs.hulls.whole_cut.Goals as goal
 
 pub returns-in-Var-clause-some : goal.returns-in-Var-clause-some

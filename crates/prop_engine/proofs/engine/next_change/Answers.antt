@@ -10,32 +10,32 @@ use Rattle.prop_engine.proofs.engine.next_change.Goals as goal
 pub pop-requires-clause-exist : goal.pop-requires-clause-exist
 pop-requires-clause-exist g c =
     let i = c.loop-c.invariant in
-    inside_exist c.args.span.first c.args.span.last _ c.loop-c.list.queue (subst (λ n. c.args.span.last ≤ n) (sym i.count) c.requires.span) i.inside
+    inside_exist c.args.span.first c.args.span.end _ c.loop-c.list.queue (subst (λ n. c.args.span.end ≤ n) (sym i.count) c.requires.span) i.inside
 
 pub returns-in_err-run_filter-clause-pruning : goal.returns-in_err-run_filter-clause-pruning
 returns-in_err-run_filter-clause-pruning g c =
-    let ok = is_between c.args.span.first c.args.span.last in
+    let ok = is_between c.args.span.first c.args.span.end in
     let i = c.loop-c.invariant in
     let here = inside_first ok c.loop-c.list.queue c.pop.new.self.queue c.in-Some.c c.in-Some.ensures.some i.inside in
     pruning_more ok c.args.problem.now _ _ _ _ _ _ i.pruning (pruning_of ok c.in-Some.c.0 c.args.problem.now _ _ _ _ here c.run_filter.ensures.pruning)
 
 pub returns-in-Emptied-clause-pruning : goal.returns-in-Emptied-clause-pruning
 returns-in-Emptied-clause-pruning g c =
-    let ok = is_between c.args.span.first c.args.span.last in
+    let ok = is_between c.args.span.first c.args.span.end in
     let i = c.loop-c.invariant in
     let here = inside_first ok c.loop-c.list.queue c.pop.new.self.queue c.in-Some.c c.in-Some.ensures.some i.inside in
     pruning_more ok c.args.problem.now _ _ _ _ _ _ i.pruning (pruning_of ok c.in-Some.c.0 c.args.problem.now _ _ _ _ here c.run_filter.ensures.pruning)
 
 pub returns-in-Changed-clause-pruning : goal.returns-in-Changed-clause-pruning
 returns-in-Changed-clause-pruning g c =
-    let ok = is_between c.args.span.first c.args.span.last in
+    let ok = is_between c.args.span.first c.args.span.end in
     let i = c.loop-c.invariant in
     let here = inside_first ok c.loop-c.list.queue c.pop.new.self.queue c.in-Some.c c.in-Some.ensures.some i.inside in
     pruning_more ok c.args.problem.now _ _ _ _ _ _ i.pruning (pruning_of ok c.in-Some.c.0 c.args.problem.now _ _ _ _ here c.run_filter.ensures.pruning)
 
 pub returns-in-Changed-clause-answer : goal.returns-in-Changed-clause-answer
 returns-in-Changed-clause-answer g c =
-    let ok = is_between c.args.span.first c.args.span.last in
+    let ok = is_between c.args.span.first c.args.span.end in
     let game = c.args.problem.now in
     let i = c.loop-c.invariant in
     let d = c.in-Some.c in

@@ -6,13 +6,13 @@ use Rattle.prop_engine.proofs.engine.next_change.Given as goal
 
 abbrev pub invariant-loop-c : goal.invariant-loop-c
 invariant-loop-c g l = record {
-  pruning : IsPruning (is_between l.fn.span.first l.fn.span.last) l.problem l.initial.store l.store l.initial.steps l.steps;
+  pruning : IsPruning (is_between l.fn.span.first l.fn.span.end) l.problem l.initial.store l.store l.initial.steps l.steps;
   content : l.store.box ≡ l.initial.store.box;
   same : l.steps ≡ l.initial.steps;
   count : length l.list.marks ≡ length l.problem.constraints;
   waiting : MarkedWait l.list;
-  inside : all_waiting (is_between l.fn.span.first l.fn.span.last) l.list ≡ true;
-  kept : KeepsUnmarked (is_between l.fn.span.first l.fn.span.last) l.problem l.list l.store.box;
+  inside : all_waiting (is_between l.fn.span.first l.fn.span.end) l.list ≡ true;
+  kept : KeepsUnmarked (is_between l.fn.span.first l.fn.span.end) l.problem l.list l.store.box;
 }
 
 abbrev pub decreases-loop-c : goal.decreases-loop-c

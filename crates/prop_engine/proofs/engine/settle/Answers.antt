@@ -8,32 +8,28 @@ use Rattle.prop_engine.proofs.engine.settle.Goals as goal
 
 pub returns-in_err-next_change-clause-pruning : goal.returns-in_err-next_change-clause-pruning
 returns-in_err-next_change-clause-pruning g c =
-    pruning_more (is_between c.args.span.first c.args.span.last) c.args.problem.now _ _ _ _ _ _ c.loop-own.invariant.pruning c.next_change.ensures.pruning
+    pruning_more (is_between c.args.span.first c.args.span.end) c.args.problem.now _ _ _ _ _ _ c.loop-own.invariant.pruning c.next_change.ensures.pruning
 
 pub returns-in-Settled-clause-pruning : goal.returns-in-Settled-clause-pruning
 returns-in-Settled-clause-pruning g c =
-    pruning_more (is_between c.args.span.first c.args.span.last) c.args.problem.now _ _ _ _ _ _ c.loop-own.invariant.pruning c.next_change.ensures.pruning
+    pruning_more (is_between c.args.span.first c.args.span.end) c.args.problem.now _ _ _ _ _ _ c.loop-own.invariant.pruning c.next_change.ensures.pruning
 
 pub returns-in-Emptied-clause-pruning : goal.returns-in-Emptied-clause-pruning
 returns-in-Emptied-clause-pruning g c =
-    pruning_more (is_between c.args.span.first c.args.span.last) c.args.problem.now _ _ _ _ _ _ c.loop-own.invariant.pruning c.next_change.ensures.pruning
-
-pub returns-in_err-wake_changed-in-Changed-clause-pruning : goal.returns-in_err-wake_changed-in-Changed-clause-pruning
-returns-in_err-wake_changed-in-Changed-clause-pruning g c =
-    pruning_more (is_between c.args.span.first c.args.span.last) c.args.problem.now _ _ _ _ _ _ c.loop-own.invariant.pruning c.next_change.ensures.pruning
+    pruning_more (is_between c.args.span.first c.args.span.end) c.args.problem.now _ _ _ _ _ _ c.loop-own.invariant.pruning c.next_change.ensures.pruning
 
 pub loop-own-smaller : goal.loop-own-smaller
 loop-own-smaller g c =
-    let ok = is_between c.args.span.first c.args.span.last in
+    let ok = is_between c.args.span.first c.args.span.end in
     let a = subst (λ f. IsFound f ok c.args.problem.now c.next_change.new.list c.next_change.new.store.box c.loop-own.steps c.next_change.new.steps) c.in-Changed.is c.in_ok-next_change.ensures.answer in
     omega (arith, a.1, pruning_total ok c.args.problem.now _ _ _ _ c.next_change.ensures.pruning)
 
 pub loop-own-preserved : goal.loop-own-preserved
 loop-own-preserved g c =
-    let ok = is_between c.args.span.first c.args.span.last in
+    let ok = is_between c.args.span.first c.args.span.end in
     let game = c.args.problem.now in
     let a = subst (λ f. IsFound f ok game c.next_change.new.list c.next_change.new.store.box c.loop-own.steps c.next_change.new.steps) c.in-Changed.is c.in_ok-next_change.ensures.answer in
-    let w = c.in_ok-wake_changed-in-Changed.ensures in
+    let w = c.wake_changed.ensures in
     let fresh = drop (length c.items-before.result.now) c.items.result.now in
     let slice = take_rest (length c.items-before.result.now) c.items.result.now in
     let same = ap (λ l. drop (length l) c.items.result.now) c.items-before.ensures ∙ ap (drop (length c.loop-own.steps)) c.items.ensures in

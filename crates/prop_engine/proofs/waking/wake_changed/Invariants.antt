@@ -7,8 +7,8 @@ use Rattle.prop_engine.proofs.waking.wake_changed.Given as goal
 abbrev pub invariant-loop-step : goal.invariant-loop-step
 invariant-loop-step l = record {
   waiting : MarkedWait l.list;
-  inside : all_waiting (is_between l.span.first l.span.last) l.list ≡ true;
+  inside : all_waiting (is_between l.span.first l.span.end) l.list ≡ true;
   count : length l.list.marks ≡ length l.initial.list.marks;
   kept : (k : ℕ) → is_marked l.initial.list k ≡ true → is_marked l.list k ≡ true;
-  marked : (k x : ℕ) → is_between l.span.first l.span.last k ≡ true → (l.own.0 == k) ≡ false → names (changed_by (take l.step-index l.steps)) x ≡ true → is_watched l.watches k x ≡ true → is_marked l.list k ≡ true;
+  marked : (k x : ℕ) → is_between l.span.first l.span.end k ≡ true → (l.own.0 == k) ≡ false → names (changed_by (take l.step-index l.steps)) x ≡ true → is_watched l.watches k x ≡ true → is_marked l.list k ≡ true;
 }

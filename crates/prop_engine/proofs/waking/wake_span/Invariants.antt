@@ -6,7 +6,7 @@ use Rattle.prop_engine.proofs.waking.wake_span.Given as goal
 abbrev pub invariant-loop-k : goal.invariant-loop-k
 invariant-loop-k l = record {
   waiting : MarkedWait l.list;
-  inside : all_waiting (is_between l.fn.span.first l.fn.span.last) l.list ≡ true;
+  inside : all_waiting (is_between l.fn.span.first l.fn.span.end) l.list ≡ true;
   count : length l.list.marks ≡ length l.initial.list.marks;
   marked : (k : ℕ) → l.fn.span.first ≤ k → k < l.k → is_marked l.list k ≡ true;
 }

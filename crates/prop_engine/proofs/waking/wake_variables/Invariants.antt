@@ -6,8 +6,8 @@ use Rattle.prop_engine.proofs.waking.wake_variables.Given as goal
 abbrev pub invariant-loop-x : goal.invariant-loop-x
 invariant-loop-x l = record {
   waiting : MarkedWait l.list;
-  inside : all_waiting (is_between l.span.first l.span.last) l.list ≡ true;
+  inside : all_waiting (is_between l.span.first l.span.end) l.list ≡ true;
   count : length l.list.marks ≡ length l.initial.list.marks;
   kept : (k : ℕ) → is_marked l.initial.list k ≡ true → is_marked l.list k ≡ true;
-  marked : (k x : ℕ) → is_between l.span.first l.span.last k ≡ true → names (take l.x-index l.variables) x ≡ true → is_watched l.watches k x ≡ true → is_marked l.list k ≡ true;
+  marked : (k x : ℕ) → is_between l.span.first l.span.end k ≡ true → names (take l.x-index l.variables) x ≡ true → is_watched l.watches k x ≡ true → is_marked l.list k ≡ true;
 }

@@ -12,6 +12,7 @@ use Rattle.qc_model.proofs.Readable.{second}
 use Rattle.qc_arguments.specs.Asked.{IsAsked}
 use Rattle.qc_arguments.proofs.Boxes.{set_full}
 use Rattle.std.specs.List.{list_all}
+use Rattle.qc_arguments.proofs.Bools.{not_false}
 use Rattle.qc_refuter.specs.Met.{is_open}
 use Rattle.prop_base.specs.Pruning.{is_just}
 use Rattle.prop_base.proofs.Steps.{pruning_sub}
@@ -20,7 +21,6 @@ use Rattle.prop_linear.specs.Tightening.{least_sum}
 use Rattle.prop_linear.specs.Unequal.{IsHit, is_loose}
 use Rattle.prop_linear.proofs.Found.{placed, open_there}
 use Rattle.prop_linear.proofs.Last.{any_default, all_stay, factor_of, hit_cut, last_keeps, one_leaves, others_miss}
-use Rattle.prop_linear.proofs.Loose.{not_false}
 use Rattle.prop_linear.proofs.Still.{open_again}
 use Rattle.prop_linear.proofs.different.lose_last.Goals as goal
 

@@ -5,8 +5,10 @@ use mir.Val.{SFits}
 use mir.Syntax.{w64}
 use Rattle.qc_model.specs.Domains.{values_left}
 use Rattle.qc_model.specs.Valid.{is_number}
+use Rattle.qc_arguments.proofs.Kept.{ordered}
+use Rattle.qc_refuter.proofs.Domains.{some_left}
 use Rattle.qc_refuter.proofs.Terms.{least_small, greatest_small}
-use Rattle.prop_linear.proofs.Ends.{ordered, some_left, near_of, more_steps, cut_above}
+use Rattle.prop_linear.proofs.Ends.{near_of, more_steps, cut_above}
 use Rattle.prop_linear.proofs.places.cut_high.Goals as goal
 
 pub width-requires-clause-low : goal.width-requires-clause-low

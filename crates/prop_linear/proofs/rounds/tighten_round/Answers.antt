@@ -2,6 +2,7 @@ use Rattle.std.proofs.Common.{◌≡◌, ◌∙◌, ◌<◌, ◌+◌, sym, ap, s
 use Rattle.std.specs.Prelude.{pos, ◌+ℤ◌, ◌≤ℤ◌}
 use Rattle.std.proofs.lemmas.Int.{ints}
 use Rattle.qc_model.specs.Domains.{Box, declared_box}
+use Rattle.qc_arguments.proofs.Bools.{clash}
 use Rattle.prop_base.specs.Pruning.{is_just}
 use Rattle.prop_base.proofs.Steps.{pruning_more, pruning_sub}
 use Rattle.prop_linear.specs.Tightening.{least_sum}
@@ -37,10 +38,6 @@ longer : (b : Bool) (n m k : ℕ) → (b ≡ false → m ≡ n) → (b ≡ true 
 longer true n m k p q h = omega (arith, q refl, h)
 longer false n m k p q h = omega (arith, p refl, h)
 
-not_both : (b : Bool) → b ≡ true → b ≡ false → ⊥
-not_both true h k = cc
-not_both false h k = cc
-
 rise_on : (a b d : ℤ) → a ≤ℤ b → b ≤ℤ d → a ≤ℤ d
 rise_on a b d h k = omega (arith, ints, h, k)
 
@@ -62,8 +59,8 @@ loop-k-preserved c =
             declared = declared;
             full = t.full;
             rises = rises;
-            near = λ e. absurd (not_both c.if-branch.changed w.changed-is e);
-            same = λ e. absurd (not_both c.if-branch.changed w.changed-is e);
+            near = λ e. absurd (clash c.if-branch.changed w.changed-is e);
+            same = λ e. absurd (clash c.if-branch.changed w.changed-is e);
             grown = λ e. longer c.loop-k.changed _ _ _ (λ f. ap length (i.same f)) i.grown (t.grown.0 w.if-branch.true);
           })
       | else-branch w ↦

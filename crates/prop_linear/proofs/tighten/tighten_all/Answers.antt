@@ -4,6 +4,7 @@ use Rattle.std.proofs.lemmas.List.{take_all}
 use Rattle.qc_model.specs.declared.problem.Arg.TheVariants.{Num}
 use Rattle.qc_model.specs.Domains.{declared_box}
 use Rattle.qc_arguments.specs.Asked.{IsAsked}
+use Rattle.qc_arguments.proofs.Bools.{clash}
 use Rattle.prop_base.specs.Pruning.{is_just}
 use Rattle.prop_base.proofs.Steps.{pruning_more, pruning_sub}
 use Rattle.prop_linear.specs.Tightening.{AllNear, least_sum}
@@ -31,10 +32,6 @@ longer : (b : Bool) (n m k : ℕ) → (b ≡ false → m ≡ n) → (b ≡ true 
 longer true n m k p q h = omega (arith, q refl)
 longer false n m k p q h = omega (arith, p refl)
 
-not_both : (b : Bool) → b ≡ true → b ≡ false → ⊥
-not_both true h k = cc
-not_both false h k = cc
-
 pub loop-k-preserved : goal.loop-k-preserved
 loop-k-preserved c =
     let i = c.loop-k.invariant in
@@ -49,7 +46,7 @@ loop-k-preserved c =
             full = t.full;
             sum = t.sum ∙ i.sum;
             near = t.near i.near;
-            same = λ e. absurd (not_both c.if-branch.changed w.changed-is e);
+            same = λ e. absurd (clash c.if-branch.changed w.changed-is e);
             grown = λ e. longer c.loop-k.changed _ _ _ (λ f. ap length (i.same f)) i.grown (t.grown.0 w.if-branch.true);
           })
       | else-branch w ↦

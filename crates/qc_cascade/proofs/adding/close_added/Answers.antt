@@ -10,23 +10,23 @@ use Rattle.qc_cascade.proofs.adding.close_added.Goals as goal
 
 pub returns-in_err-close_span-clause-pruning : goal.returns-in_err-close_span-clause-pruning
 returns-in_err-close_span-clause-pruning g c =
-    pruning_weaker (is_between c.args.fresh.first c.args.fresh.last) (is_either c.args.closed c.args.fresh) c.args.problem.now _ _ _ _ (in_second c.args.closed c.args.fresh) c.close_span.ensures.pruning
+    pruning_weaker (is_between c.args.fresh.first c.args.fresh.end) (is_either c.args.closed c.args.fresh) c.args.problem.now _ _ _ _ (in_second c.args.closed c.args.fresh) c.close_span.ensures.pruning
 
 pub returns-in-Empty-clause-pruning : goal.returns-in-Empty-clause-pruning
 returns-in-Empty-clause-pruning g c =
-    pruning_weaker (is_between c.args.fresh.first c.args.fresh.last) (is_either c.args.closed c.args.fresh) c.args.problem.now _ _ _ _ (in_second c.args.closed c.args.fresh) c.close_span.ensures.pruning
+    pruning_weaker (is_between c.args.fresh.first c.args.fresh.end) (is_either c.args.closed c.args.fresh) c.args.problem.now _ _ _ _ (in_second c.args.closed c.args.fresh) c.close_span.ensures.pruning
 
 pub close_in_turn-requires-clause-declared : goal.close_in_turn-requires-clause-declared
 close_in_turn-requires-clause-declared g c =
-    pruning_sub (is_between c.args.fresh.first c.args.fresh.last) c.args.problem.now _ _ _ _ (declared_box c.args.problem.now) c.close_span.ensures.pruning c.requires.declared
+    pruning_sub (is_between c.args.fresh.first c.args.fresh.end) c.args.problem.now _ _ _ _ (declared_box c.args.problem.now) c.close_span.ensures.pruning c.requires.declared
 
 pub close_in_turn-requires-clause-earlier : goal.close_in_turn-requires-clause-earlier
 close_in_turn-requires-clause-earlier g c =
-    subst (λ l. WasKept (is_between c.args.closed.first c.args.closed.last) c.args.problem.now (changed_by (drop (length l) c.close_span.new.steps)) c.close_span.new.store.box) (sym c.items-from.ensures)
-    (kept_before (is_between c.args.closed.first c.args.closed.last) (is_between c.args.fresh.first c.args.fresh.last) c.args.problem.now _ _ _ _ c.requires.kept c.close_span.ensures.pruning)
+    subst (λ l. WasKept (is_between c.args.closed.first c.args.closed.end) c.args.problem.now (changed_by (drop (length l) c.close_span.new.steps)) c.close_span.new.store.box) (sym c.items-from.ensures)
+    (kept_before (is_between c.args.closed.first c.args.closed.end) (is_between c.args.fresh.first c.args.fresh.end) c.args.problem.now _ _ _ _ c.requires.kept c.close_span.ensures.pruning)
 
 pub returns-clause-pruning : goal.returns-clause-pruning
 returns-clause-pruning g c =
     pruning_more (is_either c.args.closed c.args.fresh) c.args.problem.now _ _ _ _ _ _
-    (pruning_weaker (is_between c.args.fresh.first c.args.fresh.last) (is_either c.args.closed c.args.fresh) c.args.problem.now _ _ _ _ (in_second c.args.closed c.args.fresh) c.close_span.ensures.pruning)
+    (pruning_weaker (is_between c.args.fresh.first c.args.fresh.end) (is_either c.args.closed c.args.fresh) c.args.problem.now _ _ _ _ (in_second c.args.closed c.args.fresh) c.close_span.ensures.pruning)
     c.close_in_turn.ensures.pruning

@@ -26,7 +26,7 @@ returns-in-Empty-clause-pruning g c =
 
 pub loop-changed-smaller : goal.loop-changed-smaller
 loop-changed-smaller g c =
-    turn_smaller (is_between c.loop-changed.due.first c.loop-changed.due.last) c.args.problem.now _ _ _ _ c.loop-changed.since (length c.items-since.result.now) c.close_changed.ensures.pruning
+    turn_smaller (is_between c.loop-changed.due.first c.loop-changed.due.end) c.args.problem.now _ _ _ _ c.loop-changed.since (length c.items-since.result.now) c.close_changed.ensures.pruning
     (some_changed c.loop-changed.steps c.loop-changed.since c.in_ok-changed.changed.items c.in_ok-changed.ensures (ap (λ n. n == 0) (sym c.in_ok-changed.changed.ok.0) ∙ (sym c.is_empty.ensures ∙ c.if-is_empty.false)))
     (ap length c.items-since.ensures)
 
@@ -34,7 +34,7 @@ pub loop-changed-preserved : goal.loop-changed-preserved
 loop-changed-preserved g c =
     let v = c.loop-changed.invariant in
     let game = c.args.problem.now in
-    let ok = is_between c.loop-changed.due.first c.loop-changed.due.last in
+    let ok = is_between c.loop-changed.due.first c.loop-changed.due.end in
     let p = c.close_changed.ensures.pruning in
     let a = subst (λ a. IsClosing a ok game c.close_changed.new.store.box) c.in-Open.is c.in_ok-close_changed.ensures.answer in
     let same = ap length c.items-since.ensures in
@@ -47,7 +47,7 @@ loop-changed-preserved g c =
       due = v.other;
       other = v.due;
       either = λ k. either_turn c.loop-changed.other c.loop-changed.due k ∙ v.either k;
-      earlier = subst (λ n. WasKept (is_between c.loop-changed.other.first c.loop-changed.other.last) game (changed_by (drop n c.close_changed.new.steps)) c.close_changed.new.store.box) (sym same)
-          (kept_before (is_between c.loop-changed.other.first c.loop-changed.other.last) ok game _ _ _ _ v.kept p);
+      earlier = subst (λ n. WasKept (is_between c.loop-changed.other.first c.loop-changed.other.end) game (changed_by (drop n c.close_changed.new.steps)) c.close_changed.new.store.box) (sym same)
+          (kept_before (is_between c.loop-changed.other.first c.loop-changed.other.end) ok game _ _ _ _ v.kept p);
       kept = a.1;
     }

@@ -14,11 +14,11 @@ invariant-loop-changed g l = record {
   declared : is_sub_box l.store.box (declared_box l.problem) ≡ true;
   full : has_empty l.store.box ≡ false;
   since : l.since ≤ length l.steps;
-  due : l.due.last ≤ length l.problem.constraints;
-  other : l.other.last ≤ length l.problem.constraints;
+  due : l.due.end ≤ length l.problem.constraints;
+  other : l.other.end ≤ length l.problem.constraints;
   either : (k : ℕ) → is_either l.due l.other k ≡ is_either l.fn.behind l.fn.settled k;
-  earlier : WasKept (is_between l.due.first l.due.last) l.problem (changed_by (drop l.since l.steps)) l.store.box;
-  kept : EachRule (is_between l.other.first l.other.last) l.problem (keeps_ends l.store.box);
+  earlier : WasKept (is_between l.due.first l.due.end) l.problem (changed_by (drop l.since l.steps)) l.store.box;
+  kept : EachRule (is_between l.other.first l.other.end) l.problem (keeps_ends l.store.box);
 }
 
 abbrev pub decreases-loop-changed : goal.decreases-loop-changed

@@ -34,4 +34,4 @@ returns-clause-some c =
     let t = simp to_z-of_z at c.if-least-low.false in
     let w = simp to_z-of_z at c.width.ensures in
     let box = seen c.args.view.now in
-    past_is c.args.low c.least.result c.greatest.result (least_value (left_to box c.args.arg)) (greatest_value (left_to box c.args.arg)) c.width.result c.least.ensures c.greatest.ensures t w
+    past_is c.args.low c.least.result c.greatest.result (least_value (left_to box c.args.arg)) (greatest_value (left_to box c.args.arg)) c.width.result c.least.ensures c.greatest.ensures t w.value
