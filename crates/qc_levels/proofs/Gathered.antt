@@ -1,10 +1,9 @@
 -- What a universal join keeps, as leaves are added.
-use Rattle.std.proofs.Common.{◌≡◌, ℕ, ◌+◌, ◌≤◌, Bool, true, false, not, ◌&&◌, List, [], ◌∷◌, ◌++◌, map, refl, sym, ap, ◌∙◌, subst, arith}
-use Rattle.std.specs.Prelude.{ℤ, pos, ◌+ℤ◌, unsigned_abs, nat_le}
-use Rattle.std.specs.List.{list_all}
-use Rattle.std.specs.Int.{int_min, int_max}
-use Rattle.std.proofs.lemmas.Int.{ints, clamps}
-use Rattle.std.proofs.lemmas.Bool.{le-leb}
+use Rattle.std.proofs.Common.{◌≡◌, ℕ, ◌+◌, ◌≤◌, Bool, true, false, not, List, [], ◌∷◌, ◌++◌, map, refl, sym, ap, ◌∙◌, subst, arith}
+use Rattle.std.specs.Prelude.{ℤ, pos, ◌+ℤ◌, unsigned_abs, FitsSigned}
+use Rattle.std.specs.Int.{int_min, int_max, int_wrap}
+use Rattle.std.proofs.lemmas.Int.{ints, clamps, int_wrap_fits}
+use mir.Syntax.{w64}
 use Rattle.qc_model.specs.declared.problem.Fold.{Fold}
 use Rattle.qc_model.specs.declared.problem.Fold.TheVariants.{Sum, Least, Greatest}
 use Rattle.qc_model.specs.Ranges.{range_from}
@@ -16,7 +15,7 @@ use Rattle.qc_levels.specs.declared.columns.Source.TheVariants.{Variable, Folded
 use Rattle.qc_levels.specs.declared.columns.Column.{Column}
 use Rattle.qc_model.specs.declared.problem.Condition.{Condition}
 use Rattle.qc_model.specs.Content.{Game}
-use Rattle.qc_levels.specs.Columns.{fresh_column, source_among, number_at, folded_with, total_of, total_with, fits_vector, with_vector, takes_vector, emptied, TotalsAre, known_by, known_of, known_in, known_with, fits_known, takes_known, size_at, IsSmall}
+use Rattle.qc_levels.specs.Columns.{fresh_column, source_among, number_at, folded_with, total_of, total_with, with_vector, emptied, TotalsAre, known_by, known_of, known_in, known_with, size_at, IsSmall}
 use Rattle.qc_levels.specs.ForallJoin.{Gathers}
 use Rattle.qc_levels.proofs.Bests.{each_join, some_join, vectors_join, append_nothing, and_true, and_false, or_true, or_false}
 
@@ -54,12 +53,22 @@ sum_more : (ns : List ℤ) (n : ℤ) → sum_of (ns ++ n ∷ []) ≡ sum_of ns +
 sum_more [] n = sum_one n
 sum_more (m ∷ ns) n = ap (λ z. m +ℤ z) (sum_more ns n) ∙ sum_assoc m (sum_of ns) n
 
-fold_more : (f : Fold) (ns : List ℤ) (n : ℤ) → folded_with f (not (is_none_of ns)) (fold_of f ns) n ≡ fold_of f (ns ++ n ∷ [])
-fold_more Sum ns n = sym (sum_more ns n)
-fold_more (Least e) [] n = refl
-fold_more (Least e) (m ∷ ms) n = sym (least_more m ms n)
-fold_more (Greatest e) [] n = refl
-fold_more (Greatest e) (m ∷ ms) n = sym (greatest_more m ms n)
+-- a sum of numbers that are small doesn't wrap
+small_fits : (z : ℤ) → unsigned_abs z ≤ 4611686018427387904 → FitsSigned w64 z
+small_fits z h = omega (arith, ints)
+
+sum_kept : (ns : List ℤ) (n : ℤ) → unsigned_abs (sum_of (ns ++ n ∷ [])) ≤ 4611686018427387904 → int_wrap w64 (sum_of ns +ℤ n) ≡ sum_of (ns ++ n ∷ [])
+sum_kept ns n h =
+    let e = sum_more ns n in
+    let fits : FitsSigned w64 (sum_of ns +ℤ n) = subst (λ (z : ℤ). FitsSigned w64 z) e (small_fits (sum_of (ns ++ n ∷ [])) h) in
+    int_wrap_fits w64 (sum_of ns +ℤ n) fits ∙ sym e
+
+fold_more : (f : Fold) (ns : List ℤ) (n : ℤ) → unsigned_abs (sum_of (ns ++ n ∷ [])) ≤ 4611686018427387904 → folded_with f (not (is_none_of ns)) (fold_of f ns) n ≡ fold_of f (ns ++ n ∷ [])
+fold_more Sum ns n h = sum_kept ns n h
+fold_more (Least e) [] n h = refl
+fold_more (Least e) (m ∷ ms) n h = sym (least_more m ms n)
+fold_more (Greatest e) [] n h = refl
+fold_more (Greatest e) (m ∷ ms) n h = sym (greatest_more m ms n)
 
 map_more : {X Y : Type 0} (f : X → Y) (xs : List X) (x : X) → map f (xs ++ x ∷ []) ≡ map f xs ++ f x ∷ []
 map_more f [] x = refl
@@ -69,30 +78,35 @@ none_map : {X Y : Type 0} (f : X → Y) (xs : List X) → is_none_of (map f xs) 
 none_map f [] = refl
 none_map f (x ∷ xs) = refl
 
-total_more : (s : Source) (ws : List (List ℤ)) (w : List ℤ) → total_with s (not (is_none_of ws)) (total_of s ws) w ≡ total_of s (ws ++ w ∷ [])
-total_more (Variable x) ws w = refl
-total_more (Folded f k) ws w =
-    ap (λ b. folded_with f (not b) (fold_of f (map (number_at k) ws)) (number_at k w)) (sym (none_map (number_at k) ws))
-    ∙ fold_more f (map (number_at k) ws) (number_at k w)
-    ∙ ap (fold_of f) (sym (map_more (number_at k) ws w))
-total_more Missing ws w = refl
+-- at each place the vectors' numbers sum to little
+abbrev ColumnsSmall : List (List ℤ) → Type 0
+ColumnsSmall ws = (k : ℕ) → unsigned_abs (sum_of (map (number_at k) ws)) ≤ 4611686018427387904
 
-pub totals_more : (ws : List (List ℤ)) (w : List ℤ) (cs : List Column) → TotalsAre ws cs → TotalsAre (ws ++ w ∷ []) (map (with_vector (not (is_none_of ws)) w) cs)
-totals_more ws w [] t = tt
-totals_more ws w (c ∷ cs) t = (ap (λ z. total_with c.source (not (is_none_of ws)) z w) t.0 ∙ total_more c.source ws w, totals_more ws w cs t.1)
+total_more : (s : Source) (ws : List (List ℤ)) (w : List ℤ) → ColumnsSmall (ws ++ w ∷ []) → total_with s (not (is_none_of ws)) (total_of s ws) w ≡ total_of s (ws ++ w ∷ [])
+total_more (Variable x) ws w h = refl
+total_more (Folded f k) ws w h =
+    let small : unsigned_abs (sum_of (map (number_at k) ws ++ number_at k w ∷ [])) ≤ 4611686018427387904 = subst (λ (ns : List ℤ). unsigned_abs (sum_of ns) ≤ 4611686018427387904) (map_more (number_at k) ws w) (h k) in
+    ap (λ b. folded_with f (not b) (fold_of f (map (number_at k) ws)) (number_at k w)) (sym (none_map (number_at k) ws))
+    ∙ fold_more f (map (number_at k) ws) (number_at k w) small
+    ∙ ap (fold_of f) (sym (map_more (number_at k) ws w))
+total_more Missing ws w h = refl
+
+totals_more : (ws : List (List ℤ)) (w : List ℤ) (cs : List Column) → ColumnsSmall (ws ++ w ∷ []) → TotalsAre ws cs → TotalsAre (ws ++ w ∷ []) (map (with_vector (not (is_none_of ws)) w) cs)
+totals_more ws w [] h t = tt
+totals_more ws w (c ∷ cs) h t = (ap (λ z. total_with c.source (not (is_none_of ws)) z w) t.0 ∙ total_more c.source ws w h, totals_more ws w cs h t.1)
 
 pub totals_emptied : (cs : List Column) → TotalsAre [] (map emptied cs)
 totals_emptied [] = tt
 totals_emptied (c ∷ cs) = (refl, totals_emptied cs)
 
-known_more_in : (s : Source) (ns : List ℤ) (n : ℤ) → known_in s (not (is_none_of ns)) (known_by s ns) n ≡ known_by s (ns ++ n ∷ [])
-known_more_in (Variable x) ns n = refl
-known_more_in (Folded f k) ns n = fold_more f ns n
-known_more_in Missing ns n = refl
+known_more_in : (s : Source) (ns : List ℤ) (n : ℤ) → unsigned_abs (sum_of (ns ++ n ∷ [])) ≤ 4611686018427387904 → known_in s (not (is_none_of ns)) (known_by s ns) n ≡ known_by s (ns ++ n ∷ [])
+known_more_in (Variable x) ns n h = refl
+known_more_in (Folded f k) ns n h = fold_more f ns n h
+known_more_in Missing ns n h = refl
 
-known_more : (cs : List Column) (ns : List ℤ) (n : ℤ) → known_with cs (not (is_none_of ns)) (known_of cs ns) n ≡ known_of cs (ns ++ n ∷ [])
-known_more [] ns n = refl
-known_more (c ∷ cs) ns n = known_more_in c.source ns n
+known_more : (cs : List Column) (ns : List ℤ) (n : ℤ) → unsigned_abs (sum_of (ns ++ n ∷ [])) ≤ 4611686018427387904 → known_with cs (not (is_none_of ns)) (known_of cs ns) n ≡ known_of cs (ns ++ n ∷ [])
+known_more [] ns n h = refl
+known_more (c ∷ cs) ns n h = known_more_in c.source ns n h
 
 -- the columns' sources stay
 pub sources_stay : (b : Bool) (w : List ℤ) (cs : List Column) → map (λ c. c.source) (map (with_vector b w) cs) ≡ map (λ c. c.source) cs
@@ -153,52 +167,19 @@ known_within (seen_node (at_most p) ∷ xs) =
     omega (arith, i, a)
 known_within (seen_node unknown ∷ xs) = known_within xs
 
-within : (n : ℕ) (z : ℤ) → unsigned_abs z ≤ n → n ≤ 4611686018427387904 → nat_le (unsigned_abs z) 4611686018427387904 ≡ true
-within n z a b = le-leb (unsigned_abs z) 4611686018427387904 (omega (arith, a, b))
-
-vector_within : (k : ℕ) (xs : List Seen) (w : List ℤ) → IsSmall (xs ++ seen_node (exact w) ∷ []) → nat_le (unsigned_abs (sum_of (map (number_at k) (exact_vectors xs)) +ℤ number_at k w)) 4611686018427387904 ≡ true
-vector_within k xs w s =
+columns_small : (xs : List Seen) (w : List ℤ) → IsSmall (xs ++ seen_node (exact w) ∷ []) → ColumnsSmall (exact_vectors xs ++ w ∷ [])
+columns_small xs w s k =
     let ys = xs ++ seen_node (exact w) ∷ [] in
-    let e : sum_of (map (number_at k) (exact_vectors ys)) ≡ sum_of (map (number_at k) (exact_vectors xs)) +ℤ number_at k w =
-    ap (λ (vs : List (List ℤ)). sum_of (map (number_at k) vs)) (vectors_join xs (seen_node (exact w) ∷ []))
-    ∙ ap sum_of (map_more (number_at k) (exact_vectors xs) w)
-    ∙ sum_more (map (number_at k) (exact_vectors xs)) (number_at k w) in
-    subst (λ (z : ℤ). nat_le (unsigned_abs z) 4611686018427387904 ≡ true) e
-    (within (size_at k ys) (sum_of (map (number_at k) (exact_vectors ys))) (sum_within k ys) (s k))
+    let h = sum_within k ys in
+    let small : unsigned_abs (sum_of (map (number_at k) (exact_vectors ys))) ≤ 4611686018427387904 = omega (arith, h, s k) in
+    subst (λ (vs : List (List ℤ)). unsigned_abs (sum_of (map (number_at k) vs)) ≤ 4611686018427387904) (vectors_join xs (seen_node (exact w) ∷ [])) small
 
-source_takes : (c : Source) (t : ℤ) (xs : List Seen) (w : List ℤ) → t ≡ total_of c (exact_vectors xs) → IsSmall (xs ++ seen_node (exact w) ∷ []) → fits_vector c t w ≡ true
-source_takes (Variable x) t xs w e s = refl
-source_takes (Folded Sum k) t xs w e s = subst (λ (z : ℤ). nat_le (unsigned_abs (z +ℤ number_at k w)) 4611686018427387904 ≡ true) (sym e) (vector_within k xs w s)
-source_takes (Folded (Least d) k) t xs w e s = refl
-source_takes (Folded (Greatest d) k) t xs w e s = refl
-source_takes Missing t xs w e s = refl
-
-and_both : (a b : Bool) → a ≡ true → b ≡ true → (a && b) ≡ true
-and_both true b e h = h
-and_both false b e h = e
-
-pub all_take : (xs : List Seen) (w : List ℤ) (cs : List Column) → TotalsAre (exact_vectors xs) cs → IsSmall (xs ++ seen_node (exact w) ∷ []) → list_all (takes_vector w) cs ≡ true
-all_take xs w [] t s = refl
-all_take xs w (c ∷ cs) t s = and_both (takes_vector w c) (list_all (takes_vector w) cs) (source_takes c.source c.total xs w t.0 s) (all_take xs w cs t.1 s)
-
-known_sum_within : (xs : List Seen) (x : Seen) (n : ℤ) → known_numbers (x ∷ []) ≡ n ∷ [] → IsSmall (xs ++ x ∷ []) → nat_le (unsigned_abs (sum_of (known_numbers xs) +ℤ n)) 4611686018427387904 ≡ true
-known_sum_within xs x n e s =
+known_small : (xs : List Seen) (x : Seen) (n : ℤ) → known_numbers (x ∷ []) ≡ n ∷ [] → IsSmall (xs ++ x ∷ []) → unsigned_abs (sum_of (known_numbers xs ++ n ∷ [])) ≤ 4611686018427387904
+known_small xs x n e s =
     let ys = xs ++ x ∷ [] in
-    let q : sum_of (known_numbers ys) ≡ sum_of (known_numbers xs) +ℤ n =
-    ap sum_of (known_join xs (x ∷ [])) ∙ ap (λ (ns : List ℤ). sum_of (known_numbers xs ++ ns)) e ∙ sum_more (known_numbers xs) n in
-    subst (λ (z : ℤ). nat_le (unsigned_abs z) 4611686018427387904 ≡ true) q
-    (within (size_at 0 ys) (sum_of (known_numbers ys)) (known_within ys) (s 0))
-
-known_source : (c : Source) (t n : ℤ) (xs : List Seen) (x : Seen) → known_numbers (x ∷ []) ≡ n ∷ [] → t ≡ known_by c (known_numbers xs) → IsSmall (xs ++ x ∷ []) → fits_known c t n ≡ true
-known_source (Variable y) t n xs x k e s = refl
-known_source (Folded Sum p) t n xs x k e s = subst (λ (z : ℤ). nat_le (unsigned_abs (z +ℤ n)) 4611686018427387904 ≡ true) (sym e) (known_sum_within xs x n k s)
-known_source (Folded (Least d) p) t n xs x k e s = refl
-known_source (Folded (Greatest d) p) t n xs x k e s = refl
-known_source Missing t n xs x k e s = refl
-
-pub known_takes : (cs : List Column) (t n : ℤ) (xs : List Seen) (x : Seen) → known_numbers (x ∷ []) ≡ n ∷ [] → t ≡ known_of cs (known_numbers xs) → IsSmall (xs ++ x ∷ []) → takes_known cs t n ≡ true
-known_takes [] t n xs x k e s = refl
-known_takes (c ∷ cs) t n xs x k e s = known_source c.source t n xs x k e s
+    let h = known_within ys in
+    let small : unsigned_abs (sum_of (known_numbers ys)) ≤ 4611686018427387904 = omega (arith, h, s 0) in
+    subst (λ (ns : List ℤ). unsigned_abs (sum_of ns) ≤ 4611686018427387904) (known_join xs (x ∷ []) ∙ ap (λ (ns : List ℤ). known_numbers xs ++ ns) e) small
 
 pub gathers_barred : (cs : List Column) (l e k h a : Bool) (t : ℤ) (xs : List Seen) → Gathers cs l e k h a t xs → Gathers cs l e k h a t (xs ++ seen_barred ∷ [])
 gathers_barred cs l e k h a t xs g = record {
@@ -209,6 +190,18 @@ gathers_barred cs l e k h a t xs g = record {
   totals = subst (λ (vs : List (List ℤ)). TotalsAre vs cs) (sym (vectors_join xs (seen_barred ∷ []) ∙ append_nothing (exact_vectors xs))) g.totals;
   any_known_is = g.any_known_is ∙ ap (λ (ns : List ℤ). not (is_none_of ns)) (sym (known_join xs (seen_barred ∷ []) ∙ append_nothing (known_numbers xs)));
   known_is = g.known_is ∙ ap (known_of cs) (sym (known_join xs (seen_barred ∷ []) ∙ append_nothing (known_numbers xs)));
+}
+
+-- a bound says nothing of a universal scope
+pub gathers_bound : (cs : List Column) (l e k h a : Bool) (t : ℤ) (xs : List Seen) (m : ℤ) → Gathers cs l e k h a t xs → Gathers cs l e k h a t (xs ++ seen_bound m ∷ [])
+gathers_bound cs l e k h a t xs m g = record {
+  any_lost_is = g.any_lost_is ∙ or_false (some_node is_lost xs) ∙ sym (some_join is_lost xs (seen_bound m ∷ []));
+  all_exact_is = g.all_exact_is ∙ and_true (each_node is_exact xs) ∙ sym (each_join is_exact xs (seen_bound m ∷ []));
+  all_known_is = g.all_known_is ∙ and_true (each_node is_known xs) ∙ sym (each_join is_known xs (seen_bound m ∷ []));
+  has_exact_is = g.has_exact_is ∙ ap (λ (vs : List (List ℤ)). not (is_none_of vs)) (sym (vectors_join xs (seen_bound m ∷ []) ∙ append_nothing (exact_vectors xs)));
+  totals = subst (λ (vs : List (List ℤ)). TotalsAre vs cs) (sym (vectors_join xs (seen_bound m ∷ []) ∙ append_nothing (exact_vectors xs))) g.totals;
+  any_known_is = g.any_known_is ∙ ap (λ (ns : List ℤ). not (is_none_of ns)) (sym (known_join xs (seen_bound m ∷ []) ∙ append_nothing (known_numbers xs)));
+  known_is = g.known_is ∙ ap (known_of cs) (sym (known_join xs (seen_bound m ∷ []) ∙ append_nothing (known_numbers xs)));
 }
 
 pub gathers_lost : (cs : List Column) (l e k h a : Bool) (t : ℤ) (xs : List Seen) → Gathers cs l e k h a t xs → Gathers cs true false false h a t (xs ++ seen_node lost ∷ [])
@@ -244,26 +237,26 @@ gathers_unknown cs l e k h a t xs g = record {
   known_is = g.known_is ∙ ap (known_of cs) (sym (known_join xs (seen_node unknown ∷ []) ∙ append_nothing (known_numbers xs)));
 }
 
-pub gathers_at_most : (cs : List Column) (l e k h a : Bool) (t : ℤ) (xs : List Seen) (n : ℤ) → Gathers cs l e k h a t xs → Gathers cs l false k h true (known_with cs a t n) (xs ++ seen_node (at_most n) ∷ [])
-gathers_at_most cs l e k h a t xs n g = record {
+pub gathers_at_most : (cs : List Column) (l e k h a : Bool) (t : ℤ) (xs : List Seen) (n : ℤ) → Gathers cs l e k h a t xs → IsSmall (xs ++ seen_node (at_most n) ∷ []) → Gathers cs l false k h true (known_with cs a t n) (xs ++ seen_node (at_most n) ∷ [])
+gathers_at_most cs l e k h a t xs n g s = record {
   any_lost_is = g.any_lost_is ∙ or_false (some_node is_lost xs) ∙ sym (some_join is_lost xs (seen_node (at_most n) ∷ []));
   all_exact_is = and_false (each_node is_exact xs) ∙ sym (each_join is_exact xs (seen_node (at_most n) ∷ []));
   all_known_is = g.all_known_is ∙ and_true (each_node is_known xs) ∙ sym (each_join is_known xs (seen_node (at_most n) ∷ []));
   has_exact_is = g.has_exact_is ∙ ap (λ (vs : List (List ℤ)). not (is_none_of vs)) (sym (vectors_join xs (seen_node (at_most n) ∷ []) ∙ append_nothing (exact_vectors xs)));
   totals = subst (λ (vs : List (List ℤ)). TotalsAre vs cs) (sym (vectors_join xs (seen_node (at_most n) ∷ []) ∙ append_nothing (exact_vectors xs))) g.totals;
   any_known_is = none_more (known_numbers xs) n ∙ ap (λ (ns : List ℤ). not (is_none_of ns)) (sym (known_join xs (seen_node (at_most n) ∷ [])));
-  known_is = ap (λ (b : Bool). known_with cs b t n) g.any_known_is ∙ ap (λ (z : ℤ). known_with cs (not (is_none_of (known_numbers xs))) z n) g.known_is ∙ known_more cs (known_numbers xs) n ∙ ap (known_of cs) (sym (known_join xs (seen_node (at_most n) ∷ [])));
+  known_is = ap (λ (b : Bool). known_with cs b t n) g.any_known_is ∙ ap (λ (z : ℤ). known_with cs (not (is_none_of (known_numbers xs))) z n) g.known_is ∙ known_more cs (known_numbers xs) n (known_small xs (seen_node (at_most n)) n refl s) ∙ ap (known_of cs) (sym (known_join xs (seen_node (at_most n) ∷ [])));
 }
 
-pub gathers_exact : (cs : List Column) (l e k h a : Bool) (t : ℤ) (xs : List Seen) (w : List ℤ) → Gathers cs l e k h a t xs → Gathers (map (with_vector h w) cs) l e k true true (known_with cs a t (first_value w)) (xs ++ seen_node (exact w) ∷ [])
-gathers_exact cs l e k h a t xs w g = record {
+pub gathers_exact : (cs : List Column) (l e k h a : Bool) (t : ℤ) (xs : List Seen) (w : List ℤ) → Gathers cs l e k h a t xs → IsSmall (xs ++ seen_node (exact w) ∷ []) → Gathers (map (with_vector h w) cs) l e k true true (known_with cs a t (first_value w)) (xs ++ seen_node (exact w) ∷ [])
+gathers_exact cs l e k h a t xs w g s = record {
   any_lost_is = g.any_lost_is ∙ or_false (some_node is_lost xs) ∙ sym (some_join is_lost xs (seen_node (exact w) ∷ []));
   all_exact_is = g.all_exact_is ∙ and_true (each_node is_exact xs) ∙ sym (each_join is_exact xs (seen_node (exact w) ∷ []));
   all_known_is = g.all_known_is ∙ and_true (each_node is_known xs) ∙ sym (each_join is_known xs (seen_node (exact w) ∷ []));
   has_exact_is = none_more (exact_vectors xs) w ∙ ap (λ (vs : List (List ℤ)). not (is_none_of vs)) (sym (vectors_join xs (seen_node (exact w) ∷ [])));
-  totals = subst (λ (b : Bool). TotalsAre (exact_vectors (xs ++ seen_node (exact w) ∷ [])) (map (with_vector b w) cs)) (sym g.has_exact_is) (subst (λ (vs : List (List ℤ)). TotalsAre vs (map (with_vector (not (is_none_of (exact_vectors xs))) w) cs)) (sym (vectors_join xs (seen_node (exact w) ∷ []))) (totals_more (exact_vectors xs) w cs g.totals));
+  totals = subst (λ (b : Bool). TotalsAre (exact_vectors (xs ++ seen_node (exact w) ∷ [])) (map (with_vector b w) cs)) (sym g.has_exact_is) (subst (λ (vs : List (List ℤ)). TotalsAre vs (map (with_vector (not (is_none_of (exact_vectors xs))) w) cs)) (sym (vectors_join xs (seen_node (exact w) ∷ []))) (totals_more (exact_vectors xs) w cs (columns_small xs w s) g.totals));
   any_known_is = none_more (known_numbers xs) (first_value w) ∙ ap (λ (ns : List ℤ). not (is_none_of ns)) (sym (known_join xs (seen_node (exact w) ∷ [])));
-  known_is = ap (λ (b : Bool). known_with cs b t (first_value w)) g.any_known_is ∙ ap (λ (z : ℤ). known_with cs (not (is_none_of (known_numbers xs))) z (first_value w)) g.known_is ∙ known_more cs (known_numbers xs) (first_value w) ∙ ap (known_of cs) (sym (known_join xs (seen_node (exact w) ∷ []))) ∙ sym (known_stays h w cs (known_numbers (xs ++ seen_node (exact w) ∷ [])));
+  known_is = ap (λ (b : Bool). known_with cs b t (first_value w)) g.any_known_is ∙ ap (λ (z : ℤ). known_with cs (not (is_none_of (known_numbers xs))) z (first_value w)) g.known_is ∙ known_more cs (known_numbers xs) (first_value w) (known_small xs (seen_node (exact w)) (first_value w) refl s) ∙ ap (known_of cs) (sym (known_join xs (seen_node (exact w) ∷ []))) ∙ sym (known_stays h w cs (known_numbers (xs ++ seen_node (exact w) ∷ [])));
 }
 
 -- ---- columns that have no number yet

@@ -4,3 +4,4 @@ pub mod ExistsVerdicts
 pub mod Gathered
 pub mod ForallVerdicts
 pub mod DemandSteps
+pub mod Props

@@ -1,6 +1,7 @@
 -- What a universal join keeps of its leaves, and the verdict by what it keeps.
-use Rattle.std.specs.Prelude.{◌≡◌, ◌≤◌, ◌+◌, ◌==◌, ⊤, ℕ, nat_le, Bool, true, cond, Option, Some, None, List, [], ◌∷◌, map, slice_get, slice_index_or, ℤ, pos, ◌+ℤ◌, unsigned_abs}
-use Rattle.std.specs.Int.{int_min, int_max}
+use Rattle.std.specs.Prelude.{◌≡◌, ◌≤◌, ◌+◌, ◌==◌, ⊤, ℕ, Bool, cond, Option, Some, None, List, [], ◌∷◌, ◌++◌, map, slice_get, slice_index_or, ℤ, pos, ◌+ℤ◌, unsigned_abs}
+use Rattle.std.specs.Int.{int_min, int_max, int_wrap}
+use mir.Syntax.{w64}
 use Rattle.qc_model.specs.declared.problem.Sense.{Sense}
 use Rattle.qc_model.specs.declared.problem.Sense.TheVariants.{Min, Max}
 use Rattle.qc_model.specs.declared.problem.Fold.{Fold}
@@ -16,6 +17,8 @@ use Rattle.qc_model.specs.Verdict.{Verdict, lost, exact, at_most, unknown, Seen,
 use Rattle.qc_levels.specs.declared.columns.Source.{Source}
 use Rattle.qc_levels.specs.declared.columns.Source.TheVariants.{Variable, Folded, Missing}
 use Rattle.qc_levels.specs.declared.columns.Column.{Column}
+use Rattle.qc_levels.specs.declared.leaves.Leaf.{Leaf}
+use Rattle.qc_levels.specs.declared.leaves.Leaf.TheVariants.{Barred, Lost, Exact, AtMost, Unknown, Skipped}
 
 -- what an entry's value is made of: a variable, or the fold of the numbers that the branches' vectors have at a place
 abbrev pub folded_at : Option Aggregate → ℕ → Source
@@ -41,17 +44,11 @@ first_sense (c ∷ d) = c.sense
 abbrev pub number_at : ℕ → List ℤ → ℤ
 number_at k w = slice_index_or w k (pos 0)
 
--- the fold with one number more
+-- the fold with one number more. A sum that doesn't fit the machine's numbers wraps; where the numbers are small none does
 abbrev pub folded_with : Fold → Bool → ℤ → ℤ → ℤ
-folded_with Sum has_any t n = t +ℤ n
+folded_with Sum has_any t n = int_wrap w64 (t +ℤ n)
 folded_with (Least e) has_any t n = cond has_any (int_min t n) n
 folded_with (Greatest e) has_any t n = cond has_any (int_max t n) n
-
--- a sum stays within 2 ^ 62
-abbrev pub is_within : Fold → ℤ → ℤ → Bool
-is_within Sum t n = nat_le (unsigned_abs (t +ℤ n)) 4611686018427387904
-is_within (Least e) t n = true
-is_within (Greatest e) t n = true
 
 -- the fold of the vectors' numbers
 abbrev pub total_of : Source → List (List ℤ) → ℤ
@@ -64,16 +61,8 @@ total_with (Variable x) has_any t w = t
 total_with (Folded f k) has_any t w = folded_with f has_any t (number_at k w)
 total_with Missing has_any t w = t
 
-abbrev pub fits_vector : Source → ℤ → List ℤ → Bool
-fits_vector (Variable x) t w = true
-fits_vector (Folded f k) t w = is_within f t (number_at k w)
-fits_vector Missing t w = true
-
 abbrev pub with_vector : Bool → List ℤ → Column → Column
 with_vector has_any w c = record { source = c.source; total = total_with c.source has_any c.total w }
-
-abbrev pub takes_vector : List ℤ → Column → Bool
-takes_vector w c = fits_vector c.source c.total w
 
 abbrev pub emptied : Column → Column
 emptied c = record { source = c.source; total = total_of c.source [] }
@@ -104,15 +93,6 @@ abbrev pub known_with : List Column → Bool → ℤ → ℤ → ℤ
 known_with [] has_any t n = t
 known_with (c ∷ cs) has_any t n = known_in c.source has_any t n
 
-abbrev pub fits_known : Source → ℤ → ℤ → Bool
-fits_known (Variable x) t n = true
-fits_known (Folded f k) t n = is_within f t n
-fits_known Missing t n = true
-
-abbrev pub takes_known : List Column → ℤ → ℤ → Bool
-takes_known [] t n = true
-takes_known (c ∷ cs) t n = fits_known c.source t n
-
 -- the absolute values of the leaves' numbers at a place, summed. The number of a leaf that has only a bound counts at the first
 abbrev pub size_at : ℕ → List Seen → ℕ
 size_at k [] = 0
@@ -127,6 +107,15 @@ size_at k (seen_node unknown ∷ xs) = size_at k xs
 -- at each place at most 2 ^ 62
 abbrev pub IsSmall : List Seen → Type 0
 IsSmall xs = (k : ℕ) → size_at k xs ≤ 4611686018427387904
+
+-- the leaves' numbers are small with those of this one. Only a leaf of which a number is known has any
+abbrev pub StaySmall : List Seen → Leaf → Type 0
+StaySmall xs Barred = ⊤
+StaySmall xs Lost = ⊤
+StaySmall xs (Exact w) = IsSmall (xs ++ seen_node (exact w.now) ∷ [])
+StaySmall xs (AtMost p) = IsSmall (xs ++ seen_node (at_most p) ∷ [])
+StaySmall xs Unknown = ⊤
+StaySmall xs Skipped = ⊤
 
 -- an entry's value by its column, at the values a
 abbrev pub value_by : List ℤ → Source → ℤ → ℤ

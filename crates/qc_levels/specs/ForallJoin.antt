@@ -1,10 +1,10 @@
 -- Which leaves a universal join stands for.
-use Rattle.std.specs.Prelude.{◌≡◌, ℕ, Bool, List, [], ◌∷◌, ◌++◌, map, not, ℤ}
+use Rattle.std.specs.Prelude.{◌≡◌, ℕ, Bool, List, map, not, ℤ}
 use Rattle.qc_model.specs.Content.{Game}
 use Rattle.qc_model.specs.Demands.{demands}
 use Rattle.qc_model.specs.Verdict.{Seen, is_lost, is_exact, some_node, each_node, exact_vectors, is_none_of}
 use Rattle.qc_model.specs.ForallVerdict.{known_numbers, is_known}
-use Rattle.qc_levels.specs.Columns.{TotalsAre, known_of, IsSmall, sources_of, first_sense}
+use Rattle.qc_levels.specs.Columns.{TotalsAre, known_of, sources_of, first_sense}
 use Rattle.qc_levels.specs.declared.columns.Column.{Column}
 use Rattle.qc_levels.specs.declared.forall_join.ForallJoin.{ForallJoin}
 
@@ -22,13 +22,7 @@ pub record Gathers (cs : List Column) (any_lost all_exact all_known has_exact an
 abbrev pub StandsFor : ForallJoin → List Seen → Type 0
 StandsFor join xs = Gathers join.columns.items join.any_lost join.all_exact join.all_known join.has_exact join.any_known join.known xs
 
--- it stands for leaves whose numbers, with those of one leaf more, sum to at most 2 ^ 62 at each place
-pub record MayTake (join : ForallJoin) (leaf : Seen) : Type 0 where
-  pub leaves : List Seen
-  pub stands : StandsFor join leaves
-  pub small : IsSmall (leaves ++ leaf ∷ [])
-
--- it joins the leaves of scope i
+-- it joins the leaves of scope i; the goal counts as the last
 pub record JoinsScope (g : Game) (i : ℕ) (join : ForallJoin) : Type 0 where
   pub sources : map (λ c. c.source) join.columns.items ≡ sources_of g (demands g i)
   pub sense : join.sense ≡ first_sense (demands g i)

@@ -1,9 +1,8 @@
 //! What the branches of a universal scope come to for each entry of its list.
-ghost use Rattle.std.specs.Prelude.{◌≡◌, ◌≤◌, [], ◌∷◌, ◌++◌, length, map, IsTrue, IfOk};
-ghost use Rattle.std.specs.List.{list_all};
+ghost use Rattle.std.specs.Prelude.{◌≡◌, ◌≤◌, [], ◌∷◌, ◌++◌, length, map, IfOk};
 ghost use Rattle.qc_model.specs.Value.{fold_of as fold_of_numbers};
 ghost use Rattle.qc_model.specs.Demands.{is_aggregate, place_among as place_among_entries, first_namings as first_namings_of};
-ghost use Rattle.qc_levels.specs.Columns.{number_at as number_at_place, folded_with as folded_with_number, is_within, total_of, total_with as total_with_vector, fits_vector, with_vector as with_vector_of, takes_vector, emptied as emptied_of, known_in as known_in_source, known_with as known_with_number, fits_known, takes_known, value_by, values_by, known_of, source_among as source_among_namings, fresh_column as fresh_column_of};
+ghost use Rattle.qc_levels.specs.Columns.{number_at as number_at_place, folded_with as folded_with_number, total_of, total_with as total_with_vector, with_vector as with_vector_of, emptied as emptied_of, known_in as known_in_source, known_with as known_with_number, value_by, values_by, known_of, source_among as source_among_namings, fresh_column as fresh_column_of};
 
 use crate::values::Value;
 use qc_model::{AggId, Condition, Fold, Problem, Target, VarId, first_namings};
@@ -38,18 +37,16 @@ fn number_at(place: usize, vector: &[i64]) -> i64
 
 /// The fold with one number more. `has_any` says whether there were numbers before.
 fn folded_with(fold: Fold, has_any: bool, total: i64, number: i64) -> i64
-    requires { IsTrue (is_within fold total number) }
     ensures { result ≡ folded_with_number fold has_any total number }
 {
     match fold {
-        Fold::Sum => total + number,
+        Fold::Sum => total.wrapping_add(number),
         Fold::Least(_) => { if has_any { total.min(number) } else { number } }
         Fold::Greatest(_) => { if has_any { total.max(number) } else { number } }
     }
 }
 
 fn total_with(source: Source, has_any: bool, total: i64, vector: &[i64]) -> i64
-    requires { IsTrue (fits_vector source total vector.now) }
     ensures { result ≡ total_with_vector source has_any total vector.now }
 {
     match source {
@@ -62,7 +59,6 @@ fn total_with(source: Source, has_any: bool, total: i64, vector: &[i64]) -> i64
 }
 
 fn with_vector(has_any: bool, vector: &[i64], column: Column) -> Column
-    requires { IsTrue (takes_vector vector.now column) }
     ensures { result ≡ with_vector_of has_any vector.now column }
 {
     Column {
@@ -73,7 +69,6 @@ fn with_vector(has_any: bool, vector: &[i64], column: Column) -> Column
 
 /// Takes the vector of one more exact leaf.
 pub(crate) fn add_vector(columns: &mut Vec<Column>, has_any: bool, vector: &[i64])
-    requires { IsTrue (list_all (takes_vector vector.now) columns.old.items) }
     ensures { columns.new.items ≡ map (with_vector_of has_any vector.now) columns.old.items }
 {
     for k in 0..columns.len() {
@@ -185,7 +180,6 @@ pub(crate) fn fresh_columns(
 }
 
 fn known_in(source: Source, has_any: bool, known: i64, number: i64) -> i64
-    requires { IsTrue (fits_known source known number) }
     ensures { result ≡ known_in_source source has_any known number }
 {
     match source {
@@ -197,7 +191,6 @@ fn known_in(source: Source, has_any: bool, known: i64, number: i64) -> i64
 
 /// The fold of the known numbers with one more, by the first entry's aggregate.
 pub(crate) fn known_with(columns: &[Column], has_any: bool, known: i64, number: i64) -> i64
-    requires { IsTrue (takes_known columns.now known number) }
     ensures { result ≡ known_with_number columns.now has_any known number }
 {
     match columns.split_first() {

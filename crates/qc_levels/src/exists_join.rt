@@ -1,8 +1,8 @@
 //! What the leaves and bounds of an existential scope's own tree come to.
-ghost use Rattle.std.specs.Prelude.{◌≡◌, ◌≤◌, ◌<◌, IfOk, [], ◌∷◌, ◌++◌, length, List, ℤ, IsFalse};
+ghost use Rattle.std.specs.Prelude.{◌≡◌, ◌≤◌, ◌<◌, IfOk, [], ◌∷◌, ◌++◌, ◌&&◌, length, List, ℤ, IsFalse};
 ghost use Rattle.qc_model.specs.Optimal.{is_better as is_better_number};
 ghost use Rattle.qc_model.specs.Demands.{is_better_vector as is_better_vector_of};
-ghost use Rattle.qc_model.specs.Verdict.{Seen, seen_bound, seen_skipped, seen_node, exact, at_most, unknown, first_value as first_value_of};
+ghost use Rattle.qc_model.specs.Verdict.{Seen, seen_bound, seen_skipped, seen_node, exact, at_most, unknown, is_exact, is_none_of, some_node};
 ghost use Rattle.qc_model.specs.ExistsVerdict.{exists_verdict, exists_own, without_own as without_own_value};
 ghost use Rattle.qc_levels.specs.Seen.{seen_of, verdict_of, is_exact_answer, IsAsLong};
 ghost use Rattle.qc_levels.specs.Bests.{better_of as better_of_two, bound_with as bound_with_of, bound_in as bound_in_of, beats_bound, best_known as best_known_of, is_settled as is_settled_by, bounded as bounded_by, unsettled as unsettled_by, own_list, kept_vector};
@@ -156,19 +156,28 @@ impl ExistsJoin {
         })
     }
 
-    /// Takes a leaf. An exact one has a value for each entry of the list after the scope.
+    /// Takes a leaf. An exact one has a value for each entry of the list after the scope; of another
+    /// length it is left aside, and nothing is said of the join until it is cleared.
     pub fn add(&mut self, leaf: Leaf<'_>)
-        requires { IsAsLong leaf self.old.list.items }
-        ensures stands { (xs : List Seen) → StandsFor self.old xs → StandsFor self.new (xs ++ seen_of leaf.entry ∷ []) }
+        ensures stands { (xs : List Seen) → StandsFor self.old xs → IsAsLong leaf.entry self.old.list.items → StandsFor self.new (xs ++ seen_of leaf.entry ∷ []) }
         ensures scope { JoinsAs self.old self.new }
     {
         match leaf {
             Leaf::Barred => {}
             Leaf::Lost => {}
-            Leaf::Exact(vector) => self.add_exact(vector),
+            Leaf::Exact(vector) => self.add_vector(vector),
             Leaf::AtMost(best) => self.add_at_most(best),
             Leaf::Unknown => self.add_unknown(),
             Leaf::Skipped => self.add_skipped(),
+        }
+    }
+
+    fn add_vector(&mut self, vector: &[i64])
+        ensures stands { (xs : List Seen) → StandsFor self.old xs → length vector.now ≡ length self.old.list.items → StandsFor self.new (xs ++ seen_node (exact vector.now) ∷ []) }
+        ensures scope { JoinsAs self.old self.new }
+    {
+        if vector.len() == self.list.len() {
+            self.add_exact(vector);
         }
     }
 
@@ -226,8 +235,16 @@ impl ExistsJoin {
         self.bound = None;
     }
 
+    /// Whether some leaf is exact and nothing is demanded after the scope. Then no further leaf changes
+    /// what the leaves come to.
+    pub fn is_settled(&self) -> bool
+        ensures { (xs : List Seen) → StandsFor self.now xs → result ≡ (is_none_of self.now.list.items && some_node is_exact xs) }
+    {
+        self.list.is_empty() && self.has_exact
+    }
+
     /// Whether the best vector is known to be the best.
-    fn is_settled(&self) -> bool
+    fn has_best(&self) -> bool
         ensures { result ≡ is_settled_by self.now.list.items self.now.all_lost self.now.is_open self.now.has_exact self.now.best.list.items self.now.bound }
     {
         match self.list.split_first() {
@@ -292,7 +309,7 @@ impl ExistsJoin {
         ensures kept { IsFalse (is_exact_answer result) → out.new ≡ out.old }
         ensures room { out.old.list.capacity ≤ out.new.list.capacity }
     {
-        if self.is_settled() {
+        if self.has_best() {
             out.set(without_own(self.condition, self.best.items()));
             Found::Exact
         } else {
@@ -307,7 +324,7 @@ impl ExistsJoin {
     {
         match self.condition {
             Some(_) => {
-                if self.is_settled() {
+                if self.has_best() {
                     Some(first_value(self.best.items()))
                 } else {
                     None

@@ -2,10 +2,10 @@
 ghost use Rattle.std.specs.Prelude.{◌≡◌, ◌≤◌, ◌<◌, IfOk, ℕ, [], ◌∷◌, ◌++◌, length, List, ℤ, IsFalse};
 ghost use Rattle.qc_model.specs.Content.{Game};
 ghost use Rattle.qc_model.specs.Demands.{demands};
-ghost use Rattle.qc_model.specs.Verdict.{Seen, seen_skipped, seen_node, lost, exact, at_most, unknown, first_value as first_value_of};
+ghost use Rattle.qc_model.specs.Verdict.{Seen, seen_skipped, seen_node, lost, exact, at_most, unknown, is_lost, some_node};
 ghost use Rattle.qc_model.specs.ForallVerdict.{forall_verdict};
 ghost use Rattle.qc_levels.specs.Seen.{seen_of, verdict_of, is_exact_answer};
-ghost use Rattle.qc_levels.specs.Columns.{side_by, bound_by, bounded_by, first_sense as first_sense_of};
+ghost use Rattle.qc_levels.specs.Columns.{IsSmall, StaySmall, side_by, bound_by, bounded_by, first_sense as first_sense_of};
 
 use crate::columns::{
     Column, Source, add_vector, empty, fresh_columns, hand_out, known_of_none, known_with,
@@ -92,17 +92,17 @@ fn bounded(sense: Sense, source: Source, all_known: bool, any_known: bool, known
 }
 
 impl ForallJoin {
-    ghost use Rattle.qc_levels.specs.ForallJoin.{StandsFor, MayTake, JoinsScope, JoinsAs};
+    ghost use Rattle.qc_levels.specs.ForallJoin.{StandsFor, JoinsScope, JoinsAs};
     ghost use Rattle.qc_levels.specs.DemandLists.{HasLists};
 
-    /// A join of no leaf, for a universal scope.
+    /// A join of no leaf, for a universal scope, or for the goal.
     pub fn new(
         alloc: Global,
         problem: &Problem,
         demands: &Demands,
         i: ScopeId,
     ) -> Result<ForallJoin, AllocError>
-        requires scope { i.0 < length problem.now.scopes }
+        requires scope { i.0 ≤ length problem.now.scopes }
         requires lists { HasLists problem.now demands.now }
         ensures stands { IfOk result (λ join. StandsFor join []) }
         ensures scope { IfOk result (JoinsScope problem.now i.0) }
@@ -123,11 +123,11 @@ impl ForallJoin {
         })
     }
 
-    /// Takes a leaf. At each place of the list after the scope, the absolute values of the numbers so
-    /// far and of this leaf's sum to at most 2^62; the number of `AtMost` counts at the first place.
+    /// Takes a leaf. Sums may wrap where, at some place of the list after the scope, the absolute values
+    /// of the numbers so far and of this leaf's sum to more than 2^62; the number of `AtMost` counts at
+    /// the first place. Then nothing is said of the join until it is cleared.
     pub fn add(&mut self, leaf: Leaf<'_>)
-        requires { MayTake self.old (seen_of leaf) }
-        ensures stands { (xs : List Seen) → StandsFor self.old xs → StandsFor self.new (xs ++ seen_of leaf.entry ∷ []) }
+        ensures stands { (xs : List Seen) → StandsFor self.old xs → StaySmall xs leaf.entry → StandsFor self.new (xs ++ seen_of leaf.entry ∷ []) }
         ensures scope { JoinsAs self.old self.new }
     {
         match leaf {
@@ -166,8 +166,7 @@ impl ForallJoin {
     }
 
     fn add_at_most(&mut self, best: i64)
-        requires { MayTake self.old (seen_node (at_most best)) }
-        ensures stands { (xs : List Seen) → StandsFor self.old xs → StandsFor self.new (xs ++ seen_node (at_most best) ∷ []) }
+        ensures stands { (xs : List Seen) → StandsFor self.old xs → IsSmall (xs ++ seen_node (at_most best) ∷ []) → StandsFor self.new (xs ++ seen_node (at_most best) ∷ []) }
         ensures scope { JoinsAs self.old self.new }
     {
         self.all_exact = false;
@@ -176,8 +175,7 @@ impl ForallJoin {
     }
 
     fn add_exact(&mut self, vector: &[i64])
-        requires { MayTake self.old (seen_node (exact vector.now)) }
-        ensures stands { (xs : List Seen) → StandsFor self.old xs → StandsFor self.new (xs ++ seen_node (exact vector.now) ∷ []) }
+        ensures stands { (xs : List Seen) → StandsFor self.old xs → IsSmall (xs ++ seen_node (exact vector.now) ∷ []) → StandsFor self.new (xs ++ seen_node (exact vector.now) ∷ []) }
         ensures scope { JoinsAs self.old self.new }
     {
         let first = first_value(vector);
@@ -199,6 +197,13 @@ impl ForallJoin {
         self.has_exact = false;
         self.any_known = false;
         self.known = known_of_none(self.columns.as_slice());
+    }
+
+    /// Whether some leaf is lost. Then no further leaf changes what the leaves come to.
+    pub fn is_settled(&self) -> bool
+        ensures { (xs : List Seen) → StandsFor self.now xs → result ≡ some_node is_lost xs }
+    {
+        self.any_lost
     }
 
     /// What the leaves come to, where none is lost and not all are exact.

@@ -1,8 +1,3 @@
-ghost use Rattle.std.specs.Prelude.{[], ◌∷◌, pos};
-ghost use Rattle.qc_model.specs.Verdict.{seen_node, exact};
-ghost use Rattle.qc_levels.specs.Seen.{seen_of};
-ghost use Rattle.qc_levels.specs.Columns.{IsSmall};
-
 use crate::{Demands, Entry, ExistsJoin, ForallJoin, Found, Leaf, Value, compare};
 use qc_model::{
     AggId, Aggregate, Domain, Draft, Fold, Kind, Name, Problem, Scope, ScopeId, Sense, Target,
@@ -96,9 +91,6 @@ fn best_of_two(alloc: Global, bound: i64) -> Result<Option<(Found, Option<i64>)>
     }
     let mut join = ExistsJoin::new(alloc, &problem, &demands, ScopeId(0))?;
     let mut out = Value::new(alloc, join.list.len())?;
-    if join.list.len() != 1 {
-        return Ok(None);
-    }
     join.add(Leaf::Exact(&[5]));
     join.add(Leaf::Lost);
     join.add(Leaf::Exact(&[4]));
@@ -121,9 +113,7 @@ fn a_bound_that_ties_is_beaten(rt: HostRuntime) -> Result<(), Fail> {
 }
 
 /// What the opponent's scope comes to with a leaf of three and the second leaf.
-fn after_three(alloc: Global, leaf: Leaf<'_>) -> Result<Option<(Found, i64)>, AllocError>
-    requires { IsSmall (seen_node (exact (pos 3 ∷ [])) ∷ seen_of leaf ∷ []) }
-{
+fn after_three(alloc: Global, leaf: Leaf<'_>) -> Result<Option<(Found, i64)>, AllocError> {
     let Some(problem) = game(alloc)? else {
         return Ok(None);
     };

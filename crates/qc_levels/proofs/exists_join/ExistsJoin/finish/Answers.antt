@@ -4,16 +4,16 @@ use Rattle.qc_model.specs.ExistsVerdict.{without_own}
 use Rattle.qc_levels.proofs.ExistsVerdicts.{when_settled, when_unsettled}
 use Rattle.qc_levels.proofs.exists_join.ExistsJoin.finish.Goals as goal
 
-pub returns-then-is_settled-clause-verdict : goal.returns-then-is_settled-clause-verdict
-returns-then-is_settled-clause-verdict c =
+pub returns-then-has_best-clause-verdict : goal.returns-then-has_best-clause-verdict
+returns-then-has_best-clause-verdict c =
     let j = c.args.self.now in
     λ xs k.
     ap exact (c.set.ensures.items ∙ c.without_own.ensures ∙ ap (without_own j.condition) c.items.ensures)
-    ∙ when_settled j.condition j.list.items j.all_lost j.is_open j.has_exact j.best.list.items j.bound xs (sym c.is_settled.ensures ∙ c.if-is_settled.true) k
+    ∙ when_settled j.condition j.list.items j.all_lost j.is_open j.has_exact j.best.list.items j.bound xs (sym c.has_best.ensures ∙ c.if-has_best.true) k
 
-pub returns-else-is_settled-clause-verdict : goal.returns-else-is_settled-clause-verdict
-returns-else-is_settled-clause-verdict c =
+pub returns-else-has_best-clause-verdict : goal.returns-else-has_best-clause-verdict
+returns-else-has_best-clause-verdict c =
     let j = c.args.self.now in
     λ xs k.
     c.unsettled.ensures.verdict c.args.out.now.list.items
-    ∙ when_unsettled j.condition j.list.items j.all_lost j.is_open j.has_exact j.best.list.items j.bound xs (sym c.is_settled.ensures ∙ c.if-is_settled.false) k
+    ∙ when_unsettled j.condition j.list.items j.all_lost j.is_open j.has_exact j.best.list.items j.bound xs (sym c.has_best.ensures ∙ c.if-has_best.false) k

@@ -1,19 +1,10 @@
-use Rattle.std.proofs.Common.{◌≡◌, refl, rules}
+use Rattle.std.proofs.Common.{◌≡◌, rules}
 use Rattle.std.proofs.lemmas.Int.{to_z-of_z}
 use mir.Val.{SFits}
 use mir.Syntax.{w64}
-use Rattle.qc_model.specs.Verdict.{seen_node, at_most}
 use Rattle.qc_levels.specs.Columns.{known_with}
-use Rattle.qc_levels.proofs.Gathered.{gathers_at_most, known_takes}
+use Rattle.qc_levels.proofs.Gathered.{gathers_at_most}
 use Rattle.qc_levels.proofs.forall_join.ForallJoin.add_at_most.Goals as goal
-
-pub known_with-self-requires : goal.known_with-self-requires
-known_with-self-requires c =
-    let j = c.args.self.now in
-    let fits = c.ranges.best in
-    let known_fits : SFits w64 j.known = search rules in
-    let r = c.requires in
-    simp (to_z-of_z, c.as_slice.ensures.value) (known_takes j.columns.items j.known c.args.best r.leaves (seen_node (at_most c.args.best)) refl r.stands.known_is r.small)
 
 pub returns-clause-stands : goal.returns-clause-stands
 returns-clause-stands c =
@@ -22,4 +13,4 @@ returns-clause-stands c =
     let known_fits : SFits w64 j.known = search rules in
     let result_fits : SFits w64 c.known_with-self.result = search rules in
     let e : c.known_with-self.result ≡ known_with j.columns.items j.any_known j.known c.args.best = simp (to_z-of_z, c.as_slice.ensures.value) at c.known_with-self.ensures in
-    λ xs g. simp to_z-of_z (rw e (gathers_at_most j.columns.items j.any_lost j.all_exact j.all_known j.has_exact j.any_known j.known xs c.args.best g))
+    λ xs g s. simp to_z-of_z (rw e (gathers_at_most j.columns.items j.any_lost j.all_exact j.all_known j.has_exact j.any_known j.known xs c.args.best g s))

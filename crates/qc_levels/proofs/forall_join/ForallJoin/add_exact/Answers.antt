@@ -2,25 +2,10 @@ use Rattle.std.proofs.Common.{◌≡◌, refl, ap, ◌∙◌, rules, map}
 use Rattle.std.proofs.lemmas.Int.{to_z-of_z}
 use mir.Val.{SFits}
 use mir.Syntax.{w64}
-use Rattle.qc_model.specs.Verdict.{seen_node, exact, first_value}
+use Rattle.qc_model.specs.Verdict.{first_value}
 use Rattle.qc_levels.specs.Columns.{known_with}
-use Rattle.qc_levels.proofs.Gathered.{gathers_exact, known_takes, all_take, sources_stay}
+use Rattle.qc_levels.proofs.Gathered.{gathers_exact, sources_stay}
 use Rattle.qc_levels.proofs.forall_join.ForallJoin.add_exact.Goals as goal
-
-pub known_with-self-requires : goal.known_with-self-requires
-known_with-self-requires c =
-    let j = c.args.self.now in
-    let w = c.args.vector.now in
-    let known_fits : SFits w64 j.known = search rules in
-    let first_fits : SFits w64 c.first_value-first.result = search rules in
-    let r = c.requires in
-    simp (to_z-of_z, c.as_slice.ensures.value) (rw c.first_value-first.ensures (known_takes j.columns.items j.known (first_value w) r.leaves (seen_node (exact w)) refl r.stands.known_is r.small))
-
-pub add_vector-requires : goal.add_vector-requires
-add_vector-requires c =
-    let j = c.args.self.now in
-    let r = c.requires in
-    all_take r.leaves c.args.vector.now j.columns.items r.stands.totals r.small
 
 pub returns-clause-stands : goal.returns-clause-stands
 returns-clause-stands c =
@@ -31,7 +16,7 @@ returns-clause-stands c =
     let result_fits : SFits w64 c.known_with-self.result = search rules in
     let d : c.known_with-self.result ≡ known_with j.columns.items j.any_known j.known c.first_value-first.result = simp (to_z-of_z, c.as_slice.ensures.value) at c.known_with-self.ensures in
     let e : c.known_with-self.result ≡ known_with j.columns.items j.any_known j.known (first_value w) = d ∙ ap (known_with j.columns.items j.any_known j.known) c.first_value-first.ensures in
-    λ xs g. simp to_z-of_z (rw (e, c.add_vector.ensures) (gathers_exact j.columns.items j.any_lost j.all_exact j.all_known j.has_exact j.any_known j.known xs w g))
+    λ xs g s. simp to_z-of_z (rw (e, c.add_vector.ensures) (gathers_exact j.columns.items j.any_lost j.all_exact j.all_known j.has_exact j.any_known j.known xs w g s))
 
 pub returns-clause-scope : goal.returns-clause-scope
 returns-clause-scope c =

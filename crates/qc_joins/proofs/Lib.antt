@@ -1,0 +1,5 @@
+pub mod Takings
+pub mod Placed
+pub mod AtScope
+pub mod Lengths
+pub mod Sizing

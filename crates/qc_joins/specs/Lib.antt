@@ -1,0 +1,5 @@
+pub mod Verdicts
+pub mod ScopeJoins
+pub mod Props
+pub mod Joins
+pub mod Sizes

@@ -1,0 +1,54 @@
+-- What a scope of a problem comes to, by the leaves and bounds of its own tree, and what is known of it meanwhile.
+use Rattle.std.specs.Prelude.{ℕ, Bool, false, ◌&&◌, Option, None, List, [], ◌∷◌, drop, ℤ}
+use Rattle.qc_model.specs.declared.problem.Kind.{Kind}
+use Rattle.qc_model.specs.declared.problem.Kind.TheVariants.{Exists, Forall}
+use Rattle.qc_model.specs.declared.problem.Condition.{Condition}
+use Rattle.qc_model.specs.declared.problem.Scope.{Scope}
+use Rattle.qc_model.specs.Content.{Game}
+use Rattle.qc_model.specs.Demands.{demands, demands_after}
+use Rattle.qc_model.specs.Verdict.{Verdict, lost, unknown, Seen, is_lost, is_exact, some_node, is_none_of}
+use Rattle.qc_model.specs.ExistsVerdict.{exists_verdict, exists_own}
+use Rattle.qc_model.specs.ForallVerdict.{forall_verdict, stuck_verdict}
+
+-- what a scope comes to, by what was seen in its own tree
+abbrev pub kind_verdict : Kind → Option Condition → Game → List Condition → List ℤ → List Seen → Verdict
+kind_verdict Exists own g d a xs = exists_verdict own (demands_after g Exists own d) xs
+kind_verdict Forall own g d a xs = forall_verdict g d a xs
+
+abbrev pub scope_verdict : List Scope → Game → List Condition → List ℤ → List Seen → Verdict
+scope_verdict [] g d a xs = unknown
+scope_verdict (s ∷ later) g d a xs = kind_verdict s.kind s.condition g d a xs
+
+-- what scope i comes to, at the values a of the variables before it
+abbrev pub verdict_at : Game → ℕ → List ℤ → List Seen → Verdict
+verdict_at g i a xs = scope_verdict (drop i g.scopes) g (demands g i) a xs
+
+-- what the first of the scopes comes to where nobody passes it
+abbrev pub stuck_of : List Scope → Game → List Condition → List ℤ → Verdict
+stuck_of [] g d a = lost
+stuck_of (s ∷ later) g d a = stuck_verdict g s.kind d a
+
+-- the value of the scope's own condition, where the scope comes to exact
+abbrev pub kind_own : Kind → Option Condition → Game → List Condition → List Seen → Option ℤ
+kind_own Exists own g d xs = exists_own own (demands_after g Exists own d) xs
+kind_own Forall own g d xs = None
+
+abbrev pub scope_own : List Scope → Game → List Condition → List Seen → Option ℤ
+scope_own [] g d xs = None
+scope_own (s ∷ later) g d xs = kind_own s.kind s.condition g d xs
+
+abbrev pub own_at : Game → ℕ → List Seen → Option ℤ
+own_at g i xs = scope_own (drop i g.scopes) g (demands g i) xs
+
+-- no further leaf changes what the scope comes to: the player has won, and nothing is demanded after his scope; or the
+-- opponent has
+abbrev pub kind_settled : Kind → Option Condition → Game → List Condition → List Seen → Bool
+kind_settled Exists own g d xs = is_none_of (demands_after g Exists own d) && some_node is_exact xs
+kind_settled Forall own g d xs = some_node is_lost xs
+
+abbrev pub scope_settled : List Scope → Game → List Condition → List Seen → Bool
+scope_settled [] g d xs = false
+scope_settled (s ∷ later) g d xs = kind_settled s.kind s.condition g d xs
+
+abbrev pub settled_at : Game → ℕ → List Seen → Bool
+settled_at g i xs = scope_settled (drop i g.scopes) g (demands g i) xs
