@@ -1,0 +1,84 @@
+-- What giving up values does, in the words of certificates.
+use Rattle.std.proofs.Common.{◌≡◌, ℕ, zero, suc, ◌<◌, ◌≤◌, Bool, true, false, not, ◌&&◌, List, [], ◌∷◌, ◌++◌, length, set, cond, refl, sym, ap, ◌∙◌, subst, arith, ℤ, None, Some, Result, Ok, Err, IfOk, OnErr}
+use Rattle.std.specs.Prelude.{Option, ◌==◌, filter}
+use Rattle.std.specs.declared.alloc.AllocError.{AllocError}
+use Rattle.std.proofs.lemmas.Bool.Decides.{nat_tests}
+use Rattle.qc_model.specs.declared.problem.Sense.{Sense}
+use Rattle.qc_model.specs.declared.problem.VarId.{VarId}
+use Rattle.qc_model.specs.Block.{force_stop}
+use Rattle.qc_model.specs.Content.{Game}
+use Rattle.qc_model.specs.Domains.{Box, Values, values_left, values_within, values_outside, is_within, is_none_left, has_empty, is_sub_box, box_without}
+use Rattle.qc_model.specs.Valid.{is_number}
+use Rattle.qc_model.proofs.Readable.{together}
+use Rattle.proof_tree.specs.declared.tree.Step.{Step}
+use Rattle.proof_tree.specs.declared.tree.Step.TheVariants.{Bound}
+use Rattle.proof_tree.specs.Place.{Tracked, tracked_variable, list_after}
+use Rattle.proof_tree.specs.Steps.{removes_some, is_tracked, are_legal, best_value}
+use Rattle.proof_tree.specs.Text.{is_place}
+use Rattle.qc_arguments.proofs.Boxes.{sub_without}
+use Rattle.prop_base.proofs.Steps.{cut_emptied}
+use Rattle.search_box.specs.declared.bounding.Bounded.{Bounded}
+use Rattle.search_box.specs.Bounds.{tracked_as, IsBounded, BoundAnswers}
+use Rattle.search_box.proofs.Closings.{place_fits}
+
+not_true : (b : Bool) → b ≡ false → not b ≡ true
+not_true true h = cc
+not_true false h = refl
+
+same_number : (k : ℕ) → (k == k) ≡ true
+same_number k = grind (arith, nat_tests)
+
+-- a bound is legal where its variable is tracked
+legal_bound : (g : Game) (i stop : ℕ) (t : Option Tracked) (s : Sense) (x : VarId) (low high : ℤ) (box : Box) → t ≡ Some (tracked_as s x) → removes_some box x.0 low high ≡ true →
+    are_legal g i stop t (Bound x low high ∷ []) box ≡ true
+legal_bound g i stop t s x low high box e h =
+    together (removes_some box x.0 low high && is_tracked x.0 t) true
+    (together (removes_some box x.0 low high) (is_tracked x.0 t) h (ap (is_tracked x.0) e ∙ same_number x.0)) refl
+
+pub bounded_is : (s : Sense) (x : VarId) (low high : ℤ) (box left : Box) (old new : List Step) (b : Bounded) (size : ℕ) → has_empty box ≡ false → x.0 < length box → length box ≤ 500 → is_number low ≡ true → is_number high ≡ true →
+    is_none_left (values_within low high (values_left box x.0)) ≡ false → new ≡ old ++ Bound x low high ∷ [] → left ≡ box_without box x.0 low high → b.best ≡ best_value s (values_within low high (values_left box x.0)) →
+    size ≡ length (values_left left x.0) → b.is_empty ≡ (size == 0) → IsBounded s x low high box left old new b
+bounded_is s x low high box left old new b size full here few l h some appended reached best count empty =
+    let n = is_none_left (values_within low high (values_left box x.0)) in
+    let removes : removes_some box x.0 low high ≡ true = together (not (has_empty box)) (not n) (not_true (has_empty box) full) (not_true n some) in
+    record {
+      appended = appended;
+      reached = reached;
+      placed = λ g later i d e. legal_bound g i (force_stop later i) (tracked_variable g later i (list_after g later d)) s x low high box e removes;
+      marked = ap (λ v. v ∷ []) (sym best);
+      fits = together (is_place 500 x.0 && is_number low) (is_number high) (together (is_place 500 x.0) (is_number low) (place_fits 500 x.0 (omega (arith, here, few))) l) h;
+      best = best;
+      emptied = empty ∙ cut_emptied box left x.0 low high size full here reached count;
+    }
+
+pub not_true_false : (b : Bool) → not b ≡ true → b ≡ false
+not_true_false true h = cc
+not_true_false false h = refl
+
+-- no value came back
+pub bound_sub : (r : Result (Option Bounded) AllocError) (s : Sense) (x : VarId) (low high : ℤ) (box left large : Box) (old new : List Step) → IfOk r (λ b. BoundAnswers s x low high box left old new b) →
+    OnErr r ((left ≡ box) × (new ≡ old)) → is_sub_box box large ≡ true → is_sub_box left large ≡ true
+bound_sub (Err e) s x low high box left large old new p q h = subst (λ b. is_sub_box b large ≡ true) (sym q.0) h
+bound_sub (Ok None) s x low high box left large old new p q h = subst (λ b. is_sub_box b large ≡ true) (sym p.reached) h
+bound_sub (Ok (Some b)) s x low high box left large old new p q h = subst (λ d. is_sub_box d large ≡ true) (sym p.reached) (sub_without box large x.0 low high h)
+
+-- where no value is to go, none goes
+all_stay : (p : ℤ → Bool) (vs : Values) → is_none_left (filter p vs) ≡ true → filter (λ v. not (p v)) vs ≡ vs
+all_stay p [] e = refl
+all_stay p (v ∷ vs) e = by (p v) e (all_stay p vs)
+  where
+    by : (b : Bool) → is_none_left (cond b (v ∷ filter p vs) (filter p vs)) ≡ true → (is_none_left (filter p vs) ≡ true → filter (λ v. not (p v)) vs ≡ vs) → cond (not b) (v ∷ filter (λ v. not (p v)) vs) (filter (λ v. not (p v)) vs) ≡ v ∷ vs
+    by true e f = cc
+    by false e f = ap (λ us. v ∷ us) (f e)
+
+set_same : (box : Box) (x : ℕ) (us : Values) → us ≡ values_left box x → set box x us ≡ box
+set_same [] x us h = refl
+set_same (vs ∷ box) zero us h = ap (λ l. l ∷ box) h
+set_same (vs ∷ box) (suc x) us h = ap (λ l. vs ∷ l) (set_same box x us h)
+
+pub none_goes : (box : Box) (x : ℕ) (low high : ℤ) → is_none_left (values_within low high (values_left box x)) ≡ true → box ≡ box_without box x low high
+none_goes box x low high h = sym (set_same box x (values_outside low high (values_left box x)) (all_stay (is_within low high) (values_left box x) h))
+
+pub not_false_true : (b : Bool) → not b ≡ false → b ≡ true
+not_false_true true h = refl
+not_false_true false h = cc

@@ -1,0 +1,309 @@
+-- Ascending values, one after the other.
+use Rattle.std.proofs.Common.{◌≡◌, Bool, true, false, not, ◌||◌, cond, [], ◌∷◌, refl, sym, ap, ◌∙◌, subst, arith, ℤ, Option, Some, None}
+use Rattle.std.specs.Prelude.{filter, int_le, int_lt, pos, ◌+ℤ◌, ◌-ℤ◌}
+use Rattle.std.specs.List.{list_all}
+use Rattle.std.specs.Ordering.{int_eq}
+use Rattle.std.proofs.lemmas.Int.{ints}
+use Rattle.std.proofs.lemmas.Bool.Decides.{Decides-int_eq}
+use Rattle.qc_model.specs.Domains.{Values, is_none_left, is_single, has_value, least_from, least_value, greatest_from, greatest_value, is_ascending, values_within}
+use Rattle.qc_model.proofs.Readable.{first, second, together}
+use Rattle.qc_arguments.proofs.Values.{above_first, ascending_rest, ascending_kept, all_kept, value_passes, has_first, has_greatest}
+use Rattle.fd_store.specs.Held.{values_from, values_up_to, least_of, greatest_of}
+use Rattle.search_box.proofs.Keeping.{filter_two}
+use Rattle.search_box.specs.Rests.{IsFirst, IsAfter, IsNext, IsBefore, IsPrevious, IsLast}
+
+filter_all : (p : ℤ → Bool) (vs : Values) → list_all p vs ≡ true → filter p vs ≡ vs
+filter_all p [] h = refl
+filter_all p (v ∷ vs) h = ap (λ b. cond b (v ∷ filter p vs) (filter p vs)) (first (p v) (list_all p vs) h) ∙ ap (λ us. v ∷ us) (filter_all p vs (second (p v) (list_all p vs) h))
+
+all_weaker : (p q : ℤ → Bool) → ((v : ℤ) → p v ≡ true → q v ≡ true) → (vs : Values) → list_all p vs ≡ true → list_all q vs ≡ true
+all_weaker p q f [] h = refl
+all_weaker p q f (v ∷ vs) h = together (q v) (list_all q vs) (f v (first (p v) (list_all p vs) h)) (all_weaker p q f vs (second (p v) (list_all p vs) h))
+
+self_le : (v : ℤ) → int_le v v ≡ true
+self_le v = grind (arith, ints)
+
+lt_le : (v w : ℤ) → int_lt v w ≡ true → int_le v w ≡ true
+lt_le v w h = grind (arith, ints)
+
+gt_not_le : (v w : ℤ) → int_lt w v ≡ true → int_le v w ≡ false
+gt_not_le v w h = grind (arith, ints)
+
+lt_not_eq : (v w : ℤ) → int_lt v w ≡ true → int_eq v w ≡ false
+lt_not_eq v w h = grind (arith, ints)
+
+self_eq : (v : ℤ) → int_eq v v ≡ true
+self_eq v = grind (arith, ints)
+
+-- the first of ascending values: from it on there are all
+from_itself : (v : ℤ) (vs : Values) → is_ascending (v ∷ vs) ≡ true → values_from v (v ∷ vs) ≡ v ∷ vs
+from_itself v vs a = filter_all (int_le v) (v ∷ vs) (together (int_le v v) (list_all (int_le v) vs) (self_le v) (all_weaker (int_lt v) (int_le v) (lt_le v) vs (above_first v vs a)))
+
+-- one before it is left aside
+from_later : (v w : ℤ) (vs : Values) → is_ascending (w ∷ vs) ≡ true → has_value vs v ≡ true → values_from v (w ∷ vs) ≡ values_from v vs
+from_later v w vs a h = ap (λ b. cond b (w ∷ values_from v vs) (values_from v vs)) (gt_not_le v w (value_passes (int_lt w) vs v (above_first w vs a) h))
+
+-- a value is the first, or among the others
+where_is : {X : Type 0} (v w : ℤ) (vs : Values) → has_value (w ∷ vs) v ≡ true → (v ≡ w → X) → (has_value vs v ≡ true → X) → X
+where_is {X} v w vs h f k = by (int_eq v w) (Decides-int_eq v w).0 h
+  where
+    by : (b : Bool) → (b ≡ true → v ≡ w) → (b || has_value vs v) ≡ true → X
+    by true e h = f (e refl)
+    by false e h = k h
+
+least_is : (v : ℤ) (vs : Values) → list_all (int_lt v) vs ≡ true → least_from v vs ≡ v
+least_is v [] h = refl
+least_is v (w ∷ vs) h = ap (λ b. least_from (cond b w v) vs) (no_less v w (first (int_lt v w) (list_all (int_lt v) vs) h)) ∙ least_is v vs (second (int_lt v w) (list_all (int_lt v) vs) h)
+  where
+    no_less : (v w : ℤ) → int_lt v w ≡ true → int_lt w v ≡ false
+    no_less v w h = grind (arith, ints)
+
+pub first_is : (vs : Values) (v : ℤ) → is_ascending vs ≡ true → is_none_left vs ≡ false → v ≡ least_value vs → IsFirst vs v
+first_is [] v a n e = cc
+first_is (w ∷ vs) v a n e =
+    let same : v ≡ w = e ∙ least_is w vs (above_first w vs a) in
+    subst (λ u. IsFirst (w ∷ vs) u) (sym same) (record { left = has_first w vs; all = from_itself w vs a })
+
+-- the values from v on are v and those above it
+next_up : (v u : ℤ) → int_lt v u ≡ true → int_le (v +ℤ pos 1) u ≡ true
+next_up v u h = grind (arith, ints)
+
+not_up : (v : ℤ) → int_le (v +ℤ pos 1) v ≡ false
+not_up v = grind (arith, ints)
+
+not_above : (v w : ℤ) → int_lt w v ≡ true → int_le (v +ℤ pos 1) w ≡ false
+not_above v w h = grind (arith, ints)
+
+rest_at : (vs : Values) (v : ℤ) → is_ascending vs ≡ true → has_value vs v ≡ true → values_from v vs ≡ v ∷ values_from (v +ℤ pos 1) vs
+rest_at [] v a h = cc
+rest_at (w ∷ vs) v a h = where_is v w vs h here (λ k. later k (rest_at vs v (ascending_rest w vs a) k))
+  where
+    at_first : (w : ℤ) (vs : Values) → is_ascending (w ∷ vs) ≡ true → values_from w (w ∷ vs) ≡ w ∷ values_from (w +ℤ pos 1) (w ∷ vs)
+    at_first w vs a =
+        from_itself w vs a
+        ∙ ap (λ us. w ∷ us)
+        (sym (ap (λ b. cond b (w ∷ values_from (w +ℤ pos 1) vs) (values_from (w +ℤ pos 1) vs)) (not_up w)
+        ∙ filter_all (int_le (w +ℤ pos 1)) vs (all_weaker (int_lt w) (int_le (w +ℤ pos 1)) (next_up w) vs (above_first w vs a))))
+
+    here : v ≡ w → values_from v (w ∷ vs) ≡ v ∷ values_from (v +ℤ pos 1) (w ∷ vs)
+    here e = subst (λ u. values_from u (w ∷ vs) ≡ u ∷ values_from (u +ℤ pos 1) (w ∷ vs)) (sym e) (at_first w vs a)
+
+    later : has_value vs v ≡ true → values_from v vs ≡ v ∷ values_from (v +ℤ pos 1) vs → values_from v (w ∷ vs) ≡ v ∷ values_from (v +ℤ pos 1) (w ∷ vs)
+    later k e =
+        from_later v w vs a k
+        ∙ (e
+        ∙ ap (λ us. v ∷ us) (sym (ap (λ b. cond b (w ∷ values_from (v +ℤ pos 1) vs) (values_from (v +ℤ pos 1) vs)) (not_above v w (value_passes (int_lt w) vs v (above_first w vs a) k)))))
+
+-- the first of the values that pass
+passes : (p : ℤ → Bool) (vs : Values) (v : ℤ) (rest : Values) → filter p vs ≡ v ∷ rest → p v ≡ true
+passes p [] v rest e = cc
+passes p (u ∷ vs) v rest e = go (p u) refl e (passes p vs v rest)
+  where
+    go : (b : Bool) → p u ≡ b → cond b (u ∷ filter p vs) (filter p vs) ≡ v ∷ rest → (filter p vs ≡ v ∷ rest → p v ≡ true) → p v ≡ true
+    go true f e k = let h : u ≡ v = cc in subst (λ z. p z ≡ true) h f
+    go false f e k = k e
+
+first_among : (p : ℤ → Bool) (vs : Values) (v : ℤ) (rest : Values) → filter p vs ≡ v ∷ rest → has_value vs v ≡ true
+first_among p [] v rest e = cc
+first_among p (u ∷ vs) v rest e = by (p u) e (first_among p vs v rest)
+  where
+    here : (u v : ℤ) (vs : Values) → u ≡ v → (int_eq v u || has_value vs v) ≡ true
+    here u v vs h = ap (λ b. b || has_value vs v) ((Decides-int_eq v u).1 (sym h))
+
+    later : (b c : Bool) → c ≡ true → (b || c) ≡ true
+    later true c e = refl
+    later false c e = e
+
+    by : (b : Bool) → cond b (u ∷ filter p vs) (filter p vs) ≡ v ∷ rest → (filter p vs ≡ v ∷ rest → has_value vs v ≡ true) → has_value (u ∷ vs) v ≡ true
+    by true e f = let h : u ≡ v = cc in here u v vs h
+    by false e f = later (int_eq v u) (has_value vs v) (f e)
+
+-- the values from a number on are those from the first of them on
+from_first : (n v : ℤ) (rest vs : Values) → is_ascending vs ≡ true → values_from n vs ≡ v ∷ rest → values_from n vs ≡ values_from v vs
+from_first n v rest [] a e = cc
+from_first n v rest (w ∷ vs) a e = by (int_le n w) refl e (from_first n v rest vs (ascending_rest w vs a))
+  where
+    all_from : (u : ℤ) → int_lt w u ≡ true → int_le n w ≡ true → int_le n u ≡ true
+    all_from u h k = grind (arith, ints)
+
+    by : (b : Bool) → int_le n w ≡ b → cond b (w ∷ filter (int_le n) vs) (filter (int_le n) vs) ≡ v ∷ rest → (values_from n vs ≡ v ∷ rest → values_from n vs ≡ values_from v vs) → cond b (w ∷ filter (int_le n) vs) (filter (int_le n) vs) ≡ values_from v (w ∷ vs)
+    by true f e q =
+        let h : w ≡ v = cc in
+        let one : filter (int_le n) vs ≡ vs = filter_all (int_le n) vs (all_weaker (int_lt w) (int_le n) (λ u k. all_from u k f) vs (above_first w vs a)) in
+        ap (λ us. w ∷ us) one ∙ subst (λ u. w ∷ vs ≡ values_from u (w ∷ vs)) h (sym (from_itself w vs a))
+    by false f e q = q e ∙ sym (from_later v w vs a (first_among (int_le n) vs v rest e))
+
+above_it : (v w : ℤ) → int_le (v +ℤ pos 1) w ≡ true → int_lt v w ≡ true
+above_it v w h = grind (arith, ints)
+
+-- what the store tells of the values from v + 1 on
+pub next_is : (vs : Values) (v : ℤ) (r : Option ℤ) → is_ascending vs ≡ true → has_value vs v ≡ true → r ≡ least_of (values_from (v +ℤ pos 1) vs) → IsNext vs v r
+next_is vs v r a h e = by (values_from (v +ℤ pos 1) vs) refl r e
+  where
+    by : (us : Values) → values_from (v +ℤ pos 1) vs ≡ us → (r : Option ℤ) → r ≡ least_of us → IsNext vs v r
+    by [] f None e = rest_at vs v a h ∙ ap (λ us. v ∷ us) f
+    by [] f (Some w) e = cc
+    by (u ∷ us) f None e = cc
+    by (u ∷ us) f (Some w) e =
+        let up : is_ascending (u ∷ us) ≡ true = subst (λ l. is_ascending l ≡ true) f (ascending_kept (int_le (v +ℤ pos 1)) vs a) in
+        let got : w ≡ least_from u us = cc in
+        let same : w ≡ u = got ∙ least_is u us (above_first u us up) in
+        subst (λ z. IsAfter vs v z) (sym same)
+        (record {
+          left = first_among (int_le (v +ℤ pos 1)) vs u us f;
+          above = above_it v u (passes (int_le (v +ℤ pos 1)) vs u us f);
+          rest = rest_at vs v a h ∙ ap (λ l. v ∷ l) (from_first (v +ℤ pos 1) u us vs a f);
+        })
+
+-- the greatest of ascending values is that of those after the first, if there are any
+greatest_later : (w : ℤ) (vs : Values) (v : ℤ) → is_ascending (w ∷ vs) ≡ true → has_value vs v ≡ true → greatest_value (w ∷ vs) ≡ greatest_value vs
+greatest_later w [] v a h = cc
+greatest_later w (x ∷ vs) v a h = ap (λ b. greatest_from (cond b x w) vs) (first (int_lt w x) (is_ascending (x ∷ vs)) a)
+
+last_from : (vs : Values) (v : ℤ) → is_ascending vs ≡ true → has_value vs v ≡ true → greatest_value (values_from v vs) ≡ greatest_value vs
+last_from [] v a h = cc
+last_from (w ∷ vs) v a h =
+    where_is v w vs h
+    (λ e. subst (λ u. greatest_value (values_from u (w ∷ vs)) ≡ greatest_value (w ∷ vs)) (sym e) (ap greatest_value (from_itself w vs a)))
+    (λ k. ap greatest_value (from_later v w vs a k) ∙ (last_from vs v (ascending_rest w vs a) k ∙ sym (greatest_later w vs v a k)))
+
+alone_at : (vs : Values) (v : ℤ) → is_ascending vs ≡ true → has_value vs v ≡ true → is_single (values_from v vs) ≡ int_eq v (greatest_value vs)
+alone_at [] v a h = cc
+alone_at (w ∷ vs) v a h =
+    where_is v w vs h
+    (λ e. subst (λ u. is_single (values_from u (w ∷ vs)) ≡ int_eq u (greatest_value (w ∷ vs))) (sym e) (ap is_single (from_itself w vs a) ∙ at_first w vs a))
+    (λ k. ap is_single (from_later v w vs a k) ∙ (alone_at vs v (ascending_rest w vs a) k ∙ ap (int_eq v) (sym (greatest_later w vs v a k))))
+  where
+    at_first : (w : ℤ) (vs : Values) → is_ascending (w ∷ vs) ≡ true → is_single (w ∷ vs) ≡ int_eq w (greatest_value (w ∷ vs))
+    at_first w [] a = sym (self_eq w)
+    at_first w (x ∷ vs) a =
+        let most = greatest_value (x ∷ vs) in
+        sym (ap (int_eq w) (greatest_later w (x ∷ vs) x a (has_first x vs)) ∙ lt_not_eq w most (value_passes (int_lt w) (x ∷ vs) most (above_first w (x ∷ vs) a) (has_greatest (x ∷ vs) refl)))
+
+pub last_is : (vs : Values) (u : ℤ) → is_ascending vs ≡ true → is_none_left vs ≡ false → u ≡ greatest_value vs → IsLast vs u
+last_is vs u a n e =
+    subst (λ z. IsLast vs z) (sym e)
+    (record {
+      left = has_greatest vs n;
+      last = λ v h. last_from vs v a h;
+      alone = λ v h. alone_at vs v a h;
+    })
+
+-- whether a value lies in a range, by the first from its lower end on
+filter_none : (p : ℤ → Bool) (vs : Values) → list_all (λ v. not (p v)) vs ≡ true → filter p vs ≡ []
+filter_none p [] h = refl
+filter_none p (v ∷ vs) h = by (p v) (first (not (p v)) (list_all (λ v. not (p v)) vs) h) (filter_none p vs (second (not (p v)) (list_all (λ v. not (p v)) vs) h))
+  where
+    by : (b : Bool) → not b ≡ true → filter p vs ≡ [] → cond b (v ∷ filter p vs) (filter p vs) ≡ []
+    by true e f = cc
+    by false e f = f
+
+within_from : (low high : ℤ) (vs : Values) → values_within low high vs ≡ filter (λ v. int_le v high) (values_from low vs)
+within_from low high vs = sym (filter_two (int_le low) (λ v. int_le v high) vs)
+
+pub none_within : (vs : Values) (low high : ℤ) → None ≡ least_of (values_from low vs) → false ≡ not (is_none_left (values_within low high vs))
+none_within vs low high e = by (values_from low vs) refl e
+  where
+    by : (us : Values) → values_from low vs ≡ us → None ≡ least_of us → false ≡ not (is_none_left (values_within low high vs))
+    by [] f e = sym (ap (λ us. not (is_none_left us)) (within_from low high vs ∙ ap (filter (λ v. int_le v high)) f))
+    by (w ∷ us) f e = cc
+
+too_high : (high w v : ℤ) → int_le w high ≡ false → int_lt w v ≡ true → not (int_le v high) ≡ true
+too_high high w v e f = grind (arith, ints)
+
+first_within : (high w : ℤ) (us : Values) → is_ascending (w ∷ us) ≡ true → int_le w high ≡ not (is_none_left (filter (λ v. int_le v high) (w ∷ us)))
+first_within high w us a = by (int_le w high) refl
+  where
+    by : (b : Bool) → int_le w high ≡ b → b ≡ not (is_none_left (cond b (w ∷ filter (λ v. int_le v high) us) (filter (λ v. int_le v high) us)))
+    by true e = refl
+    by false e = sym (ap (λ l. not (is_none_left l)) (filter_none (λ v. int_le v high) us (all_weaker (int_lt w) (λ v. not (int_le v high)) (λ v h. too_high high w v e h) us (above_first w us a))))
+
+pub some_within : (vs : Values) (low high v : ℤ) → is_ascending vs ≡ true → Some v ≡ least_of (values_from low vs) → int_le v high ≡ not (is_none_left (values_within low high vs))
+some_within vs low high v a e = by (values_from low vs) refl e
+  where
+    by : (us : Values) → values_from low vs ≡ us → Some v ≡ least_of us → int_le v high ≡ not (is_none_left (values_within low high vs))
+    by [] f e = cc
+    by (w ∷ us) f e =
+        let up : is_ascending (w ∷ us) ≡ true = subst (λ l. is_ascending l ≡ true) f (ascending_kept (int_le low) vs a) in
+        let got : v ≡ least_from w us = cc in
+        ap (λ u. int_le u high) (got ∙ least_is w us (above_first w us up))
+        ∙ (first_within high w us up ∙ ap (λ l. not (is_none_left l)) (sym (within_from low high vs ∙ ap (filter (λ u. int_le u high)) f)))
+
+-- the value before one of them
+not_low : (v : ℤ) → int_le v (v -ℤ pos 1) ≡ false
+not_low v = grind (arith, ints)
+
+above_low : (v w : ℤ) → int_lt v w ≡ true → int_le w (v -ℤ pos 1) ≡ false
+above_low v w h = grind (arith, ints)
+
+below_low : (v w : ℤ) → int_lt w v ≡ true → int_le w (v -ℤ pos 1) ≡ true
+below_low v w h = grind (arith, ints)
+
+not_it : (b : Bool) → b ≡ false → not b ≡ true
+not_it true h = cc
+not_it false h = refl
+
+none_below : (v : ℤ) (vs : Values) → is_ascending (v ∷ vs) ≡ true → values_up_to (v -ℤ pos 1) (v ∷ vs) ≡ []
+none_below v vs a =
+    ap (λ b. cond b (v ∷ values_up_to (v -ℤ pos 1) vs) (values_up_to (v -ℤ pos 1) vs)) (not_low v)
+    ∙ filter_none (λ u. int_le u (v -ℤ pos 1)) vs (all_weaker (int_lt v) (λ u. not (int_le u (v -ℤ pos 1))) (λ u h. not_it (int_le u (v -ℤ pos 1)) (above_low v u h)) vs (above_first v vs a))
+
+kept_up : (high w : ℤ) (vs : Values) → is_ascending (w ∷ vs) ≡ true → is_ascending (w ∷ values_up_to high vs) ≡ true
+kept_up high w vs a = by (values_up_to high vs) (all_kept (int_lt w) (λ v. int_le v high) vs (above_first w vs a)) (ascending_kept (λ v. int_le v high) vs (ascending_rest w vs a))
+  where
+    by : (us : Values) → list_all (int_lt w) us ≡ true → is_ascending us ≡ true → is_ascending (w ∷ us) ≡ true
+    by [] h k = refl
+    by (u ∷ us) h k = together (int_lt w u) (is_ascending (u ∷ us)) (first (int_lt w u) (list_all (int_lt w) us) h) k
+
+before_later : (v w u : ℤ) (vs : Values) → is_ascending (w ∷ vs) ≡ true → IsBefore vs v u → IsBefore (w ∷ vs) v u
+before_later v w u vs a h = record {
+  left = later (int_eq u w) (has_value vs u) h.left;
+  after = record {
+    left = later (int_eq v w) (has_value vs v) h.after.left;
+    above = h.after.above;
+    rest = from_later u w vs a h.left ∙ (h.after.rest ∙ ap (λ us. u ∷ us) (sym (from_later v w vs a h.after.left)));
+  };
+}
+  where
+    later : (b c : Bool) → c ≡ true → (b || c) ≡ true
+    later true c e = refl
+    later false c e = e
+
+before_first : (v w : ℤ) (vs : Values) → is_ascending (w ∷ vs) ≡ true → has_value vs v ≡ true → IsFirst vs v → IsBefore (w ∷ vs) v w
+before_first v w vs a k h = record {
+  left = has_first w vs;
+  after = record {
+    left = later (int_eq v w) (has_value vs v) k;
+    above = value_passes (int_lt w) vs v (above_first w vs a) k;
+    rest = from_itself w vs a ∙ ap (λ us. w ∷ us) (sym (from_later v w vs a k ∙ h.all));
+  };
+}
+  where
+    later : (b c : Bool) → c ≡ true → (b || c) ≡ true
+    later true c e = refl
+    later false c e = e
+
+pub previous_is : (vs : Values) (v : ℤ) (r : Option ℤ) → is_ascending vs ≡ true → has_value vs v ≡ true → r ≡ greatest_of (values_up_to (v -ℤ pos 1) vs) → IsPrevious vs v r
+previous_is [] v r a h e = cc
+previous_is (w ∷ vs) v r a h e = where_is v w vs h here (λ k. later k (λ s f. previous_is vs v s (ascending_rest w vs a) k f))
+  where
+    at_first : (u : ℤ) → u ≡ w → r ≡ greatest_of (values_up_to (u -ℤ pos 1) (w ∷ vs)) → IsPrevious (w ∷ vs) u r
+    at_first u p f =
+        let none : r ≡ None = f ∙ (ap (λ z. greatest_of (values_up_to (z -ℤ pos 1) (w ∷ vs))) p ∙ ap greatest_of (none_below w vs a)) in
+        subst (λ s. IsPrevious (w ∷ vs) u s) (sym none) (subst (λ z. IsFirst (w ∷ vs) z) (sym p) (record { left = has_first w vs; all = from_itself w vs a }))
+
+    here : v ≡ w → IsPrevious (w ∷ vs) v r
+    here p = at_first v p e
+
+    by : (us : Values) → values_up_to (v -ℤ pos 1) vs ≡ us → has_value vs v ≡ true → ((s : Option ℤ) → s ≡ greatest_of (values_up_to (v -ℤ pos 1) vs) → IsPrevious vs v s) → r ≡ greatest_of (w ∷ us) → IsPrevious (w ∷ vs) v r
+    by [] f k ih q = subst (λ s. IsPrevious (w ∷ vs) v s) (sym q) (before_first v w vs a k (ih None (sym (ap greatest_of f))))
+    by (u ∷ us) f k ih q =
+        let top = greatest_value (u ∷ us) in
+        let up : is_ascending (w ∷ u ∷ us) ≡ true = subst (λ l. is_ascending (w ∷ l) ≡ true) f (kept_up (v -ℤ pos 1) w vs a) in
+        let same : r ≡ Some top = q ∙ ap Some (greatest_later w (u ∷ us) u up (has_first u us)) in
+        subst (λ s. IsPrevious (w ∷ vs) v s) (sym same) (before_later v w top vs a (ih (Some top) (sym (ap greatest_of f))))
+
+    later : has_value vs v ≡ true → ((s : Option ℤ) → s ≡ greatest_of (values_up_to (v -ℤ pos 1) vs) → IsPrevious vs v s) → IsPrevious (w ∷ vs) v r
+    later k ih =
+        by (values_up_to (v -ℤ pos 1) vs) refl k ih
+        (e ∙ ap (λ b. greatest_of (cond b (w ∷ values_up_to (v -ℤ pos 1) vs) (values_up_to (v -ℤ pos 1) vs))) (below_low v w (value_passes (int_lt w) vs v (above_first w vs a) k)))

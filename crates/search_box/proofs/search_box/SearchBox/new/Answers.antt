@@ -1,0 +1,14 @@
+use Rattle.std.proofs.Common.{refl, rules}
+use Rattle.qc_cascade.proofs.Declared.{declared_is_box}
+use Rattle.search_box.proofs.Entering.{entered_first}
+use Rattle.search_box.proofs.search_box.SearchBox.new.Goals as goal
+
+pub invariant_of-result : goal.invariant_of-result
+invariant_of-result c = record {
+  declared = declared_is_box c.args.problem.now c.in_ok-store.store.box c.known.ensures c.in_ok-store.ensures.0;
+  ready = c.in_ok-engine.ensures;
+  value_each = search rules;
+}
+
+pub returns-clause-here : goal.returns-clause-here
+returns-clause-here c = entered_first c.args.problem.now _ c.known.ensures refl c.in_ok-store.ensures.0

@@ -1,0 +1,75 @@
+//! What lies ahead of a node, as a certificate shows it.
+ghost use Rattle.std.specs.Prelude.{◌≡◌, ◌<◌, ◌≤◌, true, false, length, IfOk, IfSome};
+ghost use Rattle.qc_model.specs.Content.{Rule};
+ghost use Rattle.qc_model.specs.Domains.{has_empty};
+ghost use Rattle.qc_arguments.specs.Asked.{is_box_of};
+ghost use Rattle.prop_engine.specs.Watching.{IsReady};
+ghost use Rattle.qc_cascade.specs.Ahead.{IsEntered as IsFound};
+ghost use Rattle.search_box.specs.Looking.{LooksAhead, scope_number, first_unseen};
+
+use fd_store::Store;
+use proof_tree::Horizon;
+use prop_engine::{Engine, Filter};
+use qc_cascade::{Entered, enter, enter_under};
+use qc_model::ScopeId;
+use qc_rules::Levels;
+use std::alloc::{AllocError, Global};
+
+// What is found ahead, up to the horizon in force.
+fn found_ahead<F: Filter>(
+    filter: &F,
+    alloc: Global,
+    levels: &Levels,
+    engine: &mut Engine,
+    i: ScopeId,
+    in_force: Option<ScopeId>,
+    store: &mut Store,
+) -> Result<Entered, AllocError>
+    requires ready { IsReady levels.now.problem.now engine.old }
+    requires known { (c : Rule) → F.knows c ≡ true }
+    requires scope { i.0 < length levels.now.problem.now.scopes }
+    requires horizon { IfSome in_force (λ h. h.0 ≤ length levels.now.problem.now.scopes) }
+    requires declared { is_box_of levels.now.problem.now store.old.box ≡ true }
+    requires full { has_empty store.old.box ≡ false }
+    ensures ready { IsReady levels.now.problem.now engine.new }
+    ensures content { store.new.box ≡ store.old.box }
+    ensures past { store.new.past ≡ store.old.past }
+    ensures answer { IfOk result (λ e. IsFound levels.now.problem.now i.0 (first_unseen levels.now.problem.now (scope_number in_force)) store.old.box e.horizon e.steps) }
+{
+    match in_force {
+        None => enter(filter, alloc, levels, engine, i, store),
+        Some(horizon) => enter_under(filter, alloc, levels, engine, i, horizon, store),
+    }
+}
+
+/// A horizon for a node of scope i, nearer than the one in force, or none. The box and the past boxes are as before.
+pub(crate) fn nearest_horizon<F: Filter>(
+    filter: &F,
+    alloc: Global,
+    levels: &Levels,
+    engine: &mut Engine,
+    i: ScopeId,
+    in_force: Option<ScopeId>,
+    store: &mut Store,
+) -> Result<Option<Horizon>, AllocError>
+    requires ready { IsReady levels.now.problem.now engine.old }
+    requires known { (c : Rule) → F.knows c ≡ true }
+    requires scope { i.0 < length levels.now.problem.now.scopes }
+    requires horizon { IfSome in_force (λ h. h.0 ≤ length levels.now.problem.now.scopes) }
+    requires declared { is_box_of levels.now.problem.now store.old.box ≡ true }
+    requires full { has_empty store.old.box ≡ false }
+    ensures ready { IsReady levels.now.problem.now engine.new }
+    ensures content { store.new.box ≡ store.old.box }
+    ensures past { store.new.past ≡ store.old.past }
+    ensures answer { IfOk result (λ z. LooksAhead levels.now.problem.now i.0 store.old.box (scope_number in_force) z) }
+{
+    levels.problem.known();
+    let found = found_ahead(filter, alloc, levels, engine, i, in_force, store)?;
+    match found.horizon {
+        None => Ok(None),
+        Some(scope) => Ok(Some(Horizon {
+            scope,
+            steps: found.steps,
+        })),
+    }
+}

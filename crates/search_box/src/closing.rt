@@ -1,0 +1,74 @@
+//! Closing a store for the constraints in force at a scope.
+ghost use Rattle.std.specs.Prelude.{◌≡◌, true, false, IfOk};
+ghost use Rattle.qc_model.specs.Content.{Rule};
+ghost use Rattle.qc_model.specs.Domains.{has_empty, is_sub_box};
+ghost use Rattle.qc_arguments.specs.Asked.{is_box_of};
+ghost use Rattle.fd_store.specs.Held.{Follows};
+ghost use Rattle.prop_engine.specs.Watching.{IsReady};
+ghost use Rattle.search_box.specs.Closes.{IsClosingAt, IsPruned, WasClosed};
+
+use fd_store::Store;
+use proof_tree::StepList;
+use prop_engine::{Closed, Engine, Filter};
+use qc_model::VarId;
+use qc_rules::Level;
+use std::alloc::{AllocError, Global};
+
+/// Runs the filters of all constraints in force, and those that removals wake, until nothing more is removed.
+pub(crate) fn close_all<F: Filter>(
+    filter: &F,
+    alloc: Global,
+    level: &Level,
+    engine: &mut Engine,
+    store: &mut Store,
+    steps: &mut StepList,
+) -> Result<Closed, AllocError>
+    requires ready { IsReady level.now.problem.now engine.old }
+    requires known { (c : Rule) → F.knows c ≡ true }
+    requires declared { is_box_of level.now.problem.now store.old.box ≡ true }
+    requires full { has_empty store.old.box ≡ false }
+    ensures ready { IsReady level.now.problem.now engine.new }
+    ensures pruned { IsPruned level.now.problem.now level.now.number store.old.box store.new.box steps.old steps.new }
+    ensures fewer { is_sub_box store.new.box store.old.box ≡ true }
+    ensures declared { is_box_of level.now.problem.now store.new.box ≡ true }
+    ensures follows { Follows store.old store.new }
+    ensures answer { IfOk result (λ a. IsClosingAt a level.now.problem.now level.now.number store.new.box) }
+{
+    level.problem.known();
+    engine.close_span(filter, alloc, level.problem, level.in_force, store, steps)
+}
+
+/// The same, where a box was closed before in which only these variables have changed since: only the constraints that
+/// mention them, and those that removals wake, run.
+pub(crate) fn close_changed<F: Filter>(
+    filter: &F,
+    alloc: Global,
+    level: &Level,
+    changed: &[VarId],
+    engine: &mut Engine,
+    store: &mut Store,
+    steps: &mut StepList,
+) -> Result<Closed, AllocError>
+    requires ready { IsReady level.now.problem.now engine.old }
+    requires known { (c : Rule) → F.knows c ≡ true }
+    requires declared { is_box_of level.now.problem.now store.old.box ≡ true }
+    requires full { has_empty store.old.box ≡ false }
+    requires earlier { WasClosed level.now.problem.now level.now.number changed.now store.old.box }
+    ensures ready { IsReady level.now.problem.now engine.new }
+    ensures pruned { IsPruned level.now.problem.now level.now.number store.old.box store.new.box steps.old steps.new }
+    ensures fewer { is_sub_box store.new.box store.old.box ≡ true }
+    ensures declared { is_box_of level.now.problem.now store.new.box ≡ true }
+    ensures follows { Follows store.old store.new }
+    ensures answer { IfOk result (λ a. IsClosingAt a level.now.problem.now level.now.number store.new.box) }
+{
+    level.problem.known();
+    engine.close_changed(
+        filter,
+        alloc,
+        level.problem,
+        level.in_force,
+        changed,
+        store,
+        steps,
+    )
+}

@@ -1,0 +1,158 @@
+//! A small game, worked through by hand.
+ghost use Rattle.std.specs.Prelude.{◌<◌, length};
+ghost use Rattle.qc_model.specs.Game.{before};
+ghost use Rattle.search_box.specs.Entered.{IsEntered};
+
+use crate::SearchBox;
+use proof_tree::StepList;
+use prop_engine::Closed;
+use qc_model::{
+    Arg, Argument, Constraint, Domain, Draft, Kind, Name, Pred, Problem, Scope, ScopeId, VarId,
+    Variable, build,
+};
+use qc_rules::Levels;
+use std::alloc::{AllocError, Global};
+use std::test::Fail;
+
+const X: VarId = VarId(0);
+
+const Y: VarId = VarId(1);
+
+fn variable(alloc: Global, name: &str, owner: u8) -> Result<Variable, AllocError> {
+    Ok(Variable {
+        name: Name::new(alloc, name)?,
+        scope: ScopeId(owner),
+        domain: Domain::Range(0, 3),
+    })
+}
+
+/// The first is below the second.
+fn below(alloc: Global, owner: u8, first: Arg, second: Arg) -> Result<Constraint, AllocError> {
+    let mut args = Vec::new(alloc);
+    args.push(Argument::One(first))?;
+    args.push(Argument::One(second))?;
+    Ok(Constraint {
+        owner: ScopeId(owner),
+        pred: Pred::IntLt,
+        args,
+    })
+}
+
+/// The player chooses x and y, each from 0 to 3, x below y; the opponent chooses z. In the end y is to be below this number.
+fn game(alloc: Global, most: i64) -> Result<Option<Problem>, AllocError> {
+    let mut draft = Draft {
+        scopes: Vec::new(alloc),
+        variables: Vec::new(alloc),
+        aggregates: Vec::new(alloc),
+        constraints: Vec::new(alloc),
+    };
+    for kind in [Kind::Exists, Kind::Forall] {
+        draft.scopes.push(Scope {
+            kind,
+            condition: None,
+        })?;
+    }
+    draft.variables.push(variable(alloc, "x", 0)?)?;
+    draft.variables.push(variable(alloc, "y", 0)?)?;
+    draft.variables.push(variable(alloc, "z", 1)?)?;
+    draft
+        .constraints
+        .push(below(alloc, 0, Arg::Var(X), Arg::Var(Y))?)?;
+    draft
+        .constraints
+        .push(below(alloc, 2, Arg::Var(Y), Arg::Num(most))?)?;
+    Ok(build(draft))
+}
+
+/// What is found ahead of the first scope.
+#[tactic(auto, using(crate::proofs::Entering::entered_at))]
+fn ahead(alloc: Global, problem: &Problem) -> Result<Option<ScopeId>, AllocError>
+    requires { 0 < length problem.now.scopes }
+{
+    let levels = Levels::new(alloc, problem)?;
+    let mut left = SearchBox::new(alloc, problem)?;
+    match left.look_ahead(&levels, ScopeId(0), None)? {
+        None => Ok(None),
+        Some(horizon) => Ok(Some(horizon.scope)),
+    }
+}
+
+/// The first and the last value of x, once the box is closed at the first scope, and how many removals that took.
+#[tactic(auto, using(crate::proofs::Entering::entered_at))]
+fn closed(alloc: Global, problem: &Problem) -> Result<Option<(i64, i64, usize)>, AllocError>
+    requires scope { 0 < length problem.now.scopes }
+    requires var { 0 < length problem.now.variables }
+{
+    let levels = Levels::new(alloc, problem)?;
+    let mut left = SearchBox::new(alloc, problem)?;
+    let mut steps = StepList::new(alloc);
+    match left.close(levels.level(ScopeId(0)), &mut steps)? {
+        Closed::Empty => Ok(None),
+        Closed::Open => {
+            left.known();
+            Ok(Some((left.first(X), left.last(X), steps.items().len())))
+        }
+    }
+}
+
+#[test]
+fn box_is_closed_and_seen_through(rt: HostRuntime) -> Result<(), Fail> {
+    let problem = game(rt.alloc(), 9)?.ok_or("no game")?;
+    assert!(rt; problem.scopes() == 2);
+    assert!(rt; problem.variables() == 3);
+    assert!(rt; ahead(rt.alloc(), &problem)? == None);
+    assert!(rt; closed(rt.alloc(), &problem)? == Some((0, 2, 2)));
+    // nobody gets y below 1, since x is below it: the goal isn't passed
+    let lost = game(rt.alloc(), 1)?.ok_or("no game")?;
+    assert!(rt; lost.scopes() == 2);
+    assert!(rt; ahead(rt.alloc(), &lost)? == Some(ScopeId(2)));
+    Ok(())
+}
+
+/// The value of y once x has its last value and the box was closed again, whether that tuple is allowed, and whether nothing
+/// is left to undo in the end.
+fn taken(
+    levels: &Levels,
+    left: &mut SearchBox,
+    steps: &mut StepList,
+) -> Result<Option<(i64, bool, bool)>, AllocError>
+    requires scope { 0 < length levels.now.problem.now.scopes }
+    requires own { 1 < before levels.now.problem.now 1 }
+    requires here { IsEntered levels.now.problem.now 0 left.old }
+{
+    levels.problem.known();
+    let level = levels.level(ScopeId(0));
+    let mark = left.mark();
+    left.known();
+    match left.close(level, steps)? {
+        Closed::Empty => return Ok(None),
+        Closed::Open => {}
+    }
+    let last = left.last(X);
+    left.take(X, last)?;
+    match left.close_after(level, &[X], steps)? {
+        Closed::Empty => return Ok(None),
+        Closed::Open => {}
+    }
+    if left.next_free(level, level.from) < level.stop {
+        return Ok(None);
+    }
+    let holds = left.tuple_allowed(level);
+    left.known();
+    let y = left.first(Y);
+    left.undo_to(mark);
+    Ok(Some((y, holds, left.mark().at == 0)))
+}
+
+#[test]
+fn value_is_taken_and_given_back(rt: HostRuntime) -> Result<(), Fail> {
+    let problem = game(rt.alloc(), 9)?.ok_or("no game")?;
+    assert!(rt; problem.scopes() == 2);
+    assert!(rt; problem.variables_before(1) == 2);
+    let levels = Levels::new(rt.alloc(), &problem)?;
+    let mut left = SearchBox::new(rt.alloc(), &problem)?;
+    let mut steps = StepList::new(rt.alloc());
+    assert!(rt; taken(&levels, &mut left, &mut steps)? == Some((3, true, true)));
+    assert!(rt; steps.items().len() == 3);
+    Ok(())
+}
