@@ -1,21 +1,22 @@
--- One case that covers all values that are left.
-use Rattle.std.proofs.Common.{◌≡◌, inl, inr, ℕ, zero, suc, ◌+◌, ◌-◌, ◌<◌, Bool, true, false, ◌&&◌, ◌||◌, cond, [], ◌∷◌, length, drop, filter, get_or, refl, ap, ◌∙◌, arith, Some, None, subst, take}
-use Rattle.std.specs.Prelude.{ℤ, pos, int_le, int_lt, nat_lt, slice_get, ◌≤ℤ◌, ◌+ℤ◌, not}
+-- One case that covers all values that are left, or those before one of them.
+use Rattle.std.proofs.Common.{◌≡◌, inl, inr, ℕ, zero, suc, ◌<◌, Bool, true, false, ◌||◌, cond, List, [], ◌∷◌, length, drop, filter, refl, sym, ap, ◌∙◌, arith, Option, Some, None, subst, take, length-drop}
+use Rattle.std.specs.Prelude.{ℤ, int_le, int_lt, nat_lt, slice_get, ◌≤ℤ◌}
 use Rattle.std.specs.Ordering.{int_eq}
-use Rattle.std.specs.List.{list_any}
+use Rattle.std.specs.List.{list_all, list_any}
 use Rattle.std.proofs.lemmas.Int.{ints}
 use Rattle.std.proofs.lemmas.Bool.Decides.{Decides-int_eq}
-use Rattle.qc_model.specs.declared.problem.Domain.{Domain}
-use Rattle.qc_model.specs.declared.problem.Domain.TheVariants.{Bits, Range, Listed}
-use Rattle.qc_model.specs.Lists.{Among, numbers_from}
-use Rattle.qc_model.specs.Domains.{Values, domain_values, is_ascending, is_none_left, has_value, greatest_value, greatest_from}
-use Rattle.qc_model.specs.Valid.{is_domain, is_listed, has_gap}
+use Rattle.qc_model.specs.Lists.{Among}
+use Rattle.qc_model.specs.Domains.{Values, is_ascending, is_none_left, is_single, has_value, greatest_value, greatest_from}
+use Rattle.qc_model.specs.Valid.{is_number}
 use Rattle.qc_model.proofs.Sound.{hi_of}
-use Rattle.qc_model.proofs.Widths.{greatest_is_last}
-use Rattle.qc_model.proofs.DomainValues.{range_values}
+use Rattle.qc_rules.proofs.Items.{drop_at}
+use Rattle.fd_store.specs.Held.{values_from}
 use Rattle.proof_tree.specs.Cover.{is_cover, uncovered}
-use Rattle.game_search.specs.Uppers.{upto_all, upto_first}
+use Rattle.search_box.specs.Rests.{IsFirst, IsLast}
+use Rattle.game_search.specs.Uppers.{upto_all, upto_between, upto_first}
 use Rattle.game_search.proofs.Bools.{two, both, is_below}
+use Rattle.game_search.proofs.Numbers.{numbers_dropped}
+use Rattle.game_search.proofs.Places.{several}
 
 greatest_item : (n : ℤ) (d : Values) → Among (greatest_from n d) (n ∷ d)
 greatest_item n [] = inl refl
@@ -65,50 +66,9 @@ covers_all v (w ∷ vs) =
       leaves_none = ap (λ es. drop (length es) d) whole ∙ all_dropped d;
     }
 
--- the values of a domain ascend
 pub ascends_after : (d : Values) (v : ℤ) → is_ascending (v ∷ d) ≡ true → is_ascending d ≡ true
 ascends_after [] v e = refl
 ascends_after (w ∷ d) v e = (both (int_lt v w) (is_ascending (w ∷ d)) e).1
-
-numbers_ascend : (low : ℤ) (n : ℕ) → is_ascending (numbers_from low n) ≡ true
-numbers_ascend low zero = refl
-numbers_ascend low (suc zero) = refl
-numbers_ascend low (suc (suc n)) = two _ _ (rises low) (numbers_ascend (low +ℤ pos 1) (suc n))
-  where
-    rises : (low : ℤ) → int_lt low (low +ℤ pos 1) ≡ true
-    rises low = grind (arith, ints)
-
-pub domain_ascends : (d : Domain) → is_domain d ≡ true → is_ascending (domain_values d) ≡ true
-domain_ascends Bits e = refl
-domain_ascends (Range low high) e = ap is_ascending (range_values low high e) ∙ numbers_ascend low _
-domain_ascends (Listed ns) e =
-    let r = both (not (is_none_left ns) && is_listed ns && has_gap ns) _ e in
-    let s = both (not (is_none_left ns) && is_listed ns) _ r.0 in
-    let t = both (not (is_none_left ns)) _ s.0 in
-    (both _ (is_ascending ns) t.1).1
-
-get_of : (d : Values) (n : ℕ) (v : ℤ) → slice_get d n ≡ Some v → get_or d n v ≡ v
-get_of [] n v e = refl
-get_of (u ∷ d) zero v e = cc
-get_of (u ∷ d) (suc n) v e = get_of d n v e
-
--- the upper value of the case for the values from place k on, where there are several, and one
-pub upto_last : (d : Values) (k last : ℕ) (v : ℤ) → is_ascending d ≡ true → k < last → last + 1 ≡ length d → slice_get d last ≡ Some v → upto_all (drop k d) ≡ Some v
-upto_last [] k last v a h n e = cc
-upto_last (u ∷ []) k last v a h n e = absurd (omega arith)
-upto_last (u ∷ w ∷ d) zero last v a h n e =
-    ap Some (greatest_is_last (u ∷ w ∷ d) v (omega arith) a ∙ (ap (λ m. get_or (u ∷ w ∷ d) m v) (place (length d) last n) ∙ get_of (u ∷ w ∷ d) last v e))
-  where
-    place : (n last : ℕ) → last + 1 ≡ suc (suc n) → suc (suc n) - 1 ≡ last
-    place n last e = omega arith
-upto_last (u ∷ w ∷ d) (suc k) zero v a h n e = absurd (omega arith)
-upto_last (u ∷ w ∷ d) (suc k) (suc last) v a h n e = upto_last (w ∷ d) k last v (ascends_after (w ∷ d) u a) (omega arith) (omega arith) e
-
-pub upto_one : (d : Values) (k : ℕ) → k + 1 ≡ length d → upto_all (drop k d) ≡ None
-upto_one [] k n = absurd (omega arith)
-upto_one (u ∷ []) zero n = refl
-upto_one (u ∷ w ∷ d) zero n = absurd (omega arith)
-upto_one (u ∷ d) (suc k) n = upto_one d k (omega arith)
 
 -- the first values up to one
 pub has_at : (d : Values) (n : ℕ) → n < length d → (v : ℤ) × (slice_get d n ≡ Some v)
@@ -182,3 +142,138 @@ covers_first (suc n) (v ∷ vs) a h =
       is_case = ap (λ u. is_cover u d) s.1 ∙ two _ _ (has_item m d (among_at d (suc n) m s.1)) (ap (nat_lt 1) size ∙ is_below 1 (suc (suc n)) (omega arith));
       leaves_rest = ap (λ u. uncovered u d) s.1 ∙ ap (λ l. drop l d) size;
     }
+
+-- the values from one of them on
+pub index_of : (d : Values) (v : ℤ) → has_value d v ≡ true → (n : ℕ) × (slice_get d n ≡ Some v)
+index_of [] v h = absurd cc
+index_of (u ∷ d) v h = by (int_eq v u) (λ e. same v u e) (index_of d v) h
+  where
+    same : (v u : ℤ) → int_eq v u ≡ true → u ≡ v
+    same v u e = sym ((Decides-int_eq v u).0 e)
+
+    by : (b : Bool) → (b ≡ true → u ≡ v) → (has_value d v ≡ true → (n : ℕ) × (slice_get d n ≡ Some v)) → (b || list_any (int_eq v) d) ≡ true → (n : ℕ) × (slice_get (u ∷ d) n ≡ Some v)
+    by true f k h = (0, ap Some (f refl))
+    by false f k h = let r = k h in (suc r.0, r.1)
+
+none_below : (m : ℤ) (d : Values) → ((n : ℕ) (v : ℤ) → slice_get d n ≡ Some v → int_lt m v ≡ true) → values_from m d ≡ d
+none_below m [] f = refl
+none_below m (v ∷ d) f =
+    ap (λ b. cond b (v ∷ values_from m d) (values_from m d)) (at_least m v (f 0 v refl)) ∙ ap (λ us. v ∷ us) (none_below m d (λ n w e. f (suc n) w e))
+  where
+    at_least : (m v : ℤ) → int_lt m v ≡ true → int_le m v ≡ true
+    at_least m v h = grind (arith, ints)
+
+pub from_at : (d : Values) (n : ℕ) (v : ℤ) → is_ascending d ≡ true → slice_get d n ≡ Some v → values_from v d ≡ drop n d
+from_at [] n v a e = cc
+from_at (u ∷ d) zero v a e =
+    let h : u ≡ v = cc in
+    subst (λ w. values_from w (u ∷ d) ≡ u ∷ d) h
+    (ap (λ b. cond b (u ∷ values_from u d) (values_from u d)) (same u) ∙ ap (λ us. u ∷ us) (none_below u d (λ n w f. first_below u d n w a f)))
+  where
+    same : (v : ℤ) → int_le v v ≡ true
+    same v = grind (arith, ints)
+from_at (u ∷ d) (suc n) v a e =
+    ap (λ b. cond b (u ∷ values_from v d) (values_from v d)) (more u v (first_below u d n v a e)) ∙ from_at d n v (ascends_after d u a) e
+  where
+    more : (u v : ℤ) → int_lt u v ≡ true → int_le v u ≡ false
+    more u v h = grind (arith, ints)
+
+-- values begin with the one from which on they are taken
+pub from_here : (d : Values) (v : ℤ) → is_ascending d ≡ true → has_value d v ≡ true → (rest : Values) × (values_from v d ≡ v ∷ rest)
+from_here d v a h = let r = index_of d v h in (drop (suc r.0) d, from_at d r.0 v a r.1 ∙ drop_at r.0 d v r.1)
+
+within_length : (d : Values) (n : ℕ) (v : ℤ) → slice_get d n ≡ Some v → n < length d
+within_length [] n v e = cc
+within_length (u ∷ d) zero v e = omega arith
+within_length (u ∷ d) (suc n) v e = let h = within_length d n v e in omega (arith, h)
+
+not_whole : {X : Type 0} (n : ℕ) (xs : List X) → n < length xs → drop n xs ≡ xs → n ≡ 0
+not_whole n xs h e = omega (arith, ap length e, length-drop n xs)
+
+-- the upper value of the case for all values from v on, where u is the last
+pub upto_rest : (d : Values) (v u : ℤ) → is_ascending d ≡ true → has_value d v ≡ true → IsLast d u → upto_all (values_from v d) ≡ upto_between v u
+upto_rest d v u a h l = go (values_from v d) (from_here d v a h).0 (from_here d v a h).1 (l.last v h) (l.alone v h)
+  where
+    go : (es rest : Values) → es ≡ v ∷ rest → greatest_value es ≡ u → is_single es ≡ int_eq v u → upto_all es ≡ upto_between v u
+    go [] rest e f s = cc
+    go (w ∷ []) rest e f s = ap (λ b. cond b None (Some u)) s
+    go (w ∷ z ∷ es) rest e f s = ap Some f ∙ ap (λ b. cond b None (Some u)) s
+
+-- what comes before v among the values: nothing, or the value p
+pub record IsJustBefore (d : Values) (p v : ℤ) : Type 0 where
+  pub left : has_value d p ≡ true
+  pub rest : values_from p d ≡ p ∷ values_from v d
+
+abbrev pub ComesAfter : Values → Option ℤ → ℤ → Type 0
+ComesAfter d None v = values_from v d ≡ d
+ComesAfter d (Some p) v = IsJustBefore d p v
+
+-- the case for the values from the first to the one before v
+pub record CoversBefore (u : Option ℤ) (d : Values) (v : ℤ) : Type 0 where
+  pub is_case : is_cover u d ≡ true
+  pub leaves_rest : uncovered u d ≡ values_from v d
+
+pub covers_before : (d : Values) (first p v : ℤ) → is_ascending d ≡ true → IsFirst d first → has_value d v ≡ true → IsJustBefore d p v → CoversBefore (upto_between first p) d v
+covers_before d first p v a f h b =
+    let r = index_of d p b.left in
+    let s = from_here d v a h in
+    let from_p = from_at d r.0 p a r.1 ∙ drop_at r.0 d p r.1 in
+    let rest : drop (suc r.0) d ≡ values_from v d = tails p (drop (suc r.0) d) p (values_from v d) (sym from_p ∙ b.rest) in
+    let more : suc r.0 < length d = shorter d (suc r.0) v s.0 (rest ∙ s.1) in
+    let c = covers_first r.0 d a more in
+    let u : upto_first (suc r.0) d ≡ upto_between first p = by r.0 r.1 in
+    subst (λ w. CoversBefore w d v) u (record { is_case = c.is_case; leaves_rest = c.leaves_rest ∙ rest })
+  where
+    tails : (x : ℤ) (xs : Values) (y : ℤ) (ys : Values) → ◌≡◌ {A = Values} (x ∷ xs) (y ∷ ys) → xs ≡ ys
+    tails x xs y ys e = cc
+
+    shorter : (d : Values) (n : ℕ) (v : ℤ) (rest : Values) → drop n d ≡ v ∷ rest → n < length d
+    shorter d n v rest e = omega (arith, ap length e, length-drop n d)
+
+    first_at : slice_get d 0 ≡ Some first
+    first_at =
+        let q = index_of d first f.left in
+        subst (λ n. slice_get d n ≡ Some first) (not_whole q.0 d (within_length d q.0 first q.1) (sym (from_at d q.0 first a q.1) ∙ f.all)) q.1
+
+    equal : (x : ℤ) → int_eq x x ≡ true
+    equal x = (Decides-int_eq x x).1 refl
+
+    other : (x y : ℤ) → int_lt x y ≡ true → int_eq x y ≡ false
+    other x y e = grind (arith, ints, Decides-int_eq)
+
+    first_less : (d : Values) (n : ℕ) → is_ascending d ≡ true → slice_get d 0 ≡ Some first → slice_get d (suc n) ≡ Some p → int_lt first p ≡ true
+    first_less [] n a e g = cc
+    first_less (w ∷ d) n a e g = let q : w ≡ first = cc in subst (λ z. int_lt z p ≡ true) q (first_below w d n p a g)
+
+    same : (o : Option ℤ) → o ≡ Some first → o ≡ Some p → first ≡ p
+    same o e g = cc
+
+    by : (n : ℕ) → slice_get d n ≡ Some p → upto_first (suc n) d ≡ upto_between first p
+    by zero e = let q : first ≡ p = same (slice_get d 0) first_at e in sym (ap (λ b. cond b None (Some p)) (subst (λ z. int_eq first z ≡ true) q (equal first)))
+    by (suc n) e = e ∙ sym (ap (λ b. cond b None (Some p)) (other first p (first_less d n a first_at e)))
+
+pub covers_after : (d : Values) (first : ℤ) (before : Option ℤ) (v : ℤ) → is_ascending d ≡ true → IsFirst d first → has_value d v ≡ true → ComesAfter d before v → (p : ℤ) → before ≡ Some p →
+    (is_cover (upto_between first p) d ≡ true) × (uncovered (upto_between first p) d ≡ values_from v d)
+covers_after d first None v a f h b p e = cc
+covers_after d first (Some q) v a f h b p e =
+    let same : q ≡ p = cc in
+    let c = covers_before d first q v a f h b in
+    subst (λ r. (is_cover (upto_between first r) d ≡ true) × (uncovered (upto_between first r) d ≡ values_from v d)) same (c.is_case, c.leaves_rest)
+
+-- the values from v on, where u is the last
+pub record IsRest (d : Values) (v u : ℤ) : Type 0 where
+  pub some : is_none_left (values_from v d) ≡ false
+  pub numbers : list_all is_number (values_from v d) ≡ true
+  pub upto : upto_all (values_from v d) ≡ upto_between v u
+
+pub rest_of : (d : Values) (v u : ℤ) → is_ascending d ≡ true → list_all is_number d ≡ true → has_value d v ≡ true → IsLast d u → IsRest d v u
+rest_of d v u a n h l =
+    let r = index_of d v h in
+    record {
+      some = ap is_none_left (from_here d v a h).1;
+      numbers = ap (list_all is_number) (from_at d r.0 v a r.1) ∙ numbers_dropped r.0 d n;
+      upto = upto_rest d v u a h l;
+    }
+
+pub many_of : (d : Values) (v : ℤ) → is_single d ≡ false → has_value d v ≡ true → 1 < length d
+many_of d v e h = let r = index_of d v h in several d r.0 e (within_length d r.0 v r.1)

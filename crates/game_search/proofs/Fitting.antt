@@ -1,5 +1,5 @@
 -- The numbers of a branch's cases: each upper value is one of the variable's values, so a number that a text can have.
-use Rattle.std.proofs.Common.{◌≡◌, refl, sym, subst, ℕ, zero, suc, ◌≤◌, ◌<◌, ◌+◌, Bool, true, false, ◌||◌, Option, Some, None, [], ◌∷◌, ℤ, arith, le-leb, drop}
+use Rattle.std.proofs.Common.{◌≡◌, refl, sym, subst, ℕ, ◌≤◌, ◌<◌, ◌+◌, Bool, true, false, ◌||◌, Option, Some, None, [], ◌∷◌, ℤ, arith, le-leb}
 use Rattle.std.specs.Prelude.{nat_lt}
 use Rattle.std.specs.List.{list_all}
 use Rattle.std.specs.Ordering.{int_eq}
@@ -9,14 +9,12 @@ use Rattle.qc_model.specs.Valid.{is_number}
 use Rattle.proof_tree.specs.declared.tree.Version.TheVariants.{Two}
 use Rattle.proof_tree.specs.Cover.{cover, is_cover}
 use Rattle.proof_tree.specs.Text.{is_place, upto_fits}
-use Rattle.game_search.specs.Uppers.{upto_all}
 use Rattle.game_search.proofs.Bools.{both}
-use Rattle.game_search.proofs.Covers.{covers_all}
 
 equal_number : (high v : ℤ) → int_eq high v ≡ true → is_number v ≡ true → is_number high ≡ true
 equal_number high v e n = subst (λ w. is_number w ≡ true) (sym ((Decides-int_eq high v).0 e)) n
 
-number_among : (vs : Values) (high : ℤ) → list_all is_number vs ≡ true → has_value vs high ≡ true → is_number high ≡ true
+pub number_among : (vs : Values) (high : ℤ) → list_all is_number vs ≡ true → has_value vs high ≡ true → is_number high ≡ true
 number_among [] high e h = absurd cc
 number_among (v ∷ vs) high e h =
     let p = both (is_number v) (list_all is_number vs) e in by (int_eq high v) (λ k. equal_number high v k p.0) (number_among vs high p.1) h
@@ -30,15 +28,6 @@ number_among (v ∷ vs) high e h =
 pub upper_fits : (upto : Option ℤ) (vs : Values) → list_all is_number vs ≡ true → is_cover upto vs ≡ true → upto_fits Two upto ≡ true
 upper_fits None vs e h = refl
 upper_fits (Some high) vs e h = number_among vs high e (both (has_value vs high) (nat_lt 1 (cover (Some high) vs)) h).0
-
-numbers_dropped : (n : ℕ) (vs : Values) → list_all is_number vs ≡ true → list_all is_number (drop n vs) ≡ true
-numbers_dropped zero vs e = e
-numbers_dropped (suc n) [] e = refl
-numbers_dropped (suc n) (v ∷ vs) e = numbers_dropped n vs (both (is_number v) (list_all is_number vs) e).1
-
--- that of the case for all values from place n on
-pub rest_fits : (n : ℕ) (vs : Values) (v : ℤ) (rest : Values) → drop n vs ≡ v ∷ rest → list_all is_number vs ≡ true → upto_fits Two (upto_all (v ∷ rest)) ≡ true
-rest_fits n vs v rest e h = upper_fits (upto_all (v ∷ rest)) (v ∷ rest) (subst (λ us. list_all is_number us ≡ true) e (numbers_dropped n vs h)) (covers_all v rest).is_case
 
 -- a variable of a valid game
 pub place_fits : (x stop n : ℕ) → x < stop → stop ≤ n → n ≤ 500 → is_place 500 x ≡ true

@@ -1,7 +1,7 @@
--- The joins of leaves give the verdicts of the definitions.
+-- What was seen in a scope's own tree: put together, settled, and what the scope comes to.
 use Rattle.std.proofs.Common.{◌≡◌, ℕ, Bool, true, false, ◌&&◌, ◌||◌, cond, List, [], ◌∷◌, ◌++◌, map, refl, sym, ap, ◌∙◌, Option, None, Some}
-use Rattle.std.specs.Prelude.{ℤ}
-use Rattle.std.specs.List.{list_any}
+use Rattle.std.specs.Prelude.{ℤ, is_none, not}
+use Rattle.std.specs.List.{list_any, list_all}
 use Rattle.qc_model.specs.declared.problem.Kind.{Kind}
 use Rattle.qc_model.specs.declared.problem.Kind.TheVariants.{Exists, Forall}
 use Rattle.qc_model.specs.declared.problem.Condition.{Condition}
@@ -9,206 +9,224 @@ use Rattle.qc_model.specs.declared.problem.Scope.{Scope}
 use Rattle.qc_model.specs.Content.{Game}
 use Rattle.qc_model.specs.Block.{of_kind}
 use Rattle.qc_model.specs.Demands.{demands_after}
-use Rattle.qc_model.specs.Verdict.{Verdict, lost, exact, unknown, Seen, seen_barred, seen_skipped, seen_bound, seen_node, is_exact, is_lost, some_node, each_node, is_none_of}
+use Rattle.qc_model.specs.Verdict.{Verdict, lost, exact, at_most, unknown, Seen, seen_barred, seen_skipped, seen_bound, seen_node, is_exact, is_lost, is_unknown, some_node, each_node, is_none_of, exact_vectors, bounds, first_value}
+use Rattle.qc_model.specs.ExistsVerdict.{exists_verdict, some_open, best_vector, beats, without_own, best_number}
+use Rattle.qc_model.specs.ForallVerdict.{bounded_forall, entry_values, numbers_for}
 use Rattle.proof_tree.specs.Finding.{Leaf, leaf_barred, leaf_skipped, leaf_bound, leaf_node, seen_of, comes_to, scope_finding, kind_finding}
 use Rattle.proof_tree.specs.Place.{list_after, is_goal}
 use Rattle.proof_tree.specs.Order.{settles}
-use Rattle.game_search.specs.declared.join.Join.{Join}
-use Rattle.game_search.specs.declared.join.Join.TheVariants.{Settled, Whole, Gap}
-use Rattle.game_search.specs.Joins.{verdict_of, settles_at, fails_at, with_gap, after_node, after_seen, after_all, verdict_by, is_settled}
-
-pub after-append : (k : Kind) (j : Join) (xs ys : List Seen) → after_all k j (xs ++ ys) ≡ after_all k (after_all k j xs) ys
-after-append k j [] ys = refl
-after-append k j (x ∷ xs) ys = after-append k (after_seen k j x) xs ys
+use Rattle.qc_joins.specs.Verdicts.{scope_verdict, kind_verdict, scope_settled, kind_settled, scope_own, kind_own}
+use Rattle.game_search.specs.Settled.{is_settled, is_vague, is_vague_verdict}
 
 pub seen-append : (ks ls : List Leaf) → map seen_of (ks ++ ls) ≡ map seen_of ks ++ map seen_of ls
 seen-append [] ls = refl
 seen-append (k ∷ ks) ls = ap (λ xs. seen_of k ∷ xs) (seen-append ks ls)
 
--- a settled scope stays settled
-node_settled : (k : Kind) (v : Verdict) → after_node k Settled v ≡ Settled
-node_settled k v = by (settles_at k v) (fails_at k v)
-  where
-    by : (a b : Bool) → cond a Settled (cond b Settled Settled) ≡ Settled
-    by true b = refl
-    by false true = refl
-    by false false = refl
+or_assoc : (a b c : Bool) → (a || (b || c)) ≡ ((a || b) || c)
+or_assoc true b c = refl
+or_assoc false b c = refl
 
-seen_settled : (k : Kind) (x : Seen) → after_seen k Settled x ≡ Settled
-seen_settled k seen_barred = refl
-seen_settled k seen_skipped = refl
-seen_settled k (seen_bound m) = refl
-seen_settled k (seen_node v) = node_settled k v
+pub neither : (a b : Bool) → (a || b) ≡ false → (a ≡ false) × (b ≡ false)
+neither true b e = cc
+neither false b e = (refl, e)
 
-pub all_settled : (k : Kind) (xs : List Seen) → after_all k Settled xs ≡ Settled
-all_settled k [] = refl
-all_settled k (x ∷ xs) = ap (λ j. after_all k j xs) (seen_settled k x) ∙ all_settled k xs
+pub or_first : (a b : Bool) → a ≡ true → (a || b) ≡ true
+or_first a b e = ap (λ c. c || b) e
 
-pub settled_is : (j : Join) → is_settled j ≡ true → j ≡ Settled
-settled_is Settled e = refl
-settled_is Whole e = cc
-settled_is Gap e = cc
+pub or_second : (a b : Bool) → b ≡ true → (a || b) ≡ true
+or_second true b e = refl
+or_second false b e = e
 
-pub stays_settled : (k : Kind) (j : Join) (xs : List Seen) → is_settled j ≡ true → is_settled (after_all k j xs) ≡ true
-stays_settled k j xs e = ap (λ i. is_settled (after_all k i xs)) (settled_is j e) ∙ ap is_settled (all_settled k xs)
+pub or_none : (a b : Bool) → a ≡ false → b ≡ false → (a || b) ≡ false
+or_none true b e f = e
+or_none false b e f = f
 
--- from a gap, and from nothing
-gap_join : (k : Kind) (xs : List Seen) → after_all k Gap xs ≡ cond (some_node (settles_at k) xs) Settled Gap
-gap_join k [] = refl
-gap_join k (seen_barred ∷ xs) = gap_join k xs
-gap_join k (seen_skipped ∷ xs) = gap_join k xs
-gap_join k (seen_bound m ∷ xs) = gap_join k xs
-gap_join k (seen_node v ∷ xs) = by (settles_at k v) (fails_at k v) (gap_join k xs)
-  where
-    by : (a b : Bool) → after_all k Gap xs ≡ cond (some_node (settles_at k) xs) Settled Gap →
-        after_all k (cond a Settled (cond b Gap Gap)) xs ≡ cond (a || some_node (settles_at k) xs) Settled Gap
-    by true b e = all_settled k xs
-    by false true e = e
-    by false false e = e
+some-append : (p : Verdict → Bool) (xs ys : List Seen) → some_node p (xs ++ ys) ≡ (some_node p xs || some_node p ys)
+some-append p [] ys = refl
+some-append p (seen_barred ∷ xs) ys = some-append p xs ys
+some-append p (seen_skipped ∷ xs) ys = some-append p xs ys
+some-append p (seen_bound m ∷ xs) ys = some-append p xs ys
+some-append p (seen_node v ∷ xs) ys = ap (λ b. p v || b) (some-append p xs ys) ∙ or_assoc (p v) (some_node p xs) (some_node p ys)
 
-pub whole_join : (k : Kind) (xs : List Seen) →
-    after_all k Whole xs ≡ cond (some_node (settles_at k) xs) Settled (cond (each_node (fails_at k) xs) Whole Gap)
-whole_join k [] = refl
-whole_join k (seen_barred ∷ xs) = whole_join k xs
-whole_join k (seen_skipped ∷ xs) = gap_join k xs
-whole_join k (seen_bound m ∷ xs) = whole_join k xs
-whole_join k (seen_node v ∷ xs) = by (settles_at k v) (fails_at k v) (whole_join k xs) (gap_join k xs)
-  where
-    by : (a b : Bool) → after_all k Whole xs ≡ cond (some_node (settles_at k) xs) Settled (cond (each_node (fails_at k) xs) Whole Gap) →
-        after_all k Gap xs ≡ cond (some_node (settles_at k) xs) Settled Gap →
-        after_all k (cond a Settled (cond b Whole Gap)) xs ≡ cond (a || some_node (settles_at k) xs) Settled (cond (b && each_node (fails_at k) xs) Whole Gap)
-    by true b e f = all_settled k xs
-    by false true e f = e
-    by false false e f = f
+pub settled-append : (later : List Scope) (d : List Condition) (xs ys : List Seen) → is_settled later d (xs ++ ys) ≡ (is_settled later d xs || is_settled later d ys)
+settled-append later d xs ys = some-append (settles later d) xs ys
 
--- where the join isn't settled after some leaves, none of them settles it
-any_leaf : (p : Verdict → Bool) (ls : List Leaf) → list_any (comes_to p) ls ≡ some_node p (map seen_of ls)
+-- from a scope that isn't settled
+pub settled_from : (later : List Scope) (d : List Condition) (xs ys : List Seen) → is_settled later d xs ≡ false → is_settled later d (xs ++ ys) ≡ is_settled later d ys
+settled_from later d xs ys e = settled-append later d xs ys ∙ ap (λ b. b || is_settled later d ys) e
+
+pub vague-append : (xs ys : List Seen) → is_vague (xs ++ ys) ≡ (is_vague xs || is_vague ys)
+vague-append [] ys = refl
+vague-append (seen_barred ∷ xs) ys = vague-append xs ys
+vague-append (seen_skipped ∷ xs) ys = refl
+vague-append (seen_bound m ∷ xs) ys = refl
+vague-append (seen_node v ∷ xs) ys = ap (λ b. is_vague_verdict v || b) (vague-append xs ys) ∙ or_assoc (is_vague_verdict v) (is_vague xs) (is_vague ys)
+
+pub any_leaf : (p : Verdict → Bool) (ls : List Leaf) → list_any (comes_to p) ls ≡ some_node p (map seen_of ls)
 any_leaf p [] = refl
 any_leaf p (leaf_barred ∷ ls) = any_leaf p ls
 any_leaf p (leaf_skipped ∷ ls) = any_leaf p ls
 any_leaf p (leaf_bound m ∷ ls) = any_leaf p ls
 any_leaf p (leaf_node w f ∷ ls) = ap (λ b. p f.verdict || b) (any_leaf p ls)
 
-none_seen : (k : Kind) (j : Join) (xs : List Seen) → is_settled (after_all k j xs) ≡ false → some_node (settles_at k) xs ≡ false
-none_seen k j [] e = refl
-none_seen k j (seen_barred ∷ xs) e = none_seen k j xs e
-none_seen k j (seen_skipped ∷ xs) e = none_seen k (with_gap j) xs e
-none_seen k j (seen_bound m ∷ xs) e = none_seen k j xs e
-none_seen k j (seen_node v ∷ xs) e = by (settles_at k v) refl (none_seen k (after_node k j v) xs e)
+-- what the scope comes to
+pub verdict_so : (g : Game) (later : List Scope) (i : ℕ) (d : List Condition) (a : List ℤ) (ls : List Leaf) → (scope_finding later g i d a ls).verdict ≡ scope_verdict later g d a (map seen_of ls)
+verdict_so g [] i d a ls = refl
+verdict_so g (s ∷ later) i d a ls = by s.kind s.condition
   where
-    by : (a : Bool) → settles_at k v ≡ a → some_node (settles_at k) xs ≡ false → (a || some_node (settles_at k) xs) ≡ false
-    by true h f =
-        let i : is_settled (after_all k Settled xs) ≡ true = ap is_settled (all_settled k xs) in
-        let m : is_settled (after_all k (cond true Settled (cond (fails_at k v) j (with_gap j))) xs) ≡ false = ap (λ a. is_settled (after_all k (cond a Settled (cond (fails_at k v) j (with_gap j))) xs)) (sym h) ∙ e in
-        sym i ∙ m
-    by false h f = f
+    by : (k : Kind) (own : Option Condition) → (kind_finding k own g i d a ls).verdict ≡ kind_verdict k own g d a (map seen_of ls)
+    by Exists own = refl
+    by Forall own = refl
 
-neither : (a b : Bool) → (a || b) ≡ false → (a ≡ false) × (b ≡ false)
-neither true b e = cc
-neither false b e = (refl, e)
+-- what a settled scope comes to
+abbrev pub settled_kind : Kind → Verdict
+settled_kind Exists = exact []
+settled_kind Forall = lost
 
-pub gap_unsettled : (j : Join) → is_settled j ≡ false → is_settled (with_gap j) ≡ false
-gap_unsettled Settled e = e
-gap_unsettled Whole e = refl
-gap_unsettled Gap e = refl
+abbrev pub settled_verdict : List Scope → Verdict
+settled_verdict [] = unknown
+settled_verdict (s ∷ later) = settled_kind s.kind
 
--- without a leaf that settles the scope it stays as it was
-unsettled_stays : (k : Kind) (j : Join) (xs : List Seen) → some_node (settles_at k) xs ≡ false → is_settled j ≡ false → is_settled (after_all k j xs) ≡ false
-unsettled_stays k j [] e f = f
-unsettled_stays k j (seen_barred ∷ xs) e f = unsettled_stays k j xs e f
-unsettled_stays k j (seen_skipped ∷ xs) e f = unsettled_stays k (with_gap j) xs e (gap_unsettled j f)
-unsettled_stays k j (seen_bound m ∷ xs) e f = unsettled_stays k j xs e f
-unsettled_stays k j (seen_node v ∷ xs) e f =
-    let p = neither (settles_at k v) (some_node (settles_at k) xs) e in
-    unsettled_stays k (after_node k j v) xs p.1 (ap (λ a. is_settled (cond a Settled (cond (fails_at k v) j (with_gap j)))) p.0 ∙ by (fails_at k v))
+some_never : (p : Verdict → Bool) (xs : List Seen) → ((v : Verdict) → p v ≡ false) → some_node p xs ≡ false
+some_never p [] f = refl
+some_never p (seen_barred ∷ xs) f = some_never p xs f
+some_never p (seen_skipped ∷ xs) f = some_never p xs f
+some_never p (seen_bound m ∷ xs) f = some_never p xs f
+some_never p (seen_node v ∷ xs) f = ap (λ b. b || some_node p xs) (f v) ∙ some_never p xs f
+
+pub settled_is : (g : Game) (later : List Scope) (d : List Condition) (a : List ℤ) (xs : List Seen) → is_settled later (list_after g later d) xs ≡ true → scope_verdict later g d a xs ≡ settled_verdict later
+settled_is g [] d a xs e = let f = some_never (settles [] d) xs (λ v. refl) in cc
+settled_is g (s ∷ later) d a xs e = by s.kind s.condition e
   where
-    by : (b : Bool) → is_settled (cond b j (with_gap j)) ≡ false
-    by true = f
-    by false = gap_unsettled j f
+    exactly : (own : Option Condition) (dd : List Condition) → some_node (λ v. is_none_of dd && is_exact v) xs ≡ true → exists_verdict own dd xs ≡ exact []
+    exactly own [] e = ap (λ b. cond b (exact []) (cond (each_node is_lost xs) lost unknown)) e
+    exactly own (c ∷ dd) e = let f = some_never (λ v. is_none_of (c ∷ dd) && is_exact v) xs (λ v. refl) in cc
 
--- what settles the scope does so whatever was said before
-pub settles_from : (k : Kind) (i j : Join) (xs : List Seen) → is_settled i ≡ false → is_settled (after_all k i xs) ≡ true → is_settled (after_all k j xs) ≡ true
-settles_from k i j xs f e = by (is_settled (after_all k j xs)) refl
+    by : (k : Kind) (own : Option Condition) → some_node (λ v. of_kind k (is_none_of (demands_after g k own d) && is_exact v) (is_lost v)) xs ≡ true → kind_verdict k own g d a xs ≡ settled_kind k
+    by Exists own e = exactly own (demands_after g Exists own d) e
+    by Forall own e = ap (λ b. cond b lost (cond (each_node is_exact xs) (exact (entry_values g d a (numbers_for d (exact_vectors xs)))) (bounded_forall g d xs))) e
+
+settled_known : (later : List Scope) → is_goal later ≡ false → is_vague_verdict (settled_verdict later) ≡ false
+settled_known [] e = cc
+settled_known (s ∷ later) e = by s.kind
   where
-    by : (b : Bool) → is_settled (after_all k j xs) ≡ b → b ≡ true
-    by true q = refl
-    by false q = sym (unsettled_stays k i xs (none_seen k j xs q) f) ∙ e
+    by : (k : Kind) → is_vague_verdict (settled_kind k) ≡ false
+    by Exists = refl
+    by Forall = refl
 
--- what a scope's own tree comes to is what its leaves are joined to
-pub record JoinLaws (g : Game) (later : List Scope) (i : ℕ) (d : List Condition) (k : Kind) : Type 0 where
-  pub is_scope : is_goal later ≡ false
-  pub settles_so : (v : Verdict) → settles later (list_after g later d) v ≡ settles_at k v
-  pub verdict_so : (a : List ℤ) (ls : List Leaf) → (scope_finding later g i d a ls).verdict ≡ verdict_of (verdict_by k (after_all k Whole (map seen_of ls)))
+-- where nothing stays open, it is known what the scope comes to
+record Plain (xs : List Seen) : Type 0 where
+  pub no_bounds : is_none_of (bounds xs) ≡ true
+  pub none_open : some_open xs ≡ false
+  pub some : each_node is_lost xs ≡ false → is_none_of (exact_vectors xs) ≡ false
+  pub each : some_node is_lost xs ≡ false → each_node is_exact xs ≡ true
 
-some_same : (p q : Verdict → Bool) (xs : List Seen) → ((v : Verdict) → p v ≡ q v) → some_node p xs ≡ some_node q xs
-some_same p q [] f = refl
-some_same p q (seen_barred ∷ xs) f = some_same p q xs f
-some_same p q (seen_skipped ∷ xs) f = some_same p q xs f
-some_same p q (seen_bound m ∷ xs) f = some_same p q xs f
-some_same p q (seen_node v ∷ xs) f = ap (λ b. b || some_node p xs) (f v) ∙ ap (λ b. q v || b) (some_same p q xs f)
+plain : (xs : List Seen) → is_vague xs ≡ false → Plain xs
+plain [] e = record { no_bounds = refl; none_open = refl; some = λ f. cc; each = λ f. refl }
+plain (seen_barred ∷ xs) e = let p = plain xs e in record { no_bounds = p.no_bounds; none_open = p.none_open; some = p.some; each = p.each }
+plain (seen_skipped ∷ xs) e = cc
+plain (seen_bound m ∷ xs) e = cc
+plain (seen_node lost ∷ xs) e = let p = plain xs e in record { no_bounds = p.no_bounds; none_open = p.none_open; some = p.some; each = λ f. cc }
+plain (seen_node (exact v) ∷ xs) e = let p = plain xs e in record { no_bounds = p.no_bounds; none_open = p.none_open; some = λ f. refl; each = p.each }
+plain (seen_node (at_most n) ∷ xs) e = cc
+plain (seen_node unknown ∷ xs) e = cc
 
-pub none_settles : (g : Game) (later : List Scope) (i : ℕ) (d : List Condition) (k : Kind) → JoinLaws g later i d k → (j : Join) (ls : List Leaf) →
-    is_settled (after_all k j (map seen_of ls)) ≡ false → list_any (comes_to (settles later (list_after g later d))) ls ≡ false
-none_settles g later i d k laws j ls e =
-    any_leaf (settles later (list_after g later d)) ls
-    ∙ (some_same (settles later (list_after g later d)) (settles_at k) (map seen_of ls) laws.settles_so ∙ none_seen k j (map seen_of ls) e)
-
--- a scope without a condition, of which nothing is demanded
-pub list_none : (g : Game) (s : Scope) (later : List Scope) → s.condition ≡ None → list_after g (s ∷ later) [] ≡ []
-list_none g s later e = by g s.kind s.condition e
+pub known : (g : Game) (later : List Scope) (d : List Condition) (a : List ℤ) (xs : List Seen) → is_goal later ≡ false → is_vague xs ≡ false → is_vague_verdict (scope_verdict later g d a xs) ≡ false
+known g [] d a xs e f = cc
+known g (s ∷ later) d a xs e f = by s.kind s.condition
   where
-    by : (g : Game) (k : Kind) (c : Option Condition) → c ≡ None → demands_after g k c [] ≡ []
-    by g Exists None e = refl
-    by g Exists (Some c) e = cc
-    by g Forall c e = refl
+    p : Plain xs
+    p = plain xs f
 
-pub plain_laws : (g : Game) (s : Scope) (later : List Scope) (i : ℕ) → s.condition ≡ None → JoinLaws g (s ∷ later) i [] s.kind
-plain_laws g s later i e = record {
-  is_scope = refl;
-  settles_so = λ v. ap (λ d. of_kind s.kind (is_none_of d && is_exact v) (is_lost v)) (list_none g s later e);
-  verdict_so = λ a ls. by s.kind s.condition e a ls;
-}
+    plainly : (b c : Bool) → each_node is_lost xs ≡ b → some_node is_exact xs ≡ c → is_vague_verdict (cond c (exact []) (cond b lost unknown)) ≡ false
+    plainly b true q r = refl
+    plainly true false q r = refl
+    plainly false false q r = absurd (none_exact xs f q r)
+      where
+        none_exact : (ys : List Seen) → is_vague ys ≡ false → each_node is_lost ys ≡ false → some_node is_exact ys ≡ false → ⊥
+        none_exact [] e f h = cc
+        none_exact (seen_barred ∷ ys) e f h = none_exact ys e f h
+        none_exact (seen_skipped ∷ ys) e f h = cc
+        none_exact (seen_bound m ∷ ys) e f h = cc
+        none_exact (seen_node lost ∷ ys) e f h = none_exact ys e f h
+        none_exact (seen_node (exact v) ∷ ys) e f h = cc
+        none_exact (seen_node (at_most n) ∷ ys) e f h = cc
+        none_exact (seen_node unknown ∷ ys) e f h = cc
+
+    -- the tests of a bounded existential scope: all lost, no bound, some open, no exact leaf, the best beats the bounds
+    tests : (lost_all no_bound open_any none_any beaten : Bool) (v : List ℤ) (w : Verdict) → no_bound ≡ true → open_any ≡ false → (lost_all ≡ false → none_any ≡ false) → beaten ≡ true →
+        is_vague_verdict (cond (lost_all && no_bound) lost (cond open_any unknown (cond (not none_any && beaten) (exact v) w))) ≡ false
+    tests true true o n b v w q r s t = refl
+    tests l false o n b v w q r s t = cc
+    tests l m true n b v w q r s t = cc
+    tests false true false true b v w q r s t = let u = s refl in cc
+    tests false true false false true v w q r s t = refl
+    tests l m o n false v w q r s t = cc
+
+    none_beats : (q : ℤ → Bool) (ms : List ℤ) → is_none_of ms ≡ true → list_all q ms ≡ true
+    none_beats q [] e = refl
+    none_beats q (m ∷ ms) e = cc
+
+    existing : (own : Option Condition) (dd : List Condition) → is_vague_verdict (exists_verdict own dd xs) ≡ false
+    existing own [] = plainly (each_node is_lost xs) (some_node is_exact xs) refl refl
+    existing own (c ∷ dd) =
+        let v = best_vector (c ∷ dd) (exact_vectors xs) in
+        tests (each_node is_lost xs) (is_none_of (bounds xs)) (some_open xs) (is_none_of (exact_vectors xs)) (list_all (beats c.sense (is_none_of dd) (first_value v)) (bounds xs)) (without_own own v)
+        (cond (is_none own) (at_most (best_number c.sense (map first_value (exact_vectors xs) ++ bounds xs))) unknown) p.no_bounds p.none_open p.some (none_beats (beats c.sense (is_none_of dd) (first_value v)) (bounds xs) p.no_bounds)
+
+    universal : (b c : Bool) (v : List ℤ) (w : Verdict) → (b ≡ false → c ≡ true) → is_vague_verdict (cond b lost (cond c (exact v) w)) ≡ false
+    universal true c v w q = refl
+    universal false true v w q = refl
+    universal false false v w q = let r = q refl in cc
+
+    by : (k : Kind) (own : Option Condition) → is_vague_verdict (kind_verdict k own g d a xs) ≡ false
+    by Exists own = existing own (demands_after g Exists own d)
+    by Forall own = universal (some_node is_lost xs) (each_node is_exact xs) (entry_values g d a (numbers_for d (exact_vectors xs))) (bounded_forall g d xs) p.each
+
+-- nothing stays open, or the scope is settled
+pub decided : (g : Game) (later : List Scope) (d : List Condition) (a : List ℤ) (xs : List Seen) → is_goal later ≡ false → (is_settled later (list_after g later d) xs ≡ false → is_vague xs ≡ false) → is_vague_verdict (scope_verdict later g d a xs) ≡ false
+decided g later d a xs e f = by (is_settled later (list_after g later d) xs) refl
   where
-    to_exists : (a b : Bool) → cond a (exact []) (cond b lost unknown) ≡ verdict_of (verdict_by Exists (cond a Settled (cond b Whole Gap)))
-    to_exists true b = refl
-    to_exists false true = refl
-    to_exists false false = refl
+    by : (b : Bool) → is_settled later (list_after g later d) xs ≡ b → is_vague_verdict (scope_verdict later g d a xs) ≡ false
+    by true q = ap is_vague_verdict (settled_is g later d a xs q) ∙ settled_known later e
+    by false q = known g later d a xs e (f q)
 
-    to_forall : (a b : Bool) → cond a lost (cond b (exact []) unknown) ≡ verdict_of (verdict_by Forall (cond a Settled (cond b Whole Gap)))
-    to_forall true b = refl
-    to_forall false true = refl
-    to_forall false false = refl
+pub not_unknown : (v : Verdict) → is_vague_verdict v ≡ false → is_unknown v ≡ false
+not_unknown lost e = refl
+not_unknown (exact v) e = refl
+not_unknown (at_most p) e = refl
+not_unknown unknown e = cc
 
-    by : (k : Kind) (own : Option Condition) → own ≡ None → (a : List ℤ) (ls : List Leaf) →
-        (kind_finding k own g i [] a ls).verdict ≡ verdict_of (verdict_by k (after_all k Whole (map seen_of ls)))
-    by Exists None e a ls =
-        to_exists (some_node is_exact (map seen_of ls)) (each_node is_lost (map seen_of ls))
-        ∙ ap (λ j. verdict_of (verdict_by Exists j)) (sym (whole_join Exists (map seen_of ls)))
-    by Exists (Some c) e a ls = cc
-    by Forall own e a ls =
-        to_forall (some_node is_lost (map seen_of ls)) (each_node is_exact (map seen_of ls))
-        ∙ ap (λ j. verdict_of (verdict_by Forall j)) (sym (whole_join Forall (map seen_of ls)))
+pub settled_sure : (g : Game) (later : List Scope) (d : List Condition) (a : List ℤ) (xs : List Seen) → is_goal later ≡ false → is_settled later (list_after g later d) xs ≡ true → is_unknown (scope_verdict later g d a xs) ≡ false
+settled_sure g later d a xs e f = not_unknown (scope_verdict later g d a xs) (ap is_vague_verdict (settled_is g later d a xs f) ∙ settled_known later e)
 
--- leaves that leave a scope as nothing does leave it as it is
-all_neutral : (k : Kind) (i : Join) (xs : List Seen) → some_node (settles_at k) xs ≡ false → each_node (fails_at k) xs ≡ true → after_all k i xs ≡ i
-all_neutral k i [] e f = refl
-all_neutral k i (seen_barred ∷ xs) e f = all_neutral k i xs e f
-all_neutral k i (seen_skipped ∷ xs) e f = cc
-all_neutral k i (seen_bound m ∷ xs) e f = all_neutral k i xs e f
-all_neutral k i (seen_node v ∷ xs) e f =
-    let p = neither (settles_at k v) (some_node (settles_at k) xs) e in
-    let q = all_both (fails_at k v) (each_node (fails_at k) xs) f in
-    ap (λ a. after_all k (cond a Settled (cond (fails_at k v) i (with_gap i))) xs) p.0
-    ∙ (ap (λ b. after_all k (cond b i (with_gap i)) xs) q.0 ∙ all_neutral k i xs p.1 q.1)
+-- the words of joins say the same
+pub settled_so : (g : Game) (later : List Scope) (d : List Condition) (xs : List Seen) → scope_settled later g d xs ≡ is_settled later (list_after g later d) xs
+settled_so g [] d xs = sym (some_never (settles [] d) xs (λ v. refl))
+settled_so g (s ∷ later) d xs = by s.kind s.condition
   where
-    all_both : (a b : Bool) → (a && b) ≡ true → (a ≡ true) × (b ≡ true)
-    all_both true b e = (refl, e)
-    all_both false b e = cc
+    tested : (b : Bool) → (b && some_node is_exact xs) ≡ some_node (λ v. b && is_exact v) xs
+    tested true = refl
+    tested false = sym (some_never (λ v. false && is_exact v) xs (λ v. refl))
 
-pub neutral : (k : Kind) (i : Join) (xs : List Seen) → after_all k Whole xs ≡ Whole → after_all k i xs ≡ i
-neutral k i xs e = by (some_node (settles_at k) xs) (each_node (fails_at k) xs) refl refl (sym (whole_join k xs) ∙ e)
+    by : (k : Kind) (own : Option Condition) → kind_settled k own g d xs ≡ some_node (λ v. of_kind k (is_none_of (demands_after g k own d) && is_exact v) (is_lost v)) xs
+    by Exists own = tested (is_none_of (demands_after g Exists own d))
+    by Forall own = refl
+
+pub own_so : (g : Game) (later : List Scope) (i : ℕ) (d : List Condition) (a : List ℤ) (ls : List Leaf) → (scope_finding later g i d a ls).own ≡ scope_own later g d (map seen_of ls)
+own_so g [] i d a ls = refl
+own_so g (s ∷ later) i d a ls = by s.kind s.condition
   where
-    by : (a b : Bool) → some_node (settles_at k) xs ≡ a → each_node (fails_at k) xs ≡ b → cond a Settled (cond b Whole Gap) ≡ Whole → after_all k i xs ≡ i
-    by true b q r h = cc
-    by false true q r h = all_neutral k i xs q r
-    by false false q r h = cc
+    by : (k : Kind) (own : Option Condition) → (kind_finding k own g i d a ls).own ≡ kind_own k own g d (map seen_of ls)
+    by Exists own = refl
+    by Forall own = refl
+
+-- a scope that a leaf can settle has no condition, or is universal
+pub own_none : (g : Game) (later : List Scope) (d : List Condition) (xs : List Seen) → is_settled later (list_after g later d) xs ≡ true → scope_own later g d xs ≡ None
+own_none g [] d xs e = refl
+own_none g (s ∷ later) d xs e = by s.kind s.condition (settled_so g (s ∷ later) d xs ∙ e)
+  where
+    by : (k : Kind) (own : Option Condition) → kind_settled k own g d xs ≡ true → kind_own k own g d xs ≡ None
+    by Exists None e = refl
+    by Exists (Some c) e = cc
+    by Forall own e = refl

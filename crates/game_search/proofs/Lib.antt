@@ -1,7 +1,7 @@
 pub mod Bools
 pub mod Numbers
-pub mod Boards
 pub mod Places
+pub mod Sizes
 pub mod Joining
 pub mod Covers
 pub mod Fitting
@@ -9,6 +9,7 @@ pub mod Stepping
 pub mod Nodes
 pub mod Branching
 pub mod Progress
-pub mod Plain
+pub mod Here
+pub mod Remains
 pub mod Solved
 pub mod Trees

@@ -1,45 +1,54 @@
 -- What a node's record, and that of a part of its own tree, follows from: one lemma for each line.
-use Rattle.proof_tree.specs.Steps.{after_steps}
-use Rattle.proof_tree.specs.Finding.{stuck_finding}
-use Rattle.std.proofs.Common.{◌≡◌, ◌≤◌, ◌+◌, inl, ℕ, suc, Bool, true, false, not, ◌&&◌, List, [], refl, sym, ap, ◌∙◌, subst, arith, Option, None, ◌++◌}
-use Rattle.qc_model.specs.declared.problem.Kind.{Kind}
-use Rattle.qc_model.specs.declared.problem.Kind.TheVariants.{Exists, Forall}
+use Rattle.std.proofs.Common.{◌≡◌, ◌≤◌, Some, inl, ℕ, suc, Bool, true, false, not, ◌&&◌, List, [], ◌∷◌, refl, sym, ap, ◌∙◌, arith, Option, None, ◌++◌}
+use Rattle.std.specs.Prelude.{◌==◌, nat_le}
+use Rattle.std.proofs.lemmas.Bool.Decides.{nat_tests}
 use Rattle.qc_model.specs.declared.problem.Condition.{Condition}
 use Rattle.qc_model.specs.declared.problem.Scope.{Scope}
 use Rattle.qc_model.specs.declared.problem.VarId.{VarId}
 use Rattle.qc_model.specs.Content.{Game}
+use Rattle.qc_model.specs.Block.{constraints_in_force}
+use Rattle.qc_model.specs.Closed.{is_closed}
 use Rattle.qc_model.specs.Domains.{Box, values_left, is_single, has_empty}
 use Rattle.qc_model.specs.Game.{allows, is_of_scope}
-use Rattle.qc_model.specs.Verdict.{is_unknown}
+use Rattle.qc_model.specs.Verdict.{Verdict, Seen, seen_barred, seen_node, is_unknown}
 use Rattle.qc_model.specs.ForallVerdict.{goal_verdict}
 use Rattle.proof_tree.specs.Tree.{Tree, tree, goal, cases, Ending, barred, next, branch, Branches, Body, stuck, empty}
-use Rattle.proof_tree.specs.Counts.{ending_opens}
-use Rattle.proof_tree.specs.Place.{position, is_fixed, is_goal, next_scopes, list_after}
+use Rattle.proof_tree.specs.Counts.{turns_of, ending_turns, branch_turns}
+use Rattle.proof_tree.specs.Diligent.{SeesAhead}
+use Rattle.proof_tree.specs.Finding.{stuck_finding}
+use Rattle.proof_tree.specs.Place.{position, is_fixed, is_fixed_to, is_goal, next_scopes, list_after}
 use Rattle.proof_tree.specs.InPlace.{is_horizon, horizon_in_place, horizon_below}
 use Rattle.proof_tree.specs.Read.{read, leaves, marks}
+use Rattle.proof_tree.specs.Steps.{after_steps}
 use Rattle.proof_tree.specs.Order.{skips}
 use Rattle.proof_tree.specs.Text.{is_place, horizon_fits}
-use Rattle.game_search.specs.declared.join.NodeVerdict.{NodeVerdict}
-use Rattle.game_search.specs.declared.join.NodeVerdict.TheVariants.{Exact, Lost, Unknown}
-use Rattle.game_search.specs.declared.join.Join.{Join}
-use Rattle.game_search.specs.declared.join.Join.TheVariants.{Settled, Whole, Gap}
-use Rattle.game_search.specs.Joins.{verdict_of, unknowns, after_node, with_gap, verdict_by, is_settled, gaps}
-use Rattle.game_search.specs.Made.{NodeMade, EndingMade, PartMade, CasesMade}
-use Rattle.game_search.proofs.Bools.{two, not_false}
-use Rattle.game_search.proofs.Stepping.{part_joined, marks_same}
 use Rattle.proof_tree.specs.declared.tree.Step.{Step}
 use Rattle.proof_tree.specs.declared.tree.Horizon.{Horizon}
-use Rattle.game_search.proofs.Joining.{JoinLaws}
+use Rattle.qc_joins.specs.Joins.{IsLong}
+use Rattle.qc_joins.specs.Sizes.{IsSized}
+use Rattle.qc_joins.specs.Verdicts.{scope_verdict}
+use Rattle.game_search.specs.Own.{IsOwnSized}
+use Rattle.game_search.specs.Settled.{is_settled, is_vague, is_vague_verdict}
+use Rattle.game_search.specs.Made.{NodeMade, EndingMade, PartMade, CasesMade}
+use Rattle.game_search.proofs.Bools.{two, not_false}
+use Rattle.game_search.proofs.Joining.{verdict_so, decided, settled_sure, or_none}
+use Rattle.game_search.proofs.Sizes.{sizes_of, sizes_none, sizes_barred, sizes_more}
+use Rattle.game_search.proofs.Stepping.{part_says, unmarked}
 
-abbrev pub goal_verdict_by : Bool → NodeVerdict
-goal_verdict_by true = Exact
-goal_verdict_by false = Lost
+-- where the horizon in force is here, it is at most whatever lies ahead
+sees_here : (g : Game) (later : List Scope) (i : ℕ) (box : Box) (h : Option ℕ) → is_horizon h i ≡ true → SeesAhead g later i box h
+sees_here g [] i box h e = tt
+sees_here g (s ∷ later) i box None e = cc
+sees_here g (s ∷ later) i box (Some n) e = λ k from upto none. at_most n i k e from
+  where
+    at_most : (n i k : ℕ) → (n == i) ≡ true → i ≤ k → nat_le n k ≡ true
+    at_most n i k e h = grind (arith, nat_tests)
 
-pub goal_made : (cuts : Bool) (g : Game) (i : ℕ) (box : Box) (h : Option ℕ) (had : ℕ) (b : Bool) → is_horizon h i ≡ false → allows g i (position g i box) ≡ b →
-    NodeMade cuts g [] i [] box h (goal_verdict_by b) had had (tree None goal)
-goal_made cuts g i box h had b f e = record {
+pub goal_made : (cuts : Bool) (g : Game) (i : ℕ) (d : List Condition) (box : Box) (h : Option ℕ) (had : ℕ) (v : Verdict) → is_horizon h i ≡ false → goal_verdict g (allows g i (position g i box)) d (position g i box) ≡ v →
+    IsLong g i v → IsSized 1 v → NodeMade cuts g [] i d box h v had had (tree None goal)
+goal_made cuts g i d box h had v f e long sized = record {
   placed = two _ _ (not_false (is_horizon h i) f) refl;
-  verdict = ap (λ c. goal_verdict g c [] (position g i box)) e ∙ by b;
+  verdict = e;
   settled = refl;
   lasts = refl;
   ones = refl;
@@ -48,58 +57,35 @@ goal_made cuts g i box h had b f e = record {
   spent = omega arith;
   exact = λ f. omega arith;
   opens = inl refl;
-  gap = none b;
+  gap = λ o. ap is_vague_verdict (sym e) ∙ by (allows g i (position g i box));
+  long = long;
+  sized = sized;
+  own = tt;
+  closed = refl;
+  foreseen = (tt, tt);
 }
   where
-    by : (b : Bool) → goal_verdict g b [] (position g i box) ≡ verdict_of (goal_verdict_by b)
+    by : (b : Bool) → is_vague_verdict (goal_verdict g b d (position g i box)) ≡ false
     by true = refl
     by false = refl
 
-    none : (b : Bool) → unknowns (goal_verdict_by b) ≤ 0
-    none true = omega arith
-    none false = omega arith
-
-gap_more : (j : Join) → gaps (with_gap j) ≤ gaps j + 1
-gap_more Settled = omega arith
-gap_more Whole = omega arith
-gap_more Gap = omega arith
-
-node_gap : (k : Kind) (j : Join) (v : NodeVerdict) → gaps (after_node k j (verdict_of v)) ≤ gaps j + unknowns v
-node_gap Exists j Exact = omega arith
-node_gap Exists j Lost = omega arith
-node_gap Exists j Unknown = gap_more j
-node_gap Forall j Exact = omega arith
-node_gap Forall j Lost = omega arith
-node_gap Forall j Unknown = gap_more j
-
-verdict_gap : (k : Kind) (j : Join) → unknowns (verdict_by k j) ≡ gaps j
-verdict_gap Exists Settled = refl
-verdict_gap Forall Settled = refl
-verdict_gap Exists Whole = refl
-verdict_gap Forall Whole = refl
-verdict_gap k Gap = refl
-
-settled_known : (k : Kind) (j : Join) → is_settled j ≡ true → is_unknown (verdict_of (verdict_by k j)) ≡ false
-settled_known Exists Settled e = refl
-settled_known Forall Settled e = refl
-settled_known k Whole e = cc
-settled_known k Gap e = cc
-
-module _ (cuts : Bool) (g : Game) (later : List Scope) (i : ℕ) (d : List Condition) (k : Kind) (h : Option ℕ) where
-  -- a node of a scope, by its own tree
-  pub node_made : JoinLaws g later i d k → is_horizon h i ≡ false → (box : Box) (after : Join) (had left : ℕ) (steps : List Step) (e : Ending) → PartMade cuts g later i d k box h Whole after had left steps e →
-      NodeMade cuts g later i d box h (verdict_by k after) had left (tree None (cases steps e))
-  node_made laws f box after had left steps e p =
+module _ (cuts : Bool) (g : Game) (later : List Scope) (i : ℕ) (d : List Condition) (h : Option ℕ) where
+  -- a node of a scope, by its own tree, where no bound is among its steps
+  pub node_made : is_goal later ≡ false → is_horizon h i ≡ false → (box : Box) (seen : List Seen) (v : Verdict) (had left : ℕ) (steps : List Step) (e : Ending) → (p : PartMade cuts g later i d box h seen had left steps e) → p.first ≡ [] →
+      scope_verdict later g d (position g i box) seen ≡ v → IsLong g i v → IsSized (suc (ending_turns e)) v → IsOwnSized (suc (ending_turns e)) (read g (tree None (cases steps e)) later i d box).own →
+      SeesAhead g later i box h → NodeMade cuts g later i d box h v had left (tree None (cases steps e))
+  node_made scope f box seen v had left steps e p none comes long sized own ahead =
       let m = p.ended in
       let lm = marks g later i d steps box in
       let ls = leaves g e later i d (after_steps steps box) in
-      let whole = part_joined k Whole p.between after lm ls p.stepped.marked m.joined in
-      let shown : (read g (tree None (cases steps e)) later i d box).verdict ≡ verdict_of (verdict_by k after) = laws.verdict_so (position g i box) (lm ++ ls) ∙ ap (λ j. verdict_of (verdict_by k j)) (sym whole) in
-      let unmarked : p.between ≡ Whole = marks_same g later i d k box Whole p.between steps p.stepped in
+      let a = position g i box in
+      let shown : (read g (tree None (cases steps e)) later i d box).verdict ≡ scope_verdict later g d a seen =
+      verdict_so g later i d a (lm ++ ls) ∙ ap (scope_verdict later g d a) (sym (part_says cuts g later i d box h seen had left steps e p)) in
+      let all : p.last ≡ seen = unmarked cuts g later i d box h seen had left steps e p none in
       record {
-        placed = two _ _ (two _ _ (two _ _ (not_false (is_horizon h i) f) (not_false (is_goal later) laws.is_scope)) p.stepped.legal) m.placed;
-        verdict = shown;
-        settled = two _ _ (ap (λ v. not (skips e && is_unknown v)) shown ∙ by (skips e) m.skips) m.settled;
+        placed = two _ _ (two _ _ (two _ _ (not_false (is_horizon h i) f) (not_false (is_goal later) scope)) p.stepped.legal) m.placed;
+        verdict = shown ∙ comes;
+        settled = two _ _ (ap (λ u. not (skips e && is_unknown u)) shown ∙ by (skips e) (λ q. ap (is_settled later (list_after g later d)) (sym all) ∙ m.skips q)) m.settled;
         lasts = m.lasts;
         ones = m.ones;
         apart = m.apart;
@@ -107,18 +93,20 @@ module _ (cuts : Bool) (g : Game) (later : List Scope) (i : ℕ) (d : List Condi
         spent = m.spent;
         exact = m.exact;
         opens = m.opens;
-        gap = subst (λ n. n ≤ ending_opens e) (sym (verdict_gap k after)) (small (gaps after) (ending_opens e) (subst (λ j. gaps after ≤ gaps j + ending_opens e) unmarked m.gap));
+        gap = λ o. ap is_vague_verdict (sym comes) ∙ decided g later d a seen scope (λ q. ap is_vague (sym all) ∙ m.gap o (ap (is_settled later (list_after g later d)) all ∙ q));
+        long = long;
+        sized = sized;
+        own = own;
+        closed = m.closed;
+        foreseen = (ahead, m.foreseen);
       }
     where
-      by : (b : Bool) → (b ≡ true → is_settled after ≡ true) → not (b && is_unknown (verdict_of (verdict_by k after))) ≡ true
-      by true f = ap not (settled_known k after (f refl))
+      by : (b : Bool) → (b ≡ true → is_settled later (list_after g later d) seen ≡ true) → not (b && is_unknown (scope_verdict later g d (position g i box) seen)) ≡ true
+      by true f = ap not (settled_sure g later d (position g i box) seen scope (f refl))
       by false f = refl
 
-      small : (m n : ℕ) → m ≤ 0 + n → m ≤ n
-      small m n h = omega arith
-
   -- a horizon before the node's own lines
-  pub horizon_made : (z : Option Horizon) (c : Body) (box : Box) (v : NodeVerdict) (had left : ℕ) → horizon_in_place g z later i box h ≡ true → horizon_fits z ≡ true → NodeMade cuts g later i d box (horizon_below z h) v had left (tree None c) →
+  pub horizon_made : (z : Option Horizon) (c : Body) (box : Box) (v : Verdict) (had left : ℕ) → horizon_in_place g z later i box h ≡ true → horizon_fits z ≡ true → NodeMade cuts g later i d box (horizon_below z h) v had left (tree None c) →
       NodeMade cuts g later i d box h v had left (tree z c)
   horizon_made z c box v had left f q m = record {
     placed = two _ _ f m.placed;
@@ -132,12 +120,17 @@ module _ (cuts : Bool) (g : Game) (later : List Scope) (i : ℕ) (d : List Condi
     exact = m.exact;
     opens = m.opens;
     gap = m.gap;
+    long = m.long;
+    sized = m.sized;
+    own = m.own;
+    closed = m.closed;
+    foreseen = m.foreseen;
   }
 
   -- the scope is the horizon
-  pub stuck_made : (box : Box) (v : NodeVerdict) (had : ℕ) → is_horizon h i ≡ true → unknowns v ≡ 0 → (stuck_finding later g d (position g i box)).verdict ≡ verdict_of v →
+  pub stuck_made : (box : Box) (v : Verdict) (had : ℕ) → is_horizon h i ≡ true → is_vague_verdict v ≡ false → (stuck_finding later g d (position g i box)).verdict ≡ v → IsLong g i v → IsSized 1 v → IsOwnSized 1 (stuck_finding later g d (position g i box)).own →
       NodeMade cuts g later i d box h v had had (tree None stuck)
-  stuck_made box v had f n e = record {
+  stuck_made box v had f n e long sized own = record {
     placed = f;
     verdict = e;
     settled = refl;
@@ -148,14 +141,19 @@ module _ (cuts : Bool) (g : Game) (later : List Scope) (i : ℕ) (d : List Condi
     spent = omega arith;
     exact = λ f. omega arith;
     opens = inl refl;
-    gap = omega (arith, n);
+    gap = λ o. n;
+    long = long;
+    sized = sized;
+    own = own;
+    closed = refl;
+    foreseen = (sees_here g later i box h f, tt);
   }
 
   -- a domain is empty
-  pub empty_made : (box : Box) (before : Join) (had : ℕ) → has_empty box ≡ true → EndingMade cuts g later i d k box h before before had had empty
-  empty_made box before had f = record {
+  pub empty_made : (box : Box) (had : ℕ) → has_empty box ≡ true → EndingMade cuts g later i d box h [] had had empty
+  empty_made box had f = record {
     placed = f;
-    joined = refl;
+    says = refl;
     settled = refl;
     lasts = refl;
     ones = refl;
@@ -164,16 +162,20 @@ module _ (cuts : Bool) (g : Game) (later : List Scope) (i : ℕ) (d : List Condi
     spent = omega arith;
     exact = λ f. omega arith;
     opens = inl refl;
-    gap = omega arith;
+    gap = λ o q. refl;
     skips = λ e. cc;
+    long = tt;
+    sizes = sizes_none 1;
+    closed = refl;
+    foreseen = tt;
   }
 
   -- a tuple that isn't allowed
-  pub barred_made : (box : Box) (before : Join) (had : ℕ) → has_empty box ≡ false → is_fixed g i box ≡ true → allows g i (position g (suc i) box) ≡ false →
-      EndingMade cuts g later i d k box h before before had had barred
-  barred_made box before had full fixed refused = record {
+  pub barred_made : (box : Box) (had : ℕ) → has_empty box ≡ false → is_fixed g i box ≡ true → allows g i (position g (suc i) box) ≡ false →
+      EndingMade cuts g later i d box h (seen_barred ∷ []) had had barred
+  barred_made box had full fixed refused = record {
     placed = two _ _ (two _ _ (not_false (has_empty box) full) fixed) (not_false (allows g i (position g (suc i) box)) refused);
-    joined = refl;
+    says = refl;
     settled = refl;
     lasts = refl;
     ones = refl;
@@ -182,17 +184,21 @@ module _ (cuts : Bool) (g : Game) (later : List Scope) (i : ℕ) (d : List Condi
     spent = omega arith;
     exact = λ f. omega arith;
     opens = inl refl;
-    gap = omega arith;
+    gap = λ o q. refl;
     skips = λ e. cc;
+    long = tt;
+    sizes = sizes_barred 1;
+    closed = refl;
+    foreseen = tt;
   }
 
   -- a tuple that goes on to a node
-  pub next_made : (box : Box) (before : Join) (v : NodeVerdict) (had left : ℕ) (t : Tree) → has_empty box ≡ false → is_fixed g i box ≡ true → allows g i (position g (suc i) box) ≡ true →
+  pub next_made : (box : Box) (v : Verdict) (had left : ℕ) (t : Tree) → has_empty box ≡ false → is_fixed g i box ≡ true → allows g i (position g (suc i) box) ≡ true →
       NodeMade cuts g (next_scopes later) (suc i) (list_after g later d) box h v had left t →
-      EndingMade cuts g later i d k box h before (after_node k before (verdict_of v)) had left (next t)
-  next_made box before v had left t full fixed passes m = record {
+      EndingMade cuts g later i d box h (seen_node v ∷ []) had left (next t)
+  next_made box v had left t full fixed passes m = record {
     placed = two _ _ (two _ _ (two _ _ (not_false (has_empty box) full) fixed) passes) m.placed;
-    joined = ap (after_node k before) (sym m.verdict);
+    says = ap (λ u. seen_node u ∷ []) (sym m.verdict);
     settled = m.settled;
     lasts = m.lasts;
     ones = m.ones;
@@ -201,16 +207,21 @@ module _ (cuts : Bool) (g : Game) (later : List Scope) (i : ℕ) (d : List Condi
     spent = m.spent;
     exact = m.exact;
     opens = m.opens;
-    gap = omega (arith, node_gap k before v, m.gap);
+    gap = λ o q. or_none (is_vague_verdict v) false (m.gap o) refl;
     skips = λ e. cc;
+    long = (m.long, tt);
+    sizes = sizes_of (suc (turns_of t)) v m.sized;
+    closed = m.closed;
+    foreseen = m.foreseen;
   }
 
-  -- a branch, by its cases
-  pub branch_made : (box : Box) (x : VarId) (before after : Join) (had left : ℕ) (bs : Branches) → has_empty box ≡ false → is_of_scope g i x.0 ≡ true → is_single (values_left box x.0) ≡ false → is_place 500 x.0 ≡ true →
-      CasesMade cuts g later i d k box h x.0 (values_left box x.0) before after had left bs → EndingMade cuts g later i d k box h before after had left (branch x bs)
-  branch_made box x before after had left bs full own many place m = record {
+  -- a branch, by its cases, where the box is closed and the variables of the scope before x have one value left
+  pub branch_made : (box : Box) (x : VarId) (seen : List Seen) (had left : ℕ) (bs : Branches) → has_empty box ≡ false → is_of_scope g i x.0 ≡ true → is_single (values_left box x.0) ≡ false → is_place 500 x.0 ≡ true →
+      is_closed (constraints_in_force g later i) box ≡ true → is_fixed_to g i x.0 box ≡ true →
+      CasesMade cuts g later i d box h x.0 (values_left box x.0) false seen had left bs → EndingMade cuts g later i d box h seen had left (branch x bs)
+  branch_made box x seen had left bs full own many place closed earlier m = record {
     placed = two _ _ (two _ _ (two _ _ (not_false (has_empty box) full) own) (not_false (is_single (values_left box x.0)) many)) m.placed;
-    joined = m.joined;
+    says = m.says;
     settled = m.settled;
     lasts = m.lasts;
     ones = m.ones;
@@ -219,6 +230,10 @@ module _ (cuts : Bool) (g : Game) (later : List Scope) (i : ℕ) (d : List Condi
     spent = m.spent;
     exact = m.exact;
     opens = m.opens;
-    gap = m.gap;
-    skips = m.skips;
+    gap = λ o q. m.gap o refl q;
+    skips = λ q. m.skips q refl;
+    long = m.long;
+    sizes = sizes_more (branch_turns bs) (suc (branch_turns bs)) seen (omega arith) m.sizes;
+    closed = two _ _ (two _ _ closed earlier) m.closed;
+    foreseen = m.foreseen;
   }

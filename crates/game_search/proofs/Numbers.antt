@@ -1,18 +1,15 @@
 -- Tests that hold of each item of a list.
-use Rattle.std.proofs.Common.{◌≡◌, ℕ, Bool, true, ◌&&◌, List, [], ◌∷◌, ◌++◌, ap, ◌∙◌, Some, ℤ}
-use Rattle.std.specs.Prelude.{slice_get}
+use Rattle.std.proofs.Common.{◌≡◌, ℕ, zero, suc, Bool, true, ◌&&◌, List, [], ◌∷◌, ◌++◌, drop, refl, ap, ◌∙◌}
 use Rattle.std.specs.List.{list_all}
-use Rattle.qc_model.specs.declared.problem.Domain.{Domain}
-use Rattle.qc_model.specs.Domains.{domain_values}
-use Rattle.qc_model.specs.Valid.{is_number, is_domain}
-use Rattle.qc_model.proofs.DomainValues.{domain_fits}
-use Rattle.qc_rules.proofs.BoardLaws.{all_at}
+use Rattle.qc_model.specs.Domains.{Values}
+use Rattle.qc_model.specs.Valid.{is_number}
 use Rattle.game_search.proofs.Bools.{both}
 
 pub all_push : {X : Type 0} (p : X → Bool) (xs : List X) (x : X) → list_all p xs ≡ true → p x ≡ true → list_all p (xs ++ x ∷ []) ≡ true
 all_push p [] x h e = ap (λ c. c && true) e
 all_push p (y ∷ xs) x h e = let r = both (p y) (list_all p xs) h in ap (λ c. c && list_all p (xs ++ x ∷ [])) r.0 ∙ all_push p xs x r.1 e
 
--- a value of a valid domain is a number
-pub item_fits : (d : Domain) (k : ℕ) (v : ℤ) → is_domain d ≡ true → slice_get (domain_values d) k ≡ Some v → is_number v ≡ true
-item_fits d k v h e = all_at is_number (domain_values d) k v (domain_fits d h) e
+pub numbers_dropped : (n : ℕ) (vs : Values) → list_all is_number vs ≡ true → list_all is_number (drop n vs) ≡ true
+numbers_dropped zero vs e = e
+numbers_dropped (suc n) [] e = refl
+numbers_dropped (suc n) (v ∷ vs) e = numbers_dropped n vs (both (is_number v) (list_all is_number vs) e).1

@@ -1,5 +1,5 @@
 -- Items of lists by their places.
-use Rattle.std.proofs.Common.{◌≡◌, ℕ, zero, suc, ◌+◌, ◌<◌, List, [], ◌∷◌, length, drop, refl, sym, ap, ◌∙◌, arith, add-one, false}
+use Rattle.std.proofs.Common.{◌≡◌, ℕ, zero, suc, ◌<◌, List, [], ◌∷◌, length, drop, refl, arith, false}
 use Rattle.qc_model.specs.declared.problem.Scope.{Scope}
 use Rattle.qc_model.specs.Domains.{Values, is_single}
 use Rattle.proof_tree.specs.Place.{next_scopes}
@@ -9,14 +9,11 @@ drop_here n [] h = absurd (omega arith)
 drop_here zero (x ∷ xs) h = (x, refl)
 drop_here (suc n) (x ∷ xs) h = drop_here n xs (omega arith)
 
-pub next_of : (n : ℕ) (ss : List Scope) → next_scopes (drop n ss) ≡ drop (n + 1) ss
-next_of n ss = by n ss ∙ ap (λ m. drop m ss) (sym (add-one n))
-  where
-    by : (n : ℕ) (ss : List Scope) → next_scopes (drop n ss) ≡ drop (suc n) ss
-    by zero [] = refl
-    by (suc n) [] = refl
-    by zero (s ∷ ss) = refl
-    by (suc n) (s ∷ ss) = by n ss
+pub next_at : (n : ℕ) (ss : List Scope) → next_scopes (drop n ss) ≡ drop (suc n) ss
+next_at zero [] = refl
+next_at (suc n) [] = refl
+next_at zero (s ∷ ss) = refl
+next_at (suc n) (s ∷ ss) = next_at n ss
 
 -- more than one value
 pub several : (d : Values) (n : ℕ) → is_single d ≡ false → n < length d → 1 < length d

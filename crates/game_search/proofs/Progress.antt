@@ -1,40 +1,34 @@
 -- The cases of a branch, one after the other: what ends them from here on ends them whole.
-use Rattle.game_search.proofs.Stepping.{rebased}
-use Rattle.proof_tree.specs.declared.tree.Step.{Step}
-use Rattle.proof_tree.specs.Tree.{Ending}
-use Rattle.proof_tree.specs.Finding.{seen_of}
-use Rattle.proof_tree.specs.Read.{branch_leaves}
-use Rattle.game_search.specs.declared.join.Join.TheVariants.{Whole as Nothing}
-use Rattle.game_search.specs.Made.{PartMade}
-use Rattle.proof_tree.specs.Counts.{ending_turns, ending_opens}
-use Rattle.game_search.proofs.Stepping.{kept_moved, credited}
-use Rattle.std.proofs.Common.{map, zero, ◌≡◌, ◌<◌, ◌≤◌, ◌+◌, ◌-◌, ℕ, suc, true, false, List, [], ◌∷◌, ◌++◌, length, drop, refl, sym, ap, ◌∙◌, subst, arith, Option, None, Some, append_assoc, add-one, drop_of_length-le, take, Bool}
+use Rattle.std.proofs.Common.{map, ◌≡◌, ◌<◌, ◌≤◌, ◌+◌, ◌-◌, ℕ, suc, true, false, List, [], ◌∷◌, ◌++◌, length, drop, refl, sym, ap, ◌∙◌, subst, arith, Option, None, Some, append_assoc, take, Bool}
 use Rattle.std.proofs.lemmas.List.{append-nil}
-use Rattle.std.specs.Prelude.{ℤ, slice_get}
-use Rattle.qc_model.specs.declared.problem.Kind.{Kind}
+use Rattle.std.specs.Prelude.{ℤ}
+use Rattle.std.specs.List.{list_all}
 use Rattle.qc_model.specs.declared.problem.Condition.{Condition}
 use Rattle.qc_model.specs.declared.problem.Scope.{Scope}
 use Rattle.qc_model.specs.Content.{Game}
-use Rattle.qc_model.specs.Domains.{Box, Values, values_left, is_ascending}
-use Rattle.proof_tree.specs.Tree.{Branches, no_more, piece, skip, left_open, go}
-use Rattle.proof_tree.specs.Cover.{box_to}
+use Rattle.qc_model.specs.Domains.{Box, Values, values_left, is_none_left}
+use Rattle.qc_model.specs.Valid.{is_number}
+use Rattle.qc_model.specs.Verdict.{Seen, seen_skipped}
+use Rattle.proof_tree.specs.Tree.{Ending, Branches, no_more, piece, skip, left_open, go}
+use Rattle.proof_tree.specs.Counts.{ending_turns}
+use Rattle.proof_tree.specs.Cover.{box_to, is_cover, uncovered}
+use Rattle.proof_tree.specs.Place.{list_after}
+use Rattle.proof_tree.specs.Lines.{step_line, upto_lines, ending_lines, branches_lines}
 use Rattle.proof_tree.specs.declared.line.Line.{Line}
 use Rattle.proof_tree.specs.declared.line.Line.TheVariants.{Skip, Open, Range}
-use Rattle.game_search.specs.declared.join.Join.{Join}
-use Rattle.game_search.specs.Joins.{with_gap, is_settled}
-use Rattle.game_search.specs.Uppers.{upto_all, upto_first}
-use Rattle.proof_tree.specs.Lines.{step_line, upto_lines, ending_lines, branches_lines}
+use Rattle.proof_tree.specs.declared.tree.Step.{Step}
+use Rattle.qc_joins.specs.Sizes.{HasSizes}
+use Rattle.qc_joins.proofs.Sizing.{sizes_both}
+use Rattle.game_search.specs.Settled.{is_settled}
+use Rattle.game_search.specs.Uppers.{upto_all}
 use Rattle.game_search.specs.Made.{CasesMade}
 use Rattle.game_search.specs.Written.{CasesWritten, PartWritten}
-use Rattle.game_search.proofs.Joining.{JoinLaws, stays_settled, gap_unsettled}
-use Rattle.qc_rules.proofs.Items.{drop_at}
-use Rattle.game_search.proofs.Places.{drop_here}
-use Rattle.std.specs.List.{list_all}
-use Rattle.qc_model.specs.Valid.{is_number}
-use Rattle.proof_tree.specs.declared.tree.Version.TheVariants.{Two}
-use Rattle.proof_tree.specs.Text.{upto_fits}
-use Rattle.game_search.proofs.Fitting.{rest_fits}
 use Rattle.game_search.proofs.Branching.{none_made, go_made, skip_made, open_made, first_skipped, cut_more}
+use Rattle.game_search.proofs.Covers.{covers_all}
+use Rattle.game_search.proofs.Fitting.{upper_fits}
+use Rattle.game_search.proofs.Joining.{settled-append, settled_from, or_first}
+use Rattle.game_search.proofs.Sizes.{sizes_none, sizes_skipped}
+use Rattle.game_search.proofs.Stepping.{unmarked}
 
 skip_lines : (u : Option ℤ) → upto_lines u ++ Skip ∷ [] ≡ branches_lines (piece u skip no_more)
 skip_lines None = refl
@@ -67,161 +61,153 @@ regroup : (old : List Line) (u : Option ℤ) (steps : List Step) (e : Ending) (b
 regroup old None steps e bs = append_assoc old (Skip ∷ (map step_line steps ++ ending_lines e)) (branches_lines bs)
 regroup old (Some high) steps e bs = append_assoc old (Range high ∷ Skip ∷ (map step_line steps ++ ending_lines e)) (branches_lines bs)
 
--- cases for the values here are owed; the join, the turns and the lines are at mid, left and now
-pub record Progress (cuts : Bool) (g : Game) (later : List Scope) (i : ℕ) (d : List Condition) (k : Kind) (box : Box) (h : Option ℕ) (x : ℕ) (vs : Values) (before : Join) (had : ℕ) (old : List Line)
-    (here : Values) (mid : Join) (left : ℕ) (now : List Line) : Type 0 where
-  -- the turns only fall, and a settled scope stays settled
-  pub fell : left ≤ had
-  pub early : is_settled before ≡ true → is_settled mid ≡ true
+-- cases for the values here are owed; what was seen, the turns and the lines are at seen, left and now
+pub record Progress (cuts : Bool) (g : Game) (later : List Scope) (i : ℕ) (d : List Condition) (box : Box) (h : Option ℕ) (x : ℕ) (vs : Values) (had : ℕ) (old : List Line)
+    (here : Values) (seen : List Seen) (left : ℕ) (now : List Line) : Type 0 where
+  -- the turns only fall, and what was seen is no larger than those used can make it
+  pub used : ℕ
+  pub fell : used + left ≤ had
+  pub sizes : HasSizes used seen
   -- the lines are those before and more
   pub written : List Line
   pub now_is : now ≡ old ++ written
-  pub ends : (bs : Branches) (after : Join) (last : ℕ) (new : List Line) → CasesMade cuts g later i d k box h x here mid after left last bs → new ≡ now ++ branches_lines bs →
-      CasesWritten cuts g later i d k box h x vs before after had last old new
+  pub ends : (bs : Branches) (rest : List Seen) (last : ℕ) (new : List Line) → CasesMade cuts g later i d box h x here (is_settled later (list_after g later d) seen) rest left last bs → new ≡ now ++ branches_lines bs →
+      CasesWritten cuts g later i d box h x vs (seen ++ rest) had last old new
 
-module _ (cuts : Bool) (g : Game) (later : List Scope) (i : ℕ) (d : List Condition) (k : Kind) (box : Box) (h : Option ℕ) (x : ℕ) (vs : Values) (before : Join) (had : ℕ) (old : List Line) where
-  abbrev At : Values → Join → ℕ → List Line → Type 0
-  At here mid left now = Progress cuts g later i d k box h x vs before had old here mid left now
+module _ (cuts : Bool) (g : Game) (later : List Scope) (i : ℕ) (d : List Condition) (box : Box) (h : Option ℕ) (x : ℕ) (vs : Values) (had : ℕ) (old : List Line) where
+  abbrev At : Values → List Seen → ℕ → List Line → Type 0
+  At here seen left now = Progress cuts g later i d box h x vs had old here seen left now
 
-  abbrev Whole : Join → ℕ → List Line → Type 0
-  Whole after last new = CasesWritten cuts g later i d k box h x vs before after had last old new
+  abbrev Whole : List Seen → ℕ → List Line → Type 0
+  Whole seen last new = CasesWritten cuts g later i d box h x vs seen had last old new
 
-  pub start : At vs before had old
-  start = record { fell = omega arith; early = λ e. e; written = []; now_is = sym (append-nil old); ends = λ bs after last new m e. record { cases = bs; lines = e; made = m } }
+  abbrev Settled : List Seen → Bool
+  Settled seen = is_settled later (list_after g later d) seen
 
-  -- a case is gone into
-  pub taken : JoinLaws g later i d k → (v : ℤ) (rest : Values) (mid next_mid : Join) (left next_left : ℕ) (now next_now : List Line) → 1 < length (values_left box x) → is_settled mid ≡ false →
-      At (v ∷ rest) mid (1 + left) now → PartWritten cuts g later i d k (box_to box x (v ∷ [])) h mid next_mid left next_left now next_now → At rest next_mid next_left next_now
-  taken laws v rest mid next_mid left next_left now next_now many not_yet p w = record {
+  -- a part in a case of x that is gone into
+  abbrev Part : ℤ → List Seen → ℕ → ℕ → List Line → List Line → Type 0
+  Part v seen left last now new = PartWritten cuts g later i d (box_to box x (v ∷ [])) h seen left last now new
+
+  pub start : At vs [] had old
+  start = record {
+    used = 0;
+    fell = omega arith;
+    sizes = sizes_none 0;
+    written = [];
+    now_is = sym (append-nil old);
+    ends = λ bs rest last new m e. record { cases = bs; lines = e; made = m };
+  }
+
+  part_sizes : (v : ℤ) (seen : List Seen) (left last : ℕ) (now new : List Line) → (w : Part v seen left last now new) → w.made.first ≡ [] → HasSizes (suc (ending_turns w.ending)) seen
+  part_sizes v seen left last now new w none =
+      subst (HasSizes (suc (ending_turns w.ending))) (unmarked cuts g later i d (box_to box x (v ∷ [])) h seen left last w.steps w.ending w.made none) w.made.ended.sizes
+
+  -- a case is gone into, without a bound
+  taken : (v : ℤ) (rest : Values) (seen more : List Seen) (left next_left : ℕ) (now next_now : List Line) → 1 < length (values_left box x) → Settled seen ≡ false →
+      At (v ∷ rest) seen (1 + left) now → (w : Part v more left next_left now next_now) → w.made.first ≡ [] → At rest (seen ++ more) next_left next_now
+  taken v rest seen more left next_left now next_now many not_yet p w none = record {
+    used = p.used + suc (ending_turns w.ending);
     fell = omega (arith, p.fell, w.made.ended.spent);
-    early = λ e. let q : true ≡ false = sym (p.early e) ∙ not_yet in cc;
+    sizes = sizes_both p.used (suc (ending_turns w.ending)) seen more p.sizes (part_sizes v more left next_left now next_now w none);
     written = p.written ++ (map step_line w.steps ++ ending_lines w.ending);
     now_is = w.lines ∙ (ap (λ ls. ls ++ (map step_line w.steps ++ ending_lines w.ending)) p.now_is ∙ append_assoc old p.written (map step_line w.steps ++ ending_lines w.ending));
-    ends = λ bs after last new m e.
-        p.ends (piece None (go w.steps w.ending) bs) after last new
-        (go_made cuts g later i d k box h x laws v rest mid next_mid after left next_left last w.steps w.ending bs many not_yet w.made m)
-        (e ∙ (ap (λ ls. ls ++ branches_lines bs) w.lines ∙ append_assoc now (map step_line w.steps ++ ending_lines w.ending) (branches_lines bs)));
+    ends = λ bs others last new m e.
+        let after = subst (λ b. CasesMade cuts g later i d box h x rest b others next_left last bs) (settled_from later (list_after g later d) seen more not_yet) m in
+        let here = go_made cuts g later i d box h x v rest more others left next_left last w.steps w.ending bs many w.made none after in
+        let same : (seen ++ more) ++ others ≡ seen ++ (more ++ others) = append_assoc seen more others in
+        subst (λ xs. Whole xs last new) (sym same)
+        (p.ends (piece None (go w.steps w.ending) bs) (more ++ others) last new
+        (subst (λ b. CasesMade cuts g later i d box h x (v ∷ rest) b (more ++ others) (1 + left) last (piece None (go w.steps w.ending) bs)) (sym not_yet) here)
+        (e ∙ (ap (λ ls. ls ++ branches_lines bs) w.lines ∙ append_assoc now (map step_line w.steps ++ ending_lines w.ending) (branches_lines bs))));
   }
 
   -- no value is left
-  none : (mid : Join) (left : ℕ) (now : List Line) → At [] mid left now → Whole mid left now
-  none mid left now p = p.ends no_more mid left now (none_made cuts g later i d k box h x mid left) (sym (append-nil now))
+  pub none : (seen : List Seen) (left : ℕ) (now : List Line) → At [] seen left now → Whole seen left now
+  none seen left now p =
+      subst (λ xs. Whole xs left now) (append-nil seen)
+      (p.ends no_more [] left now (none_made cuts g later i d box h x (Settled seen) left) (sym (append-nil now)))
 
   -- the scope is settled
-  skipped : (v : ℤ) (rest : Values) (mid : Join) (left : ℕ) (now new : List Line) → is_settled mid ≡ true → upto_fits Two (upto_all (v ∷ rest)) ≡ true → At (v ∷ rest) mid left now → new ≡ now ++ (upto_lines (upto_all (v ∷ rest)) ++ Skip ∷ []) → Whole mid left new
-  skipped v rest mid left now new e f p q =
-      p.ends (piece (upto_all (v ∷ rest)) skip no_more) mid left new (skip_made cuts g later i d k box h x v rest mid left e f) (then_lines now new (upto_lines (upto_all (v ∷ rest)) ++ Skip ∷ []) (branches_lines (piece (upto_all (v ∷ rest)) skip no_more)) q (skip_lines (upto_all (v ∷ rest))))
+  pub skipped : (here : Values) (seen : List Seen) (left : ℕ) (now new : List Line) → is_none_left here ≡ false → list_all is_number here ≡ true → Settled seen ≡ true → At here seen left now → new ≡ now ++ (upto_lines (upto_all here) ++ Skip ∷ []) →
+      Whole (seen ++ seen_skipped ∷ []) left new
+  skipped [] seen left now new some numbers e p q = cc
+  skipped (v ∷ rest) seen left now new some numbers e p q =
+      let u = upto_all (v ∷ rest) in
+      p.ends (piece u skip no_more) (seen_skipped ∷ []) left new
+      (subst (λ b. CasesMade cuts g later i d box h x (v ∷ rest) b (seen_skipped ∷ []) left left (piece u skip no_more)) (sym e)
+      (skip_made cuts g later i d box h x v rest left (upper_fits u (v ∷ rest) numbers (covers_all v rest).is_case)))
+      (then_lines now new (upto_lines u ++ Skip ∷ []) (branches_lines (piece u skip no_more)) q (skip_lines u))
 
   -- no turn is left
-  opened : (v : ℤ) (rest : Values) (mid : Join) (left : ℕ) (now new : List Line) → left ≡ 0 → upto_fits Two (upto_all (v ∷ rest)) ≡ true → At (v ∷ rest) mid left now → new ≡ now ++ (upto_lines (upto_all (v ∷ rest)) ++ Open ∷ []) → Whole (with_gap mid) left new
-  opened v rest mid left now new e f p q =
-      p.ends (piece (upto_all (v ∷ rest)) left_open no_more) (with_gap mid) left new (open_made cuts g later i d k box h x v rest mid left e f) (then_lines now new (upto_lines (upto_all (v ∷ rest)) ++ Open ∷ []) (branches_lines (piece (upto_all (v ∷ rest)) left_open no_more)) q (open_lines (upto_all (v ∷ rest))))
+  pub opened : (here : Values) (seen : List Seen) (left : ℕ) (now new : List Line) → is_none_left here ≡ false → list_all is_number here ≡ true → left ≡ 0 → At here seen left now → new ≡ now ++ (upto_lines (upto_all here) ++ Open ∷ []) →
+      Whole (seen ++ seen_skipped ∷ []) left new
+  opened [] seen left now new some numbers e p q = cc
+  opened (v ∷ rest) seen left now new some numbers e p q =
+      let u = upto_all (v ∷ rest) in
+      p.ends (piece u left_open no_more) (seen_skipped ∷ []) left new (open_made cuts g later i d box h x (Settled seen) v rest left e (upper_fits u (v ∷ rest) numbers (covers_all v rest).is_case))
+      (then_lines now new (upto_lines u ++ Open ∷ []) (branches_lines (piece u left_open no_more)) q (open_lines u))
 
-  -- the same, where the values left are those from place n on
-  pub none_at : (n : ℕ) (mid : Join) (left : ℕ) (now : List Line) → length vs ≤ n → At (drop n vs) mid left now → Whole mid left now
-  none_at n mid left now e p = none mid left now (subst (λ us. At us mid left now) (drop_of_length-le vs e) p)
-
-  pub skipped_at : (n : ℕ) (mid : Join) (left : ℕ) (now new : List Line) → list_all is_number vs ≡ true → n < length vs → is_settled mid ≡ true → At (drop n vs) mid left now → new ≡ now ++ (upto_lines (upto_all (drop n vs)) ++ Skip ∷ []) → Whole mid left new
-  skipped_at n mid left now new numbers l e p q =
-      let s = drop_here n vs l in
-      skipped s.0 (drop (suc n) vs) mid left now new e (rest_fits n vs s.0 (drop (suc n) vs) s.1 numbers) (subst (λ us. At us mid left now) s.1 p) (q ∙ ap (λ us. now ++ (upto_lines (upto_all us) ++ Skip ∷ [])) s.1)
-
-  pub opened_at : (n : ℕ) (mid after : Join) (left : ℕ) (now new : List Line) → list_all is_number vs ≡ true → n < length vs → left ≡ 0 → after ≡ with_gap mid → At (drop n vs) mid left now → new ≡ now ++ (upto_lines (upto_all (drop n vs)) ++ Open ∷ []) → Whole after left new
-  opened_at n mid after left now new numbers l e f p q =
-      let s = drop_here n vs l in
-      subst (λ j. Whole j left new) (sym f)
-      (opened s.0 (drop (suc n) vs) mid left now new e (rest_fits n vs s.0 (drop (suc n) vs) s.1 numbers) (subst (λ us. At us mid left now) s.1 p) (q ∙ ap (λ us. now ++ (upto_lines (upto_all us) ++ Open ∷ [])) s.1))
-
-  pub taken_at : JoinLaws g later i d k → (n : ℕ) (v : ℤ) (mid next_mid : Join) (left next_left : ℕ) (now next_now : List Line) → 1 < length (values_left box x) → slice_get vs n ≡ Some v → is_settled mid ≡ false → ¬ (left ≡ 0) →
-      At (drop n vs) mid left now → PartWritten cuts g later i d k (box_to box x (v ∷ [])) h mid next_mid (left - 1) next_left now next_now → At (drop (n + 1) vs) next_mid next_left next_now
-  taken_at laws n v mid next_mid left next_left now next_now many e not_yet some p w =
+  -- a case is gone into with the turns that are left
+  pub taken_from : (here rest : Values) (v : ℤ) (seen more : List Seen) (left next_left : ℕ) (now next_now : List Line) → 1 < length (values_left box x) → here ≡ v ∷ rest → Settled seen ≡ false → ¬ (left ≡ 0) →
+      At here seen left now → (w : Part v more (left - 1) next_left now next_now) → w.made.first ≡ [] → At rest (seen ++ more) next_left next_now
+  taken_from here rest v seen more left next_left now next_now many e not_yet some p w none =
       let one_more : left ≡ 1 + (left - 1) = positive left some in
-      let q = subst (λ us. At us mid left now) (drop_at n vs v e) p in
-      subst (λ m. At (drop m vs) next_mid next_left next_now) (sym (add-one n))
-      (taken laws v (drop (suc n) vs) mid next_mid (left - 1) next_left now next_now many not_yet (subst (λ m. At (v ∷ drop (suc n) vs) mid m now) one_more q) w)
+      taken v rest seen more (left - 1) next_left now next_now many not_yet (subst (λ m. At (v ∷ rest) seen m now) one_more (subst (λ us. At us seen left now) e p)) w none
     where
       positive : (m : ℕ) → ¬ (m ≡ 0) → m ≡ 1 + (m - 1)
       positive m h = omega arith
 
-  -- a case settles the scope, and those before it are cut: at counts the lines up to it, and start those up to the first
-  pub cut_at : JoinLaws g later i d k → cuts ≡ true → is_ascending vs ≡ true → list_all is_number vs ≡ true → (n : ℕ) (v : ℤ) (mid next_mid : Join) (left next_left : ℕ) (now next_now new : List Line) → 1 < length (values_left box x) →
-      slice_get vs (suc n) ≡ Some v → suc n < length vs → is_settled mid ≡ false → is_settled next_mid ≡ true → ¬ (left ≡ 0) →
-      left ≤ had → (is_settled before ≡ true → is_settled mid ≡ true) → (written : List Line) → now ≡ old ++ written → PartWritten cuts g later i d k (box_to box x (v ∷ [])) h mid next_mid (left - 1) next_left now next_now →
-      new ≡ take (length old) next_now ++ ((upto_lines (upto_first (suc n) vs) ++ Skip ∷ []) ++ drop (length now) next_now) → At (drop (suc (suc n)) vs) next_mid next_left new
-  cut_at laws cut rises numbers n v mid next_mid left next_left now next_now new many e within not_yet settled some fell early written now_is w q =
+  -- a case settles the scope, and those before it are cut, to which u is the upper value: written has the lines since the
+  -- branch began
+  cut_here : cuts ≡ true → list_all is_number vs ≡ true → (u : Option ℤ) (rest : Values) (v : ℤ) (more : List Seen) (left next_left : ℕ) (now next_now new : List Line) → 1 < length (values_left box x) →
+      is_cover u vs ≡ true → uncovered u vs ≡ v ∷ rest → Settled more ≡ true → ¬ (left ≡ 0) → left ≤ had → (written : List Line) → now ≡ old ++ written → (w : Part v more (left - 1) next_left now next_now) → w.made.first ≡ [] →
+      new ≡ take (length old) next_now ++ ((upto_lines u ++ Skip ∷ []) ++ drop (length now) next_now) → At rest (seen_skipped ∷ more) next_left new
+  cut_here cut numbers u rest v more left next_left now next_now new many case leaves settled some fell written now_is w none q =
       let part = map step_line w.steps ++ ending_lines w.ending in
-      let u = upto_first (suc n) vs in
-      let not_before = unsettled_before (is_settled before) refl early in
       let new_is : new ≡ old ++ ((upto_lines u ++ Skip ∷ []) ++ part) = cut_lines old now next_now new written part (upto_lines u ++ Skip ∷ []) now_is w.lines q in
+      let one_less : 1 + (left - 1) ≤ had = less left had some fell in
       record {
-        fell = omega (arith, fell, w.made.ended.spent);
-        early = λ f. settled;
+        used = 0 + suc (ending_turns w.ending);
+        fell = omega (arith, one_less, w.made.ended.spent);
+        sizes = sizes_both 0 (suc (ending_turns w.ending)) (seen_skipped ∷ []) more (sizes_skipped 0) (part_sizes v more (left - 1) next_left now next_now w none);
         written = (upto_lines u ++ Skip ∷ []) ++ part;
         now_is = new_is;
-        ends = λ bs after last after_new m f.
-            let here : drop (suc n) vs ≡ v ∷ drop (suc (suc n)) vs = drop_at (suc n) vs v e in
-            let gone = go_made cuts g later i d k box h x laws v (drop (suc (suc n)) vs) (with_gap before) next_mid after (left - 1) next_left last w.steps w.ending bs many (gap_unsettled before not_before)
-            (rebased cuts g later i d k (box_to box x (v ∷ [])) h mid (with_gap before) next_mid (left - 1) next_left w.steps w.ending not_yet settled w.made) m in
+        ends = λ bs others last after_new m f.
             let cs = piece None (go w.steps w.ending) bs in
-            let after_settled : is_settled after ≡ true = ap is_settled m.joined ∙ stays_settled k next_mid (map seen_of (branch_leaves g bs x (drop (suc (suc n)) vs) later i d box)) settled in
-            let gone_here = subst (λ us. CasesMade cuts g later i d k box h x us (with_gap before) after (1 + (left - 1)) last cs) (sym here) gone in
-            let one_less : 1 + (left - 1) ≤ had = less left had some fell in
+            let gone = go_made cuts g later i d box h x v rest more others (left - 1) next_left last w.steps w.ending bs many w.made none m in
+            let all_settled : Settled (more ++ others) ≡ true = settled-append later (list_after g later d) more others ∙ or_first (Settled more) (Settled others) settled in
             record {
               cases = piece u skip cs;
               lines = f ∙ (ap (λ ls. ls ++ branches_lines bs) new_is ∙ regroup old u w.steps w.ending bs);
-              made = cut_more cuts g later i d k box h x vs before after (1 + (left - 1)) had last (piece u skip cs) cut one_less
-                  (first_skipped cuts g later i d k box h x n vs before after (1 + (left - 1)) last cs rises numbers within not_before after_settled refl gone_here);
+              made = cut_more cuts g later i d box h x vs false (seen_skipped ∷ (more ++ others)) (1 + (left - 1)) had last (piece u skip cs) cut one_less
+                  (first_skipped cuts g later i d box h x u vs (v ∷ rest) (more ++ others) (1 + (left - 1)) last cs case leaves numbers all_settled refl gone);
             };
       }
     where
       less : (m n : ℕ) → ¬ (m ≡ 0) → m ≤ n → 1 + (m - 1) ≤ n
       less m n h l = omega arith
 
-      unsettled_before : (b : Bool) → is_settled before ≡ b → (is_settled before ≡ true → is_settled mid ≡ true) → is_settled before ≡ false
-      unsettled_before true q f = let r : true ≡ false = sym (f q) ∙ not_yet in cc
-      unsettled_before false q f = q
-
-  -- the same, where n counts the cases before
-  pub cut_after : JoinLaws g later i d k → cuts ≡ true → is_ascending vs ≡ true → list_all is_number vs ≡ true → (n : ℕ) (v : ℤ) (mid next_mid : Join) (left next_left : ℕ) (now next_now new : List Line) → 1 < length (values_left box x) →
-      0 < n → slice_get vs n ≡ Some v → n < length vs → is_settled mid ≡ false → is_settled next_mid ≡ true → ¬ (left ≡ 0) →
-      At (drop n vs) mid left now → PartWritten cuts g later i d k (box_to box x (v ∷ [])) h mid next_mid (left - 1) next_left now next_now →
-      new ≡ take (length old) next_now ++ ((upto_lines (upto_first n vs) ++ Skip ∷ []) ++ drop (length now) next_now) → At (drop (n + 1) vs) next_mid next_left new
-  cut_after laws cut rises numbers zero v mid next_mid left next_left now next_now new many h e within not_yet settled some p w q = absurd (omega arith)
-  cut_after laws cut rises numbers (suc n) v mid next_mid left next_left now next_now new many h e within not_yet settled some p w q =
-      subst (λ m. At (drop m vs) next_mid next_left new) (sym (add-one (suc n)))
-      (cut_at laws cut rises numbers n v mid next_mid left next_left now next_now new many e within not_yet settled some p.fell p.early p.written p.now_is w q)
+  -- the same after the cases before
+  pub cut_after : cuts ≡ true → list_all is_number vs ≡ true → (u : Option ℤ) (here rest : Values) (v : ℤ) (seen more : List Seen) (left next_left : ℕ) (now next_now new : List Line) → 1 < length (values_left box x) →
+      is_cover u vs ≡ true → uncovered u vs ≡ v ∷ rest → Settled more ≡ true → ¬ (left ≡ 0) → At here seen left now → (w : Part v more (left - 1) next_left now next_now) → w.made.first ≡ [] →
+      new ≡ take (length old) next_now ++ ((upto_lines u ++ Skip ∷ []) ++ drop (length now) next_now) → At rest (seen_skipped ∷ more) next_left new
+  cut_after cut numbers u here rest v seen more left next_left now next_now new many case leaves settled some p w none q =
+      cut_here cut numbers u rest v more left next_left now next_now new many case leaves settled some (omega (arith, p.fell)) p.written p.now_is w none q
 
   -- a case tried before all others settles the scope: those before it are cut, though none was gone into
-  pub jump_after : JoinLaws g later i d k → cuts ≡ true → is_ascending vs ≡ true → list_all is_number vs ≡ true → (n : ℕ) (v : ℤ) (next_mid : Join) (next_left : ℕ) (next_now new : List Line) → 1 < length (values_left box x) →
-      slice_get vs (suc n) ≡ Some v → suc n < length vs → is_settled before ≡ false → is_settled next_mid ≡ true → ¬ (had ≡ 0) → PartWritten cuts g later i d k (box_to box x (v ∷ [])) h before next_mid (had - 1) next_left old next_now →
-      new ≡ take (length old) next_now ++ ((upto_lines (upto_first (suc n) vs) ++ Skip ∷ []) ++ drop (length old) next_now) → At (drop (suc (suc n)) vs) next_mid next_left new
-  jump_after laws cut rises numbers n v next_mid next_left next_now new many e within not_yet settled some w q =
-      cut_at laws cut rises numbers n v before next_mid had next_left old next_now new many e within not_yet settled some (omega arith) (λ f. f) [] (sym (append-nil old)) w q
+  pub jump_after : cuts ≡ true → list_all is_number vs ≡ true → (u : Option ℤ) (rest : Values) (v : ℤ) (more : List Seen) (next_left : ℕ) (next_now new : List Line) → 1 < length (values_left box x) →
+      is_cover u vs ≡ true → uncovered u vs ≡ v ∷ rest → Settled more ≡ true → ¬ (had ≡ 0) → (w : Part v more (had - 1) next_left old next_now) → w.made.first ≡ [] →
+      new ≡ take (length old) next_now ++ ((upto_lines u ++ Skip ∷ []) ++ drop (length old) next_now) → At rest (seen_skipped ∷ more) next_left new
+  jump_after cut numbers u rest v more next_left next_now new many case leaves settled some w none q =
+      cut_here cut numbers u rest v more had next_left old next_now new many case leaves settled some (omega arith) [] (sym (append-nil old)) w none q
 
   -- turns may be counted before their case is appended
-  pub fewer_left : cuts ≡ true → (here : Values) (mid : Join) (left less : ℕ) (now : List Line) → less ≤ left → At here mid left now → At here mid less now
-  fewer_left cut here mid left less now l p = record {
+  pub fewer_left : cuts ≡ true → (here : Values) (seen : List Seen) (left less : ℕ) (now : List Line) → less ≤ left → At here seen left now → At here seen less now
+  fewer_left cut here seen left less now l p = record {
+    used = p.used;
     fell = omega (arith, l, p.fell);
-    early = p.early;
+    sizes = p.sizes;
     written = p.written;
     now_is = p.now_is;
-    ends = λ bs after last new m e. p.ends bs after last new (cut_more cuts g later i d k box h x here mid after less left last bs cut l m) e;
+    ends = λ bs rest last new m e. p.ends bs rest last new (cut_more cuts g later i d box h x here (Settled seen) rest less left last bs cut l m) e;
   }
-
-  -- the walk passes the place of a case that was gone into before, and appends its lines
-  pub kept_at : JoinLaws g later i d k → cuts ≡ true → (n : ℕ) (v : ℤ) (mid : Join) (paid rest left : ℕ) (now : List Line) (steps : List Step) (e : Ending) → 1 < length (values_left box x) → slice_get vs n ≡ Some v →
-      is_settled mid ≡ false → ending_opens e ≡ 0 → PartMade cuts g later i d k (box_to box x (v ∷ [])) h Nothing Nothing paid rest steps e → At (drop n vs) mid (1 + (ending_turns e + left)) now →
-      At (drop (n + 1) vs) mid left (now ++ (map step_line steps ++ ending_lines e))
-  kept_at laws cut n v mid paid rest left now steps e many at not_yet closed m p =
-      let q = subst (λ us. At us mid (1 + (ending_turns e + left)) now) (drop_at n vs v at) p in
-      let moved = kept_moved cuts g later i d k (box_to box x (v ∷ [])) h mid paid rest left steps e cut closed m in
-      subst (λ a. At (drop a vs) mid left (now ++ (map step_line steps ++ ending_lines e))) (sym (add-one n))
-      (taken laws v (drop (suc n) vs) mid mid (ending_turns e + left) left now (now ++ (map step_line steps ++ ending_lines e)) many not_yet q (record { steps = steps; ending = e; lines = refl; made = moved }))
-
-  -- a case before that place, beside the turns n that were counted for the one kept
-  pub taken_beside : JoinLaws g later i d k → cuts ≡ true → (v : ℤ) (rest : Values) (mid next_mid : Join) (left next_left n : ℕ) (now next_now : List Line) → 1 < length (values_left box x) → is_settled mid ≡ false →
-      At (v ∷ rest) mid (1 + (left + n)) now → (w : PartWritten cuts g later i d k (box_to box x (v ∷ [])) h mid next_mid left next_left now next_now) → ending_opens w.ending ≡ 0 →
-      At rest next_mid (next_left + n) next_now
-  taken_beside laws cut v rest mid next_mid left next_left n now next_now many not_yet p w closed =
-      taken laws v rest mid next_mid (left + n) (next_left + n) now next_now many not_yet p
-      (record { steps = w.steps; ending = w.ending; lines = w.lines; made = credited cuts g later i d k (box_to box x (v ∷ [])) h mid next_mid left next_left n w.steps w.ending cut closed w.made })

@@ -1,7 +1,9 @@
-pub mod Joins
-pub mod Board
+pub mod Settled
+pub mod Own
+pub mod Going
 pub mod Uppers
 pub mod Made
 pub mod Written
+pub mod Told
 pub mod Attempted
 pub mod Solution

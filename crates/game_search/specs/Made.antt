@@ -1,15 +1,17 @@
 -- What a search has made: which tree its lines are isn't said, only what holds of it.
-use Rattle.std.specs.Prelude.{◌≡◌, ◌⊎◌, ◌≤◌, ◌+◌, ℕ, true, false, Option, List, map, IsTrue, Bool}
-use Rattle.qc_model.specs.declared.problem.Kind.{Kind}
+use Rattle.std.specs.Prelude.{◌≡◌, ◌⊎◌, ◌≤◌, ◌+◌, ℕ, suc, true, false, Option, List, ◌++◌, map, IsTrue, Bool}
 use Rattle.qc_model.specs.declared.problem.Condition.{Condition}
 use Rattle.qc_model.specs.declared.problem.Scope.{Scope}
 use Rattle.qc_model.specs.Content.{Game}
 use Rattle.qc_model.specs.Domains.{Values, Box}
+use Rattle.qc_model.specs.Verdict.{Verdict, Seen}
 use Rattle.proof_tree.specs.Tree.{Tree, Ending, Branches}
 use Rattle.proof_tree.specs.Pieces.{each_case, ending_each, branches_each, goes_at_one}
 use Rattle.proof_tree.specs.Counts.{turns_of, ending_turns, branch_turns, opens_of, ending_opens, branch_opens}
+use Rattle.proof_tree.specs.Diligent.{closes, ending_closes, branches_close, Foresees, EndingForesees, BranchesForesee}
 use Rattle.proof_tree.specs.Finding.{seen_of}
 use Rattle.proof_tree.specs.InPlace.{in_place, steps_in_place, ending_in_place, branches_in_place}
+use Rattle.proof_tree.specs.Place.{list_after}
 use Rattle.proof_tree.specs.Read.{read, marks, leaves, branch_leaves}
 use Rattle.proof_tree.specs.Steps.{after_steps}
 use Rattle.proof_tree.specs.declared.tree.Step.{Step}
@@ -17,16 +19,17 @@ use Rattle.proof_tree.specs.Order.{has_go, opens_last, is_joined, skips, branche
 use Rattle.std.specs.List.{list_all}
 use Rattle.proof_tree.specs.declared.tree.Version.TheVariants.{Two}
 use Rattle.proof_tree.specs.Text.{tree_fits, ending_fits, branches_fit, step_fits}
-use Rattle.game_search.specs.declared.join.NodeVerdict.{NodeVerdict}
-use Rattle.game_search.specs.declared.join.Join.{Join}
-use Rattle.game_search.specs.Joins.{verdict_of, unknowns, after_all, is_settled, gaps}
+use Rattle.qc_joins.specs.Joins.{IsLong}
+use Rattle.qc_joins.specs.Sizes.{AreLong, IsSized, HasSizes}
+use Rattle.game_search.specs.Settled.{is_settled, is_vague, is_vague_verdict}
+use Rattle.game_search.specs.Own.{IsOwnSized}
 
 -- a node of scope i with the list d, in this box and below this horizon, where later has the scopes from i on; it
 -- came to v, and the turns that were left fell from had to left, by those of the tree and, where settled nodes are cut, of what
 -- was cut
-pub record NodeMade (cuts : Bool) (g : Game) (later : List Scope) (i : ℕ) (d : List Condition) (box : Box) (h : Option ℕ) (v : NodeVerdict) (had left : ℕ) (t : Tree) : Type 0 where
+pub record NodeMade (cuts : Bool) (g : Game) (later : List Scope) (i : ℕ) (d : List Condition) (box : Box) (h : Option ℕ) (v : Verdict) (had left : ℕ) (t : Tree) : Type 0 where
   pub placed : IsTrue (in_place g t later i d box h)
-  pub verdict : (read g t later i d box).verdict ≡ verdict_of v
+  pub verdict : (read g t later i d box).verdict ≡ v
   pub settled : IsTrue (settled_last g t later i d box)
   pub lasts : IsTrue (each_case opens_last t)
   pub ones : IsTrue (each_case goes_at_one t)
@@ -37,13 +40,20 @@ pub record NodeMade (cuts : Bool) (g : Game) (later : List Scope) (i : ℕ) (d :
   pub exact : cuts ≡ false → had ≤ turns_of t + left
   -- a case is open only where no turn is left
   pub opens : (opens_of t ≡ 0) ⊎ (left ≡ 0)
-  -- nothing is known only where a case is open
-  pub gap : unknowns v ≤ opens_of t
+  -- something stays open only where a case is open
+  pub gap : opens_of t ≡ 0 → is_vague_verdict v ≡ false
+  -- an exact vector has a value for each entry, and its numbers are at most 10^9 for each turn and one more
+  pub long : IsLong g i v
+  pub sized : IsSized (suc (turns_of t)) v
+  pub own : IsOwnSized (suc (turns_of t)) (read g t later i d box).own
+  -- it closes its boxes before it branches, and sees a dead end ahead
+  pub closed : IsTrue (closes g t later i box)
+  pub foreseen : Foresees g t later i box h
 
--- a part of the own tree of scope i, whose owner is of the kind k; what the leaves say went from before to after
-pub record EndingMade (cuts : Bool) (g : Game) (later : List Scope) (i : ℕ) (d : List Condition) (k : Kind) (box : Box) (h : Option ℕ) (before after : Join) (had left : ℕ) (e : Ending) : Type 0 where
+-- a part of the own tree of scope i; seen is what its leaves and marks say
+pub record EndingMade (cuts : Bool) (g : Game) (later : List Scope) (i : ℕ) (d : List Condition) (box : Box) (h : Option ℕ) (seen : List Seen) (had left : ℕ) (e : Ending) : Type 0 where
   pub placed : IsTrue (ending_in_place g e later i d box h)
-  pub joined : after ≡ after_all k before (map seen_of (leaves g e later i d box))
+  pub says : seen ≡ map seen_of (leaves g e later i d box)
   pub settled : IsTrue (ending_settled_last g e later i d box)
   pub lasts : IsTrue (ending_each opens_last e)
   pub ones : IsTrue (ending_each goes_at_one e)
@@ -52,26 +62,34 @@ pub record EndingMade (cuts : Bool) (g : Game) (later : List Scope) (i : ℕ) (d
   pub spent : ending_turns e + left ≤ had
   pub exact : cuts ≡ false → had ≤ ending_turns e + left
   pub opens : (ending_opens e ≡ 0) ⊎ (left ≡ 0)
-  pub gap : gaps after ≤ gaps before + ending_opens e
+  -- something stays open only where a case is open, or the scope is settled
+  pub gap : ending_opens e ≡ 0 → is_settled later (list_after g later d) seen ≡ false → is_vague seen ≡ false
   -- a case is skipped only where the scope is settled
-  pub skips : skips e ≡ true → is_settled after ≡ true
+  pub skips : skips e ≡ true → is_settled later (list_after g later d) seen ≡ true
+  pub long : AreLong g i seen
+  pub sizes : HasSizes (suc (ending_turns e)) seen
+  pub closed : IsTrue (ending_closes g e later i box)
+  pub foreseen : EndingForesees g e later i box h
 
--- steps of the own tree of scope i: they are legal, and their marks took what the leaves say from before to after
-pub record StepsMade (g : Game) (later : List Scope) (i : ℕ) (d : List Condition) (k : Kind) (box : Box) (before after : Join) (steps : List Step) : Type 0 where
+-- steps of the own tree of scope i: they are legal, and their marks say what was seen
+pub record StepsMade (g : Game) (later : List Scope) (i : ℕ) (d : List Condition) (box : Box) (seen : List Seen) (steps : List Step) : Type 0 where
   pub legal : IsTrue (steps_in_place g later i d steps box)
-  pub marked : after ≡ after_all k before (map seen_of (marks g later i d steps box))
+  pub says : seen ≡ map seen_of (marks g later i d steps box)
   pub fits : IsTrue (list_all step_fits steps)
 
 -- steps and then a part of the scope's own tree, as at a node and at a case that is taken
-pub record PartMade (cuts : Bool) (g : Game) (later : List Scope) (i : ℕ) (d : List Condition) (k : Kind) (box : Box) (h : Option ℕ) (before after : Join) (had left : ℕ) (steps : List Step) (e : Ending) : Type 0 where
-  pub between : Join
-  pub stepped : StepsMade g later i d k box before between steps
-  pub ended : EndingMade cuts g later i d k (after_steps steps box) h between after had left e
+pub record PartMade (cuts : Bool) (g : Game) (later : List Scope) (i : ℕ) (d : List Condition) (box : Box) (h : Option ℕ) (seen : List Seen) (had left : ℕ) (steps : List Step) (e : Ending) : Type 0 where
+  pub first : List Seen
+  pub last : List Seen
+  pub both : seen ≡ first ++ last
+  pub stepped : StepsMade g later i d box first steps
+  pub ended : EndingMade cuts g later i d (after_steps steps box) h last had left e
 
--- the cases of a branch for the values vs of x, which no earlier case covers
-pub record CasesMade (cuts : Bool) (g : Game) (later : List Scope) (i : ℕ) (d : List Condition) (k : Kind) (box : Box) (h : Option ℕ) (x : ℕ) (vs : Values) (before after : Join) (had left : ℕ) (bs : Branches) : Type 0 where
+-- the cases of a branch for the values vs of x, which no earlier case covers; was_settled says whether the scope was
+-- settled before them
+pub record CasesMade (cuts : Bool) (g : Game) (later : List Scope) (i : ℕ) (d : List Condition) (box : Box) (h : Option ℕ) (x : ℕ) (vs : Values) (was_settled : Bool) (seen : List Seen) (had left : ℕ) (bs : Branches) : Type 0 where
   pub placed : IsTrue (branches_in_place g bs x vs later i d box h)
-  pub joined : after ≡ after_all k before (map seen_of (branch_leaves g bs x vs later i d box))
+  pub says : seen ≡ map seen_of (branch_leaves g bs x vs later i d box)
   pub settled : IsTrue (branches_settled_last g bs x vs later i d box)
   pub lasts : IsTrue (branches_each opens_last bs)
   pub ones : IsTrue (branches_each goes_at_one bs)
@@ -80,7 +98,11 @@ pub record CasesMade (cuts : Bool) (g : Game) (later : List Scope) (i : ℕ) (d 
   pub spent : branch_turns bs + left ≤ had
   pub exact : cuts ≡ false → had ≤ branch_turns bs + left
   pub opens : (branch_opens bs ≡ 0) ⊎ (left ≡ 0)
-  pub gap : gaps after ≤ gaps before + branch_opens bs
-  pub skips : branches_skip bs ≡ true → is_settled after ≡ true
+  pub gap : branch_opens bs ≡ 0 → was_settled ≡ false → is_settled later (list_after g later d) seen ≡ false → is_vague seen ≡ false
+  pub skips : branches_skip bs ≡ true → was_settled ≡ false → is_settled later (list_after g later d) seen ≡ true
   -- where the scope was settled before, no case is taken
-  pub rests : is_settled before ≡ true → has_go bs ≡ false
+  pub rests : was_settled ≡ true → has_go bs ≡ false
+  pub long : AreLong g i seen
+  pub sizes : HasSizes (branch_turns bs) seen
+  pub closed : IsTrue (branches_close g bs x vs later i box)
+  pub foreseen : BranchesForesee g bs x vs later i box h

@@ -9,14 +9,14 @@ use Rattle.proof_tree.specs.declared.tree.Outcome.TheVariants.{True, False, Open
 use Rattle.proof_tree.specs.declared.tree.Version.TheVariants.{Two}
 use Rattle.proof_tree.specs.Tree.{Tree}
 use Rattle.proof_tree.specs.Counts.{turns_of}
+use Rattle.proof_tree.specs.Diligent.{IsDiligent}
 use Rattle.proof_tree.specs.Lines.{tree_lines}
 use Rattle.proof_tree.specs.Meaning.{OutcomeMeans}
 use Rattle.proof_tree.specs.Order.{in_order}
 use Rattle.proof_tree.specs.Proves.{proves}
 use Rattle.proof_tree.specs.Text.{has_text}
 use Rattle.strategy_arena.specs.Certificate.{line_fits}
-use Rattle.game_search.specs.declared.join.NodeVerdict.{NodeVerdict}
-use Rattle.game_search.specs.declared.join.NodeVerdict.TheVariants.{Exact, Lost, Unknown}
+use Rattle.qc_model.specs.Verdict.{Verdict, lost, exact, at_most, unknown}
 
 -- Open only where the budget is spent, and less than the game can take
 pub record IsSpent (g : Game) (turns n : ℕ) (t : Tree) : Type 0 where
@@ -33,6 +33,7 @@ OpenMeans (Open n) g turns t = IsSpent g turns n t
 pub record Solution (g : Game) (turns : ℕ) (outcome : Outcome) (optimum : Option ℤ) (t : Tree) : Type 0 where
   pub proves : IsTrue (proves g outcome optimum t)
   pub in_order : IsTrue (in_order g t)
+  pub diligent : IsDiligent g t
   pub few : turns_of t ≤ turns
   pub spent : OpenMeans outcome g turns t
   pub means : OutcomeMeans outcome optimum g t
@@ -45,7 +46,9 @@ pub record SolutionLines (g : Game) (turns : ℕ) (outcome : Outcome) (optimum :
   pub fits : IsTrue (list_all line_fits lines)
   pub solution : Solution g turns outcome optimum tree
 
-abbrev pub outcome_by : NodeVerdict → ℕ → Outcome
-outcome_by Exact turns = True
-outcome_by Lost turns = False
-outcome_by Unknown turns = Open turns
+-- the outcome that a root's verdict shows
+abbrev pub outcome_by : Verdict → ℕ → Outcome
+outcome_by lost turns = False
+outcome_by (exact v) turns = True
+outcome_by (at_most p) turns = Open turns
+outcome_by unknown turns = Open turns

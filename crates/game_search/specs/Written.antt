@@ -1,35 +1,33 @@
 -- The lines that a search has written: those of something that it made.
-use Rattle.std.specs.Prelude.{Bool, ◌≡◌, ℕ, Option, List, ◌++◌, map}
-use Rattle.qc_model.specs.declared.problem.Kind.{Kind}
+use Rattle.std.specs.Prelude.{Bool, false, ◌≡◌, ℕ, Option, List, ◌++◌, map}
 use Rattle.qc_model.specs.declared.problem.Condition.{Condition}
 use Rattle.qc_model.specs.declared.problem.Scope.{Scope}
 use Rattle.qc_model.specs.Content.{Game}
 use Rattle.qc_model.specs.Domains.{Values, Box}
+use Rattle.qc_model.specs.Verdict.{Verdict, Seen}
 use Rattle.proof_tree.specs.Tree.{Tree, Ending, Branches}
 use Rattle.proof_tree.specs.declared.line.Line.{Line}
-use Rattle.game_search.specs.declared.join.NodeVerdict.{NodeVerdict}
-use Rattle.game_search.specs.declared.join.Join.{Join}
 use Rattle.proof_tree.specs.Lines.{step_line, tree_lines, ending_lines, branches_lines}
 use Rattle.game_search.specs.Made.{NodeMade, EndingMade, PartMade, CasesMade}
 use Rattle.proof_tree.specs.declared.tree.Step.{Step}
 
-pub record NodeWritten (cuts : Bool) (g : Game) (later : List Scope) (i : ℕ) (d : List Condition) (box : Box) (h : Option ℕ) (v : NodeVerdict) (had left : ℕ) (old new : List Line) : Type 0 where
+pub record NodeWritten (cuts : Bool) (g : Game) (later : List Scope) (i : ℕ) (d : List Condition) (box : Box) (h : Option ℕ) (v : Verdict) (had left : ℕ) (old new : List Line) : Type 0 where
   pub tree : Tree
   pub lines : new ≡ old ++ tree_lines tree
   pub made : NodeMade cuts g later i d box h v had left tree
 
-pub record EndingWritten (cuts : Bool) (g : Game) (later : List Scope) (i : ℕ) (d : List Condition) (k : Kind) (box : Box) (h : Option ℕ) (before after : Join) (had left : ℕ) (old new : List Line) : Type 0 where
+pub record EndingWritten (cuts : Bool) (g : Game) (later : List Scope) (i : ℕ) (d : List Condition) (box : Box) (h : Option ℕ) (seen : List Seen) (had left : ℕ) (old new : List Line) : Type 0 where
   pub ending : Ending
   pub lines : new ≡ old ++ ending_lines ending
-  pub made : EndingMade cuts g later i d k box h before after had left ending
+  pub made : EndingMade cuts g later i d box h seen had left ending
 
-pub record PartWritten (cuts : Bool) (g : Game) (later : List Scope) (i : ℕ) (d : List Condition) (k : Kind) (box : Box) (h : Option ℕ) (before after : Join) (had left : ℕ) (old new : List Line) : Type 0 where
+pub record PartWritten (cuts : Bool) (g : Game) (later : List Scope) (i : ℕ) (d : List Condition) (box : Box) (h : Option ℕ) (seen : List Seen) (had left : ℕ) (old new : List Line) : Type 0 where
   pub steps : List Step
   pub ending : Ending
   pub lines : new ≡ old ++ (map step_line steps ++ ending_lines ending)
-  pub made : PartMade cuts g later i d k box h before after had left steps ending
+  pub made : PartMade cuts g later i d box h seen had left steps ending
 
-pub record CasesWritten (cuts : Bool) (g : Game) (later : List Scope) (i : ℕ) (d : List Condition) (k : Kind) (box : Box) (h : Option ℕ) (x : ℕ) (vs : Values) (before after : Join) (had left : ℕ) (old new : List Line) : Type 0 where
+pub record CasesWritten (cuts : Bool) (g : Game) (later : List Scope) (i : ℕ) (d : List Condition) (box : Box) (h : Option ℕ) (x : ℕ) (vs : Values) (seen : List Seen) (had left : ℕ) (old new : List Line) : Type 0 where
   pub cases : Branches
   pub lines : new ≡ old ++ branches_lines cases
-  pub made : CasesMade cuts g later i d k box h x vs before after had left cases
+  pub made : CasesMade cuts g later i d box h x vs false seen had left cases

@@ -1,20 +1,26 @@
 //! The lines of a certificate within a budget of turns.
-ghost use Rattle.std.specs.Prelude.{◌≡◌, ◌≤◌, IfOk, None};
-ghost use Rattle.qc_rules.specs.Plain.{NoConditions};
+ghost use Rattle.std.specs.Prelude.{◌≡◌, ◌≤◌, ◌<◌, IfOk, None, List, ℤ, not, length};
+ghost use Rattle.qc_model.specs.Verdict.{Seen};
+ghost use Rattle.qc_levels.specs.Seen.{verdict_of};
+ghost use Rattle.qc_joins.specs.Joins.{game_of, StandsAt};
+ghost use Rattle.qc_joins.specs.Verdicts.{own_at};
+ghost use Rattle.game_search.specs.Settled.{is_vague_verdict};
 ghost use Rattle.game_search.specs.Solution.{SolutionLines, outcome_by};
 ghost use Rattle.game_search.specs.Attempted.{Attempted};
 
-use crate::join::NodeVerdict;
 use crate::search::node;
 use crate::walk::Walk;
 use proof_tree::{Outcome, cases_are_few};
+use qc_joins::Joins;
+use qc_levels::Found;
 use qc_meaning::outcomes_are_true;
-use qc_model::Problem;
-use qc_rules::{Board, Levels};
+use qc_model::{Problem, ScopeId};
+use qc_rules::Levels;
+use search_box::SearchBox;
 use std::alloc::{AllocError, Global};
 use strategy_arena::{Arena, lines_fit};
 
-/// The outcome, the best value of the first scope where it optimises, and the lines that show it.
+/// The outcome, the best value of the first scope where it optimises and the game is won, and the lines that show it.
 #[derive(Drop)]
 pub struct Flat {
     pub outcome: Outcome,
@@ -22,15 +28,13 @@ pub struct Flat {
     pub arena: Arena,
 }
 
-/// Decides a game in which nothing is optimised, within so many turns, from 1 to 10,000,000: the lines are those of a
-/// certificate that proves the outcome, is in order, means what it says and has a text. The outcome is Open only where
-/// all turns are spent and the game can take more. It fails only where memory runs out.
+/// Decides a game within so many turns, from 1 to 10,000,000: the lines are those of a certificate that proves the
+/// outcome and the optimum, is in order and diligent, means what it says and has a text. The outcome is Open only where all turns are
+/// spent and the game can take more. It fails only where memory runs out.
 pub fn solve_flat(alloc: Global, problem: &Problem, turns: u64) -> Result<Flat, AllocError>
-    requires plain { NoConditions problem.now.scopes }
     requires some { 1 ≤ turns }
     requires turns { turns ≤ 10000000 }
     ensures solution { IfOk result (λ f. SolutionLines problem.now turns f.outcome f.optimum f.arena) }
-    ensures plain_optimum { IfOk result (λ f. f.optimum ≡ None) }
 {
     let levels = Levels::new(alloc, problem)?;
     two_passes(alloc, &levels, turns)
@@ -38,44 +42,41 @@ pub fn solve_flat(alloc: Global, problem: &Problem, turns: u64) -> Result<Flat, 
 
 /// Goes through the game with cuts, and without them where that comes to nothing.
 fn two_passes(alloc: Global, levels: &Levels, turns: u64) -> Result<Flat, AllocError>
-    requires plain { NoConditions levels.now.problem.now.scopes }
     requires some { 1 ≤ turns }
     requires turns { turns ≤ 10000000 }
     ensures solution { IfOk result (λ f. SolutionLines levels.now.problem.now turns f.outcome f.optimum f.arena) }
-    ensures plain_optimum { IfOk result (λ f. f.optimum ≡ None) }
 {
     levels.problem.known();
     cases_are_few();
     outcomes_are_true();
     lines_fit();
     let first = attempt(alloc, levels, turns, true)?;
-    match first.verdict {
-        NodeVerdict::Exact => Ok(answer(Outcome::True, first)),
-        NodeVerdict::Lost => Ok(answer(Outcome::False, first)),
-        NodeVerdict::Unknown => {
-            drop(first);
-            let second = attempt(alloc, levels, turns, false)?;
-            Ok(answer(outcome_of(second.verdict, turns), second))
-        }
+    if is_decided(first.found) {
+        return Ok(answer(first, turns));
     }
+    drop(first);
+    let second = attempt(alloc, levels, turns, false)?;
+    Ok(answer(second, turns))
 }
 
-/// What one way through the game came to, and its lines.
+/// What one way through the game came to, the best value of the first scope where that is exact and the scope
+/// optimises, and the lines.
 #[derive(Drop)]
-pub(crate) struct Found {
-    pub(crate) verdict: NodeVerdict,
+pub(crate) struct Root {
+    pub(crate) found: Found,
+    pub(crate) own: Option<i64>,
     pub(crate) arena: Arena,
 }
 
-fn answer(outcome: Outcome, found: Found) -> Flat
-    ensures outcome { result.outcome ≡ outcome }
-    ensures optimum { result.optimum ≡ None }
-    ensures lines { result.arena ≡ found.arena }
+fn answer(root: Root, turns: u64) -> Flat
+    ensures outcome { (v : List ℤ) → result.outcome ≡ outcome_by (verdict_of root.found v) turns }
+    ensures optimum { result.optimum ≡ root.own }
+    ensures lines { result.arena ≡ root.arena }
 {
     Flat {
-        outcome,
-        optimum: None,
-        arena: found.arena,
+        outcome: outcome_of(root.found, turns),
+        optimum: root.own,
+        arena: root.arena,
     }
 }
 
@@ -86,30 +87,60 @@ pub(crate) fn attempt(
     levels: &Levels,
     turns: u64,
     cuts: bool,
-) -> Result<Found, AllocError>
-    requires plain { NoConditions levels.now.problem.now.scopes }
-    ensures { IfOk result (λ a. Attempted cuts levels.now.problem.now turns a.verdict a.arena) }
+) -> Result<Root, AllocError>
+    requires { turns ≤ 10000000 }
+    ensures { IfOk result (λ root. Attempted cuts levels.now.problem.now turns root.found root.own root.arena) }
 {
-    let board = Board::new(alloc, levels.problem)?;
+    let remains = SearchBox::new(alloc, levels.problem)?;
+    let joins = Joins::new(alloc, levels.problem)?;
     let mut walk = Walk {
-        board,
+        alloc,
+        remains,
+        joins,
         lines: Arena::new(alloc),
         kept: Vec::new(alloc),
         left: turns,
     };
-    let verdict = node(levels, cuts, 0, &mut walk)?;
-    Ok(Found {
-        verdict,
+    let found = node(levels, cuts, None, 0, &mut walk)?;
+    let own = first_own(levels.problem, &walk.joins);
+    Ok(Root {
+        found,
+        own,
         arena: walk.lines,
     })
 }
 
-fn outcome_of(verdict: NodeVerdict, turns: u64) -> Outcome
-    ensures { result ≡ outcome_by verdict turns }
+/// The value of the first scope's own condition, by its join; None where there is no scope.
+fn first_own(problem: &Problem, joins: &Joins) -> Option<i64>
+    requires { game_of joins.now ≡ problem.now }
+    ensures own { 0 < length problem.now.scopes → (xs : List Seen) → StandsAt joins.now 0 xs → result ≡ own_at problem.now 0 xs }
+    ensures none { length problem.now.scopes ≡ 0 → result ≡ None }
 {
-    match verdict {
-        NodeVerdict::Exact => Outcome::True,
-        NodeVerdict::Lost => Outcome::False,
-        NodeVerdict::Unknown => Outcome::Open(turns),
+    if problem.scopes() == 0 {
+        return None;
+    }
+    joins.own(ScopeId(0))
+}
+
+/// Whether the node is lost or exact.
+fn is_decided(found: Found) -> bool
+    ensures { (v : List ℤ) → result ≡ not (is_vague_verdict (verdict_of found v)) }
+{
+    match found {
+        Found::Lost => true,
+        Found::Exact => true,
+        Found::AtMost(_) => false,
+        Found::Unknown => false,
+    }
+}
+
+fn outcome_of(found: Found, turns: u64) -> Outcome
+    ensures { (v : List ℤ) → result ≡ outcome_by (verdict_of found v) turns }
+{
+    match found {
+        Found::Lost => Outcome::False,
+        Found::Exact => Outcome::True,
+        Found::AtMost(_) => Outcome::Open(turns),
+        Found::Unknown => Outcome::Open(turns),
     }
 }

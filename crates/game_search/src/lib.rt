@@ -4,18 +4,22 @@
 //! The contracts say which tree the lines are by what holds of it (`specs/Made`, `specs/Solution`), not by how it was
 //! found: it proves the outcome, is in order, means what it says, fits the text, and has no more turns than the budget.
 //!
+//! The values left are those of a `SearchBox`: it is closed by the filters of the constraints in force before each branch,
+//! and each node looks ahead for a scope that nobody passes. What the leaves of a node come to, joins say (`qc_joins`), one
+//! a scope.
+//!
 //! A first pass keeps of each settled node the case that settled it alone. Where that comes to nothing, a second one
 //! goes over the cases in order, so that an open certificate has exactly the turns of the budget.
 #![tactic(auto)]
 
 mod attempts;
 mod certify;
-mod join;
 mod search;
 mod stage;
 #[cfg(test)]
 mod tests;
 mod walk;
+mod writing;
 
 pub use attempts::{Flat, solve_flat};
 pub use certify::solve;

@@ -1,287 +1,303 @@
-//! Goes over the values of the variables, one variable after the other, and writes a line for each step.
+//! Goes over the values that are left, one variable after the other, and writes a line for each step.
 //!
-//! The walk's board has the values on the way down: the box at a node is the declared one with these values
-//! fixed. A variable is fixed where a case is gone into and freed where it is left, so that after each part the
-//! board is as before.
+//! The walk's box has the values left on the way down. It is closed where a scope's own tree begins and after each value
+//! that is taken, and undone where the part is left, so that after each part it is as before. A case is gone into only
+//! where the box is closed, and a node looks ahead for a horizon before its own tree.
 //!
-//! In an existential scope the first exact leaf settles the scope, in a universal one the first lost leaf, and
-//! the cases after it are left out. Where no turn is left the cases that remain are left open.
-ghost use Rattle.proof_tree.specs.declared.line.Line.TheVariants.{Skip};
-ghost use Rattle.game_search.specs.Joins.{is_settled};
-ghost use Rattle.std.specs.Prelude.{nat_lt, ◌&&◌, take, ◌≡◌, ◌≤◌, ◌<◌, ◌++◌, ◌∷◌, [], None, length, drop, reverse, IfOk, OnOk, IsTrue};
-ghost use Rattle.qc_model.specs.Domains.{domain_values, values_left, box_at};
-ghost use Rattle.qc_model.specs.Valid.{is_domain, is_number};
-ghost use Rattle.qc_rules.specs.Plain.{NoConditions};
-ghost use Rattle.proof_tree.specs.Lines.{upto_lines};
-ghost use Rattle.qc_rules.specs.Reached.{IsAt, IsFree};
-ghost use Rattle.game_search.specs.Board.{IsWithin};
-ghost use Rattle.game_search.specs.Uppers.{upto_all, upto_first};
-ghost use Rattle.game_search.specs.Written.{NodeWritten, EndingWritten, CasesWritten};
+//! The walk's joins have what was seen in the node of each scope on the way: a scope's join is cleared where its node
+//! begins, told each leaf, and asked at the end what the node comes to.
+//!
+//! Where a leaf settles its scope, so that no other leaf changes what the node comes to, the cases after it are left
+//! out, and the join isn't told of them. Where no turn is left the cases that remain are left open.
+ghost use Rattle.std.specs.Prelude.{◌≡◌, ◌≤◌, ◌<◌, ◌∷◌, Bool, Option, ℕ, [], List, length, drop, true, false, IfOk, IfSome, OnOk, IsTrue};
+ghost use Rattle.qc_model.specs.Domains.{Box, has_value, is_single, values_left};
+ghost use Rattle.qc_model.specs.Game.{is_of_scope};
+ghost use Rattle.qc_model.specs.Verdict.{Seen, lost};
+ghost use Rattle.proof_tree.specs.Cover.{box_to};
+ghost use Rattle.proof_tree.specs.Diligent.{SeesAhead};
+ghost use Rattle.proof_tree.specs.InPlace.{is_horizon};
+ghost use Rattle.proof_tree.specs.Place.{position};
+ghost use Rattle.qc_levels.specs.Seen.{verdict_of};
+ghost use Rattle.qc_joins.specs.Joins.{game_of, out_of, StandsAt, KeepsAll};
+ghost use Rattle.qc_joins.specs.Verdicts.{verdict_at};
+ghost use Rattle.search_box.specs.Closes.{IsPruned};
+ghost use Rattle.search_box.specs.Entered.{IsEntered};
+ghost use Rattle.search_box.specs.Looking.{scope_number};
+ghost use Rattle.game_search.specs.Going.{IsGoing, GoesOn};
+ghost use Rattle.game_search.specs.Told.{IsReady, IsBack, EndingTold, PartTold, CasesTold, BodyTold, NodeTold};
 
-use crate::join::{Join, NodeVerdict, joined, left_out, settled, verdict};
 use crate::stage::Stage;
 use crate::walk::Walk;
-use proof_tree::Line;
-use qc_model::{Domain, ScopeId, VarId};
-use qc_rules::{Board, Level, Levels, goal_holds, is_allowed};
+use crate::writing::{drop_before, last_to_drop, leave_out, put_horizon, put_steps};
+use proof_tree::{Line, Step, StepList};
+use prop_engine::Closed;
+use qc_levels::Found;
+use qc_model::{ScopeId, VarId};
+use qc_rules::{Level, Levels};
 use std::alloc::AllocError;
-use strategy_arena::Arena;
 
-/// The node of a scope, or of the goal, in the box that the walk's board holds.
+/// The node of a scope, or of the goal, in the box that the walk holds, below the horizon in force. Where it is exact,
+/// its vector is the one that the walk's joins handed out last.
 #[cycle(search)]
 pub(crate) fn node(
     levels: &Levels,
     cuts: bool,
+    horizon: Option<ScopeId>,
     number: u8,
     walk: &mut Walk,
-) -> Result<NodeVerdict, AllocError>
-    requires plain { NoConditions levels.now.problem.now.scopes }
+) -> Result<Found, AllocError>
     requires scope { number ≤ length levels.now.problem.now.scopes }
-    requires board { IsAt levels.now.problem.now number walk.old.board }
-    ensures written { IfOk result (λ v. NodeWritten cuts levels.now.problem.now (drop number levels.now.problem.now.scopes) number [] walk.old.board.box None v walk.old.left walk.new.left walk.old.lines walk.new.lines) }
-    ensures same { OnOk result (walk.new.board ≡ walk.old.board) }
+    requires horizon { IfSome horizon (λ h. h.0 ≤ length levels.now.problem.now.scopes) }
+    requires here { IsEntered levels.now.problem.now number walk.old.remains }
+    requires joins { game_of walk.old.joins ≡ levels.now.problem.now }
+    ensures told { IfOk result (λ found. walk.old.left < 4294967296 → NodeTold cuts levels.now.problem.now number walk.old.remains.store.box (scope_number horizon) (verdict_of found (out_of walk.new.joins)) walk.old.left walk.new.left walk.old.lines walk.new.lines walk.new.joins) }
+    ensures back { OnOk result (IsBack levels.now.problem.now number walk.old walk.new) }
 {
     levels.problem.known();
     if number as usize == levels.problem.scopes() {
-        return goal(levels, cuts, walk);
+        return at_goal(levels, horizon, number, walk);
     }
+    let ahead = walk.remains.look_ahead(levels, ScopeId(number), horizon)?;
+    let below = put_horizon(&mut walk.lines, horizon, ahead)?;
     let level = levels.level(ScopeId(number));
+    if is_here(below, number) {
+        return stuck(level, walk);
+    }
     let stage = Stage {
         levels,
         level,
+        horizon: below,
         cuts,
     };
-    let mut join = Join::Whole;
-    within(&stage, level.from, &mut join, walk)?;
-    Ok(verdict(level.kind, join))
+    own_tree(&stage, walk)
 }
 
-/// The goal, where each variable has its value.
-fn goal(levels: &Levels, cuts: bool, walk: &mut Walk) -> Result<NodeVerdict, AllocError>
-    requires board { IsAt levels.now.problem.now (length levels.now.problem.now.scopes) walk.old.board }
-    ensures written { IfOk result (λ v. NodeWritten cuts levels.now.problem.now [] (length levels.now.problem.now.scopes) [] walk.old.board.box None v walk.old.left walk.new.left walk.old.lines walk.new.lines) }
-    ensures same { OnOk result (walk.new.board ≡ walk.old.board) }
+fn is_here(horizon: Option<ScopeId>, number: u8) -> bool
+    ensures { result ≡ is_horizon (scope_number horizon) number }
 {
+    match horizon {
+        None => false,
+        Some(scope) => scope.0 == number,
+    }
+}
+
+/// The goal, where each variable has its value, or where a horizon tells that it isn't passed.
+fn at_goal(
+    levels: &Levels,
+    horizon: Option<ScopeId>,
+    number: u8,
+    walk: &mut Walk,
+) -> Result<Found, AllocError>
+    requires scope { number ≡ length levels.now.problem.now.scopes }
+    requires here { IsEntered levels.now.problem.now number walk.old.remains }
+    requires joins { game_of walk.old.joins ≡ levels.now.problem.now }
+    ensures told { IfOk result (λ found. (cuts : Bool) → NodeTold cuts levels.now.problem.now number walk.old.remains.store.box (scope_number horizon) (verdict_of found (out_of walk.new.joins)) walk.old.left walk.new.left walk.old.lines walk.new.lines walk.new.joins) }
+    ensures back { OnOk result (IsBack levels.now.problem.now number walk.old walk.new) }
+{
+    levels.problem.known();
+    walk.remains.known();
+    if is_here(horizon, number) {
+        walk.lines.put(Line::Stuck)?;
+        return Ok(Found::Lost);
+    }
     walk.lines.put(Line::Goal)?;
-    if goal_holds(levels, &walk.board) {
-        return Ok(NodeVerdict::Exact);
-    }
-    Ok(NodeVerdict::Lost)
+    let holds = walk.remains.goal_holds(levels);
+    let values = walk.remains.all_values();
+    Ok(walk.joins.goal(holds, values))
 }
 
-/// The part of a scope's tree in the box of the walk's board, where the variables of the scope before x have their
-/// values.
-#[cycle(search)]
-fn within(stage: &Stage, x: usize, join: &mut Join, walk: &mut Walk) -> Result<(), AllocError>
-    requires place { IsWithin stage.now.level.now.problem.now stage.now.level.now.number x walk.old.board }
-    ensures written { OnOk result (EndingWritten stage.now.cuts stage.now.level.now.problem.now (drop stage.now.level.now.number stage.now.level.now.problem.now.scopes) stage.now.level.now.number [] stage.now.level.now.kind walk.old.board.box None join.old join.new walk.old.left walk.new.left walk.old.lines walk.new.lines) }
-    ensures same { OnOk result (walk.new.board ≡ walk.old.board) }
-{
-    stage.level.problem.known();
-    let next = next_free(stage.level, &walk.board, x);
-    if next == stage.level.stop {
-        return after_tuple(stage, join, walk);
-    }
-    over_values(stage, VarId(next as u16), join, walk)
-}
-
-/// The first variable of the scope from x on that has more values than one; where there is none, the one after the
-/// scope's last.
-fn next_free(level: &Level, board: &Board, x: usize) -> usize
-    requires { IsWithin level.now.problem.now level.now.number x board.now }
-    ensures after { x ≤ result }
-    ensures place { IsWithin level.now.problem.now level.now.number result board.now }
-    ensures free { result < level.now.stop → IsFree level.now.problem.now board.now result }
+/// The node of a scope that nobody passes: its owner has no allowed tuple.
+fn stuck(level: &Level, walk: &mut Walk) -> Result<Found, AllocError>
+    requires here { IsEntered level.now.problem.now level.now.number walk.old.remains }
+    requires joins { game_of walk.old.joins ≡ level.now.problem.now }
+    ensures told { IfOk result (λ found. (cuts : Bool) (h : Option ℕ) → is_horizon h level.now.number ≡ true → BodyTold cuts level.now.problem.now level.now.number walk.old.remains.store.box h (verdict_of found (out_of walk.new.joins)) walk.old.left walk.new.left walk.old.lines walk.new.lines walk.new.joins) }
+    ensures back { OnOk result (IsBack level.now.problem.now level.now.number walk.old walk.new) }
 {
     level.problem.known();
-    board.known();
-    for at in x..level.stop {
-        if !board.is_fixed(VarId(at as u16)) {
-            return at;
-        }
-    }
-    level.stop
+    walk.remains.known();
+    walk.lines.put(Line::Stuck)?;
+    let number = ScopeId(level.number);
+    let values = walk.remains.values_before(level);
+    let found = walk.joins.stuck(number, values);
+    // no leaf was seen, so the join tells no value of the scope's own
+    walk.joins.clear(number);
+    Ok(found)
 }
 
-/// The end of a scope's tree, where its tuple is complete.
+/// The own tree of a scope's node.
 #[cycle(search)]
-fn after_tuple(stage: &Stage, join: &mut Join, walk: &mut Walk) -> Result<(), AllocError>
-    requires place { IsWithin stage.now.level.now.problem.now stage.now.level.now.number stage.now.level.now.stop walk.old.board }
-    ensures written { OnOk result (EndingWritten stage.now.cuts stage.now.level.now.problem.now (drop stage.now.level.now.number stage.now.level.now.problem.now.scopes) stage.now.level.now.number [] stage.now.level.now.kind walk.old.board.box None join.old join.new walk.old.left walk.new.left walk.old.lines walk.new.lines) }
-    ensures same { OnOk result (walk.new.board ≡ walk.old.board) }
+fn own_tree(stage: &Stage, walk: &mut Walk) -> Result<Found, AllocError>
+    requires here { IsEntered stage.now.level.now.problem.now stage.now.level.now.number walk.old.remains }
+    requires joins { game_of walk.old.joins ≡ stage.now.level.now.problem.now }
+    ensures told { IfOk result (λ found. walk.old.left < 4294967296 → SeesAhead stage.now.level.now.problem.now (drop stage.now.level.now.number stage.now.level.now.problem.now.scopes) stage.now.level.now.number walk.old.remains.store.box (scope_number stage.now.horizon) → BodyTold stage.now.cuts stage.now.level.now.problem.now stage.now.level.now.number walk.old.remains.store.box (scope_number stage.now.horizon) (verdict_of found (out_of walk.new.joins)) walk.old.left walk.new.left walk.old.lines walk.new.lines walk.new.joins) }
+    ensures back { OnOk result (IsBack stage.now.level.now.problem.now stage.now.level.now.number walk.old walk.new) }
+{
+    let level = stage.level;
+    level.problem.known();
+    walk.remains.known();
+    walk.joins.clear(ScopeId(level.number));
+    let mark = walk.remains.mark();
+    let mut steps = StepList::new(walk.alloc);
+    let closed = walk.remains.close(level, &mut steps)?;
+    part(stage, level.from, closed, steps.items(), walk)?;
+    walk.remains.undo_to(mark);
+    Ok(verdict(level, walk))
+}
+
+/// What a node comes to whose own tree is done.
+fn verdict(level: &Level, walk: &mut Walk) -> Found
+    requires here { IsEntered level.now.problem.now level.now.number walk.old.remains }
+    requires joins { game_of walk.old.joins ≡ level.now.problem.now }
+    ensures verdict { (xs : List Seen) → StandsAt walk.old.joins level.now.number xs → verdict_of result (out_of walk.new.joins) ≡ verdict_at level.now.problem.now level.now.number (position level.now.problem.now level.now.number walk.old.remains.store.box) xs }
+    ensures joins { KeepsAll walk.old.joins walk.new.joins }
+    ensures game { game_of walk.new.joins ≡ game_of walk.old.joins }
+    ensures remains { walk.new.remains ≡ walk.old.remains }
+    ensures lines { walk.new.lines ≡ walk.old.lines }
+    ensures left { walk.new.left ≡ walk.old.left }
+{
+    let values = walk.remains.values_before(level);
+    walk.joins.finish(ScopeId(level.number), values)
+}
+
+/// Removals, and what follows them: the box that they leave is closed, where the variables of the scope before x have
+/// their values, or a domain is empty.
+#[cycle(search)]
+fn part(
+    stage: &Stage,
+    x: usize,
+    closed: Closed,
+    steps: &[Step],
+    walk: &mut Walk,
+) -> Result<(), AllocError>
+    requires goes { GoesOn closed stage.now.level.now.problem.now stage.now.level.now.number x walk.old.remains }
+    requires joins { game_of walk.old.joins ≡ stage.now.level.now.problem.now }
+    ensures told { OnOk result ((box : Box) → IsPruned stage.now.level.now.problem.now stage.now.level.now.number box walk.old.remains.store.box [] steps.now → (before : List Seen) → IsReady stage.now.level.now.problem.now stage.now.level.now.number walk.old.joins walk.old.left before → PartTold stage.now.cuts stage.now.level.now.problem.now stage.now.level.now.number box (scope_number stage.now.horizon) before walk.old.left walk.new.left walk.old.lines walk.new.lines walk.new.joins) }
+    ensures back { OnOk result (IsBack stage.now.level.now.problem.now stage.now.level.now.number walk.old walk.new) }
+{
+    put_steps(&mut walk.lines, steps)?;
+    match closed {
+        Closed::Empty => walk.lines.put(Line::Empty),
+        Closed::Open => within(stage, x, walk),
+    }
+}
+
+/// The part of a scope's own tree in the walk's box, which is closed, where the variables of the scope before x have
+/// their values.
+#[cycle(search)]
+fn within(stage: &Stage, x: usize, walk: &mut Walk) -> Result<(), AllocError>
+    requires going { IsGoing stage.now.level.now.problem.now stage.now.level.now.number x walk.old.remains }
+    requires joins { game_of walk.old.joins ≡ stage.now.level.now.problem.now }
+    ensures told { OnOk result ((before : List Seen) → IsReady stage.now.level.now.problem.now stage.now.level.now.number walk.old.joins walk.old.left before → EndingTold stage.now.cuts stage.now.level.now.problem.now stage.now.level.now.number walk.old.remains.store.box (scope_number stage.now.horizon) before walk.old.left walk.new.left walk.old.lines walk.new.lines walk.new.joins) }
+    ensures back { OnOk result (IsBack stage.now.level.now.problem.now stage.now.level.now.number walk.old walk.new) }
 {
     stage.level.problem.known();
-    walk.board.known();
+    let next = walk.remains.next_free(stage.level, x);
+    if next == stage.level.stop {
+        return after_tuple(stage, walk);
+    }
+    over_values(stage, VarId(next as u16), walk)
+}
+
+/// The end of a scope's own tree, where its tuple is complete.
+#[cycle(search)]
+fn after_tuple(stage: &Stage, walk: &mut Walk) -> Result<(), AllocError>
+    requires going { IsGoing stage.now.level.now.problem.now stage.now.level.now.number stage.now.level.now.stop walk.old.remains }
+    requires joins { game_of walk.old.joins ≡ stage.now.level.now.problem.now }
+    ensures told { OnOk result ((before : List Seen) → IsReady stage.now.level.now.problem.now stage.now.level.now.number walk.old.joins walk.old.left before → EndingTold stage.now.cuts stage.now.level.now.problem.now stage.now.level.now.number walk.old.remains.store.box (scope_number stage.now.horizon) before walk.old.left walk.new.left walk.old.lines walk.new.lines walk.new.joins) }
+    ensures back { OnOk result (IsBack stage.now.level.now.problem.now stage.now.level.now.number walk.old walk.new) }
+{
+    stage.level.problem.known();
     let level = stage.level;
-    if !is_allowed(level, &walk.board) {
+    if !walk.remains.tuple_allowed(level) {
         walk.lines.put(Line::Barred)?;
+        walk.joins.add_barred(ScopeId(level.number));
         return Ok(());
     }
     walk.lines.put(Line::Next)?;
-    let below = node(stage.levels, stage.cuts, level.number + 1, walk)?;
-    *join = joined(level.kind, *join, below);
-    Ok(())
-}
-
-/// The part of a scope's tree where x, its next variable with more values than one, has this one.
-#[cycle(search)]
-fn with_value(
-    stage: &Stage,
-    x: VarId,
-    value: i64,
-    join: &mut Join,
-    walk: &mut Walk,
-) -> Result<(), AllocError>
-    requires var { x.0 < stage.now.level.now.stop }
-    requires place { IsWithin stage.now.level.now.problem.now stage.now.level.now.number x.0 walk.old.board }
-    requires free { IsFree stage.now.level.now.problem.now walk.old.board x.0 }
-    requires value { IsTrue (is_number value) }
-    ensures written { OnOk result (EndingWritten stage.now.cuts stage.now.level.now.problem.now (drop stage.now.level.now.number stage.now.level.now.problem.now.scopes) stage.now.level.now.number [] stage.now.level.now.kind (box_at walk.old.board.box x.0 value) None join.old join.new walk.old.left walk.new.left walk.old.lines walk.new.lines) }
-    ensures same { OnOk result (walk.new.board ≡ walk.old.board) }
-{
-    walk.board.fix(x, value);
-    within(stage, x.0 as usize + 1, join, walk)?;
-    walk.board.free(x);
+    let below = node(
+        stage.levels,
+        stage.cuts,
+        stage.horizon,
+        level.number + 1,
+        walk,
+    )?;
+    walk.joins.add_node(ScopeId(level.number), below);
     Ok(())
 }
 
 /// A branch on x, the next variable of the scope that has more values than one.
 #[cycle(search)]
-fn over_values(stage: &Stage, x: VarId, join: &mut Join, walk: &mut Walk) -> Result<(), AllocError>
+fn over_values(stage: &Stage, x: VarId, walk: &mut Walk) -> Result<(), AllocError>
     requires var { x.0 < stage.now.level.now.stop }
-    requires place { IsWithin stage.now.level.now.problem.now stage.now.level.now.number x.0 walk.old.board }
-    requires free { IsFree stage.now.level.now.problem.now walk.old.board x.0 }
-    ensures written { OnOk result (EndingWritten stage.now.cuts stage.now.level.now.problem.now (drop stage.now.level.now.number stage.now.level.now.problem.now.scopes) stage.now.level.now.number [] stage.now.level.now.kind walk.old.board.box None join.old join.new walk.old.left walk.new.left walk.old.lines walk.new.lines) }
-    ensures same { OnOk result (walk.new.board ≡ walk.old.board) }
+    requires going { IsGoing stage.now.level.now.problem.now stage.now.level.now.number x.0 walk.old.remains }
+    requires own { IsTrue (is_of_scope stage.now.level.now.problem.now stage.now.level.now.number x.0) }
+    requires free { is_single (values_left walk.old.remains.store.box x.0) ≡ false }
+    requires joins { game_of walk.old.joins ≡ stage.now.level.now.problem.now }
+    ensures told { OnOk result ((before : List Seen) → IsReady stage.now.level.now.problem.now stage.now.level.now.number walk.old.joins walk.old.left before → EndingTold stage.now.cuts stage.now.level.now.problem.now stage.now.level.now.number walk.old.remains.store.box (scope_number stage.now.horizon) before walk.old.left walk.new.left walk.old.lines walk.new.lines walk.new.joins) }
+    ensures back { OnOk result (IsBack stage.now.level.now.problem.now stage.now.level.now.number walk.old walk.new) }
 {
     stage.level.problem.known();
-    walk.board.known();
-    let domain = &stage.level.problem.variable(x).domain;
     walk.lines.put(Line::Branch { x })?;
-    cases(stage, x, domain, join, walk)?;
-    walk.lines.put(Line::Dot)?;
-    Ok(())
+    cases(stage, x, walk)?;
+    walk.lines.put(Line::Dot)
 }
 
-/// The cases of a branch on x, which has this domain.
+/// The cases of a branch on x, over the values left to it.
 #[cycle(search)]
-fn cases(
-    stage: &Stage,
-    x: VarId,
-    domain: &Domain,
-    join: &mut Join,
-    walk: &mut Walk,
-) -> Result<(), AllocError>
+fn cases(stage: &Stage, x: VarId, walk: &mut Walk) -> Result<(), AllocError>
     requires var { x.0 < stage.now.level.now.stop }
-    requires place { IsWithin stage.now.level.now.problem.now stage.now.level.now.number x.0 walk.old.board }
-    requires free { IsFree stage.now.level.now.problem.now walk.old.board x.0 }
-    requires domain { values_left walk.old.board.box x.0 ≡ domain_values domain.now }
-    requires valid { IsTrue (is_domain domain.now) }
-    ensures written { OnOk result (CasesWritten stage.now.cuts stage.now.level.now.problem.now (drop stage.now.level.now.number stage.now.level.now.problem.now.scopes) stage.now.level.now.number [] stage.now.level.now.kind walk.old.board.box None x.0 (domain_values domain.now) join.old join.new walk.old.left walk.new.left walk.old.lines walk.new.lines) }
-    ensures same { OnOk result (walk.new.board ≡ walk.old.board) }
+    requires going { IsGoing stage.now.level.now.problem.now stage.now.level.now.number x.0 walk.old.remains }
+    requires free { is_single (values_left walk.old.remains.store.box x.0) ≡ false }
+    requires joins { game_of walk.old.joins ≡ stage.now.level.now.problem.now }
+    ensures told { OnOk result ((before : List Seen) → IsReady stage.now.level.now.problem.now stage.now.level.now.number walk.old.joins walk.old.left before → CasesTold stage.now.cuts stage.now.level.now.problem.now stage.now.level.now.number walk.old.remains.store.box (scope_number stage.now.horizon) x.0 (values_left walk.old.remains.store.box x.0) before walk.old.left walk.new.left walk.old.lines walk.new.lines walk.new.joins) }
+    ensures back { OnOk result (IsBack stage.now.level.now.problem.now stage.now.level.now.number walk.old walk.new) }
 {
-    let size = domain.size();
+    stage.level.problem.known();
+    walk.remains.known();
+    let number = ScopeId(stage.level.number);
     let start = walk.lines.len();
-    for k in 0..size {
-        if settled(*join) {
-            return leave_out(&mut walk.lines, domain, k, Line::Skip);
+    let first = walk.remains.first(x);
+    let last = walk.remains.last(x);
+    let mut before = None;
+    let mut value = first;
+    'values: loop {
+        if walk.joins.is_settled(number) {
+            return leave_out(&mut walk.lines, value, last, Line::Skip);
         }
         if walk.left == 0 {
-            *join = left_out(*join);
-            return leave_out(&mut walk.lines, domain, k, Line::Open);
+            walk.joins.add_skipped(number);
+            return leave_out(&mut walk.lines, value, last, Line::Open);
         }
         let at = walk.lines.len();
         walk.left -= 1;
-        with_value(stage, x, domain.value_at(k), join, walk)?;
-        if is_cut(stage.cuts, k, *join) {
-            cut(&mut walk.lines, &mut walk.kept, start, at, domain, k)?;
-        }
+        with_value(stage, x, value, walk)?;
+        let dropped = last_to_drop(stage.cuts, walk.joins.is_settled(number), before);
+        drop_before(&mut walk.lines, &mut walk.kept, start, at, first, dropped)?;
+        let Some(next) = walk.remains.next(x, value) else {
+            return Ok(());
+        };
+        before = Some(value);
+        value = next;
     }
-    Ok(())
 }
 
-/// One case for the values of a domain from this place on, which this line leaves out.
-fn leave_out(lines: &mut Arena, domain: &Domain, place: u32, line: Line) -> Result<(), AllocError>
-    requires valid { IsTrue (is_domain domain.now) }
-    requires place { place < length (domain_values domain.now) }
-    ensures { OnOk result (lines.new ≡ lines.old ++ (upto_lines (upto_all (drop place (domain_values domain.now))) ++ line ∷ [])) }
+/// The part of a scope's own tree where x, its next variable with more values than one, has this one.
+#[cycle(search)]
+fn with_value(stage: &Stage, x: VarId, value: i64, walk: &mut Walk) -> Result<(), AllocError>
+    requires var { x.0 < stage.now.level.now.stop }
+    requires going { IsGoing stage.now.level.now.problem.now stage.now.level.now.number x.0 walk.old.remains }
+    requires value { IsTrue (has_value (values_left walk.old.remains.store.box x.0) value) }
+    requires joins { game_of walk.old.joins ≡ stage.now.level.now.problem.now }
+    ensures told { OnOk result ((before : List Seen) → IsReady stage.now.level.now.problem.now stage.now.level.now.number walk.old.joins walk.old.left before → PartTold stage.now.cuts stage.now.level.now.problem.now stage.now.level.now.number (box_to walk.old.remains.store.box x.0 (value ∷ [])) (scope_number stage.now.horizon) before walk.old.left walk.new.left walk.old.lines walk.new.lines walk.new.joins) }
+    ensures back { OnOk result (IsBack stage.now.level.now.problem.now stage.now.level.now.number walk.old walk.new) }
 {
-    let last = domain.size() - 1;
-    if place < last {
-        lines.put(Line::Range {
-            hi: domain.value_at(last),
-        })?;
-    }
-    lines.put(line)?;
-    Ok(())
-}
-
-/// Whether the case at this place stands without those before it.
-fn is_cut(cuts: bool, place: u32, join: Join) -> bool
-    ensures { result ≡ (cuts && nat_lt 0 place && is_settled join) }
-{
-    cuts && 0 < place && settled(join)
-}
-
-/// Puts one case that skips the first values of a domain, so many, in place of the lines from `start` to `at`.
-fn cut(
-    lines: &mut Arena,
-    kept: &mut Vec<Line>,
-    start: usize,
-    at: usize,
-    domain: &Domain,
-    count: u32,
-) -> Result<(), AllocError>
-    requires valid { IsTrue (is_domain domain.now) }
-    requires some { 0 < count }
-    requires within { count < length (domain_values domain.now) }
-    requires start { start ≤ at }
-    requires place { at ≤ length lines.old }
-    ensures { OnOk result (lines.new ≡ take start lines.old ++ ((upto_lines (upto_first count (domain_values domain.now)) ++ Skip ∷ []) ++ drop at lines.old)) }
-{
-    kept.clear();
-    set_aside(lines, kept, at)?;
-    lines.cut(start);
-    skip_first(lines, domain, count)?;
-    put_back(lines, kept)
-}
-
-/// Takes the lines from place `at` on off, the last one first.
-fn set_aside(lines: &mut Arena, kept: &mut Vec<Line>, at: usize) -> Result<(), AllocError>
-    requires none { kept.old.items ≡ [] }
-    requires place { at ≤ length lines.old }
-    ensures { OnOk result ((lines.new ≡ take at lines.old) × (reverse kept.new.items ≡ drop at lines.old)) }
-{
-    while lines.len() > at {
-        if let Some(line) = lines.pop() {
-            kept.push(line)?;
-        }
-    }
-    Ok(())
-}
-
-/// Appends the lines that were taken off, the last one first.
-fn put_back(lines: &mut Arena, kept: &mut Vec<Line>) -> Result<(), AllocError>
-    ensures { OnOk result (lines.new ≡ lines.old ++ reverse kept.old.items) }
-{
-    while let Some(line) = kept.pop() {
-        lines.put(line)?;
-    }
-    Ok(())
-}
-
-/// One case that skips the first values of a domain, so many.
-fn skip_first(lines: &mut Arena, domain: &Domain, count: u32) -> Result<(), AllocError>
-    requires valid { IsTrue (is_domain domain.now) }
-    requires some { 0 < count }
-    requires within { count < length (domain_values domain.now) }
-    ensures { OnOk result (lines.new ≡ lines.old ++ (upto_lines (upto_first count (domain_values domain.now)) ++ Skip ∷ [])) }
-{
-    if count > 1 {
-        lines.put(Line::Range {
-            hi: domain.value_at(count - 1),
-        })?;
-    }
-    lines.put(Line::Skip)?;
+    stage.level.problem.known();
+    walk.remains.known();
+    let mark = walk.remains.mark();
+    walk.remains.take(x, value)?;
+    let mut steps = StepList::new(walk.alloc);
+    let closed = walk.remains.close_after(stage.level, &[x], &mut steps)?;
+    part(stage, x.0 as usize + 1, closed, steps.items(), walk)?;
+    walk.remains.undo_to(mark);
     Ok(())
 }

@@ -1,16 +1,21 @@
 //! Where a search is.
-ghost use Rattle.std.specs.Prelude.{◌≡◌, IsTrue};
-ghost use Rattle.qc_rules.specs.Plain.{has_no_condition};
+ghost use Rattle.std.specs.Prelude.{◌≡◌, ◌≤◌, false, length, IfSome};
+ghost use Rattle.std.proofs.Props.{props};
+ghost use Rattle.proof_tree.specs.InPlace.{is_horizon};
+ghost use Rattle.search_box.specs.Looking.{scope_number};
 
+use qc_model::ScopeId;
 use qc_rules::{Level, Levels};
 
-/// A node's scope, beside all scopes of the problem, in which nothing is optimised. With `cuts` the
-/// case that settles a scope stands without those before it.
+/// A node's scope, beside all scopes of the problem, and the horizon in force below it, which isn't the scope itself. With
+/// `cuts` the case that settles a scope stands without those before it.
 #[derive(Clone, Copy)]
 pub(crate) struct Stage<'a, 'p> {
     pub(crate) levels: &'a Levels<'p>,
     pub(crate) level: &'a Level<'p>,
+    pub(crate) horizon: Option<ScopeId>,
     pub(crate) cuts: bool,
     ghost same: { level.now.problem.now ≡ levels.now.problem.now },
-    ghost plain: { IsTrue (has_no_condition level.now.problem.now.scopes) },
+    ghost within: { IfSome horizon (λ h. h.0 ≤ length levels.now.problem.now.scopes) } by { Prim.hlevel props },
+    ghost ahead: { is_horizon (scope_number horizon) level.now.number ≡ false },
 }

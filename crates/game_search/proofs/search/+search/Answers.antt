@@ -1,298 +1,346 @@
-use Rattle.std.specs.Prelude.{◌&&◌}
-use Rattle.game_search.specs.Joins.{is_settled}
-use Rattle.std.proofs.Common.{◌≡◌, ◌∙◌, sym, ap, refl, subst, ◌<◌, ◌≤◌, ◌+◌, ◌-◌, ◌∷◌, ◌++◌, [], suc, length, drop, Some, None, w64, to_z, of_z, arith, true, List, add-one, append_assoc, nat_lt, take, drop_of_length-le}
-use Rattle.std.specs.Prelude.{slice_get}
+use Rattle.std.proofs.Common.{◌≡◌, ◌∙◌, sym, ap, refl, subst, ◌<◌, ◌+◌, ◌-◌, suc, length, drop, w64, to_z, of_z, arith, true, [], ◌∷◌, ◌++◌}
+use Rattle.std.specs.List.{list_all}
 use Rattle.std.proofs.lemmas.Result.{on_ok_weaker, IfOk-weaker}
-use Rattle.qc_model.specs.Domains.{domain_values, values_left, is_single, box_at}
-use Rattle.qc_model.specs.Game.{before}
-use Rattle.qc_model.specs.Valid.{is_domain, is_number}
-use Rattle.proof_tree.specs.Tree.{barred, next, branch}
-use Rattle.proof_tree.specs.Cover.{box_to}
-use Rattle.qc_rules.specs.Boards.{Placed}
-use Rattle.proof_tree.specs.declared.line.Line.{Line}
-use Rattle.proof_tree.specs.declared.line.Line.TheVariants.{Next, Branch, Dot, Skip}
-use Rattle.proof_tree.specs.Lines.{tree_lines, branches_lines, upto_lines}
-use Rattle.qc_rules.specs.Reached.{IsAt, IsFree}
-use Rattle.game_search.specs.Board.{IsWithin}
-use Rattle.game_search.specs.Uppers.{upto_first}
 use Rattle.qc_model.specs.Content.{Game}
-use Rattle.qc_rules.specs.Plain.{NoConditions}
-use Rattle.game_search.specs.Made.{EndingMade, CasesMade}
-use Rattle.game_search.specs.Written.{EndingWritten, NodeWritten}
-use Rattle.qc_model.proofs.DomainValues.{domain_fits}
-use Rattle.game_search.proofs.Fitting.{place_fits}
-use Rattle.qc_rules.proofs.BoardLaws.{all_at, declared_at, passed}
-use Rattle.game_search.proofs.Numbers.{item_fits}
-use Rattle.qc_rules.proofs.Reaching.{free_ready, after_free}
-use Rattle.game_search.proofs.Boards.{at_stop, all_fixed, leaves_at, enters, takes}
-use Rattle.qc_rules.proofs.Items.{plain_to, plain_from}
-use Rattle.game_search.proofs.Places.{several}
-use Rattle.game_search.proofs.Nodes.{barred_made}
-use Rattle.game_search.proofs.Stepping.{alone_written}
-use Rattle.game_search.specs.declared.walk.Walk.{Walk}
-use Rattle.game_search.proofs.Covers.{domain_ascends}
-use Rattle.game_search.proofs.Bools.{both, below_is}
-use Rattle.game_search.proofs.search.+search.Goals.{cases-then-is_cut+in_ok-cut, cases-else-is_cut}
-use Rattle.game_search.proofs.Progress.{Progress, start, cut_after, skipped_at, opened_at, taken_at, none_at}
-use Rattle.game_search.proofs.Plain.{node_told, laws_here, next_here, branch_here}
+use Rattle.qc_model.specs.Domains.{Box, declared_box, has_empty, has_value, is_ascending, values_left}
+use Rattle.qc_model.specs.Game.{before}
+use Rattle.qc_model.specs.Valid.{is_number}
+use Rattle.qc_rules.proofs.BoardLaws.{passed}
+use Rattle.qc_arguments.specs.Asked.{is_box_of}
+use Rattle.qc_arguments.proofs.Boxes.{sub_ascending, left_small}
+use Rattle.fd_store.specs.Held.{Held, values_from}
+use Rattle.prop_engine.specs.declared.answer.Closed.{Closed}
+use Rattle.proof_tree.specs.Cover.{box_to}
+use Rattle.proof_tree.specs.Diligent.{SeesAhead}
+use Rattle.proof_tree.specs.InPlace.{is_horizon}
+use Rattle.proof_tree.specs.Lines.{upto_lines}
+use Rattle.proof_tree.specs.declared.line.Line.TheVariants.{Skip, Open}
+use Rattle.proof_tree.specs.Place.{is_fixed_to, position}
+use Rattle.qc_levels.specs.Seen.{verdict_of}
+use Rattle.qc_joins.specs.Joins.{LeafFits, out_of}
+use Rattle.search_box.specs.Closes.{IsPruned}
+use Rattle.search_box.specs.Looking.{scope_number}
+use Rattle.search_box.specs.Rests.{IsFirst, IsAfter}
+use Rattle.search_box.proofs.Goings.{follows_on}
+use Rattle.search_box.proofs.Places.{read_numbers}
+use Rattle.game_search.specs.Going.{GoesOn}
+use Rattle.game_search.specs.Told.{PartTold, BodyTold, NodeTold}
+use Rattle.game_search.specs.Uppers.{upto_between, without_before}
+use Rattle.game_search.proofs.Covers.{covers_after, many_of, rest_of}
+use Rattle.game_search.proofs.Fitting.{number_among, place_fits}
+use Rattle.game_search.proofs.Here.{Passing, asked_here, started, ready_again, case_done, rest_skipped, rest_opened, rest_none, empty_told, barred_told, few_turns, next_told, part_told, branch_told, node_ended, whole_node}
+use Rattle.game_search.proofs.Remains.{goes_next, back_after, back_below, back_more, case_back, longer}
 use Rattle.game_search.proofs.search.+search.Goals as goal
 
-around : (old ls : List Line) (first last : Line) → ((old ++ first ∷ []) ++ ls) ++ last ∷ [] ≡ old ++ (first ∷ (ls ++ last ∷ []))
-around old ls first last = ap (λ us. us ++ last ∷ []) (append_assoc old (first ∷ []) ls) ∙ append_assoc old (first ∷ ls) (last ∷ [])
-
-pub after_tuple-is_allowed-requires : goal.after_tuple-is_allowed-requires
-after_tuple-is_allowed-requires t c =
-    let l = c.args.stage.now.level.now in
-    let b = c.args.walk.now.board in
-    leaves_at l.problem.now l.number b (at_stop l.problem.now l.number l.stop b l.has_stop c.requires.place)
-
-pub after_tuple-returns-then-not-is_allowed-clause-written :
-    goal.after_tuple-returns-then-not-is_allowed-clause-written
-after_tuple-returns-then-not-is_allowed-clause-written t c =
+pub after_tuple-returns-then-not-tuple_allowed-clause-told : goal.after_tuple-returns-then-not-tuple_allowed-clause-told
+after_tuple-returns-then-not-tuple_allowed-clause-told t c =
     let l = c.args.stage.now.level.now in
     let g = l.problem.now in
-    let b = c.args.walk.now.board in
-    let whole = at_stop g l.number l.stop b l.has_stop c.requires.place in
-    let ok = sym c.is_allowed.ensures ∙ c.if-not-is_allowed.true in
-    record {
-      ending = barred;
-      lines = c.in_ok-put.ensures.put;
-      made = barred_made c.args.stage.now.cuts g (drop l.number g.scopes) l.number [] l.kind None b.box c.args.join.now c.args.walk.now.left c.known-2.ensures.full (all_fixed g l.number b whole) ok;
-    }
+    let b = c.args.walk.now.remains in
+    let w = c.requires.going.within in
+    let fixed = subst (λ n. is_fixed_to g l.number n b.store.box ≡ true) l.has_stop w.fixed in
+    λ xs ready. barred_told c.args.stage.now.cuts g l.number b.store.box (scope_number c.args.stage.now.horizon) xs c.args.walk.now.left c.args.walk.now.lines c.args.walk.now.joins ready c.put.new.self c.add_barred.new.self w.here.full fixed
+    (sym c.tuple_allowed.ensures.allowed ∙ c.if-not-tuple_allowed.true) c.add_barred.ensures.stands c.in_ok-put.ensures.put
 
-pub after_tuple-node-requires : goal.after_tuple-node-requires
-after_tuple-node-requires t c =
+pub after_tuple-returns-clause-told : goal.after_tuple-returns-clause-told
+after_tuple-returns-clause-told t c =
     let l = c.args.stage.now.level.now in
     let g = l.problem.now in
-    let h = c.args.stage.now.levels.now.problem.now in
-    let p = c.args.stage.now.same in
-    let b = c.args.walk.now.board in
-    let scopes : length g.scopes ≡ length h.scopes = ap (λ (f : Game). length f.scopes) p in
-    let variables : length g.variables ≡ length h.variables = ap (λ (f : Game). length f.variables) p in
-    let stop : l.stop ≡ before h (l.number + 1) = l.has_stop ∙ (ap (λ f. before f (suc l.number)) p ∙ ap (before h) (sym (add-one l.number))) in
-    let next = leaves_at g l.number b (at_stop g l.number l.stop b l.has_stop c.requires.place) in (
-      omega (arith, scopes, variables, stop, l.is_scope, l.stop_within),
-      (subst (λ (f : Game). NoConditions f.scopes) p (plain_from g.scopes c.args.stage.now.plain), (omega (arith, scopes, l.is_scope), subst (λ (f : Game). IsAt f (l.number + 1) b) p (subst (λ n. IsAt g n b) (sym (add-one l.number)) next))),
-    )
+    let h = scope_number c.args.stage.now.horizon in
+    let b = c.args.walk.now.remains in
+    let w = c.requires.going.within in
+    let fixed = subst (λ n. is_fixed_to g l.number n b.store.box ≡ true) l.has_stop w.fixed in
+    let v = verdict_of c.in_ok-below.below (out_of c.node.new.walk.joins) in
+    λ xs ready.
+    let few = few_turns c.args.stage.now.cuts g l.number b.store.box h xs c.args.walk.now.left c.args.walk.now.lines c.args.walk.now.joins ready in
+    let below = subst (λ (f : Game). NodeTold c.args.stage.now.cuts f (l.number + 1) b.store.box h v c.args.walk.now.left c.node.new.walk.left c.put-2.new.self c.node.new.walk.lines c.node.new.walk.joins) (sym c.args.stage.now.same)
+    (subst (λ (s : Held). NodeTold c.args.stage.now.cuts c.args.stage.now.levels.now.problem.now (l.number + 1) s.box h v c.args.walk.now.left c.node.new.walk.left c.put-2.new.self c.node.new.walk.lines c.node.new.walk.joins) c.tuple_allowed.ensures.store (c.in_ok-below.ensures.told few)) in
+    next_told c.args.stage.now.cuts g l.number b.store.box h xs c.args.walk.now.left c.args.walk.now.lines c.args.walk.now.joins ready l.is_scope v c.node.new.walk.left c.put-2.new.self c.node.new.walk.lines c.node.new.walk.joins c.add_node.new.self w.here.full fixed
+    (sym c.tuple_allowed.ensures.allowed ∙ c.if-not-tuple_allowed.false) c.in_ok-put-2.ensures.put below (c.in_ok-below.ensures.back.joins l.number xs (omega arith))
+    (λ ys s fits. c.add_node.ensures.stands ys s (subst (λ (f : Game). LeafFits f l.number ys v) (sym (c.in_ok-below.ensures.back.game ∙ c.requires.joins)) fits))
 
-pub after_tuple-returns-clause-written : goal.after_tuple-returns-clause-written
-after_tuple-returns-clause-written t c =
+pub after_tuple-returns-clause-back : goal.after_tuple-returns-clause-back
+after_tuple-returns-clause-back t c =
+    let l = c.args.stage.now.level.now in
+    back_below l.problem.now _ l.number (sym c.args.stage.now.same) c.args.walk.now _ c.node.new.walk _ c.requires.going.within.here c.tuple_allowed.ensures.entered c.tuple_allowed.ensures.store c.tuple_allowed.ensures.kept refl _ c.in_ok-put-2.ensures.put c.in_ok-below.ensures.back
+    refl refl c.add_node.ensures.same c.add_node.ensures.others
+
+pub cases-values-init : goal.cases-values-init
+cases-values-init t c =
     let l = c.args.stage.now.level.now in
     let g = l.problem.now in
-    let b = c.args.walk.now.board in
-    let whole = at_stop g l.number l.stop b l.has_stop c.requires.place in
-    let ok = sym c.is_allowed.ensures ∙ c.if-not-is_allowed.false in
-    let w = subst (λ (f : Game). NodeWritten c.args.stage.now.cuts f (drop (l.number + 1) f.scopes) (l.number + 1) [] b.box None c.in_ok-below.below c.args.walk.now.left c.node.new.walk.left c.put-2.new.self c.node.new.walk.lines) (sym c.args.stage.now.same) c.in_ok-below.ensures.written in
-    record {
-      ending = next w.tree;
-      lines = w.lines ∙ (ap (λ ls. ls ++ tree_lines w.tree) c.in_ok-put-2.ensures.put ∙ append_assoc c.args.walk.now.lines (Next ∷ []) (tree_lines w.tree));
-      made = subst (λ j. EndingMade c.args.stage.now.cuts g (drop l.number g.scopes) l.number [] l.kind b.box None c.args.join.now j c.args.walk.now.left c.node.new.walk.left (next w.tree)) (sym c.joined.ensures)
-          (next_here c.args.stage.now.cuts g l.number l.kind (plain_from g.scopes c.args.stage.now.plain) l.has_kind b.box c.known-2.ensures.full c.args.join.now c.in_ok-below.below c.args.walk.now.left c.node.new.walk.left w.tree (all_fixed g l.number b whole) ok w.made);
-    }
-
-pub cases-returns-then-settled-clause-written : goal.cases-returns-then-settled-clause-written
-cases-returns-then-settled-clause-written t c =
-    let l = c.args.stage.now.level.now in
-    let g = l.problem.now in
-    let box = c.args.walk.now.board.box in
-    let d = domain_values c.args.domain.now in
-    let here : c.loop-k.k < length d = omega (arith, c.size-size.ensures, c.loop-k-test.true) in
-    on_ok_weaker c.leave_out.result
-    (λ e.
-    skipped_at c.args.stage.now.cuts g (drop l.number g.scopes) l.number [] l.kind box None c.args.x.0 d c.args.join.now c.args.walk.now.left c.args.walk.now.lines c.loop-k.k c.loop-k.join c.loop-k.walk.left
-    c.loop-k.walk.lines c.leave_out.new.lines (domain_fits c.args.domain.now c.requires.valid) here (sym c.settled.ensures ∙ c.if-settled.true) c.loop-k.invariant.progress e)
-    c.leave_out.ensures
-
-pub cases-returns-then-walk-eq0-clause-written : goal.cases-returns-then-walk-eq0-clause-written
-cases-returns-then-walk-eq0-clause-written t c =
-    let l = c.args.stage.now.level.now in
-    let g = l.problem.now in
-    let box = c.args.walk.now.board.box in
-    let d = domain_values c.args.domain.now in
-    let here : c.loop-k.k < length d = omega (arith, c.size-size.ensures, c.loop-k-test.true) in
-    on_ok_weaker c.leave_out-then-walk-eq0.result
-    (λ e.
-    opened_at c.args.stage.now.cuts g (drop l.number g.scopes) l.number [] l.kind box None c.args.x.0 d c.args.join.now c.args.walk.now.left c.args.walk.now.lines c.loop-k.k c.loop-k.join c.left_out.result c.loop-k.walk.left
-    c.loop-k.walk.lines c.leave_out-then-walk-eq0.new.lines (domain_fits c.args.domain.now c.requires.valid) here c.if-walk-eq0.true c.left_out.ensures c.loop-k.invariant.progress e)
-    c.leave_out-then-walk-eq0.ensures
-
-pub cases-loop-k-init : goal.cases-loop-k-init
-cases-loop-k-init t c =
-    let l = c.args.stage.now.level.now in
-    let g = l.problem.now in
+    let b = c.args.walk.now.remains in
+    let x = c.args.x.0 in
+    let vs = values_left b.store.box x in
+    let declared : is_box_of g b.store.box ≡ true = subst (λ (f : Game). is_box_of f b.store.box ≡ true) c.requires.going.within.here.game c.known-2.ensures.declared in
+    let numbers : list_all is_number vs ≡ true = left_small g b.store.box x c.known.ensures.domains declared in
+    let first_is : to_z w64 (of_z w64 c.first-first.result) ≡ c.first-first.result = passed c.first-first.result (number_among vs c.first-first.result numbers c.first-first.ensures.left) in
+    let all = subst (λ v. values_from v vs ≡ vs) (sym first_is) c.first-first.ensures.all in
     record {
       start = c.len-start.ensures;
-      same = refl;
-      progress = start c.args.stage.now.cuts g (drop l.number g.scopes) l.number [] l.kind c.args.walk.now.board.box None c.args.x.0 (domain_values c.args.domain.now) c.args.join.now c.args.walk.now.left c.args.walk.now.lines;
+      back = record { problem = refl; box = refl; past = refl; kept = refl; game = refl; joins = λ j xs h s. s; lines = omega arith };
+      left = subst (λ v. has_value vs v ≡ true) (sym first_is) c.first-first.ensures.left;
+      after = all;
+      goes = λ xs ready. subst (λ us. Passing c.args.stage.now.cuts g l.number b.store.box (scope_number c.args.stage.now.horizon) x vs xs c.args.walk.now.left c.args.walk.now.lines us c.args.walk.now.left c.args.walk.now.lines c.args.walk.now.joins) (sym all)
+          (started c.args.stage.now.cuts g l.number b.store.box (scope_number c.args.stage.now.horizon) x vs xs c.args.walk.now.left c.args.walk.now.lines c.args.walk.now.joins ready);
     }
 
-pub cases-with_value-requires : goal.cases-with_value-requires
-cases-with_value-requires t c =
+pub cases-returns-then-is_settled-clause-told : goal.cases-returns-then-is_settled-clause-told
+cases-returns-then-is_settled-clause-told t c =
     let l = c.args.stage.now.level.now in
     let g = l.problem.now in
+    let b = c.args.walk.now.remains in
     let x = c.args.x.0 in
-    let v = c.value_at.result in
-    let fits : is_number v ≡ true = item_fits c.args.domain.now c.loop-k.k v c.requires.valid c.value_at.ensures in
-    let same = sym c.loop-k.invariant.same in
-    (omega arith, (c.requires.var, (subst (IsWithin g l.number x) same c.requires.place, (subst (λ b. IsFree g b x) same c.requires.free, subst (λ u. is_number u ≡ true) (sym (passed v fits)) fits))))
+    let vs = values_left b.store.box x in
+    let declared : is_box_of g b.store.box ≡ true = subst (λ (f : Game). is_box_of f b.store.box ≡ true) c.requires.going.within.here.game c.known-2.ensures.declared in
+    let numbers : list_all is_number vs ≡ true = left_small g b.store.box x c.known.ensures.domains declared in
+    let rises : is_ascending vs ≡ true = sub_ascending b.store.box (declared_box g) x declared in
+    let last_is : to_z w64 (of_z w64 c.last-last.result) ≡ c.last-last.result = passed c.last-last.result (number_among vs c.last-last.result numbers c.last-last.ensures.left) in
+    let v = to_z w64 c.values.value-bits in
+    let r = rest_of vs v c.last-last.result rises numbers c.values.invariant.left c.last-last.ensures in
+    let upto = ap (upto_between v) last_is ∙ sym r.upto in
+    let same = c.values.invariant.back.game ∙ c.requires.joins in
+    let asked = asked_here g _ l.number c.values.walk.joins c.is_settled.result same c.is_settled.ensures in
+    on_ok_weaker c.leave_out.result
+    (λ e xs ready.
+    rest_skipped c.args.stage.now.cuts g l.number b.store.box (scope_number c.args.stage.now.horizon) x vs xs c.args.walk.now.left c.args.walk.now.lines c.args.walk.now.joins ready (values_from v vs) c.values.walk.left c.values.walk.lines c.leave_out.new.lines c.values.walk.joins c.is_settled.result r.some r.numbers asked
+    c.if-is_settled.true (c.values.invariant.goes xs ready) (e ∙ ap (λ o. c.values.walk.lines ++ (upto_lines o ++ Skip ∷ [])) upto))
+    c.leave_out.ensures
 
-pub cases-loop-k-preserved : goal.cases-loop-k-preserved
-cases-loop-k-preserved t c =
+pub cases-returns-then-is_settled-clause-back : goal.cases-returns-then-is_settled-clause-back
+cases-returns-then-is_settled-clause-back t c =
+    on_ok_weaker c.leave_out.result
+    (λ e. back_more c.args.stage.now.level.now.problem.now c.args.stage.now.level.now.number c.args.walk.now c.values.walk _ c.values.invariant.back refl refl (λ j xs h s. s) (longer c.values.walk.lines c.leave_out.new.lines _ e)) c.leave_out.ensures
+
+pub cases-returns-then-walk-eq0-clause-told : goal.cases-returns-then-walk-eq0-clause-told
+cases-returns-then-walk-eq0-clause-told t c =
     let l = c.args.stage.now.level.now in
     let g = l.problem.now in
-    let box = c.args.walk.now.board.box in
-    let d = domain_values c.args.domain.now in
-    let r = c.value_at.result in
-    let v = to_z w64 (of_z w64 r) in
-    let fits : is_number r ≡ true = item_fits c.args.domain.now c.loop-k.k r c.requires.valid c.value_at.ensures in
-    let at : slice_get d c.loop-k.k ≡ Some v = c.value_at.ensures ∙ ap Some (sym (passed r fits)) in
-    let here : c.loop-k.k < length d = omega (arith, c.size-size.ensures, c.loop-k-test.true) in
+    let b = c.args.walk.now.remains in
     let x = c.args.x.0 in
-    let several_left = ap is_single (sym c.requires.domain) ∙ c.requires.free.unfixed in
-    let many : 1 < length (values_left box x) = subst (λ vs. 1 < length vs) (sym c.requires.domain) (several d c.loop-k.k several_left here) in
-    let moved : box_at c.loop-k.walk.board.box x v ≡ box_to box x (v ∷ []) = ap (λ (b : Placed). box_at b.box x v) c.loop-k.invariant.same in
-    let later = drop l.number g.scopes in
-    let part = alone_written c.args.stage.now.cuts g later l.number [] l.kind (box_to box x (v ∷ [])) None c.loop-k.join c.with_value.new.join (c.loop-k.walk.left - 1) c.with_value.new.walk.left c.loop-k.walk.lines
-    c.with_value.new.walk.lines
-    (subst (λ b. EndingWritten c.args.stage.now.cuts g later l.number [] l.kind b None c.loop-k.join c.with_value.new.join (c.loop-k.walk.left - 1) c.with_value.new.walk.left c.loop-k.walk.lines c.with_value.new.walk.lines) moved
-    c.in_ok-with_value.ensures.written) in
-    let not_yet = sym c.settled.ensures ∙ c.if-settled.false in
-    let laws = laws_here c.args.stage.now.cuts g l.number l.kind (plain_from g.scopes c.args.stage.now.plain) l.has_kind in
-    let is_at : c.len-at.result ≡ length c.loop-k.walk.lines = c.len-at.ensures in
+    let vs = values_left b.store.box x in
+    let declared : is_box_of g b.store.box ≡ true = subst (λ (f : Game). is_box_of f b.store.box ≡ true) c.requires.going.within.here.game c.known-2.ensures.declared in
+    let numbers : list_all is_number vs ≡ true = left_small g b.store.box x c.known.ensures.domains declared in
+    let rises : is_ascending vs ≡ true = sub_ascending b.store.box (declared_box g) x declared in
+    let last_is : to_z w64 (of_z w64 c.last-last.result) ≡ c.last-last.result = passed c.last-last.result (number_among vs c.last-last.result numbers c.last-last.ensures.left) in
+    let v = to_z w64 c.values.value-bits in
+    let r = rest_of vs v c.last-last.result rises numbers c.values.invariant.left c.last-last.ensures in
+    let upto = ap (upto_between v) last_is ∙ sym r.upto in
+    let same = c.values.invariant.back.game ∙ c.requires.joins in
+    let asked = asked_here g _ l.number c.values.walk.joins c.is_settled.result same c.is_settled.ensures in
+    on_ok_weaker c.leave_out-then-walk-eq0.result
+    (λ e xs ready.
+    rest_opened c.args.stage.now.cuts g l.number b.store.box (scope_number c.args.stage.now.horizon) x vs xs c.args.walk.now.left c.args.walk.now.lines c.args.walk.now.joins ready (values_from v vs) c.values.walk.left c.values.walk.lines c.leave_out-then-walk-eq0.new.lines c.values.walk.joins c.add_skipped.new.self c.is_settled.result
+    r.some r.numbers asked c.if-is_settled.false c.if-walk-eq0.true c.add_skipped.ensures.stands (c.values.invariant.goes xs ready) (e ∙ ap (λ o. c.values.walk.lines ++ (upto_lines o ++ Open ∷ [])) upto))
+    c.leave_out-then-walk-eq0.ensures
+
+pub cases-returns-then-walk-eq0-clause-back : goal.cases-returns-then-walk-eq0-clause-back
+cases-returns-then-walk-eq0-clause-back t c =
+    on_ok_weaker c.leave_out-then-walk-eq0.result
+    (λ e. back_more c.args.stage.now.level.now.problem.now c.args.stage.now.level.now.number c.args.walk.now c.values.walk _ c.values.invariant.back refl c.add_skipped.ensures.same (λ j xs h s. c.add_skipped.ensures.others j xs (λ q. absurd (omega arith)) s)
+    (longer c.values.walk.lines c.leave_out-then-walk-eq0.new.lines _ e))
+    c.leave_out-then-walk-eq0.ensures
+
+pub cases-returns-in_default-clause-told : goal.cases-returns-in_default-clause-told
+cases-returns-in_default-clause-told t c =
+    let l = c.args.stage.now.level.now in
+    let g = l.problem.now in
+    let b = c.args.walk.now.remains in
+    let x = c.args.x.0 in
+    let vs = values_left b.store.box x in
+    let declared : is_box_of g b.store.box ≡ true = subst (λ (f : Game). is_box_of f b.store.box ≡ true) c.requires.going.within.here.game c.known-2.ensures.declared in
+    let numbers : list_all is_number vs ≡ true = left_small g b.store.box x c.known.ensures.domains declared in
+    let rises : is_ascending vs ≡ true = sub_ascending b.store.box (declared_box g) x declared in
+    let first_is : to_z w64 (of_z w64 c.first-first.result) ≡ c.first-first.result = passed c.first-first.result (number_among vs c.first-first.result numbers c.first-first.ensures.left) in
+    let v = to_z w64 c.values.value-bits in
+    let low = to_z w64 (of_z w64 c.first-first.result) in
+    let back = c.values.invariant.back in
+    let same = back.game ∙ c.requires.joins in
+    let part_back = c.in_ok-with_value.ensures.back in
+    let asked = asked_here g _ l.number c.values.walk.joins c.is_settled.result same c.is_settled.ensures in
+    let asked_then = asked_here g _ l.number c.with_value.new.walk.joins c.is_settled-in-values.result (part_back.game ∙ same) c.is_settled-in-values.ensures in
+    let begins = subst (IsFirst vs) (sym first_is) c.first-first.ensures in
+    let covers = covers_after vs low c.values.before v rises begins c.values.invariant.left c.values.invariant.after in
+    let many = many_of vs v c.requires.free c.values.invariant.left in
+    let there = ap (λ n. without_before c.last_to_drop-dropped.result low n c.len-at.result c.with_value.new.walk.lines) c.values.invariant.start
+    ∙ ap (λ n. without_before c.last_to_drop-dropped.result low (length c.args.walk.now.lines) n c.with_value.new.walk.lines) c.len-at.ensures in
+    let box_same : values_left c.with_value.new.walk.remains.store.box x ≡ vs = ap (λ (d : Box). values_left d x) (part_back.box ∙ back.box) in
+    let h = scope_number c.args.stage.now.horizon in
+    let at : values_from v vs ≡ v ∷ [] = subst (λ us. values_from v us ≡ v ∷ []) box_same c.in_default.ensures in
+    λ xs ready.
+    let p = c.values.invariant.goes xs ready in
+    let again = ready_again c.args.stage.now.cuts g l.number b.store.box h x vs xs c.args.walk.now.left c.args.walk.now.lines c.args.walk.now.joins ready (values_from v vs) c.values.walk.left c.values.walk.lines c.values.walk.joins c.is_settled.result asked c.if-is_settled.false c.if-walk-eq0.false p in
+    let part = subst (λ (d : Box). PartTold c.args.stage.now.cuts g l.number (box_to d x (v ∷ [])) h (xs ++ p.seen) (c.values.walk.left - 1) c.with_value.new.walk.left c.values.walk.lines c.with_value.new.walk.lines c.with_value.new.walk.joins) back.box
+    (c.in_ok-with_value.ensures.told (xs ++ p.seen) again) in
+    rest_none c.args.stage.now.cuts g l.number b.store.box h x vs xs c.args.walk.now.left c.args.walk.now.lines c.args.walk.now.joins ready c.with_value.new.walk.left c.drop_before.new.lines c.with_value.new.walk.joins
+    (case_done c.args.stage.now.cuts g l.number b.store.box h x vs xs c.args.walk.now.left c.args.walk.now.lines c.args.walk.now.joins ready numbers low c.values.before c.last_to_drop-dropped.result (values_from v vs) [] v c.values.walk.left c.with_value.new.walk.left
+    c.values.walk.lines c.with_value.new.walk.lines c.drop_before.new.lines c.values.walk.joins c.with_value.new.walk.joins c.is_settled.result c.is_settled-in-values.result many at covers asked c.if-is_settled.false c.if-walk-eq0.false asked_then c.last_to_drop-dropped.ensures p part (c.in_ok-drop_before.ensures ∙ there))
+
+pub cases-returns-in_default-clause-back : goal.cases-returns-in_default-clause-back
+cases-returns-in_default-clause-back t c =
+    case_back c.args.stage.now.level.now.problem.now c.args.stage.now.level.now.number c.args.walk.now c.values.walk _ c.with_value.new.walk _ c.values.invariant.back refl refl refl c.in_ok-with_value.ensures.back refl refl c.last_to_drop-dropped.result (to_z w64 (of_z w64 c.first-first.result)) c.len-start.result c.len-at.result c.values.invariant.start c.in_ok-drop_before.ensures
+
+pub cases-values-preserved : goal.cases-values-preserved
+cases-values-preserved t c =
+    let l = c.args.stage.now.level.now in
+    let g = l.problem.now in
+    let b = c.args.walk.now.remains in
+    let x = c.args.x.0 in
+    let vs = values_left b.store.box x in
+    let declared : is_box_of g b.store.box ≡ true = subst (λ (f : Game). is_box_of f b.store.box ≡ true) c.requires.going.within.here.game c.known-2.ensures.declared in
+    let numbers : list_all is_number vs ≡ true = left_small g b.store.box x c.known.ensures.domains declared in
+    let rises : is_ascending vs ≡ true = sub_ascending b.store.box (declared_box g) x declared in
+    let first_is : to_z w64 (of_z w64 c.first-first.result) ≡ c.first-first.result = passed c.first-first.result (number_among vs c.first-first.result numbers c.first-first.ensures.left) in
+    let v = to_z w64 c.values.value-bits in
+    let low = to_z w64 (of_z w64 c.first-first.result) in
+    let back = c.values.invariant.back in
+    let same = back.game ∙ c.requires.joins in
+    let part_back = c.in_ok-with_value.ensures.back in
+    let asked = asked_here g _ l.number c.values.walk.joins c.is_settled.result same c.is_settled.ensures in
+    let asked_then = asked_here g _ l.number c.with_value.new.walk.joins c.is_settled-in-values.result (part_back.game ∙ same) c.is_settled-in-values.ensures in
+    let begins = subst (IsFirst vs) (sym first_is) c.first-first.ensures in
+    let covers = covers_after vs low c.values.before v rises begins c.values.invariant.left c.values.invariant.after in
+    let many = many_of vs v c.requires.free c.values.invariant.left in
+    let there = ap (λ n. without_before c.last_to_drop-dropped.result low n c.len-at.result c.with_value.new.walk.lines) c.values.invariant.start
+    ∙ ap (λ n. without_before c.last_to_drop-dropped.result low (length c.args.walk.now.lines) n c.with_value.new.walk.lines) c.len-at.ensures in
+    let box_same : values_left c.with_value.new.walk.remains.store.box x ≡ vs = ap (λ (d : Box). values_left d x) (part_back.box ∙ back.box) in
+    let h = scope_number c.args.stage.now.horizon in
+    let after = subst (λ us. IsAfter us v c.in-Some.next) box_same c.in-Some.ensures in
+    let next_is : to_z w64 (of_z w64 c.in-Some.next) ≡ c.in-Some.next = passed c.in-Some.next (number_among vs c.in-Some.next numbers after.left) in
+    let next = to_z w64 (of_z w64 c.in-Some.next) in
+    let left = subst (λ w. has_value vs w ≡ true) (sym next_is) after.left in
+    let at = subst (λ w. values_from v vs ≡ v ∷ values_from w vs) (sym next_is) after.rest in
     record {
-      start = c.loop-k.invariant.start;
-      same = elim c.if-is_cut.branch [
-        | cases-then-is_cut+in_ok-cut w ↦ ap (λ u. u.board) w.walk-is ∙ (c.in_ok-with_value.ensures.same ∙ c.loop-k.invariant.same)
-        | cases-else-is_cut w ↦ ap (λ u. u.board) w.walk-is ∙ (c.in_ok-with_value.ensures.same ∙ c.loop-k.invariant.same)
-      ];
-      progress = elim c.if-is_cut.branch [
-        | cases-then-is_cut+in_ok-cut w ↦
-            let tests = both (c.args.stage.now.cuts && nat_lt 0 c.loop-k.k) (is_settled c.with_value.new.join) (sym c.is_cut.ensures ∙ w.if-is_cut.true) in
-            let first = both c.args.stage.now.cuts (nat_lt 0 c.loop-k.k) tests.0 in
-            let some : 0 < c.loop-k.k = below_is 0 c.loop-k.k first.1 in
-            subst (λ (u : Walk). Progress c.args.stage.now.cuts g later l.number [] l.kind box None x d c.args.join.now c.args.walk.now.left c.args.walk.now.lines (drop (c.loop-k.k + 1) d) c.with_value.new.join u.left u.lines) (sym w.walk-is)
-            (cut_after c.args.stage.now.cuts g later l.number [] l.kind box None x d c.args.join.now c.args.walk.now.left c.args.walk.now.lines laws first.0 (domain_ascends c.args.domain.now c.requires.valid) (domain_fits c.args.domain.now c.requires.valid) c.loop-k.k v c.loop-k.join c.with_value.new.join
-            c.loop-k.walk.left c.with_value.new.walk.left c.loop-k.walk.lines c.with_value.new.walk.lines _ many some at here not_yet tests.1 c.if-walk-eq0.false c.loop-k.invariant.progress part
-            (w.in_ok-cut.ensures
-            ∙ (ap (λ n. take n c.with_value.new.walk.lines ++ ((upto_lines (upto_first c.loop-k.k d) ++ Skip ∷ []) ++ drop c.len-at.result c.with_value.new.walk.lines)) c.loop-k.invariant.start
-            ∙ ap (λ n. take (length c.args.walk.now.lines) c.with_value.new.walk.lines ++ ((upto_lines (upto_first c.loop-k.k d) ++ Skip ∷ []) ++ drop n c.with_value.new.walk.lines)) is_at)))
-        | cases-else-is_cut w ↦
-            subst (λ (u : Walk). Progress c.args.stage.now.cuts g later l.number [] l.kind box None x d c.args.join.now c.args.walk.now.left c.args.walk.now.lines (drop (c.loop-k.k + 1) d) c.with_value.new.join u.left u.lines) (sym w.walk-is)
-            (taken_at c.args.stage.now.cuts g later l.number [] l.kind box None x d c.args.join.now c.args.walk.now.left c.args.walk.now.lines laws c.loop-k.k v c.loop-k.join c.with_value.new.join c.loop-k.walk.left c.with_value.new.walk.left
-            c.loop-k.walk.lines c.with_value.new.walk.lines many at not_yet c.if-walk-eq0.false c.loop-k.invariant.progress part)
-      ];
+      start = c.values.invariant.start;
+      back = case_back g l.number c.args.walk.now c.values.walk _ c.with_value.new.walk _ back refl refl refl part_back refl refl c.last_to_drop-dropped.result (to_z w64 (of_z w64 c.first-first.result)) c.len-start.result c.len-at.result c.values.invariant.start c.in_ok-drop_before.ensures;
+      left = left;
+      after = record { left = c.values.invariant.left; rest = at };
+      goes = λ xs ready.
+          let p = c.values.invariant.goes xs ready in
+          let again = ready_again c.args.stage.now.cuts g l.number b.store.box h x vs xs c.args.walk.now.left c.args.walk.now.lines c.args.walk.now.joins ready (values_from v vs) c.values.walk.left c.values.walk.lines c.values.walk.joins c.is_settled.result asked c.if-is_settled.false c.if-walk-eq0.false p in
+          let part = subst (λ (d : Box). PartTold c.args.stage.now.cuts g l.number (box_to d x (v ∷ [])) h (xs ++ p.seen) (c.values.walk.left - 1) c.with_value.new.walk.left c.values.walk.lines c.with_value.new.walk.lines c.with_value.new.walk.joins) back.box
+          (c.in_ok-with_value.ensures.told (xs ++ p.seen) again) in
+          (case_done c.args.stage.now.cuts g l.number b.store.box h x vs xs c.args.walk.now.left c.args.walk.now.lines c.args.walk.now.joins ready numbers low c.values.before c.last_to_drop-dropped.result (values_from v vs) (values_from next vs) v c.values.walk.left c.with_value.new.walk.left
+          c.values.walk.lines c.with_value.new.walk.lines c.drop_before.new.lines c.values.walk.joins c.with_value.new.walk.joins c.is_settled.result c.is_settled-in-values.result many at covers asked c.if-is_settled.false c.if-walk-eq0.false asked_then c.last_to_drop-dropped.ensures p part (c.in_ok-drop_before.ensures ∙ there));
     }
 
-pub cases-returns-clause-written : goal.cases-returns-clause-written
-cases-returns-clause-written t c =
-    let l = c.args.stage.now.level.now in
-    let g = l.problem.now in
-    let box = c.args.walk.now.board.box in
-    let d = domain_values c.args.domain.now in
-    let all : length d ≤ c.loop-k.k = omega (arith, c.size-size.ensures, c.loop-k-test.false) in
-    none_at c.args.stage.now.cuts g (drop l.number g.scopes) l.number [] l.kind box None c.args.x.0 d c.args.join.now c.args.walk.now.left c.args.walk.now.lines c.loop-k.k c.loop-k.join c.loop-k.walk.left c.loop-k.walk.lines all
-    c.loop-k.invariant.progress
-
-pub node-goal-requires : goal.node-goal-requires
-node-goal-requires t c =
-    let g = c.args.levels.now.problem.now in
-    let last : c.args.number ≡ length g.scopes = omega (arith, c.scopes.ensures, c.if-number-scopes.true) in
-    record { board = subst (λ n. IsAt g n c.args.walk.now.board) last c.requires.board }
-
-pub node-returns-then-number-scopes-clause-written : goal.node-returns-then-number-scopes-clause-written
-node-returns-then-number-scopes-clause-written t c =
-    let g = c.args.levels.now.problem.now in
-    let box = c.args.walk.now.board.box in
-    let last : c.args.number ≡ length g.scopes = omega (arith, c.scopes.ensures, c.if-number-scopes.true) in
-    let none : drop c.args.number g.scopes ≡ [] = drop_of_length-le g.scopes (omega (arith, last)) in
-    IfOk-weaker c.goal.result _ _
-    (λ v w. subst (λ ss. NodeWritten c.args.cuts g ss c.args.number [] box None v c.args.walk.now.left c.goal.new.walk.left c.args.walk.now.lines c.goal.new.walk.lines) (sym none)
-    (subst (λ n. NodeWritten c.args.cuts g [] n [] box None v c.args.walk.now.left c.goal.new.walk.left c.args.walk.now.lines c.goal.new.walk.lines) (sym last) w))
-    c.goal.ensures.written
-
-pub node-invariant_of-stage : goal.node-invariant_of-stage
-node-invariant_of-stage t c = record { same = c.level-level.ensures.problem; plain = plain_to c.level-level.result.now.problem.now.scopes (subst (λ (g : Game). NoConditions g.scopes) (sym c.level-level.ensures.problem) c.requires.plain) }
-
-pub node-within-requires : goal.node-within-requires
-node-within-requires t c =
+pub node-returns-then-is_here-clause-told : goal.node-returns-then-is_here-clause-told
+node-returns-then-is_here-clause-told t c =
     let g = c.args.levels.now.problem.now in
     let level = c.level-level.result.now in
-    let h = level.problem.now in
-    let p = c.level-level.ensures.problem in
-    let b = c.args.walk.now.board in
-    let scopes : length h.scopes ≡ length g.scopes = ap (λ (f : Game). length f.scopes) p in
-    let variables : length h.variables ≡ length g.variables = ap (λ (f : Game). length f.variables) p in
-    let from : level.from ≡ before g c.args.number = level.has_from ∙ (ap (λ f. before f level.number) p ∙ ap (before g) c.level-level.ensures.number) in
-    let here : IsAt h level.number b = subst (λ f. IsAt f level.number b) (sym p) (subst (λ n. IsAt g n b) (sym c.level-level.ensures.number) c.requires.board) in
-    (omega (arith, scopes, variables, from, c.level-level.ensures.number), enters h level.number level.from b level.has_from here)
+    let k = level.problem.now in
+    let box = c.args.walk.now.remains.store.box in
+    let ahead = c.in_ok-ahead.ensures.answer in
+    let h = scope_number c.in_ok-below.below in
+    IfOk-weaker c.stuck.result _ _
+    (λ found e few.
+    let v = verdict_of found (out_of c.stuck.new.walk.joins) in
+    let horizon : is_horizon h level.number ≡ true = ap (is_horizon h) c.level-level.ensures.number ∙ (sym c.is_here.ensures ∙ c.if-is_here.true) in
+    let body = e c.args.cuts h horizon in
+    let body_at = subst (λ (f : Game). BodyTold c.args.cuts f level.number c.look_ahead.new.self.store.box h v c.args.walk.now.left c.stuck.new.walk.left c.put_horizon.new.lines c.stuck.new.walk.lines c.stuck.new.walk.joins) c.level-level.ensures.problem body in
+    let body_here = subst (λ n. BodyTold c.args.cuts g n c.look_ahead.new.self.store.box h v c.args.walk.now.left c.stuck.new.walk.left c.put_horizon.new.lines c.stuck.new.walk.lines c.stuck.new.walk.joins) c.level-level.ensures.number body_at in
+    whole_node c.args.cuts g c.args.number box (scope_number c.args.horizon) h c.in_ok-ahead.ahead v c.args.walk.now.left c.stuck.new.walk.left c.args.walk.now.lines c.put_horizon.new.lines c.stuck.new.walk.lines c.stuck.new.walk.joins ahead.placed ahead.fits c.in_ok-below.ensures.below
+    c.in_ok-below.ensures.lines (subst (λ (u : Box). BodyTold c.args.cuts g c.args.number u h v c.args.walk.now.left c.stuck.new.walk.left c.put_horizon.new.lines c.stuck.new.walk.lines c.stuck.new.walk.joins) c.look_ahead.ensures.content body_here))
+    c.stuck.ensures.told
 
-pub node-returns-clause-written : goal.node-returns-clause-written
-node-returns-clause-written t c =
+pub node-returns-then-is_here-clause-back : goal.node-returns-then-is_here-clause-back
+node-returns-then-is_here-clause-back t c =
+    let look = c.in_ok-ahead.ensures in
+    on_ok_weaker c.stuck.result
+    (λ e. back_after c.args.levels.now.problem.now _ c.args.number _ c.level-level.ensures.problem c.level-level.ensures.number c.args.walk.now _ c.stuck.new.walk look.game look.content look.past look.values refl _ c.in_ok-below.ensures.lines e) c.stuck.ensures.back
+
+pub node-returns-clause-told : goal.node-returns-clause-told
+node-returns-clause-told t c =
     let g = c.args.levels.now.problem.now in
+    let i = c.args.number in
     let level = c.level-level.result.now in
-    let plain = subst (λ (f : Game). NoConditions f.scopes) (sym c.level-level.ensures.problem) c.requires.plain in
-    node_told c.args.cuts g level.problem.now c.args.number level.number level.kind c.args.walk.now.board.box c.within.new.join c.verdict.result c.args.walk.now.left c.within.new.walk.left c.args.walk.now.lines c.within.new.walk.lines
-    c.level-level.ensures.problem c.level-level.ensures.number plain level.has_kind c.verdict.ensures c.in_ok-within.ensures.written
+    let k = level.problem.now in
+    let box = c.args.walk.now.remains.store.box in
+    let now = c.look_ahead.new.self.store.box in
+    let look = c.in_ok-ahead.ensures in
+    let ahead = look.answer in
+    let h = scope_number c.in_ok-below.below in
+    let sees = subst (SeesAhead g (drop i g.scopes) i box) (sym c.in_ok-below.ensures.below) ahead.foreseen in
+    let sees_now = subst (λ (u : Box). SeesAhead g (drop i g.scopes) i u h) (sym look.content) sees in
+    let sees_at = subst (λ n. SeesAhead g (drop n g.scopes) n now h) (sym c.level-level.ensures.number) sees_now in
+    let sees_here = subst (λ (f : Game). SeesAhead f (drop level.number f.scopes) level.number now h) (sym c.level-level.ensures.problem) sees_at in
+    IfOk-weaker c.own_tree.result _ _
+    (λ found e few.
+    let v = verdict_of found (out_of c.own_tree.new.walk.joins) in
+    let body = e few sees_here in
+    let body_at = subst (λ (f : Game). BodyTold c.args.cuts f level.number now h v c.args.walk.now.left c.own_tree.new.walk.left c.put_horizon.new.lines c.own_tree.new.walk.lines c.own_tree.new.walk.joins) c.level-level.ensures.problem body in
+    let body_here = subst (λ n. BodyTold c.args.cuts g n now h v c.args.walk.now.left c.own_tree.new.walk.left c.put_horizon.new.lines c.own_tree.new.walk.lines c.own_tree.new.walk.joins) c.level-level.ensures.number body_at in
+    whole_node c.args.cuts g i box (scope_number c.args.horizon) h c.in_ok-ahead.ahead v c.args.walk.now.left c.own_tree.new.walk.left c.args.walk.now.lines c.put_horizon.new.lines c.own_tree.new.walk.lines c.own_tree.new.walk.joins ahead.placed ahead.fits c.in_ok-below.ensures.below c.in_ok-below.ensures.lines
+    (subst (λ (u : Box). BodyTold c.args.cuts g i u h v c.args.walk.now.left c.own_tree.new.walk.left c.put_horizon.new.lines c.own_tree.new.walk.lines c.own_tree.new.walk.joins) look.content body_here))
+    c.own_tree.ensures.told
 
-pub over_values-cases-requires : goal.over_values-cases-requires
-over_values-cases-requires t c =
-    let g = c.args.stage.now.level.now.problem.now in
-    let x = c.args.x.0 in
-    let y = c.variable.result.now in
-    let valid = all_at (λ z. is_domain z.domain) g.variables x y c.known.ensures.domains c.variable.ensures in
-    (omega arith, (c.requires.var, (c.requires.place, (c.requires.free, (c.requires.free.whole ∙ declared_at g x y c.variable.ensures, valid)))))
+pub node-returns-clause-back : goal.node-returns-clause-back
+node-returns-clause-back t c =
+    let look = c.in_ok-ahead.ensures in
+    on_ok_weaker c.own_tree.result
+    (λ e. back_after c.args.levels.now.problem.now _ c.args.number _ c.level-level.ensures.problem c.level-level.ensures.number c.args.walk.now _ c.own_tree.new.walk look.game look.content look.past look.values refl _ c.in_ok-below.ensures.lines e) c.own_tree.ensures.back
 
-pub over_values-returns-clause-written : goal.over_values-returns-clause-written
-over_values-returns-clause-written t c =
+pub over_values-returns-clause-told : goal.over_values-returns-clause-told
+over_values-returns-clause-told t c =
     let l = c.args.stage.now.level.now in
     let g = l.problem.now in
-    let box = c.args.walk.now.board.box in
+    let b = c.args.walk.now.remains in
     let x = c.args.x in
-    let w = c.in_ok-cases.ensures.written in
-    let old = c.args.walk.now.lines in
-    let here : values_left box x.0 ≡ domain_values c.variable.result.now.domain = c.requires.free.whole ∙ declared_at g x.0 c.variable.result.now c.variable.ensures in
-    record {
-      ending = branch x w.cases;
-      lines = c.in_ok-put-2.ensures.put
-          ∙ (ap (λ ls. ls ++ Dot ∷ []) (w.lines ∙ ap (λ ls. ls ++ branches_lines w.cases) c.in_ok-put.ensures.put)
-          ∙ around old (branches_lines w.cases) (Branch x) Dot);
-      made = branch_here c.args.stage.now.cuts g l.number l.kind (plain_from g.scopes c.args.stage.now.plain) l.has_kind box c.known-2.ensures.full x c.args.join.now c.cases.new.join c.args.walk.now.left c.cases.new.walk.left w.cases
-          c.requires.place.from (subst (λ n. x.0 < n) l.has_stop c.requires.var) c.requires.free.unfixed (place_fits x.0 l.stop (length g.variables) c.requires.var l.stop_within c.known.ensures.few_variables)
-          (subst (λ vs. CasesMade c.args.stage.now.cuts g (drop l.number g.scopes) l.number [] l.kind box None x.0 vs c.args.join.now c.cases.new.join c.args.walk.now.left c.cases.new.walk.left w.cases) (sym here) w.made);
-    }
+    on_ok_weaker c.put-2.result
+    (λ q xs ready.
+    branch_told c.args.stage.now.cuts g l.number b.store.box (scope_number c.args.stage.now.horizon) xs c.args.walk.now.left c.cases.new.walk.left c.args.walk.now.lines c.put.new.self c.cases.new.walk.lines c.put-2.new.self c.cases.new.walk.joins x c.requires.going.within.here.full c.requires.own c.requires.free
+    (place_fits x.0 l.stop (length g.variables) c.requires.var l.stop_within c.known.ensures.few_variables) c.requires.going.closed c.requires.going.within.fixed c.in_ok-put.ensures.put q (c.in_ok-cases.ensures.told xs ready))
+    c.put-2.ensures.put
 
-pub within-after_tuple-requires : goal.within-after_tuple-requires
-within-after_tuple-requires t c =
-    let l = c.args.stage.now.level.now in
-    (omega (arith, c.next_free-next.ensures.after, c.if-next-stage.true), subst (λ n. IsWithin l.problem.now l.number n c.args.walk.now.board) c.if-next-stage.true c.next_free-next.ensures.place)
-
-pub within-over_values-requires : goal.within-over_values-requires
-within-over_values-requires t c =
-    let l = c.args.stage.now.level.now in
-    let n = c.next_free-next.result in
-    let before_stop : n < l.stop = omega (arith, l.has_stop, c.next_free-next.ensures.place.upto, c.if-next-stage.false) in
-    (omega (arith, c.next_free-next.ensures.after), (before_stop, (c.next_free-next.ensures.place, c.next_free-next.ensures.free before_stop)))
-
-pub with_value-within-requires : goal.with_value-within-requires
-with_value-within-requires t c =
+pub own_tree-returns-clause-told : goal.own_tree-returns-clause-told
+own_tree-returns-clause-told t c =
     let l = c.args.stage.now.level.now in
     let g = l.problem.now in
-    let x = c.args.x.0 in
-    let place = takes g l.number x (to_z w64 (of_z w64 c.args.value)) c.args.walk.now.board c.fix.new.self (subst (λ n. x < n) l.has_stop c.requires.var) c.requires.free.inside c.requires.place c.fix.ensures.content c.fix.ensures.declared in
-    (omega arith, subst (λ n. IsWithin g l.number n c.fix.new.self) (sym (add-one x)) place)
+    let i = l.number in
+    let b = c.args.walk.now.remains in
+    let declared : is_box_of g b.store.box ≡ true = subst (λ (f : Game). is_box_of f b.store.box ≡ true) c.requires.here.game c.known-2.ensures.declared in
+    let numbers : list_all is_number (position g i b.store.box) ≡ true = read_numbers g b.store.box (before g i) c.known.ensures.domains declared c.requires.here.full in
+    let back = c.in_ok-part.ensures.back in
+    let follows = follows_on b c.close.new.self c.part.new.walk.remains c.close.ensures.on.follows back.box back.past in
+    let same = (c.undo_to.ensures.back b.store (sym c.mark-mark.ensures.at) follows).0 in
+    let pruned = subst (λ ss. IsPruned g i b.store.box c.close.new.self.store.box [] ss) (sym c.items.ensures) (subst (λ ss. IsPruned g i b.store.box c.close.new.self.store.box ss c.close.new.steps) c.new-steps.ensures c.close.ensures.pruned) in
+    λ few sees.
+    node_ended c.args.stage.now.cuts g i (scope_number c.args.stage.now.horizon) c.known.ensures l.is_scope b.store.box c.undo_to.new.self.store.box same numbers c.args.stage.now.ahead sees c.args.walk.now.left c.part.new.walk.left c.verdict.new.walk.left c.args.walk.now.lines c.part.new.walk.lines c.verdict.new.walk.lines
+    c.clear.new.self c.part.new.walk.joins c.verdict.new.walk.joins _ c.clear.ensures.stands few (c.in_ok-part.ensures.told b.store.box pruned) c.verdict.ensures.verdict c.verdict.ensures.joins c.verdict.ensures.lines c.verdict.ensures.left
 
-pub with_value-free-requires : goal.with_value-free-requires
-with_value-free-requires t c =
-    let ready = free_ready c.args.stage.now.level.now.problem.now c.args.walk.now.board c.fix.new.self c.within.new.walk.board c.args.x.0 (to_z w64 (of_z w64 c.args.value)) c.requires.free c.requires.place.here.declared c.fix.ensures.content c.fix.ensures.declared c.in_ok-within.ensures.same in
-    record { var = ready.0; many = ready.1 }
-
-pub with_value-returns-clause-written : goal.with_value-returns-clause-written
-with_value-returns-clause-written t c =
+pub part-returns-in-Empty-clause-told : goal.part-returns-in-Empty-clause-told
+part-returns-in-Empty-clause-told t c =
     let l = c.args.stage.now.level.now in
     let g = l.problem.now in
-    subst (λ box. EndingWritten c.args.stage.now.cuts g (drop l.number g.scopes) l.number [] l.kind box None c.args.join.now c.within.new.join c.args.walk.now.left c.within.new.walk.left c.args.walk.now.lines c.within.new.walk.lines)
-    (c.fix.ensures.content ∙ ap (box_at c.args.walk.now.board.box c.args.x.0) (passed c.args.value c.requires.value)) c.in_ok-within.ensures.written
+    let h = scope_number c.args.stage.now.horizon in
+    let left_box = c.args.walk.now.remains.store.box in
+    let none_left : has_empty left_box ≡ true = subst (λ (a : Closed). GoesOn a g l.number c.args.x c.args.walk.now.remains) c.in-Empty.is c.requires.goes in
+    on_ok_weaker c.put.result
+    (λ q box pruned xs ready.
+    part_told c.args.stage.now.cuts g l.number box left_box h xs c.args.walk.now.left c.args.walk.now.left c.args.walk.now.lines c.put_steps.new.lines c.put.new.self c.args.walk.now.joins c.args.steps.now pruned c.in_ok-put_steps.ensures
+    (empty_told c.args.stage.now.cuts g l.number left_box h xs c.args.walk.now.left c.put_steps.new.lines c.args.walk.now.joins ready c.put.new.self none_left q))
+    c.put.ensures.put
 
-pub with_value-returns-clause-same : goal.with_value-returns-clause-same
-with_value-returns-clause-same t c =
-    after_free c.args.stage.now.level.now.problem.now c.args.walk.now.board c.fix.new.self c.within.new.walk.board c.args.x.0 (to_z w64 (of_z w64 c.args.value)) c.requires.free c.requires.place.here.declared c.fix.ensures.content c.fix.ensures.declared c.in_ok-within.ensures.same c.free.new.self c.free.ensures.content c.free.ensures.declared
+pub part-returns-in-Open-clause-told : goal.part-returns-in-Open-clause-told
+part-returns-in-Open-clause-told t c =
+    let l = c.args.stage.now.level.now in
+    let g = l.problem.now in
+    let h = scope_number c.args.stage.now.horizon in
+    let left_box = c.args.walk.now.remains.store.box in
+    on_ok_weaker c.within.result
+    (λ told box pruned xs ready.
+    part_told c.args.stage.now.cuts g l.number box left_box h xs c.args.walk.now.left c.within.new.walk.left c.args.walk.now.lines c.put_steps.new.lines c.within.new.walk.lines c.within.new.walk.joins c.args.steps.now pruned c.in_ok-put_steps.ensures (told xs ready))
+    c.within.ensures.told
+
+pub with_value-part-requires : goal.with_value-part-requires
+with_value-part-requires t c =
+    let l = c.args.stage.now.level.now in
+    let g = l.problem.now in
+    let b = c.args.walk.now.remains in
+    let w = c.requires.going.within in
+    let size = c.known-2.ensures.size ∙ ap (λ (f : Game). length f.variables) w.here.game in
+    let below : c.args.x.0 < before g (suc l.number) = subst (λ n. c.args.x.0 < n) l.has_stop c.requires.var in
+    let inside : c.args.x.0 < length b.store.box = omega (arith, c.requires.var, l.stop_within, size) in (
+      omega (arith, c.requires.var, l.stop_within),
+      (goes_next c.in_ok-closed.closed g l.number c.args.x.0 _ b c.take.new.self c.close_after.new.self w below inside c.in_ok-take.ensures.content (c.take.ensures.here g l.number w.here) c.close_after.ensures.on c.in_ok-closed.ensures.answer c.close_after.ensures.here, c.requires.joins),
+    )

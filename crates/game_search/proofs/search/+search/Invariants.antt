@@ -1,31 +1,48 @@
-use Rattle.std.proofs.Common.{◌≡◌, ◌+◌, ◌-◌, ◌*◌, length, drop, [], None}
-use Rattle.qc_model.specs.Domains.{domain_values}
+use Rattle.std.proofs.Common.{◌≡◌, ◌+◌, ◌-◌, ◌*◌, length, true, List}
+use Rattle.qc_model.specs.Domains.{has_value, values_left}
 use Rattle.qc_model.specs.Game.{before}
-use Rattle.game_search.proofs.Progress.{Progress}
+use Rattle.qc_model.specs.Verdict.{Seen}
+use Rattle.fd_store.specs.Held.{values_from}
+use Rattle.search_box.specs.Looking.{scope_number}
+use Rattle.game_search.specs.Told.{IsReady, IsBack}
+use Rattle.game_search.proofs.Covers.{ComesAfter}
+use Rattle.game_search.proofs.Here.{Passing}
 use Rattle.game_search.proofs.search.+search.Given as goal
 
 abbrev pub decreases-node : goal.decreases-node
-decreases-node l = 6 * ((length l.levels.now.problem.now.scopes - l.number) + (length l.levels.now.problem.now.variables - before l.levels.now.problem.now l.number)) + 5
+decreases-node l = 8 * ((length l.levels.now.problem.now.scopes - l.number) + (length l.levels.now.problem.now.variables - before l.levels.now.problem.now l.number)) + 7
+
+abbrev pub decreases-own_tree : goal.decreases-own_tree
+decreases-own_tree l = 8 * ((length l.stage.now.level.now.problem.now.scopes - l.stage.now.level.now.number) + (length l.stage.now.level.now.problem.now.variables - l.stage.now.level.now.from)) + 6
+
+abbrev pub decreases-part : goal.decreases-part
+decreases-part l = 8 * ((length l.stage.now.level.now.problem.now.scopes - l.stage.now.level.now.number) + (length l.stage.now.level.now.problem.now.variables - l.x)) + 5
 
 abbrev pub decreases-within : goal.decreases-within
-decreases-within l = 6 * ((length l.stage.now.level.now.problem.now.scopes - l.stage.now.level.now.number) + (length l.stage.now.level.now.problem.now.variables - l.x)) + 4
+decreases-within l = 8 * ((length l.stage.now.level.now.problem.now.scopes - l.stage.now.level.now.number) + (length l.stage.now.level.now.problem.now.variables - l.x)) + 4
 
 abbrev pub decreases-over_values : goal.decreases-over_values
-decreases-over_values l = 6 * ((length l.stage.now.level.now.problem.now.scopes - l.stage.now.level.now.number) + (length l.stage.now.level.now.problem.now.variables - l.x.0)) + 3
+decreases-over_values l = 8 * ((length l.stage.now.level.now.problem.now.scopes - l.stage.now.level.now.number) + (length l.stage.now.level.now.problem.now.variables - l.x.0)) + 3
 
 abbrev pub decreases-cases : goal.decreases-cases
-decreases-cases l = 6 * ((length l.stage.now.level.now.problem.now.scopes - l.stage.now.level.now.number) + (length l.stage.now.level.now.problem.now.variables - l.x.0)) + 2
+decreases-cases l = 8 * ((length l.stage.now.level.now.problem.now.scopes - l.stage.now.level.now.number) + (length l.stage.now.level.now.problem.now.variables - l.x.0)) + 2
 
 abbrev pub decreases-with_value : goal.decreases-with_value
-decreases-with_value l = 6 * ((length l.stage.now.level.now.problem.now.scopes - l.stage.now.level.now.number) + (length l.stage.now.level.now.problem.now.variables - l.x.0)) + 1
+decreases-with_value l = 8 * ((length l.stage.now.level.now.problem.now.scopes - l.stage.now.level.now.number) + (length l.stage.now.level.now.problem.now.variables - l.x.0)) + 1
 
 abbrev pub decreases-after_tuple : goal.decreases-after_tuple
-decreases-after_tuple l = 6 * ((length l.stage.now.level.now.problem.now.scopes - l.stage.now.level.now.number) + (length l.stage.now.level.now.problem.now.variables - l.stage.now.level.now.stop)) + 1
+decreases-after_tuple l = 8 * ((length l.stage.now.level.now.problem.now.scopes - l.stage.now.level.now.number) + (length l.stage.now.level.now.problem.now.variables - l.stage.now.level.now.stop)) + 1
 
-abbrev pub invariant-cases-loop-k : goal.invariant-cases-loop-k
-invariant-cases-loop-k l = record {
+abbrev pub invariant-cases-values : goal.invariant-cases-values
+invariant-cases-values l = record {
   start : l.start ≡ length l.fn.walk.lines;
-  same : l.walk.board ≡ l.fn.walk.board;
-  progress : Progress l.stage.cuts l.stage.level.now.problem.now (drop l.stage.level.now.number l.stage.level.now.problem.now.scopes) l.stage.level.now.number [] l.stage.level.now.kind l.fn.walk.board.box None l.x.0
-      (domain_values l.domain) l.fn.join l.fn.walk.left l.fn.walk.lines (drop l.k (domain_values l.domain)) l.join l.walk.left l.walk.lines;
+  back : IsBack l.stage.level.now.problem.now l.stage.level.now.number l.fn.walk l.walk;
+  left : has_value (values_left l.fn.walk.remains.store.box l.x.0) l.value ≡ true;
+  after : ComesAfter (values_left l.fn.walk.remains.store.box l.x.0) l.before l.value;
+  goes : (xs : List Seen) → IsReady l.stage.level.now.problem.now l.stage.level.now.number l.fn.walk.joins l.fn.walk.left xs →
+      Passing l.stage.cuts l.stage.level.now.problem.now l.stage.level.now.number l.fn.walk.remains.store.box (scope_number l.stage.horizon) l.x.0 (values_left l.fn.walk.remains.store.box l.x.0) xs l.fn.walk.left l.fn.walk.lines
+      (values_from l.value (values_left l.fn.walk.remains.store.box l.x.0)) l.walk.left l.walk.lines l.walk.joins;
 }
+
+abbrev pub decreases-cases-values : goal.decreases-cases-values
+decreases-cases-values l = length (values_from l.value (values_left l.walk.remains.store.box l.x.0))

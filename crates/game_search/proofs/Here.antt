@@ -1,0 +1,489 @@
+-- A scope's join beside the records of the scope's own tree.
+use Rattle.std.proofs.Common.{◌≡◌, ◌≤◌, ◌<◌, ◌+◌, ◌-◌, ◌∙◌, inl, inr, ℕ, zero, suc, Bool, true, false, cond, ◌&&◌, ◌||◌, List, [], ◌∷◌, ◌++◌, map, length, drop, take, refl, sym, ap, subst, arith, Option, None, Some, add-one, append_assoc, drop_of_length-le, ℤ}
+use Rattle.std.specs.Prelude.{◌⊎◌}
+use Rattle.std.specs.List.{list_all}
+use Rattle.std.proofs.lemmas.List.{append-nil}
+use Rattle.qc_model.specs.declared.problem.Condition.{Condition}
+use Rattle.qc_model.specs.declared.problem.Kind.{Kind}
+use Rattle.qc_model.specs.declared.problem.Kind.TheVariants.{Exists, Forall}
+use Rattle.qc_model.specs.declared.problem.Scope.{Scope}
+use Rattle.qc_model.specs.declared.problem.VarId.{VarId}
+use Rattle.qc_model.specs.Content.{Game}
+use Rattle.qc_model.specs.Block.{constraints_in_force}
+use Rattle.qc_model.specs.Closed.{is_closed}
+use Rattle.qc_model.specs.Demands.{demands, demands_from, demands_after}
+use Rattle.qc_model.specs.Domains.{Box, Values, declared_box, values_left, is_single, is_none_left, has_empty}
+use Rattle.qc_model.specs.ExistsVerdict.{exists_own}
+use Rattle.qc_model.specs.Game.{allows, is_of_scope}
+use Rattle.qc_model.specs.ForallVerdict.{goal_verdict, stuck_verdict}
+use Rattle.qc_model.specs.Valid.{IsValid, is_number}
+use Rattle.qc_model.specs.Verdict.{Verdict, lost, Seen, seen_barred, seen_skipped, seen_node}
+use Rattle.proof_tree.specs.Cover.{box_to, is_cover, uncovered}
+use Rattle.proof_tree.specs.Counts.{turns_of, ending_turns}
+use Rattle.proof_tree.specs.Diligent.{SeesAhead}
+use Rattle.proof_tree.specs.Finding.{leaf_bound, seen_of, kind_stuck, stuck_finding}
+use Rattle.proof_tree.specs.InPlace.{is_horizon, horizon_in_place, horizon_below}
+use Rattle.proof_tree.specs.Text.{is_place, horizon_fits}
+use Rattle.proof_tree.specs.Place.{position, is_fixed, is_fixed_to, is_goal, list_after, next_scopes, tracked_variable}
+use Rattle.proof_tree.specs.Read.{read, read_body, root_finding}
+use Rattle.proof_tree.specs.Lines.{tree_lines, body_lines, ending_lines, upto_lines, branches_lines, horizon_lines, step_line}
+use Rattle.proof_tree.specs.Steps.{after_steps}
+use Rattle.proof_tree.specs.Tree.{Tree, tree, stuck, goal, cases, empty, barred, next, branch}
+use Rattle.proof_tree.specs.declared.line.Line.{Line}
+use Rattle.proof_tree.specs.declared.line.Line.TheVariants.{Skip, Open, Next, Barred, Dot, Empty, Branch as BranchLine, Goal as GoalLine, Stuck as StuckLine}
+use Rattle.proof_tree.specs.declared.tree.Horizon.{Horizon}
+use Rattle.proof_tree.specs.declared.tree.Step.{Step}
+use Rattle.qc_levels.specs.Seen.{verdict_of}
+use Rattle.qc_levels.specs.declared.leaves.Found.{Found}
+use Rattle.qc_joins.specs.Joins.{StandsAt, LeafFits, KeepsAll}
+use Rattle.qc_joins.specs.Joins.{IsLong}
+use Rattle.qc_joins.specs.Sizes.{AreLong, IsSized, HasSizes}
+use Rattle.qc_joins.specs.Verdicts.{verdict_at, stuck_of, settled_at, own_at, kind_own, scope_own}
+use Rattle.qc_joins.specs.declared.joins.Joins.{Joins}
+use Rattle.qc_joins.proofs.Lengths.{verdict_long, goal_long, stuck_long}
+use Rattle.qc_joins.proofs.Sizing.{sizes_both, leaf_fits, verdict_sized, goal_sized, stuck_sized}
+use Rattle.search_box.specs.Closes.{IsPruned}
+use Rattle.game_search.specs.Attempted.{Attempted}
+use Rattle.game_search.specs.Own.{IsOwnSized}
+use Rattle.game_search.specs.Settled.{is_settled, is_vague_verdict}
+use Rattle.game_search.specs.Uppers.{upto_all, upto_between, without_before}
+use Rattle.game_search.specs.Made.{NodeMade, EndingMade, StepsMade}
+use Rattle.game_search.specs.Written.{NodeWritten}
+use Rattle.game_search.specs.Told.{IsReady, IsTold, EndingTold, PartTold, CasesTold, BodyTold, NodeTold}
+use Rattle.game_search.proofs.Joining.{settled_is, settled_so, own_so, own_none, settled-append, or_first, or_second, neither}
+use Rattle.game_search.proofs.Nodes.{goal_made, node_made, horizon_made, stuck_made, empty_made, next_made, barred_made, branch_made}
+use Rattle.game_search.proofs.Places.{next_at}
+use Rattle.game_search.proofs.Progress.{Progress, start, taken_from, none, skipped, opened, cut_after}
+use Rattle.game_search.proofs.Sizes.{sizes_none, own_sized}
+use Rattle.game_search.proofs.Stepping.{part_says, unmarked}
+
+some_scope : (n : ℕ) (ss : List Scope) → n < length ss → is_goal (drop n ss) ≡ false
+some_scope n [] h = absurd (omega arith)
+some_scope zero (s ∷ ss) h = refl
+some_scope (suc n) (s ∷ ss) h = some_scope n ss (omega arith)
+
+demands_next : (g : Game) (ss : List Scope) (i : ℕ) (d : List Condition) → i < length ss → list_after g (drop i ss) (demands_from g (take i ss) d) ≡ demands_from g (take (suc i) ss) d
+demands_next g [] i d h = absurd (omega arith)
+demands_next g (s ∷ ss) zero d h = refl
+demands_next g (s ∷ ss) (suc i) d h = demands_next g ss i (demands_after g s.kind s.condition d) (omega arith)
+
+module _ (g : Game) (i : ℕ) where
+  abbrev Later : List Scope
+  Later = drop i g.scopes
+
+  abbrev Settled : List Seen → Bool
+  Settled xs = is_settled Later (list_after g Later (demands g i)) xs
+
+  pub settled_here : (xs : List Seen) → settled_at g i xs ≡ Settled xs
+  settled_here xs = settled_so g Later (demands g i) xs
+
+  settled_more : (xs ys : List Seen) → settled_at g i xs ≡ true → settled_at g i (xs ++ ys) ≡ true
+  settled_more xs ys e = settled_here (xs ++ ys) ∙ (settled-append Later (list_after g Later (demands g i)) xs ys ∙ or_first (Settled xs) (Settled ys) (sym (settled_here xs) ∙ e))
+
+  -- what settles the scope after something that doesn't
+  settled_last : (xs ys : List Seen) → settled_at g i xs ≡ false → settled_at g i (xs ++ ys) ≡ true → Settled ys ≡ true
+  settled_last xs ys e f =
+      sym (ap (λ b. b || Settled ys) (sym (settled_here xs) ∙ e)) ∙ (sym (settled-append Later (list_after g Later (demands g i)) xs ys) ∙ (sym (settled_here (xs ++ ys)) ∙ f))
+
+  settled_then : (xs ys : List Seen) → Settled ys ≡ true → settled_at g i (xs ++ ys) ≡ true
+  settled_then xs ys e = settled_here (xs ++ ys) ∙ (settled-append Later (list_after g Later (demands g i)) xs ys ∙ or_second (Settled xs) (Settled ys) e)
+
+  -- the join stands for what was seen
+  pub all_told : (joins : Joins) (xs ys : List Seen) → StandsAt joins i xs → xs ≡ ys → IsTold g i joins ys
+  all_told joins xs ys h e = record { stood = xs; stands = h; same = inl e }
+
+  -- the join of a scope that isn't settled stands for all that was seen
+  unsettled_stands : (joins : Joins) (xs : List Seen) (b : Bool) → ((ys : List Seen) → StandsAt joins i ys → b ≡ settled_at g i ys) → b ≡ false → IsTold g i joins xs → StandsAt joins i xs × (settled_at g i xs ≡ false)
+  unsettled_stands joins xs b asked e t = by t.same
+    where
+      no : settled_at g i t.stood ≡ false
+      no = sym (asked t.stood t.stands) ∙ e
+
+      by : ((t.stood ≡ xs) ⊎ ((settled_at g i t.stood ≡ true) × (settled_at g i xs ≡ true))) → StandsAt joins i xs × (settled_at g i xs ≡ false)
+      by (inl q) = (subst (StandsAt joins i) q t.stands, ap (settled_at g i) (sym q) ∙ no)
+      by (inr q) = let f : true ≡ false = sym q.0 ∙ no in cc
+
+  -- the join of a settled one stands for something that settles it, as what was seen does
+  settled_told : (joins : Joins) (xs : List Seen) (b : Bool) → ((ys : List Seen) → StandsAt joins i ys → b ≡ settled_at g i ys) → b ≡ true → (t : IsTold g i joins xs) → (settled_at g i t.stood ≡ true) × (settled_at g i xs ≡ true)
+  settled_told joins xs b asked e t = by t.same
+    where
+      yes : settled_at g i t.stood ≡ true
+      yes = sym (asked t.stood t.stands) ∙ e
+
+      by : ((t.stood ≡ xs) ⊎ ((settled_at g i t.stood ≡ true) × (settled_at g i xs ≡ true))) → (settled_at g i t.stood ≡ true) × (settled_at g i xs ≡ true)
+      by (inl q) = (yes, ap (settled_at g i) (sym q) ∙ yes)
+      by (inr q) = q
+
+-- the cases of a branch on x so far: what was seen in them, and what the join stands for
+pub record Passing (cuts : Bool) (g : Game) (i : ℕ) (box : Box) (h : Option ℕ) (x : ℕ) (vs : Values) (before : List Seen) (had : ℕ) (old : List Line) (here : Values) (left : ℕ) (now : List Line) (joins : Joins) : Type 0 where
+  pub seen : List Seen
+  pub progress : Progress cuts g (drop i g.scopes) i (demands g i) box h x vs had old here seen left now
+  pub told : IsTold g i joins (before ++ seen)
+
+-- what the join answers when it is asked whether the scope is settled
+abbrev pub Answers : Game → ℕ → Joins → Bool → Type 0
+Answers g i joins b = (ys : List Seen) → StandsAt joins i ys → b ≡ settled_at g i ys
+
+pub asked_here : (g h : Game) (i : ℕ) (joins : Joins) (b : Bool) → h ≡ g → ((ys : List Seen) → StandsAt joins i ys → b ≡ settled_at h i ys) → Answers g i joins b
+asked_here g h i joins b e f ys s = f ys s ∙ ap (λ k. settled_at k i ys) e
+
+module _ (cuts : Bool) (g : Game) (i : ℕ) (box : Box) (h : Option ℕ) (x : ℕ) (vs : Values) (xs : List Seen) (had : ℕ) (old : List Line) (first : Joins) (ready : IsReady g i first had xs) where
+  abbrev Goes : Values → ℕ → List Line → Joins → Type 0
+  Goes here left now joins = Passing cuts g i box h x vs xs had old here left now joins
+
+  abbrev Done : ℕ → List Line → Joins → Type 0
+  Done left new joins = CasesTold cuts g i box h x vs xs had left old new joins
+
+  pub started : Goes vs had old first
+  started = record {
+    seen = [];
+    progress = start cuts g (drop i g.scopes) i (demands g i) box h x vs had old;
+    told = all_told g i first xs (xs ++ []) ready.stands (sym (append-nil xs));
+  }
+
+  -- a case may be gone into
+  pub ready_again : (here : Values) (left : ℕ) (now : List Line) (joins : Joins) (b : Bool) → Answers g i joins b → b ≡ false → ¬ (left ≡ 0) → (p : Goes here left now joins) → IsReady g i joins (left - 1) (xs ++ p.seen)
+  ready_again here left now joins b asked e some p =
+      let r = unsettled_stands g i joins (xs ++ p.seen) b asked e p.told in
+      record {
+        stands = r.0;
+        unsettled = r.1;
+        size = ready.size + p.progress.used;
+        sizes = sizes_both ready.size p.progress.used xs p.seen ready.sizes p.progress.sizes;
+        room = omega (arith, ready.room, p.progress.fell, some);
+      }
+
+  unsettled_now : (joins : Joins) (seen : List Seen) (b : Bool) → Answers g i joins b → b ≡ false → IsTold g i joins (xs ++ seen) → Settled g i seen ≡ false
+  unsettled_now joins seen b asked e t =
+      let r = (unsettled_stands g i joins (xs ++ seen) b asked e t).1 in
+      (neither (Settled g i xs) (Settled g i seen) (sym (settled-append (drop i g.scopes) (list_after g (drop i g.scopes) (demands g i)) xs seen) ∙ (sym (settled_here g i (xs ++ seen)) ∙ r))).1
+
+  -- it was gone into, and its lines stay
+  went_on : (here rest : Values) (v : ℤ) (left next_left : ℕ) (now next_now : List Line) (joins next_joins : Joins) (b : Bool) → 1 < length (values_left box x) → here ≡ v ∷ rest → Answers g i joins b → b ≡ false → ¬ (left ≡ 0) →
+      (p : Goes here left now joins) → PartTold cuts g i (box_to box x (v ∷ [])) h (xs ++ p.seen) (left - 1) next_left now next_now next_joins → Goes rest next_left next_now next_joins
+  went_on here rest v left next_left now next_now joins next_joins b many at asked e some p w = record {
+    seen = p.seen ++ w.seen;
+    progress = taken_from cuts g (drop i g.scopes) i (demands g i) box h x vs had old here rest v p.seen w.seen left next_left now next_now many at (unsettled_now joins p.seen b asked e p.told) some p.progress w.written w.unbounded;
+    told = subst (IsTold g i next_joins) (append_assoc xs p.seen w.seen) w.told;
+  }
+
+  -- it settled the scope, and the cases before it are cut
+  was_cut : cuts ≡ true → list_all is_number vs ≡ true → (u : Option ℤ) (here rest : Values) (v : ℤ) (left next_left : ℕ) (now next_now new : List Line) (joins next_joins : Joins) (b c : Bool) → 1 < length (values_left box x) → is_cover u vs ≡ true → uncovered u vs ≡ v ∷ rest →
+      Answers g i joins b → b ≡ false → ¬ (left ≡ 0) → Answers g i next_joins c → c ≡ true → (p : Goes here left now joins) → PartTold cuts g i (box_to box x (v ∷ [])) h (xs ++ p.seen) (left - 1) next_left now next_now next_joins →
+      new ≡ take (length old) next_now ++ ((upto_lines u ++ Skip ∷ []) ++ drop (length now) next_now) → Goes rest next_left new next_joins
+  was_cut cut numbers u here rest v left next_left now next_now new joins next_joins b c many case leaves asked e turns asked_then f p w q =
+      let before = (unsettled_stands g i joins (xs ++ p.seen) b asked e p.told).1 in
+      let all = settled_told g i next_joins ((xs ++ p.seen) ++ w.seen) c asked_then f w.told in
+      let last : Settled g i w.seen ≡ true = settled_last g i (xs ++ p.seen) w.seen before all.1 in
+      record {
+        seen = seen_skipped ∷ w.seen;
+        progress = cut_after cuts g (drop i g.scopes) i (demands g i) box h x vs had old cut numbers u here rest v p.seen w.seen left next_left now next_now new many case leaves last turns p.progress w.written w.unbounded q;
+        told = record { stood = w.told.stood; stands = w.told.stands; same = inr (all.0, settled_then g i xs (seen_skipped ∷ w.seen) last) };
+      }
+
+  -- either way
+  pub case_done : list_all is_number vs ≡ true → (low : ℤ) (before dropped : Option ℤ) (here rest : Values) (v : ℤ) (left next_left : ℕ) (now next_now new : List Line) (joins next_joins : Joins) (b c : Bool) → 1 < length (values_left box x) → here ≡ v ∷ rest →
+      ((p : ℤ) → before ≡ Some p → (is_cover (upto_between low p) vs ≡ true) × (uncovered (upto_between low p) vs ≡ here)) → Answers g i joins b → b ≡ false → ¬ (left ≡ 0) → Answers g i next_joins c → dropped ≡ cond (cuts && c) before None →
+      (p : Goes here left now joins) → PartTold cuts g i (box_to box x (v ∷ [])) h (xs ++ p.seen) (left - 1) next_left now next_now next_joins → new ≡ without_before dropped low (length old) (length now) next_now → Goes rest next_left new next_joins
+  case_done numbers low before None here rest v left next_left now next_now new joins next_joins b c many at covers asked e turns asked_then d p w q =
+      subst (λ ls. Goes rest next_left ls next_joins) (sym q) (went_on here rest v left next_left now next_now joins next_joins b many at asked e turns p w)
+  case_done numbers low before (Some last) here rest v left next_left now next_now new joins next_joins b c many at covers asked e turns asked_then d p w q =
+      let f = dropped_only cuts c before last d in
+      let k = covers last f.2 in
+      was_cut f.0 numbers (upto_between low last) here rest v left next_left now next_now new joins next_joins b c many k.0 (k.1 ∙ at) asked e turns asked_then f.1 p w q
+    where
+      dropped_only : (a c : Bool) (before : Option ℤ) (last : ℤ) → Some last ≡ cond (a && c) before None → (a ≡ true) × (c ≡ true) × (before ≡ Some last)
+      dropped_only true true before last d = (refl, refl, sym d)
+      dropped_only true false before last d = cc
+      dropped_only false c before last d = cc
+
+  -- the cases that are left are skipped, left open, or none
+  pub rest_skipped : (here : Values) (left : ℕ) (now new : List Line) (joins : Joins) (b : Bool) → is_none_left here ≡ false → list_all is_number here ≡ true → Answers g i joins b → b ≡ true → Goes here left now joins → new ≡ now ++ (upto_lines (upto_all here) ++ Skip ∷ []) →
+      Done left new joins
+  rest_skipped here left now new joins b some numbers asked e p q =
+      let all = settled_told g i joins (xs ++ p.seen) b asked e p.told in
+      let last : Settled g i p.seen ≡ true = settled_last g i xs p.seen ready.unsettled all.1 in
+      record {
+        seen = p.seen ++ seen_skipped ∷ [];
+        written = skipped cuts g (drop i g.scopes) i (demands g i) box h x vs had old here p.seen left now new some numbers last p.progress q;
+        told = record { stood = p.told.stood; stands = p.told.stands; same = inr (all.0, subst (λ us. settled_at g i us ≡ true) (append_assoc xs p.seen (seen_skipped ∷ [])) (settled_more g i (xs ++ p.seen) (seen_skipped ∷ []) all.1)) };
+      }
+
+  pub rest_opened : (here : Values) (left : ℕ) (now new : List Line) (joins next_joins : Joins) (b : Bool) → is_none_left here ≡ false → list_all is_number here ≡ true → Answers g i joins b → b ≡ false → left ≡ 0 →
+      ((ys : List Seen) → StandsAt joins i ys → StandsAt next_joins i (ys ++ seen_skipped ∷ [])) → Goes here left now joins → new ≡ now ++ (upto_lines (upto_all here) ++ Open ∷ []) → Done left new next_joins
+  rest_opened here left now new joins next_joins b some numbers asked e none_left added p q = record {
+    seen = p.seen ++ seen_skipped ∷ [];
+    written = opened cuts g (drop i g.scopes) i (demands g i) box h x vs had old here p.seen left now new some numbers none_left p.progress q;
+    told = all_told g i next_joins ((xs ++ p.seen) ++ seen_skipped ∷ []) (xs ++ (p.seen ++ seen_skipped ∷ [])) (added (xs ++ p.seen) (unsettled_stands g i joins (xs ++ p.seen) b asked e p.told).0) (append_assoc xs p.seen (seen_skipped ∷ []));
+  }
+
+  pub rest_none : (left : ℕ) (now : List Line) (joins : Joins) → Goes [] left now joins → Done left now joins
+  rest_none left now joins p = record {
+    seen = p.seen;
+    written = none cuts g (drop i g.scopes) i (demands g i) box h x vs had old p.seen left now p.progress;
+    told = p.told;
+  }
+
+-- the parts of a scope's own tree
+module _ (cuts : Bool) (g : Game) (i : ℕ) (box : Box) (h : Option ℕ) (xs : List Seen) (had : ℕ) (old : List Line) (first : Joins) (ready : IsReady g i first had xs) where
+  pub empty_told : (new : List Line) → has_empty box ≡ true → new ≡ old ++ Empty ∷ [] → EndingTold cuts g i box h xs had had old new first
+  empty_told new none_left q = record {
+    seen = [];
+    written = record { ending = empty; lines = q; made = empty_made cuts g (drop i g.scopes) i (demands g i) h box had none_left };
+    told = all_told g i first xs (xs ++ []) ready.stands (sym (append-nil xs));
+  }
+
+  pub barred_told : (new : List Line) (joins : Joins) → has_empty box ≡ false → is_fixed g i box ≡ true → allows g i (position g (suc i) box) ≡ false → ((ys : List Seen) → StandsAt first i ys → StandsAt joins i (ys ++ seen_barred ∷ [])) → new ≡ old ++ Barred ∷ [] →
+      EndingTold cuts g i box h xs had had old new joins
+  barred_told new joins full fixed refused added q = record {
+    seen = seen_barred ∷ [];
+    written = record { ending = barred; lines = q; made = barred_made cuts g (drop i g.scopes) i (demands g i) h box had full fixed refused };
+    told = all_told g i joins (xs ++ seen_barred ∷ []) (xs ++ seen_barred ∷ []) (added xs ready.stands) refl;
+  }
+
+  -- so many turns that the node's join takes what is below
+  pub few_turns : had < 4294967296
+  few_turns = omega (arith, ready.room)
+
+  pub next_told : i < length g.scopes → (v : Verdict) (left : ℕ) (mid new : List Line) (below joins : Joins) → has_empty box ≡ false → is_fixed g i box ≡ true → allows g i (position g (suc i) box) ≡ true → mid ≡ old ++ Next ∷ [] →
+      NodeTold cuts g (i + 1) box h v had left mid new below → (StandsAt first i xs → StandsAt below i xs) → ((ys : List Seen) → StandsAt below i ys → LeafFits g i ys v → StandsAt joins i (ys ++ seen_node v ∷ [])) → EndingTold cuts g i box h xs had left old new joins
+  next_told scope v left mid new below joins full fixed passes q node kept added =
+      let n = subst (λ k. NodeWritten cuts g (drop k g.scopes) k (demands g k) box h v had left mid new) (add-one i) node.written in
+      let m1 = subst (λ ss. NodeMade cuts g ss (suc i) (demands g (suc i)) box h v had left n.tree) (sym (next_at i g.scopes)) n.made in
+      let m2 = subst (λ d. NodeMade cuts g (next_scopes (drop i g.scopes)) (suc i) d box h v had left n.tree) (sym (demands_next g g.scopes i [] scope)) m1 in
+      let fits = leaf_fits g i ready.size (suc (turns_of n.tree)) xs v n.made.long ready.sizes n.made.sized (omega (arith, ready.room, n.made.spent)) in
+      record {
+        seen = seen_node v ∷ [];
+        written = record {
+          ending = next n.tree;
+          lines = n.lines ∙ (ap (λ ls. ls ++ tree_lines n.tree) q ∙ append_assoc old (Next ∷ []) (tree_lines n.tree));
+          made = next_made cuts g (drop i g.scopes) i (demands g i) h box v had left n.tree full fixed passes m2;
+        };
+        told = all_told g i joins (xs ++ seen_node v ∷ []) (xs ++ seen_node v ∷ []) (added xs (kept ready.stands) fits) refl;
+      }
+
+-- removals by constraints alone
+pub pruned_made : (g : Game) (i : ℕ) (d : List Condition) (box left : Box) (steps : List Step) → IsPruned g i box left [] steps → StepsMade g (drop i g.scopes) i d box [] steps
+pruned_made g i d box left steps p =
+    let later = drop i g.scopes in
+    subst (λ (ss : List Step). StepsMade g later i d box [] ss) (sym p.appended)
+    (record { legal = p.placed d; says = sym (ap (λ ms. map seen_of (map leaf_bound ms)) (p.unmarked (tracked_variable g later i (list_after g later d)))); fits = p.fits })
+
+pub part_told : (cuts : Bool) (g : Game) (i : ℕ) (box left_box : Box) (h : Option ℕ) (xs : List Seen) (had left : ℕ) (old mid new : List Line) (joins : Joins) (steps : List Step) → IsPruned g i box left_box [] steps → mid ≡ old ++ map step_line steps →
+    EndingTold cuts g i left_box h xs had left mid new joins → PartTold cuts g i box h xs had left old new joins
+part_told cuts g i box left_box h xs had left old mid new joins steps p q w =
+    let reached : left_box ≡ after_steps steps box = p.reached ∙ ap (λ ss. after_steps ss box) (sym p.appended) in
+    let e = w.written.ending in
+    record {
+      seen = w.seen;
+      written = record {
+        steps = steps;
+        ending = e;
+        lines = w.written.lines ∙ (ap (λ ls. ls ++ ending_lines e) q ∙ append_assoc old (map step_line steps) (ending_lines e));
+        made = record {
+          first = [];
+          last = w.seen;
+          both = refl;
+          stepped = pruned_made g i (demands g i) box left_box steps p;
+          ended = subst (λ b. EndingMade cuts g (drop i g.scopes) i (demands g i) b h w.seen had left e) reached w.written.made;
+        };
+      };
+      unbounded = refl;
+      told = w.told;
+    }
+
+-- a branch, by its cases
+pub branch_told : (cuts : Bool) (g : Game) (i : ℕ) (box : Box) (h : Option ℕ) (xs : List Seen) (had left : ℕ) (old mid new last : List Line) (joins : Joins) (x : VarId) → has_empty box ≡ false → is_of_scope g i x.0 ≡ true → is_single (values_left box x.0) ≡ false → is_place 500 x.0 ≡ true →
+    is_closed (constraints_in_force g (drop i g.scopes) i) box ≡ true → is_fixed_to g i x.0 box ≡ true → mid ≡ old ++ BranchLine x ∷ [] → last ≡ new ++ Dot ∷ [] → CasesTold cuts g i box h x.0 (values_left box x.0) xs had left mid new joins → EndingTold cuts g i box h xs had left old last joins
+branch_told cuts g i box h xs had left old mid new last joins x full own many place closed earlier p q w = record {
+  seen = w.seen;
+  written = record {
+    ending = branch x w.written.cases;
+    lines = q ∙ (ap (λ ls. ls ++ Dot ∷ []) (w.written.lines ∙ ap (λ ls. ls ++ branches_lines w.written.cases) p) ∙ around old (branches_lines w.written.cases) (BranchLine x) Dot);
+    made = branch_made cuts g (drop i g.scopes) i (demands g i) h box x w.seen had left w.written.cases full own many place closed earlier w.written.made;
+  };
+  told = w.told;
+}
+  where
+    around : (old ls : List Line) (first last : Line) → ((old ++ first ∷ []) ++ ls) ++ last ∷ [] ≡ old ++ (first ∷ (ls ++ last ∷ []))
+    around old ls first last = ap (λ us. us ++ last ∷ []) (append_assoc old (first ∷ []) ls) ∙ append_assoc old (first ∷ ls) (last ∷ [])
+
+-- a node, by its own tree
+module _ (cuts : Bool) (g : Game) (i : ℕ) (scope : i < length g.scopes) (box : Box) (h : Option ℕ) where
+  -- what the join's answers say of what was seen
+  verdict_told : (joins : Joins) (seen : List Seen) (t : IsTold g i joins seen) (a : List ℤ) → verdict_at g i a t.stood ≡ verdict_at g i a seen
+  verdict_told joins seen t a = by t.same
+    where
+      by : ((t.stood ≡ seen) ⊎ ((settled_at g i t.stood ≡ true) × (settled_at g i seen ≡ true))) → verdict_at g i a t.stood ≡ verdict_at g i a seen
+      by (inl q) = ap (verdict_at g i a) q
+      by (inr q) =
+          settled_is g (drop i g.scopes) (demands g i) a t.stood (sym (settled_here g i t.stood) ∙ q.0)
+          ∙ sym (settled_is g (drop i g.scopes) (demands g i) a seen (sym (settled_here g i seen) ∙ q.1))
+
+  own_told : (joins : Joins) (seen : List Seen) (t : IsTold g i joins seen) → own_at g i seen ≡ own_at g i t.stood
+  own_told joins seen t = by t.same
+    where
+      by : ((t.stood ≡ seen) ⊎ ((settled_at g i t.stood ≡ true) × (settled_at g i seen ≡ true))) → own_at g i seen ≡ own_at g i t.stood
+      by (inl q) = ap (own_at g i) (sym q)
+      by (inr q) =
+          own_none g (drop i g.scopes) (demands g i) seen (sym (settled_here g i seen) ∙ q.1)
+          ∙ sym (own_none g (drop i g.scopes) (demands g i) t.stood (sym (settled_here g i t.stood) ∙ q.0))
+
+  node_told : is_horizon h i ≡ false → SeesAhead g (drop i g.scopes) i box h → (had left : ℕ) (old new : List Line) (mid joins : Joins) (v : Verdict) → PartTold cuts g i box h [] had left old new mid → ((xs : List Seen) → StandsAt mid i xs → v ≡ verdict_at g i (position g i box) xs) →
+      ((xs : List Seen) → StandsAt mid i xs → StandsAt joins i xs) → ((xs : List Seen) → AreLong g i xs → IsLong g i (verdict_at g i (position g i box) xs)) → ((xs : List Seen) (n : ℕ) → HasSizes n xs → 1 ≤ n → IsSized n (verdict_at g i (position g i box) xs)) →
+      BodyTold cuts g i box h v had left old new joins
+  node_told apart ahead had left old new mid joins v w says kept long sized =
+      let later = drop i g.scopes in
+      let d = demands g i in
+      let p = w.written.made in
+      let steps = w.written.steps in
+      let e = w.written.ending in
+      let a = position g i box in
+      let all : p.last ≡ w.seen = unmarked cuts g later i d box h w.seen had left steps e p w.unbounded in
+      let sizes = subst (HasSizes (suc (ending_turns e))) all p.ended.sizes in
+      let comes : verdict_at g i a w.seen ≡ v = sym (verdict_told mid w.seen w.told a) ∙ sym (says w.told.stood w.told.stands) in
+      let own : (read_body g (cases steps e) later i d box).own ≡ own_at g i w.seen =
+      own_so g later i d a _ ∙ ap (scope_own later g d) (sym (part_says cuts g later i d box h w.seen had left steps e p)) in
+      record {
+        body = cases steps e;
+        lines = w.written.lines;
+        made = node_made cuts g later i d h (some_scope i g.scopes scope) apart box w.seen v had left steps e p w.unbounded comes (subst (IsLong g i) comes (long w.seen (subst (AreLong g i) all p.ended.long)))
+            (subst (IsSized (suc (ending_turns e))) comes (sized w.seen (suc (ending_turns e)) sizes (omega arith))) (subst (IsOwnSized (suc (ending_turns e))) (sym own) (own_sized g later d (suc (ending_turns e)) w.seen sizes)) ahead;
+        own = λ s. record { stood = w.told.stood; stands = kept w.told.stood w.told.stands; is_own = own ∙ own_told mid w.seen w.told };
+      }
+
+settled_none : (g : Game) (i : ℕ) → settled_at g i [] ≡ false
+settled_none g i = settled_here g i []
+
+-- the node's own tree begins with nothing seen, and its join says at the end what it comes to
+pub node_ended : (cuts : Bool) (g : Game) (i : ℕ) (h : Option ℕ) → IsValid g → i < length g.scopes → (box last_box : Box) → last_box ≡ box → list_all is_number (position g i box) ≡ true → is_horizon h i ≡ false → SeesAhead g (drop i g.scopes) i box h → (had left last_left : ℕ) (old new last_new : List Line) (first mid joins : Joins) (v : Verdict) →
+    StandsAt first i [] → had < 4294967296 → ((xs : List Seen) → IsReady g i first had xs → PartTold cuts g i box h xs had left old new mid) → ((xs : List Seen) → StandsAt mid i xs → v ≡ verdict_at g i (position g i last_box) xs) → KeepsAll mid joins → last_new ≡ new → last_left ≡ left →
+    BodyTold cuts g i box h v had last_left old last_new joins
+node_ended cuts g i h valid scope box last_box b numbers apart ahead had left last_left old new last_new first mid joins v stands few told says kept e f =
+    subst (λ ls. BodyTold cuts g i box h v had last_left old ls joins) (sym e)
+    (subst (λ n. BodyTold cuts g i box h v had n old new joins) (sym f)
+    (node_told cuts g i scope box h apart ahead had left old new mid joins v (told [] ready) (λ xs s. subst (λ d. v ≡ verdict_at g i (position g i d) xs) b (says xs s)) (λ xs s. kept i xs s)
+    (λ xs s. verdict_long g i (position g i box) xs scope s) (λ xs n s l. verdict_sized g i (position g i box) xs n valid numbers s l)))
+  where
+    ready : IsReady g i first had []
+    ready = record { stands = stands; unsettled = settled_none g i; size = 0; sizes = sizes_none 0; room = omega (arith, few) }
+
+-- a node that nobody passes
+stuck_own : (later : List Scope) (g : Game) (d : List Condition) (a : List ℤ) → (stuck_finding later g d a).own ≡ None
+stuck_own [] g d a = refl
+stuck_own (s ∷ later) g d a = by s.kind
+  where
+    by : (k : Kind) → (kind_stuck k g d a).own ≡ None
+    by Exists = refl
+    by Forall = refl
+
+stuck_so : (later : List Scope) (g : Game) (d : List Condition) (a : List ℤ) → (stuck_finding later g d a).verdict ≡ stuck_of later g d a
+stuck_so [] g d a = refl
+stuck_so (s ∷ later) g d a = by s.kind
+  where
+    by : (k : Kind) → (kind_stuck k g d a).verdict ≡ stuck_verdict g k d a
+    by Exists = refl
+    by Forall = refl
+
+stuck_sure : (later : List Scope) (g : Game) (d : List Condition) (a : List ℤ) → is_vague_verdict (stuck_of later g d a) ≡ false
+stuck_sure [] g d a = refl
+stuck_sure (s ∷ later) g d a = by s.kind
+  where
+    by : (k : Kind) → is_vague_verdict (stuck_verdict g k d a) ≡ false
+    by Exists = refl
+    by Forall = refl
+
+own_of_none : (later : List Scope) (g : Game) (d : List Condition) → scope_own later g d [] ≡ None
+own_of_none [] g d = refl
+own_of_none (s ∷ later) g d = by s.kind s.condition
+  where
+    none : (c : Condition) (dd : List Condition) → exists_own (Some c) dd [] ≡ None
+    none c [] = refl
+    none c (e ∷ dd) = refl
+
+    by : (k : Kind) (own : Option Condition) → kind_own k own g d [] ≡ None
+    by Exists None = refl
+    by Exists (Some c) = none c (demands_after g Exists (Some c) d)
+    by Forall own = refl
+
+pub stuck_told : (cuts : Bool) (g : Game) (i : ℕ) (h : Option ℕ) → IsValid g → (box : Box) → list_all is_number (position g i box) ≡ true → is_horizon h i ≡ true → (had : ℕ) (old new : List Line) (joins : Joins) (v : Verdict) → v ≡ stuck_of (drop i g.scopes) g (demands g i) (position g i box) →
+    new ≡ old ++ StuckLine ∷ [] → (i < length g.scopes → StandsAt joins i []) → BodyTold cuts g i box h v had had old new joins
+stuck_told cuts g i h valid box numbers f had old new joins v e q stands =
+    let later = drop i g.scopes in
+    let d = demands g i in
+    let a = position g i box in
+    let own = stuck_own later g d a in
+    record {
+      body = stuck;
+      lines = q;
+      made = stuck_made cuts g later i d h box v had f (ap is_vague_verdict e ∙ stuck_sure later g d a) (stuck_so later g d a ∙ sym e) (subst (IsLong g i) (sym e) (stuck_long later g d a)) (subst (IsSized 1) (sym e) (stuck_sized later g d a valid numbers))
+          (subst (IsOwnSized 1) (sym own) tt);
+      own = λ s. record { stood = []; stands = stands s; is_own = own ∙ sym (own_of_none later g d) };
+    }
+
+-- what stands at a node, below a horizon that begins there or not
+pub whole_node : (cuts : Bool) (g : Game) (i : ℕ) (box : Box) (h below : Option ℕ) (z : Option Horizon) (v : Verdict) (had left : ℕ) (old mid new : List Line) (joins : Joins) → horizon_in_place g z (drop i g.scopes) i box h ≡ true → horizon_fits z ≡ true → below ≡ horizon_below z h →
+    mid ≡ old ++ horizon_lines z → BodyTold cuts g i box below v had left mid new joins → NodeTold cuts g i box h v had left old new joins
+whole_node cuts g i box h below z v had left old mid new joins place fits e q w = record {
+  written = record {
+    tree = tree z w.body;
+    lines = w.lines ∙ (ap (λ ls. ls ++ body_lines w.body) q ∙ append_assoc old (horizon_lines z) (body_lines w.body));
+    made = horizon_made cuts g (drop i g.scopes) i (demands g i) h z w.body box v had left place fits (subst (λ k. NodeMade cuts g (drop i g.scopes) i (demands g i) box k v had left (tree None w.body)) e w.made);
+  };
+  own = w.own;
+}
+
+-- the same without one
+pub plain_node : (cuts : Bool) (g : Game) (i : ℕ) (box : Box) (h : Option ℕ) (v : Verdict) (had left : ℕ) (old new : List Line) (joins : Joins) → BodyTold cuts g i box h v had left old new joins → NodeTold cuts g i box h v had left old new joins
+plain_node cuts g i box h v had left old new joins w = whole_node cuts g i box h h None v had left old old new joins refl refl refl (sym (append-nil old)) w
+
+-- the goal
+pub goal_told : (cuts : Bool) (g : Game) (h : Option ℕ) → IsValid g → (box : Box) → list_all is_number (position g (length g.scopes) box) ≡ true → is_horizon h (length g.scopes) ≡ false → (had : ℕ) (old new : List Line) (joins : Joins) (v : Verdict) (b : Bool) → b ≡ allows g (length g.scopes) (position g (length g.scopes) box) →
+    v ≡ goal_verdict g b (demands g (length g.scopes)) (position g (length g.scopes) box) → new ≡ old ++ GoalLine ∷ [] → BodyTold cuts g (length g.scopes) box h v had had old new joins
+goal_told cuts g h valid box numbers apart had old new joins v b e f q =
+    let n = length g.scopes in
+    let d = demands g n in
+    let a = position g n box in
+    let comes : goal_verdict g (allows g n a) d a ≡ v = ap (λ c. goal_verdict g c d a) (sym e) ∙ sym f in
+    let m = goal_made cuts g n d box h had v apart comes (subst (IsLong g n) (sym f) (goal_long g b d a)) (subst (IsSized 1) (sym f) (goal_sized g b d a valid numbers)) in
+    record {
+      body = goal;
+      lines = q;
+      made = subst (λ ss. NodeMade cuts g ss n d box h v had had (tree None goal)) (sym (drop_of_length-le g.scopes (omega arith))) m;
+      own = λ s. absurd (omega arith);
+    }
+
+-- without a scope there is no condition
+no_own : (g : Game) (t : Tree) (i : ℕ) (d : List Condition) (box : Box) → (read g t [] i d box).own ≡ None
+no_own g (tree z stuck) i d box = refl
+no_own g (tree z goal) i d box = refl
+no_own g (tree z (cases steps end)) i d box = refl
+
+-- the root
+pub root_told : (cuts : Bool) (g : Game) (turns : ℕ) (box : Box) (left : ℕ) (old new : List Line) (joins : Joins) (found : Found) (vector : List ℤ) (own : Option ℤ) → box ≡ declared_box g → old ≡ [] → NodeTold cuts g 0 box None (verdict_of found vector) turns left old new joins →
+    (0 < length g.scopes → (xs : List Seen) → StandsAt joins 0 xs → own ≡ own_at g 0 xs) → (length g.scopes ≡ 0 → own ≡ None) → Attempted cuts g turns found own new
+root_told cuts g turns box left old new joins found vector own b e w some none =
+    let u = subst (λ (c : Box). NodeTold cuts g 0 c None (verdict_of found vector) turns left old new joins) b w in
+    let w0 = subst (λ ls. NodeTold cuts g 0 (declared_box g) None (verdict_of found vector) turns left ls new joins) e u in
+    record { left = left; vector = vector; root = w0.written; has_own = by g.scopes refl w0 }
+  where
+    by : (ss : List Scope) → g.scopes ≡ ss → (w : NodeTold cuts g 0 (declared_box g) None (verdict_of found vector) turns left [] new joins) → (root_finding g w.written.tree).own ≡ own
+    by [] q w = ap (λ ss. (read g w.written.tree ss 0 [] (declared_box g)).own) q ∙ (no_own g w.written.tree 0 [] (declared_box g) ∙ sym (none (ap length q)))
+    by (s ∷ ss) q w =
+        let more : 0 < length g.scopes = omega (arith, ap length q) in
+        let o = w.own more in
+        o.is_own ∙ sym (some more o.stood o.stands)
+
+-- the goal, at its number, with its values or below a horizon that tells that it isn't passed
+pub goal_there : (cuts : Bool) (g : Game) (n : ℕ) (h : Option ℕ) → n ≡ length g.scopes → IsValid g → (box : Box) → list_all is_number (position g n box) ≡ true → is_horizon h n ≡ false → (had : ℕ) (old new : List Line) (joins : Joins) (v : Verdict) (b : Bool) →
+    b ≡ allows g (length g.scopes) (position g (length g.scopes) box) → v ≡ goal_verdict g b (demands g (length g.scopes)) (position g (length g.scopes) box) → new ≡ old ++ GoalLine ∷ [] → NodeTold cuts g n box h v had had old new joins
+goal_there cuts g n h here valid box numbers apart had old new joins v b e f q =
+    let m = length g.scopes in
+    subst (λ k. NodeTold cuts g k box h v had had old new joins) (sym here)
+    (plain_node cuts g m box h v had had old new joins
+    (goal_told cuts g h valid box (subst (λ k. list_all is_number (position g k box) ≡ true) here numbers) (subst (λ k. is_horizon h k ≡ false) here apart) had old new joins v b e f q))
+
+pub lost_there : (cuts : Bool) (g : Game) (n : ℕ) (h : Option ℕ) → n ≡ length g.scopes → IsValid g → (box : Box) → list_all is_number (position g n box) ≡ true → is_horizon h n ≡ true → (had : ℕ) (old new : List Line) (joins : Joins) → new ≡ old ++ StuckLine ∷ [] → NodeTold cuts g n box h lost had had old new joins
+lost_there cuts g n h here valid box numbers f had old new joins q =
+    plain_node cuts g n box h lost had had old new joins
+    (stuck_told cuts g n h valid box numbers f had old new joins lost (sym (ap (λ ss. stuck_of ss g (demands g n) (position g n box)) (drop_of_length-le g.scopes (omega (arith, here))))) q (λ s. absurd (omega (arith, here, s))))

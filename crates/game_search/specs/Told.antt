@@ -1,0 +1,81 @@
+-- What the calls of the search say: the lines that they wrote, and what the joins stand for afterwards.
+use Rattle.std.specs.Prelude.{◌≡◌, ◌≤◌, ◌<◌, ◌+◌, ◌⊎◌, ℕ, suc, Bool, true, false, None, Option, List, [], ◌++◌, length, drop, ℤ}
+use Rattle.qc_model.specs.Content.{Game}
+use Rattle.qc_model.specs.Demands.{demands}
+use Rattle.qc_model.specs.Domains.{Values, Box}
+use Rattle.qc_model.specs.Verdict.{Verdict, Seen}
+use Rattle.proof_tree.specs.Lines.{body_lines}
+use Rattle.proof_tree.specs.Read.{read, read_body}
+use Rattle.proof_tree.specs.Tree.{Body, tree}
+use Rattle.proof_tree.specs.declared.line.Line.{Line}
+use Rattle.qc_joins.specs.Verdicts.{settled_at, own_at}
+use Rattle.qc_joins.specs.Joins.{game_of, StandsAt}
+use Rattle.qc_joins.specs.Sizes.{HasSizes}
+use Rattle.qc_joins.specs.declared.joins.Joins.{Joins}
+use Rattle.game_search.specs.declared.walk.Walk.{Walk}
+use Rattle.search_box.specs.Boxed.{KeepsValues}
+use Rattle.game_search.specs.Made.{NodeMade}
+use Rattle.game_search.specs.Written.{NodeWritten, EndingWritten, PartWritten, CasesWritten}
+
+-- before a part of scope i's own tree: its join stands for what was seen so far, which doesn't settle the scope, and no
+-- number gets large with the turns that are left
+pub record IsReady (g : Game) (i : ℕ) (joins : Joins) (left : ℕ) (before : List Seen) : Type 0 where
+  pub stands : StandsAt joins i before
+  pub unsettled : settled_at g i before ≡ false
+  pub size : ℕ
+  pub sizes : HasSizes size before
+  pub room : size + suc left ≤ 4294967296
+
+-- after it: the join stands for all that was seen, or both it and what was seen settle the scope
+pub record IsTold (g : Game) (i : ℕ) (joins : Joins) (seen : List Seen) : Type 0 where
+  pub stood : List Seen
+  pub stands : StandsAt joins i stood
+  pub same : (stood ≡ seen) ⊎ ((settled_at g i stood ≡ true) × (settled_at g i seen ≡ true))
+
+-- the values left, the trail, the places of the variables before scope i and the joins of the scopes before it are as they
+-- were, and there are no fewer lines
+pub record IsBack (g : Game) (i : ℕ) (old new : Walk) : Type 0 where
+  pub problem : new.remains.game ≡ old.remains.game
+  pub box : new.remains.store.box ≡ old.remains.store.box
+  pub past : new.remains.store.past ≡ old.remains.store.past
+  pub kept : KeepsValues g i old.remains new.remains
+  pub game : game_of new.joins ≡ game_of old.joins
+  pub joins : (j : ℕ) (xs : List Seen) → j < i → StandsAt old.joins j xs → StandsAt new.joins j xs
+  pub lines : length old.lines ≤ length new.lines
+
+-- the lines are those of an end of scope i's own tree in this box, below the horizon h, after what was seen before
+pub record EndingTold (cuts : Bool) (g : Game) (i : ℕ) (box : Box) (h : Option ℕ) (before : List Seen) (had left : ℕ) (old new : List Line) (joins : Joins) : Type 0 where
+  pub seen : List Seen
+  pub written : EndingWritten cuts g (drop i g.scopes) i (demands g i) box h seen had left old new
+  pub told : IsTold g i joins (before ++ seen)
+
+-- the lines are those of removals and an end
+pub record PartTold (cuts : Bool) (g : Game) (i : ℕ) (box : Box) (h : Option ℕ) (before : List Seen) (had left : ℕ) (old new : List Line) (joins : Joins) : Type 0 where
+  pub seen : List Seen
+  pub written : PartWritten cuts g (drop i g.scopes) i (demands g i) box h seen had left old new
+  pub unbounded : written.made.first ≡ []
+  pub told : IsTold g i joins (before ++ seen)
+
+-- the lines are those of the cases of a branch on x, for the values vs
+pub record CasesTold (cuts : Bool) (g : Game) (i : ℕ) (box : Box) (h : Option ℕ) (x : ℕ) (vs : Values) (before : List Seen) (had left : ℕ) (old new : List Line) (joins : Joins) : Type 0 where
+  pub seen : List Seen
+  pub written : CasesWritten cuts g (drop i g.scopes) i (demands g i) box h x vs seen had left old new
+  pub told : IsTold g i joins (before ++ seen)
+
+-- the join of scope i tells the value of the scope's own condition
+pub record TellsOwn (g : Game) (i : ℕ) (joins : Joins) (own : Option ℤ) : Type 0 where
+  pub stood : List Seen
+  pub stands : StandsAt joins i stood
+  pub is_own : own ≡ own_at g i stood
+
+-- the lines are what stands at a node of scope i, or of the goal, below the horizon h in force there; it came to v
+pub record BodyTold (cuts : Bool) (g : Game) (i : ℕ) (box : Box) (h : Option ℕ) (v : Verdict) (had left : ℕ) (old new : List Line) (joins : Joins) : Type 0 where
+  pub body : Body
+  pub lines : new ≡ old ++ body_lines body
+  pub made : NodeMade cuts g (drop i g.scopes) i (demands g i) box h v had left (tree None body)
+  pub own : i < length g.scopes → TellsOwn g i joins (read_body g body (drop i g.scopes) i (demands g i) box).own
+
+-- the lines are those of a node of scope i, or of the goal, below the horizon h, which came to v
+pub record NodeTold (cuts : Bool) (g : Game) (i : ℕ) (box : Box) (h : Option ℕ) (v : Verdict) (had left : ℕ) (old new : List Line) (joins : Joins) : Type 0 where
+  pub written : NodeWritten cuts g (drop i g.scopes) i (demands g i) box h v had left old new
+  pub own : i < length g.scopes → TellsOwn g i joins (read g written.tree (drop i g.scopes) i (demands g i) box).own

@@ -1,0 +1,128 @@
+//! Lines that are put in or taken out together.
+ghost use Rattle.proof_tree.specs.declared.line.Line.TheVariants.{Skip};
+ghost use Rattle.std.specs.Prelude.{◌≡◌, ◌≤◌, ◌++◌, ◌∷◌, ◌&&◌, [], None, if◌then◌else◌, length, take, drop, map, reverse, IfOk, IfSome, OnOk, IsTrue};
+ghost use Rattle.qc_model.specs.Valid.{is_number};
+ghost use Rattle.proof_tree.specs.InPlace.{horizon_below};
+ghost use Rattle.proof_tree.specs.Lines.{horizon_lines, step_line, upto_lines};
+ghost use Rattle.proof_tree.specs.Text.{horizon_fits};
+ghost use Rattle.search_box.specs.Looking.{scope_number};
+ghost use Rattle.game_search.specs.Uppers.{upto_between, without_before};
+
+use proof_tree::{Horizon, Line, Step};
+use qc_model::ScopeId;
+use std::alloc::AllocError;
+use strategy_arena::Arena;
+
+fn line_of(step: Step) -> Line
+    ensures { result ≡ step_line step }
+{
+    match step {
+        Step::Prune { x, lo, hi, c } => Line::Prune { x, lo, hi, c },
+        Step::Bound { x, lo, hi } => Line::Bound { x, lo, hi },
+    }
+}
+
+/// A line for each step.
+pub(crate) fn put_steps(lines: &mut Arena, steps: &[Step]) -> Result<(), AllocError>
+    ensures { OnOk result (lines.new ≡ lines.old ++ map step_line steps.now) }
+{
+    for step in steps {
+        lines.put(line_of(*step))?;
+    }
+    Ok(())
+}
+
+/// The lines of a horizon that begins at a node, where there is one, and the horizon in force below them.
+pub(crate) fn put_horizon(
+    lines: &mut Arena,
+    in_force: Option<ScopeId>,
+    ahead: Option<Horizon>,
+) -> Result<Option<ScopeId>, AllocError>
+    requires { IsTrue (horizon_fits ahead) }
+    ensures lines { OnOk result (lines.new ≡ lines.old ++ horizon_lines ahead) }
+    ensures below { IfOk result (λ h. scope_number h ≡ horizon_below ahead (scope_number in_force)) }
+{
+    match ahead {
+        None => Ok(in_force),
+        Some(horizon) => {
+            lines.put(Line::Horizon {
+                k: horizon.scope.0 + 1,
+            })?;
+            put_steps(lines, horizon.steps.items())?;
+            lines.put(Line::Dot)?;
+            Ok(Some(horizon.scope))
+        }
+    }
+}
+
+/// One case for the values from the first to the last, which this line leaves out.
+pub(crate) fn leave_out(
+    lines: &mut Arena,
+    first: i64,
+    last: i64,
+    line: Line,
+) -> Result<(), AllocError>
+    ensures { OnOk result (lines.new ≡ lines.old ++ (upto_lines (upto_between first last) ++ line ∷ [])) }
+{
+    if first != last {
+        lines.put(Line::Range { hi: last })?;
+    }
+    lines.put(line)
+}
+
+/// The last of the values before a case that go, where the case settled the scope and stands without them.
+pub(crate) fn last_to_drop(cuts: bool, settled: bool, before: Option<i64>) -> Option<i64>
+    ensures { result ≡ (if (cuts && settled) then before else None) }
+{
+    if cuts && settled { before } else { None }
+}
+
+/// Puts one case that skips the values from the first to the last, where there is a last one, in place of the lines from
+/// `start` to `at`.
+pub(crate) fn drop_before(
+    lines: &mut Arena,
+    kept: &mut Vec<Line>,
+    start: usize,
+    at: usize,
+    first: i64,
+    last: Option<i64>,
+) -> Result<(), AllocError>
+    requires start { start ≤ at }
+    requires place { at ≤ length lines.old }
+    ensures { OnOk result (lines.new ≡ without_before last first start at lines.old) }
+{
+    match last {
+        None => Ok(()),
+        Some(value) => {
+            kept.clear();
+            set_aside(lines, kept, at)?;
+            lines.cut(start);
+            leave_out(lines, first, value, Line::Skip)?;
+            put_back(lines, kept)
+        }
+    }
+}
+
+/// Takes the lines from place `at` on off, the last one first.
+fn set_aside(lines: &mut Arena, kept: &mut Vec<Line>, at: usize) -> Result<(), AllocError>
+    requires none { kept.old.items ≡ [] }
+    requires place { at ≤ length lines.old }
+    ensures { OnOk result ((lines.new ≡ take at lines.old) × (reverse kept.new.items ≡ drop at lines.old)) }
+{
+    while lines.len() > at {
+        if let Some(line) = lines.pop() {
+            kept.push(line)?;
+        }
+    }
+    Ok(())
+}
+
+/// Appends the lines that were taken off, the last one first.
+fn put_back(lines: &mut Arena, kept: &mut Vec<Line>) -> Result<(), AllocError>
+    ensures { OnOk result (lines.new ≡ lines.old ++ reverse kept.old.items) }
+{
+    while let Some(line) = kept.pop() {
+        lines.put(line)?;
+    }
+    Ok(())
+}
