@@ -9,8 +9,8 @@ use Rattle.proof_tree.specs.Counts.{depth_of}
 use Rattle.proof_tree.specs.declared.line.Line.{Line}
 use Rattle.proof_tree.specs.Lines.{tree_lines}
 use Rattle.line_check.specs.State.{State, node_due, prune_due, body_due, end_due, case_due, ranged_due, ended, wrong, start, root_spot, step, run}
-use Rattle.line_check.specs.Desk.{none_awaited, node_awaited, prune_awaited, body_awaited, part_awaited, case_awaited, ranged_awaited}
-use Rattle.line_check.specs.Held.{all_in_place, nests}
+use Rattle.line_check.specs.Awaited.{none_awaited, node_awaited, prune_awaited, body_awaited, part_awaited, case_awaited, ranged_awaited}
+use Rattle.line_check.specs.Nests.{all_in_place, nests}
 use Rattle.line_check.specs.Ledger.{Ledger, goes}
 use Rattle.line_check.specs.LedgerHeld.{Tells, Leads, first_ledger, goes_through, TellsTree}
 use Rattle.line_check.proofs.Runs.{run_lines, tree_tally}
@@ -57,7 +57,7 @@ module _ (g : Game) where
   keeps (l ∷ ls) s p q h = keeps ls (step g s l) (goes g p l) q.1 (keeps_one s p l q.0 h)
 
   tells_tree : (t : Tree) (d : Ledger) → Tells g (ended (tree_tally g t (root_spot g) (declared_box g)) (root_finding g t)) d → TellsTree g t d
-  tells_tree t d k = record { ends = k.0; in_place = k.1.tally.in_place; verdict = k.1.verdict; turns = k.1.tally.turns; has_open = k.1.tally.opens }
+  tells_tree t d k = record { ends = k.0; in_place = k.1.tally.in_place; verdict = k.1.verdict; own = k.1.own; turns = k.1.tally.turns; has_open = k.1.tally.opens }
 
   pub told : (t : Tree) → depth_of t ≤ 1000 → root_in_place g t ≡ true → (d : Ledger) × (goes_through g (Some (first_ledger g)) (tree_lines t) ≡ Some d) × TellsTree g t d
   told t q e =
@@ -84,3 +84,8 @@ module _ (g : Game) where
       end (case_due n around o b) q k = let p : none_awaited ≡ case_awaited = sym w ∙ k.0 in cc
       end (ranged_due n around o b high) q k = let p : none_awaited ≡ ranged_awaited high = sym w ∙ k.0 in cc
       end wrong q k = absurd k
+
+  -- the ledger to which a tree's lines lead tells that tree
+  pub told_alone : (t : Tree) (d : Ledger) → goes_through g (Some (first_ledger g)) (tree_lines t) ≡ Some d → TellsTree g t d
+  told_alone t d e =
+      tells_tree t d (subst (λ s. Tells g s d) (run_lines g t) (subst (Follows g (run g (start g) (tree_lines t))) e (follows (tree_lines t) (start g) (Some (first_ledger g)) (first_tells g))))

@@ -26,12 +26,13 @@ use Rattle.proof_tree.specs.declared.line.Line.{Line}
 use Rattle.proof_tree.specs.declared.line.Line.TheVariants.{Horizon, Prune, Bound, Dot, Stuck, Goal, Empty, Barred, Next, Branch, Skip, Open, Range}
 use Rattle.line_check.specs.Tally.{Tally, ◌&◌, test, taken}
 use Rattle.line_check.specs.State.{Spot, Own, Fork, Above, at_root, below, Within, whole_tree, in_case, State, node_due, prune_due, body_due, end_due, case_due, ranged_due, ended, wrong, with_leaf, with_leaves, with_horizon, after_node, after_part, own_at, spot_after, goes_on, bars, may_branch, may_see, may_take, fork_on, fork_after, is_own_step, after_step_line, after_prune_line, at_end, at_body, at_node, at_prune, at_case, at_fork, step}
-use Rattle.line_check.specs.Desk.{Awaited, node_awaited, prune_awaited, body_awaited, part_awaited, case_awaited, ranged_awaited, none_awaited, one_more}
-use Rattle.line_check.specs.Held.{nests_above, nests_within}
-use Rattle.line_check.specs.Ledger.{Ledger, Entry, next_entry, branch_entry, place_at, stuck_of, part_close, node_close, spot_on, space_left, no_scope_left, sees_horizon, marks_of, ledger_end, may_begin, begun, ledger_body, ledger_node, ledger_prune, passed_over, gone_into, ledger_case, ledger_fork, at_entry, goes_at, goes}
+use Rattle.line_check.specs.Awaited.{Awaited, node_awaited, prune_awaited, body_awaited, part_awaited, case_awaited, ranged_awaited, none_awaited, one_more}
+use Rattle.line_check.specs.Nests.{nests_above, nests_within}
+use Rattle.qc_joins.specs.Verdicts.{stuck_of}
+use Rattle.line_check.specs.Ledger.{Ledger, Entry, next_entry, branch_entry, place_at, part_close, node_close, spot_on, space_left, no_scope_left, sees_horizon, marks_of, ledger_end, may_begin, begun, ledger_body, ledger_node, ledger_prune, passed_over, gone_into, ledger_case, ledger_fork, at_entry, goes_at, goes}
 use Rattle.line_check.specs.LedgerHeld.{IsOwnOf, AboveIs, WithinIs, Counts, NodeIs, PartIs, CaseIs, Tells, Leads}
 use Rattle.line_check.proofs.Offs.{node_flag, part_flag, end_off}
-use Rattle.line_check.proofs.Turns.{both, goal_at, next_drop, failed, too_deep, or_false, or_true, some_open, one_later}
+use Rattle.line_check.proofs.Facts.{both, goal_at, next_drop, failed, too_deep, or_false, or_true, some_open, one_later}
 use Rattle.line_check.proofs.LedgerClosing.{own_also, node_leads, part_leads}
 
 demands_step : (g : Game) (ss : List Scope) (i : ℕ) (d : List Condition) → i < length ss → list_after g (drop i ss) (demands_from g (take i ss) d) ≡ demands_from g (take (suc i) ss) d
@@ -51,6 +52,15 @@ stuck_comes g [] d a = refl
 stuck_comes g (s ∷ later) d a = by s.kind
   where
     by : (k : Kind) → stuck_verdict g k d a ≡ (kind_stuck k g d a).verdict
+    by Exists = refl
+    by Forall = refl
+
+-- the value of an own condition comes of an own tree alone
+stuck_owns : (g : Game) (later : List Scope) (d : List Condition) (a : List ℤ) → (stuck_finding later g d a).own ≡ None
+stuck_owns g [] d a = refl
+stuck_owns g (s ∷ later) d a = by s.kind
+  where
+    by : (k : Kind) → (kind_stuck k g d a).own ≡ None
     by Exists = refl
     by Forall = refl
 
@@ -162,9 +172,9 @@ module _ (g : Game) where
     horizon_is : sees_horizon d ≡ is_horizon s.horizon s.number
     horizon_is = sym (ap (λ (s : Spot). is_horizon s.horizon s.number) h.place)
 
-    node_ends : (c k : Bool) → c ≡ k → (f : Finding) (v : Verdict) → v ≡ f.verdict → Leads g (after_node g (n & test k) above f) (cond c (Some (node_close g d v)) None)
-    node_ends true k e f v comes = node_leads g (n & test k) d (counts_test n d h.tally k (sym e)) above f d.entries d.number d.horizon v h.frames comes
-    node_ends false k e f v comes = inl (node_flag g (n & test k) above f ∙ failed n k (sym e))
+    node_ends : (c k : Bool) → c ≡ k → (f : Finding) (v : Verdict) → v ≡ f.verdict → f.own ≡ None → Leads g (after_node g (n & test k) above f) (cond c (Some (node_close g d v)) None)
+    node_ends true k e f v comes none = node_leads g (n & test k) d (counts_test n d h.tally k (sym e)) above f d.entries d.number d.horizon v h.frames comes none
+    node_ends false k e f v comes none = inl (node_flag g (n & test k) above f ∙ failed n k (sym e))
 
     goal_comes : goal_verdict g (allows g d.number (position g d.number d.box)) (demands g d.number) (position g d.number d.box) ≡ (goal_finding g s.number s.demands (position g s.number box)).verdict
     goal_comes =
@@ -204,10 +214,10 @@ module _ (g : Game) where
         more m n e = let f = not_true (nat_le m n) e in grind (arith, nat_tests)
 
     body_leads : (l : Line) → Leads g (at_body g n above s box l) (ledger_body g d l)
-    body_leads Stuck = node_ends (sees_horizon d) (is_horizon s.horizon s.number) horizon_is _ (stuck_of (drop d.number g.scopes) g (demands g d.number) (position g d.number d.box)) stuck_is
+    body_leads Stuck = node_ends (sees_horizon d) (is_horizon s.horizon s.number) horizon_is _ (stuck_of (drop d.number g.scopes) g (demands g d.number) (position g d.number d.box)) stuck_is (stuck_owns g s.later s.demands (position g s.number box))
     body_leads Goal = node_ends (not (sees_horizon d) && no_scope_left g d) (not (is_horizon s.horizon s.number) && is_goal s.later)
         (ap (λ b. not b && no_scope_left g d) horizon_is ∙ ap (λ b. not (is_horizon s.horizon s.number) && b) last_is) _
-        (goal_verdict g (allows g d.number (position g d.number d.box)) (demands g d.number) (position g d.number d.box)) goal_comes
+        (goal_verdict g (allows g d.number (position g d.number d.box)) (demands g d.number) (position g d.number d.box)) goal_comes refl
     body_leads (Prune y low high c) = own_line (Prune y low high c) (may_begin g d) refl
     body_leads (Bound y low high) = own_line (Bound y low high) (may_begin g d) refl
     body_leads Empty = own_line Empty (may_begin g d) refl

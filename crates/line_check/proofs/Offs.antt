@@ -10,7 +10,7 @@ use Rattle.proof_tree.specs.declared.line.Line.{Line}
 use Rattle.proof_tree.specs.declared.line.Line.TheVariants.{Horizon, Prune, Bound, Dot, Stuck, Goal, Empty, Barred, Next, Branch, Skip, Open, Range}
 use Rattle.line_check.specs.Tally.{Tally, ◌&◌, test, taken, one_open}
 use Rattle.line_check.specs.State.{Spot, Own, Fork, Above, at_root, below, Within, whole_tree, in_case, State, node_due, prune_due, body_due, end_due, case_due, ranged_due, ended, wrong, with_leaf, finding_of, own_at, may_take, fork_after, after_node, after_part, at_end, at_body, at_node, at_prune, at_case, at_fork, step}
-use Rattle.line_check.specs.Held.{all_in_place}
+use Rattle.line_check.specs.Nests.{all_in_place}
 
 module _ (g : Game) where
   mutual

@@ -16,9 +16,7 @@ use Rattle.qc_model.specs.Game.{restriction}
 use Rattle.qc_arguments.proofs.Boxes.{sub_length, left_small}
 use Rattle.qc_arguments.specs.Asked.{IsAsked, is_box_of}
 use Rattle.qc_rules.specs.Spans.{IsSpanOf, is_between, is_rule_within}
-use Rattle.qc_model.specs.declared.problem.Scope.{Scope}
 use Rattle.proof_tree.specs.Steps.{removes_some, is_refuted_within}
-use Rattle.line_check.specs.Desk.{kind_at, kind_of_first}
 
 pub all_at : {X : Type 0} (p : X → Bool) (xs : List X) (n : ℕ) (x : X) → list_all p xs ≡ true → slice_get xs n ≡ Some x → p x ≡ true
 all_at p [] n x h e = cc
@@ -110,7 +108,7 @@ legal_is g box start end i stop x lo hi c r span full some low high says =
 pub box_size : (g : Game) (box : Box) → is_box_of g box ≡ true → length box ≡ length g.variables
 box_size g box d = sub_length box (declared_box g) d ∙ length-map g.variables (λ x. domain_values x.domain)
 
-least_number : (vs : Values) → is_none_left vs ≡ false → list_all is_number vs ≡ true → is_number (least_value vs) ≡ true
+pub least_number : (vs : Values) → is_none_left vs ≡ false → list_all is_number vs ≡ true → is_number (least_value vs) ≡ true
 least_number [] e n = cc
 least_number (v ∷ vs) e n = go v vs (first (is_number v) (list_all is_number vs) n) (second (is_number v) (list_all is_number vs) n)
   where
@@ -144,14 +142,6 @@ all_filter p q (x ∷ xs) h = by (q x) (all_filter p q xs (second (p x) (list_al
 
 pub rules_valid : (g : Game) (i : ℕ) → list_all (is_constraint g.variables) g.constraints ≡ true → list_all (is_constraint g.variables) (restriction g i) ≡ true
 rules_valid g i h = all_filter (is_constraint g.variables) (λ c. c.owner.0 == i) g.constraints h
-
-pub kind_there : (g : Game) (i : ℕ) (s : Scope) → slice_get g.scopes i ≡ Some s → s.kind ≡ kind_at g i
-kind_there g i s e = go g.scopes i e
-  where
-    go : (ss : List Scope) (i : ℕ) → slice_get ss i ≡ Some s → s.kind ≡ kind_of_first (drop i ss)
-    go [] i e = cc
-    go (u ∷ ss) zero e = let h : u ≡ s = cc in ap (λ (t : Scope). t.kind) (sym h)
-    go (u ∷ ss) (suc i) e = go ss i e
 
 pub some_place : (box : Box) (x : ℕ) (lo hi : ℤ) → not (is_none_left (values_within lo hi (values_left box x))) ≡ true → x < length box
 some_place [] x lo hi e = cc

@@ -16,7 +16,7 @@ use Rattle.proof_tree.specs.Lines.{step_line, tree_lines, body_lines, ending_lin
 use Rattle.line_check.proofs.LineForms.{cases_lines, cases_first, seen_lines}
 use Rattle.line_check.specs.Tally.{Tally, ◌&◌, test, taken}
 use Rattle.line_check.specs.State.{Spot, Own, Fork, Above, at_root, below, Within, whole_tree, in_case, State, node_due, prune_due, body_due, end_due, case_due, ranged_due, after_node, after_part, with_leaf, finding_of, own_at, may_take, fork_after, start, step}
-use Rattle.line_check.specs.Held.{nests, nests_above, nests_within}
+use Rattle.line_check.specs.Nests.{nests, nests_above, nests_within}
 
 -- no line of them nests too deep
 abbrev pub IsShallow : Game → State → List Line → Type 0

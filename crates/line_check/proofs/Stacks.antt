@@ -3,15 +3,14 @@ use Rattle.std.proofs.Common.{◌≡◌, ℕ, zero, suc, ◌<◌, ◌≤◌, ◌
 use Rattle.std.specs.Prelude.{slice_index_or}
 use Rattle.line_check.specs.declared.open.Open.{Open}
 use Rattle.line_check.specs.declared.open.Open.TheVariants.{Next}
-use Rattle.line_check.specs.declared.standing.Standing.TheVariants.{Lost}
 use Rattle.line_check.specs.Places.{last_first, rest}
 
-set_at : (xs : List Open) (n : ℕ) (f : Open) → n < length xs → slice_index_or (set xs n f) n (Next Lost None) ≡ f
+set_at : (xs : List Open) (n : ℕ) (f : Open) → n < length xs → slice_index_or (set xs n f) n (Next None) ≡ f
 set_at [] n f h = absurd (omega arith)
 set_at (x ∷ xs) zero f h = refl
 set_at (x ∷ xs) (suc n) f h = set_at xs n f (omega arith)
 
-set_other : (xs : List Open) (n k : ℕ) (f : Open) → k < n → slice_index_or (set xs n f) k (Next Lost None) ≡ slice_index_or xs k (Next Lost None)
+set_other : (xs : List Open) (n k : ℕ) (f : Open) → k < n → slice_index_or (set xs n f) k (Next None) ≡ slice_index_or xs k (Next None)
 set_other [] n k f h = refl
 set_other (x ∷ xs) zero k f h = absurd (omega arith)
 set_other (x ∷ xs) (suc n) zero f h = refl
@@ -20,7 +19,7 @@ set_other (x ∷ xs) (suc n) (suc k) f h = set_other xs n k f (omega arith)
 below_same : (xs : List Open) (n k : ℕ) (f : Open) → k ≤ n → last_first (set xs n f) k ≡ last_first xs k
 below_same xs n zero f h = refl
 below_same xs n (suc k) f h =
-    ap (λ g. g ∷ last_first (set xs n f) k) (set_other xs n k f (omega arith)) ∙ ap (λ fs. slice_index_or xs k (Next Lost None) ∷ fs) (below_same xs n k f (omega arith))
+    ap (λ g. g ∷ last_first (set xs n f) k) (set_other xs n k f (omega arith)) ∙ ap (λ fs. slice_index_or xs k (Next None) ∷ fs) (below_same xs n k f (omega arith))
 
 pub pushed : (xs : List Open) (n : ℕ) (f : Open) → n < length xs → last_first (set xs n f) (n + 1) ≡ f ∷ last_first xs n
 pushed xs n f h =
@@ -45,7 +44,7 @@ top_is xs zero f h k e = absurd (h refl)
 top_is xs (suc m) f h k e =
     let back : m ≡ suc m - 1 = omega arith in
     let at : f ≡ slice_index_or xs m f = e ∙ ap (λ j. slice_index_or xs j f) (sym back) in
-    ap (λ g. g ∷ last_first xs m) (either xs m (Next Lost None) f (omega arith) ∙ sym at)
+    ap (λ g. g ∷ last_first xs m) (either xs m (Next None) f (omega arith) ∙ sym at)
 
 -- the last place is set anew
 pub top_set : (xs : List Open) (n : ℕ) (f : Open) → 0 < length (last_first xs n) → n ≤ length xs → last_first (set xs (n - 1) f) n ≡ f ∷ rest (last_first xs n)

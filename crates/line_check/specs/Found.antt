@@ -1,31 +1,35 @@
 -- What a machine answers at the end.
-use Rattle.std.specs.Prelude.{◌≡◌, ◌-◌, ◌^◌, min, nat_lt, true, Option, Some, None}
+use Rattle.std.specs.Prelude.{◌≡◌, ◌-◌, ◌^◌, min, nat_lt, true, Option, Some, None, List, ℤ}
 use Rattle.qc_model.specs.Content.{Game}
+use Rattle.qc_levels.specs.Seen.{verdict_of}
 use Rattle.proof_tree.specs.Tree.{Tree}
 use Rattle.proof_tree.specs.InPlace.{root_in_place}
 use Rattle.proof_tree.specs.Read.{root_finding}
 use Rattle.proof_tree.specs.Counts.{turns_of, opens_of}
-use Rattle.line_check.specs.declared.answer.Found.{Found}
-use Rattle.line_check.specs.Standing.{standing_of}
-use Rattle.line_check.specs.Desk.{Desk, Awaited, node_awaited, prune_awaited, body_awaited, part_awaited, case_awaited, ranged_awaited, none_awaited}
+use Rattle.line_check.specs.declared.answer.Answer.{Answer}
+use Rattle.line_check.specs.Awaited.{none_awaited}
+use Rattle.line_check.specs.Ledger.{Ledger}
 
-abbrev pub found_at : Desk → Awaited → Option Found
-found_at d node_awaited = None
-found_at d (prune_awaited k box) = None
-found_at d body_awaited = None
-found_at d part_awaited = None
-found_at d case_awaited = None
-found_at d (ranged_awaited high) = None
-found_at d none_awaited = Some (record { standing = d.standing; turns = d.turns; has_open = d.has_open })
+-- the ledger waits for no line, and the answer says what it tells; the vector is that of the answer's verdict
+pub record IsToldBy (f : Answer) (d : Ledger) : Type 0 where
+  pub ends : d.awaited ≡ none_awaited
+  pub vector : List ℤ
+  pub verdict : d.verdict ≡ verdict_of f.found vector
+  pub own : d.own ≡ f.own
+  pub turns : d.turns ≡ f.turns
+  pub has_open : d.has_open ≡ f.has_open
 
--- None where the lines aren't a whole node with each line in place
-abbrev pub found_of : Option Desk → Option Found
-found_of None = None
-found_of (Some d) = found_at d d.awaited
+-- what is answered where the lines lead to this ledger, or to none
+abbrev pub Answers : Option Answer → Option Ledger → Type 0
+Answers None p = (d : Ledger) → p ≡ Some d → d.awaited ≡ none_awaited → ⊥
+Answers (Some f) p = (d : Ledger) × (p ≡ Some d) × IsToldBy f d
 
--- the answer for a tree: each line is in place; its verdict, its turns, and whether a case is open
-pub record IsAnswer (g : Game) (t : Tree) (f : Found) : Type 0 where
+-- the answer for a tree: each line is in place; its verdict, with this vector, and the value of its scope's own condition;
+-- its turns, and whether a case is open
+pub record IsAnswer (g : Game) (t : Tree) (f : Answer) : Type 0 where
   pub in_place : root_in_place g t ≡ true
-  pub standing : f.standing ≡ standing_of (root_finding g t).verdict
+  pub vector : List ℤ
+  pub verdict : (root_finding g t).verdict ≡ verdict_of f.found vector
+  pub own : f.own ≡ (root_finding g t).own
   pub turns : f.turns ≡ min (turns_of t) (2 ^ 64 - 1)
   pub has_open : f.has_open ≡ nat_lt 0 (opens_of t)

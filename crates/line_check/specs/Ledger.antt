@@ -1,17 +1,13 @@
 -- What a machine would hold for every game, with all that was seen in a scope's own tree in place of a join of it, and
 -- what a line makes of it. A line that may not stand here leaves nothing.
 use Rattle.std.specs.Prelude.{ℕ, zero, suc, ◌+◌, ◌-◌, nat_lt, nat_le, Bool, true, false, not, ◌&&◌, ◌||◌, cond, Option, Some, None, List, [], ◌∷◌, ◌++◌, map, length, drop, ℤ}
-use Rattle.qc_model.specs.declared.problem.Kind.{Kind}
-use Rattle.qc_model.specs.declared.problem.Kind.TheVariants.{Exists, Forall}
-use Rattle.qc_model.specs.declared.problem.Condition.{Condition}
-use Rattle.qc_model.specs.declared.problem.Scope.{Scope}
 use Rattle.qc_model.specs.Content.{Game}
 use Rattle.qc_model.specs.Domains.{Box, is_none_left, has_empty}
 use Rattle.qc_model.specs.Game.{allows}
-use Rattle.qc_model.specs.Demands.{demands, demands_after}
-use Rattle.qc_model.specs.Verdict.{Verdict, lost, unknown, Seen, seen_barred, seen_skipped, seen_bound, seen_node}
-use Rattle.qc_model.specs.ExistsVerdict.{exists_verdict}
-use Rattle.qc_model.specs.ForallVerdict.{forall_verdict, stuck_verdict, goal_verdict}
+use Rattle.qc_model.specs.Demands.{demands}
+use Rattle.qc_model.specs.Verdict.{Verdict, Seen, seen_barred, seen_skipped, seen_bound, seen_node}
+use Rattle.qc_model.specs.ForallVerdict.{goal_verdict}
+use Rattle.qc_joins.specs.Verdicts.{verdict_at, own_at, stuck_of}
 use Rattle.proof_tree.specs.declared.tree.Step.{Step}
 use Rattle.proof_tree.specs.declared.tree.Step.TheVariants.{Prune as PruneStep, Bound as BoundStep}
 use Rattle.proof_tree.specs.Cover.{covered, is_cover, box_to}
@@ -21,7 +17,7 @@ use Rattle.proof_tree.specs.InPlace.{is_horizon}
 use Rattle.proof_tree.specs.declared.line.Line.{Line}
 use Rattle.proof_tree.specs.declared.line.Line.TheVariants.{Horizon, Prune, Bound, Dot, Stuck, Goal, Empty, Barred, Next, Branch, Skip, Open, Range}
 use Rattle.line_check.specs.State.{Spot, Fork, fork_on, fork_after, bars, goes_on, may_branch, may_see, may_take, is_own_step}
-use Rattle.line_check.specs.Desk.{Awaited, node_awaited, prune_awaited, body_awaited, part_awaited, case_awaited, ranged_awaited, none_awaited, one_more}
+use Rattle.line_check.specs.Awaited.{Awaited, node_awaited, prune_awaited, body_awaited, part_awaited, case_awaited, ranged_awaited, none_awaited, one_more}
 
 -- what is open: a scope's own tree that waits for the node after one of its tuples, with what was seen in it so far, the
 -- values before it, and the horizon in force there; or a branch
@@ -36,10 +32,12 @@ pub record Ledger : Type 0 where
   -- the scope that is read and the horizon in force
   pub number : ℕ
   pub horizon : Option ℕ
-  -- what was seen in the scope's own tree so far, and the values before the scope; after a whole node its verdict
+  -- what was seen in the scope's own tree so far, and the values before the scope; after a whole node its verdict, and the
+  -- value of its scope's own condition
   pub seen : List Seen
   pub before : List ℤ
   pub verdict : Verdict
+  pub own : Option ℤ
   pub turns : ℕ
   pub has_open : Bool
 
@@ -47,38 +45,23 @@ pub record Ledger : Type 0 where
 abbrev pub place_at : Game → ℕ → Option ℕ → Spot
 place_at g i h = record { later = drop i g.scopes; number = i; demands = demands g i; horizon = h }
 
--- what a scope comes to, by what was seen in its own tree
-abbrev pub kind_verdict : Kind → Option Condition → Game → List Condition → List ℤ → List Seen → Verdict
-kind_verdict Exists own g d a xs = exists_verdict own (demands_after g Exists own d) xs
-kind_verdict Forall own g d a xs = forall_verdict g d a xs
-
-abbrev pub scope_verdict : List Scope → Game → List Condition → List ℤ → List Seen → Verdict
-scope_verdict [] g d a xs = unknown
-scope_verdict (s ∷ later) g d a xs = kind_verdict s.kind s.condition g d a xs
-
-abbrev pub verdict_at : Game → ℕ → List ℤ → List Seen → Verdict
-verdict_at g i a xs = scope_verdict (drop i g.scopes) g (demands g i) a xs
-
-abbrev pub stuck_of : List Scope → Game → List Condition → List ℤ → Verdict
-stuck_of [] g d a = lost
-stuck_of (s ∷ later) g d a = stuck_verdict g s.kind d a
-
 abbrev pub only_ledger : Bool → Ledger → Option Ledger
 only_ledger b d = cond b (Some d) None
 
-abbrev pub ends_with : Ledger → ℕ → Option ℕ → Verdict → Ledger
-ends_with d i h v = record d { entries = []; number = i; horizon = h; verdict = v; awaited = none_awaited }
+-- the root has come to a verdict, with this value of its scope's own condition
+abbrev pub ends_with : Ledger → ℕ → Option ℕ → Verdict → Option ℤ → Ledger
+ends_with d i h v own = record d { entries = []; number = i; horizon = h; verdict = v; own = own; awaited = none_awaited }
 
 -- a part of scope i's own tree has ended, with these seen: goes on at the last branch, or the scope has come to its verdict
 abbrev pub part_closed : Game → Ledger → List Entry → ℕ → Option ℕ → List Seen → List ℤ → Ledger
-part_closed g d [] i h xs a = ends_with d i h (verdict_at g i a xs)
+part_closed g d [] i h xs a = ends_with d i h (verdict_at g i a xs) (own_at g i xs)
 part_closed g d (branch_entry b ∷ fs) i h xs a = record d { box = b.box; entries = branch_entry b ∷ fs; number = i; horizon = h; seen = xs; before = a; awaited = case_awaited }
 part_closed g d (next_entry up above z ∷ fs) i h xs a = part_closed g d fs (i - 1) z (up ++ seen_node (verdict_at g i a xs) ∷ []) above
 
--- a node of scope i has come to a verdict
+-- a node of scope i has come to a verdict without an own tree
 abbrev pub node_closed : Game → Ledger → List Entry → ℕ → Option ℕ → Verdict → Ledger
-node_closed g d [] i h v = ends_with d i h v
-node_closed g d (branch_entry b ∷ fs) i h v = ends_with d i h v
+node_closed g d [] i h v = ends_with d i h v None
+node_closed g d (branch_entry b ∷ fs) i h v = ends_with d i h v None
 node_closed g d (next_entry up above z ∷ fs) i h v = part_closed g d fs (i - 1) z (up ++ seen_node v ∷ []) above
 
 abbrev pub part_close : Game → Ledger → List Seen → Ledger

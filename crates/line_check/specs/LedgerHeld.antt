@@ -2,18 +2,18 @@
 use Rattle.std.specs.Prelude.{◌≡◌, ℕ, suc, ◌-◌, ◌<◌, min, ◌^◌, nat_lt, true, false, Option, Some, None, List, [], ◌∷◌, length, map, ◌⊎◌, ℤ}
 use Rattle.qc_model.specs.Content.{Game}
 use Rattle.qc_model.specs.Domains.{declared_box}
-use Rattle.qc_model.specs.Verdict.{Verdict, unknown, Seen}
+use Rattle.qc_model.specs.Verdict.{unknown, Seen}
 use Rattle.proof_tree.specs.declared.line.Line.{Line}
 use Rattle.proof_tree.specs.Tree.{Tree}
 use Rattle.proof_tree.specs.InPlace.{root_in_place}
 use Rattle.proof_tree.specs.Read.{root_finding}
 use Rattle.proof_tree.specs.Counts.{turns_of, opens_of}
-use Rattle.proof_tree.specs.Finding.{seen_of}
+use Rattle.proof_tree.specs.Finding.{Finding, seen_of}
 use Rattle.line_check.specs.Tally.{Tally}
 use Rattle.line_check.specs.State.{Spot, Own, Fork, Above, at_root, below, Within, whole_tree, in_case, State, node_due, prune_due, body_due, end_due, case_due, ranged_due, ended, wrong}
-use Rattle.line_check.specs.Desk.{node_awaited, prune_awaited, body_awaited, part_awaited, case_awaited, ranged_awaited, none_awaited}
+use Rattle.line_check.specs.Awaited.{node_awaited, prune_awaited, body_awaited, part_awaited, case_awaited, ranged_awaited, none_awaited}
 use Rattle.line_check.specs.Ledger.{Ledger, Entry, next_entry, branch_entry, place_at, goes}
-use Rattle.line_check.specs.Held.{all_in_place, nests}
+use Rattle.line_check.specs.Nests.{all_in_place, nests}
 
 -- of scope i's own tree these were seen so far, after these values, under the horizon h
 pub record IsOwnOf (g : Game) (i : ℕ) (h : Option ℕ) (o : Own) (xs : List Seen) (a : List ℤ) : Type 0 where
@@ -54,9 +54,10 @@ pub record CaseIs (g : Game) (n : Tally) (around : Within) (o : Own) (b : Fork) 
   pub frames : WithinIs g around more d.number
   pub own : IsOwnOf g d.number d.horizon o d.seen d.before
 
-pub record EndIs (n : Tally) (v : Verdict) (d : Ledger) : Type 0 where
+pub record EndIs (n : Tally) (f : Finding) (d : Ledger) : Type 0 where
   pub tally : Counts n d
-  pub verdict : d.verdict ≡ v
+  pub verdict : d.verdict ≡ f.verdict
+  pub own : d.own ≡ f.own
 
 abbrev pub Tells : Game → State → Ledger → Type 0
 Tells g (node_due n above s box) d = (d.awaited ≡ node_awaited) × (d.box ≡ box) × NodeIs g n above s d
@@ -65,7 +66,7 @@ Tells g (body_due n above s box) d = (d.awaited ≡ body_awaited) × (d.box ≡ 
 Tells g (end_due n around o box) d = (d.awaited ≡ part_awaited) × (d.box ≡ box) × PartIs g n around o d
 Tells g (case_due n around o b) d = (d.awaited ≡ case_awaited) × CaseIs g n around o b d
 Tells g (ranged_due n around o b high) d = (d.awaited ≡ ranged_awaited high) × CaseIs g n around o b d
-Tells g (ended n f) d = (d.awaited ≡ none_awaited) × EndIs n f.verdict d
+Tells g (ended n f) d = (d.awaited ≡ none_awaited) × EndIs n f d
 Tells g wrong d = ⊥
 
 -- the ledger tells s; there is none where a line is out of place or nests too deep
@@ -83,6 +84,7 @@ first_ledger g = record {
   seen = [];
   before = [];
   verdict = unknown;
+  own = None;
   turns = 0;
   has_open = false;
 }
@@ -96,5 +98,6 @@ pub record TellsTree (g : Game) (t : Tree) (d : Ledger) : Type 0 where
   pub ends : d.awaited ≡ none_awaited
   pub in_place : root_in_place g t ≡ true
   pub verdict : d.verdict ≡ (root_finding g t).verdict
+  pub own : d.own ≡ (root_finding g t).own
   pub turns : d.turns ≡ min (turns_of t) (2 ^ 64 - 1)
   pub has_open : d.has_open ≡ nat_lt 0 (opens_of t)

@@ -2,12 +2,11 @@
 use Rattle.std.specs.Prelude.{ℕ, zero, suc, None, List, [], ◌∷◌, slice_index_or}
 use Rattle.line_check.specs.declared.open.Open.{Open}
 use Rattle.line_check.specs.declared.open.Open.TheVariants.{Next}
-use Rattle.line_check.specs.declared.standing.Standing.TheVariants.{Lost}
 
 -- the first n places, the last one first
 abbrev pub last_first : List Open → ℕ → List Open
 last_first places zero = []
-last_first places (suc n) = slice_index_or places n (Next Lost None) ∷ last_first places n
+last_first places (suc n) = slice_index_or places n (Next None) ∷ last_first places n
 
 -- without the first
 abbrev pub rest : List Open → List Open

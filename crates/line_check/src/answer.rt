@@ -1,11 +1,13 @@
 //! What a machine answers.
-use crate::standing::Standing;
+use qc_levels::Found;
 
-/// What the lines of a whole node come to, where each is in place: the node's verdict, how many cases are taken (up to
-/// 2^64 - 1), and whether one is left open.
+/// What the lines of a whole node come to, where each is in place: the node's verdict, the value of the scope's own
+/// condition, where it has one and the verdict is exact, how many cases are taken (up to 2^64 - 1), and whether one is left
+/// open.
 #[derive(Clone, Copy, PartialEq, Eq)]
-pub struct Found {
-    pub standing: Standing,
+pub struct Answer {
+    pub found: Found,
+    pub own: Option<i64>,
     pub turns: u64,
     pub has_open: bool,
 }

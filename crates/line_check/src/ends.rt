@@ -1,9 +1,9 @@
 //! What the machine does in a scope's own tree.
-ghost use Rattle.std.specs.Prelude.{◌≡◌, ◌<◌, true, None, length, OnOk, OnErr};
-ghost use Rattle.qc_arguments.specs.Asked.{is_box_of};
-ghost use Rattle.line_check.specs.Desk.{desk_end};
+ghost use Rattle.std.specs.Prelude.{◌≡◌};
+ghost use Rattle.line_check.specs.Ledger.{ledger_end};
 ghost use Rattle.line_check.specs.State.{may_branch};
-ghost use Rattle.line_check.specs.Machine.{game_of, desk_of, here, IsSound};
+ghost use Rattle.line_check.specs.Machine.{game_of, IsWithin, IsReady};
+ghost use Rattle.line_check.specs.Telling.{PartTells};
 ghost use Rattle.proof_tree.specs.declared.line.Line.TheVariants as line_of;
 
 use crate::legal::prune;
@@ -12,29 +12,44 @@ use crate::open::{Due, Open};
 use crate::tuple::{says, tuple_allowed};
 use proof_tree::Line;
 use qc_model::{ConId, ScopeId, VarId};
-use std::alloc::AllocError;
 
 /// Below every value of a variable, or the least.
 const LEAST: i64 = -1_000_000_000;
 
 impl<'p> Machine<'p> {
+    fn empty_line(&mut self)
+        requires within { IsWithin self.old }
+        ensures tells { PartTells self.old self.new (λ d. ledger_end (game_of self.old) d line_of.Empty) }
+        ensures ready { IsReady self.new }
+        ensures same { game_of self.new ≡ game_of self.old }
+    {
+        if !self.remains.is_empty() {
+            self.due = Due::Wrong;
+            return;
+        }
+        self.close_part();
+    }
+
     fn barred_line(&mut self)
-        requires sound { IsSound self.old }
-        requires scope { self.old.number < length (game_of self.old).scopes }
-        ensures desk { desk_of self.new ≡ desk_end (game_of self.old) (here self.old) line_of.Barred }
-        ensures sound { IsSound self.new }
+        requires within { IsWithin self.old }
+        ensures tells { PartTells self.old self.new (λ d. ledger_end (game_of self.old) d line_of.Barred) }
+        ensures ready { IsReady self.new }
         ensures same { game_of self.new ≡ game_of self.old }
     {
         let level = self.levels.level(ScopeId(self.number));
         let found = tuple_allowed(level, &self.remains, self.values.as_mut_slice());
-        self.close_only_if(says(found, false), self.standing);
+        if !says(found, false) {
+            self.due = Due::Wrong;
+            return;
+        }
+        self.joins.add_barred(ScopeId(self.number));
+        self.close_part();
     }
 
     fn next_line(&mut self)
-        requires sound { IsSound self.old }
-        requires scope { self.old.number < length (game_of self.old).scopes }
-        ensures desk { desk_of self.new ≡ desk_end (game_of self.old) (here self.old) line_of.Next }
-        ensures sound { IsSound self.new }
+        requires within { IsWithin self.old }
+        ensures tells { PartTells self.old self.new (λ d. ledger_end (game_of self.old) d line_of.Next) }
+        ensures ready { IsReady self.new }
         ensures same { game_of self.new ≡ game_of self.old }
     {
         self.levels.problem.known();
@@ -49,7 +64,6 @@ impl<'p> Machine<'p> {
             return;
         }
         self.nesting.push(Open::Next {
-            standing: self.standing,
             horizon: self.horizon,
         });
         self.number += 1;
@@ -58,8 +72,7 @@ impl<'p> Machine<'p> {
 
     /// Whether a branch on x may begin here.
     fn may_branch_on(&self, x: VarId) -> bool
-        requires sound { IsSound self.now }
-        requires scope { self.now.number < length (game_of self.now).scopes }
+        requires within { IsWithin self.now }
         ensures { result ≡ may_branch (game_of self.now) self.now.number x.0 self.now.remains.box }
     {
         let level = self.levels.level(ScopeId(self.number));
@@ -77,10 +90,9 @@ impl<'p> Machine<'p> {
     }
 
     fn branch_line(&mut self, x: VarId)
-        requires sound { IsSound self.old }
-        requires scope { self.old.number < length (game_of self.old).scopes }
-        ensures desk { desk_of self.new ≡ desk_end (game_of self.old) (here self.old) (line_of.Branch x) }
-        ensures sound { IsSound self.new }
+        requires within { IsWithin self.old }
+        ensures tells { PartTells self.old self.new (λ d. ledger_end (game_of self.old) d (line_of.Branch x)) }
+        ensures ready { IsReady self.new }
         ensures same { game_of self.new ≡ game_of self.old }
     {
         self.levels.problem.known();
@@ -102,50 +114,53 @@ impl<'p> Machine<'p> {
     }
 
     /// A removal by a constraint that is in force.
-    fn prune_line(&mut self, x: VarId, lo: i64, hi: i64, c: ConId) -> Result<(), AllocError>
-        requires sound { IsSound self.old }
-        requires scope { self.old.number < length (game_of self.old).scopes }
-        ensures desk { OnOk result (desk_of self.new ≡ desk_end (game_of self.old) (here self.old) (line_of.Prune x lo hi c)) }
-        ensures none { OnErr result (desk_of self.new ≡ None) }
-        ensures sound { IsSound self.new }
+    fn prune_line(&mut self, x: VarId, lo: i64, hi: i64, c: ConId)
+        requires within { IsWithin self.old }
+        ensures tells { PartTells self.old self.new (λ d. ledger_end (game_of self.old) d (line_of.Prune x lo hi c)) }
+        ensures ready { IsReady self.new }
         ensures same { game_of self.new ≡ game_of self.old }
     {
         let span = self.levels.level(ScopeId(self.number)).in_force;
-        match prune(self.levels.problem, &mut self.remains, span, x, lo, hi, c) {
-            Ok(true) => {
+        if prune(self.levels.problem, &mut self.remains, span, x, lo, hi, c) {
+            self.due = Due::Part;
+        } else {
+            self.due = Due::Wrong;
+        }
+    }
+
+    /// A bound on the variable that the scope optimises first.
+    fn bound_line(&mut self, x: VarId, lo: i64, hi: i64)
+        requires within { IsWithin self.old }
+        ensures tells { PartTells self.old self.new (λ d. ledger_end (game_of self.old) d (line_of.Bound x lo hi)) }
+        ensures ready { IsReady self.new }
+        ensures same { game_of self.new ≡ game_of self.old }
+    {
+        match self
+            .bounds
+            .bound(&mut self.remains, ScopeId(self.number), x, lo, hi)
+        {
+            None => self.due = Due::Wrong,
+            Some(best) => {
+                self.joins.add_bound(ScopeId(self.number), best);
                 self.due = Due::Part;
-                Ok(())
-            }
-            Ok(false) => {
-                self.due = Due::Wrong;
-                Ok(())
-            }
-            Err(e) => {
-                self.due = Due::Wrong;
-                Err(e)
             }
         }
     }
 
     /// A line in a scope's own tree.
-    pub(crate) fn at_end(&mut self, line: Line) -> Result<(), AllocError>
-        requires sound { IsSound self.old }
-        requires scope { self.old.number < length (game_of self.old).scopes }
-        ensures desk { OnOk result (desk_of self.new ≡ desk_end (game_of self.old) (here self.old) line) }
-        ensures none { OnErr result (desk_of self.new ≡ None) }
-        ensures sound { IsSound self.new }
+    pub(crate) fn at_end(&mut self, line: Line)
+        requires within { IsWithin self.old }
+        ensures tells { PartTells self.old self.new (λ d. ledger_end (game_of self.old) d line) }
+        ensures ready { IsReady self.new }
         ensures same { game_of self.new ≡ game_of self.old }
     {
         match line {
-            Line::Prune { x, lo, hi, c } => return self.prune_line(x, lo, hi, c),
-            Line::Empty => {
-                let empty = self.remains.is_empty();
-                self.close_only_if(empty, self.standing);
-            }
+            Line::Prune { x, lo, hi, c } => self.prune_line(x, lo, hi, c),
+            Line::Bound { x, lo, hi } => self.bound_line(x, lo, hi),
+            Line::Empty => self.empty_line(),
             Line::Barred => self.barred_line(),
             Line::Next => self.next_line(),
             Line::Branch { x } => self.branch_line(x),
-            Line::Bound { .. } => self.due = Due::Wrong,
             Line::Horizon { .. } => self.due = Due::Wrong,
             Line::Dot => self.due = Due::Wrong,
             Line::Stuck => self.due = Due::Wrong,
@@ -154,6 +169,5 @@ impl<'p> Machine<'p> {
             Line::Open => self.due = Due::Wrong,
             Line::Range { .. } => self.due = Due::Wrong,
         }
-        Ok(())
     }
 }

@@ -1,5 +1,5 @@
 //! Whether a removal is legal.
-ghost use Rattle.std.specs.Prelude.{◌≡◌, ◌<◌, ◌≤◌, true, None, ℕ, length, IfOk};
+ghost use Rattle.std.specs.Prelude.{◌≡◌, ◌<◌, ◌≤◌, true, None, ℕ, length};
 ghost use Rattle.qc_model.specs.Domains.{box_without};
 ghost use Rattle.fd_store.specs.Held.{Follows};
 ghost use Rattle.qc_rules.specs.Spans.{IsSpanOf};
@@ -8,10 +8,9 @@ ghost use Rattle.proof_tree.specs.Steps.{is_legal};
 ghost use Rattle.proof_tree.specs.declared.tree.Step.TheVariants.{Prune as PruneStep};
 
 use crate::remains::Remains;
+use qc_arguments::Span;
 use qc_model::{ConId, Problem, VarId};
 use qc_refuter::refutes_in;
-use qc_rules::Span;
-use std::alloc::AllocError;
 
 /// Takes the values of x from lo to hi where that is legal by the constraint c, one of the span, and says whether it is.
 pub(crate) fn prune(
@@ -22,19 +21,19 @@ pub(crate) fn prune(
     lo: i64,
     hi: i64,
     c: ConId,
-) -> Result<bool, AllocError>
+) -> bool
     requires declared { is_box_of problem.now remains.old.box ≡ true }
     requires span { span.end ≤ length problem.now.constraints }
-    ensures legal { IfOk result (λ b. (i stop : ℕ) → IsSpanOf problem.now i stop span.first span.end → b ≡ is_legal problem.now i stop None (PruneStep x lo hi c) remains.old.box) }
-    ensures content { IfOk result (λ b. b ≡ true → remains.new.box ≡ box_without remains.old.box x.0 lo hi) }
+    ensures legal { (i stop : ℕ) → IsSpanOf problem.now i stop span.first span.end → result ≡ is_legal problem.now i stop None (PruneStep x lo hi c) remains.old.box }
+    ensures content { result ≡ true → remains.new.box ≡ box_without remains.old.box x.0 lo hi }
     ensures past { Follows remains.old remains.new }
     ensures declared { is_box_of problem.now remains.new.box ≡ true }
 {
     if !is_legal_prune(problem, remains, span, x, lo, hi, c) {
-        return Ok(false);
+        return false;
     }
-    remains.cut(x, lo, hi)?;
-    Ok(true)
+    remains.cut(x, lo, hi);
+    true
 }
 
 /// Whether each variable has a value, x has some from lo to hi, and the constraint c, one of the span, refutes the box in

@@ -3,7 +3,9 @@
 
 mod answer;
 mod begin;
+mod bounds;
 mod cases;
+mod closing;
 mod cover;
 mod ends;
 mod judge;
@@ -14,17 +16,15 @@ mod machine;
 mod nesting;
 mod nodes;
 mod open;
-mod owner;
 mod remains;
-mod standing;
 #[cfg(test)]
 mod tests;
 mod tuple;
 mod turn;
 
-pub use answer::Found;
+pub use answer::Answer;
 pub use judge::judge_lines;
 pub use laws::answers_are_right;
-pub use ledgers::ledgers_are_right;
+pub use ledgers::{ledgers_are_right, ledgers_keep_sizes};
 pub use machine::Machine;
-pub use standing::Standing;
+pub use qc_levels::Found;

@@ -3,7 +3,6 @@ ghost use Rattle.std.specs.Prelude.{◌≡◌, ◌<◌, nat_lt, [], ◌∷◌, l
 ghost use Rattle.line_check.specs.Places.{rest};
 
 use crate::open::Open;
-use crate::standing::Standing;
 use std::alloc::{AllocError, Global};
 use std::marker::Model;
 
@@ -34,10 +33,7 @@ impl Nesting {
     pub(crate) fn new(alloc: Global) -> Result<Nesting, AllocError>
         ensures { IfOk result (λ n. n ≡ []) }
     {
-        let places = vec![in alloc; Open::Next {
-            standing: Standing::Lost,
-            horizon: None,
-        }; 1000]?;
+        let places = vec![in alloc; Open::Next { horizon: None, }; 1000]?;
         Ok(Nesting { places, depth: 0 })
     }
 

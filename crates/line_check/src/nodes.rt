@@ -1,26 +1,26 @@
 //! What the machine does at the lines of a node.
-ghost use Rattle.std.specs.Prelude.{◌≡◌, ◌<◌, ◌≤◌, ◌-◌, false, None, length, OnOk, OnErr};
-ghost use Rattle.qc_model.specs.Domains.{has_empty};
+ghost use Rattle.std.specs.Prelude.{◌≡◌, ◌≤◌, ◌<◌, nat_le, Some, length};
 ghost use Rattle.fd_store.specs.Held.{past_box};
-ghost use Rattle.line_check.specs.Desk.{own_begins, desk_body, desk_node, desk_prune, at_horizon, at_last, may_see_on};
-ghost use Rattle.line_check.specs.Machine.{game_of, desk_of, here, IsSound, IsPast};
+ghost use Rattle.proof_tree.specs.InPlace.{is_horizon};
+ghost use Rattle.line_check.specs.State.{may_see};
+ghost use Rattle.line_check.specs.Ledger.{place_at, begins, ledger_body, ledger_node, ledger_prune};
+ghost use Rattle.line_check.specs.Machine.{game_of, IsAtNode, IsSeeing, IsReady};
+ghost use Rattle.line_check.specs.Telling.{NodeTells, stuck_ended};
 ghost use Rattle.proof_tree.specs.declared.line.Line.TheVariants as line_of;
 
 use crate::legal::prune;
 use crate::machine::Machine;
 use crate::open::Due;
-use crate::owner::owner;
-use crate::standing::{Standing, standing_without_tuple};
 use crate::tuple::goal_holds;
 use fd_store::Mark;
 use proof_tree::Line;
+use qc_levels::Found;
 use qc_model::{ConId, ScopeId, VarId};
-use std::alloc::AllocError;
 
 impl<'p> Machine<'p> {
     /// Whether the horizon in force is at this scope.
     fn is_at_horizon(&self) -> bool
-        ensures { result ≡ at_horizon (here self.now) }
+        ensures { result ≡ is_horizon self.now.horizon self.now.number }
     {
         match self.horizon {
             None => false,
@@ -30,28 +30,61 @@ impl<'p> Machine<'p> {
 
     /// Whether no scope is left.
     fn is_at_last(&self) -> bool
-        ensures { result ≡ at_last (game_of self.now) (here self.now) }
+        ensures { result ≡ nat_le (length (game_of self.now).scopes) self.now.number }
     {
         self.levels.problem.scopes() <= self.number as usize
     }
 
-    fn stuck_line(&mut self)
-        requires sound { IsSound self.old }
-        ensures desk { desk_of self.new ≡ desk_body (game_of self.old) (here self.old) line_of.Stuck }
-        ensures sound { IsSound self.new }
+    /// Nobody passes the scope.
+    fn stuck_scope(&mut self)
+        requires node { IsAtNode self.old }
+        requires scope { self.old.number < length (game_of self.old).scopes }
+        ensures tells { NodeTells self.old self.new (λ d. Some (stuck_ended (game_of self.old) d)) }
+        ensures ready { IsReady self.new }
         ensures same { game_of self.new ≡ game_of self.old }
     {
-        let stuck = standing_without_tuple(owner(self.levels.problem, self.number));
-        let holds = self.is_at_horizon();
-        self.close_only_if(holds, stuck);
+        let count = self.count_before();
+        self.found = self
+            .joins
+            .stuck(ScopeId(self.number), &self.values[..count]);
+        self.own = None;
+        self.close_node();
+    }
+
+    /// The goal doesn't hold, whoever comes there.
+    fn stuck_goal(&mut self)
+        requires node { IsAtNode self.old }
+        requires last { length (game_of self.old).scopes ≤ self.old.number }
+        ensures tells { NodeTells self.old self.new (λ d. Some (stuck_ended (game_of self.old) d)) }
+        ensures ready { IsReady self.new }
+        ensures same { game_of self.new ≡ game_of self.old }
+    {
+        self.found = Found::Lost;
+        self.own = None;
+        self.close_node();
+    }
+
+    fn stuck_line(&mut self)
+        requires node { IsAtNode self.old }
+        ensures tells { NodeTells self.old self.new (λ d. ledger_body (game_of self.old) d line_of.Stuck) }
+        ensures ready { IsReady self.new }
+        ensures same { game_of self.new ≡ game_of self.old }
+    {
+        if !self.is_at_horizon() {
+            self.due = Due::Wrong;
+            return;
+        }
+        if self.is_at_last() {
+            self.stuck_goal();
+        } else {
+            self.stuck_scope();
+        }
     }
 
     fn goal_line(&mut self)
-        requires sound { IsSound self.old }
-        requires inside { self.old.number ≤ length (game_of self.old).scopes }
-        requires full { has_empty self.old.remains.box ≡ false }
-        ensures desk { desk_of self.new ≡ desk_body (game_of self.old) (here self.old) line_of.Goal }
-        ensures sound { IsSound self.new }
+        requires node { IsAtNode self.old }
+        ensures tells { NodeTells self.old self.new (λ d. ledger_body (game_of self.old) d line_of.Goal) }
+        ensures ready { IsReady self.new }
         ensures same { game_of self.new ≡ game_of self.old }
     {
         if self.is_at_horizon() {
@@ -62,49 +95,41 @@ impl<'p> Machine<'p> {
             self.due = Due::Wrong;
             return;
         }
-        let holds = goal_holds(&self.levels, &self.remains, self.values.as_mut_slice());
-        self.close(if holds { Standing::Won } else { Standing::Lost });
+        let holds = goal_holds(&self.levels, self.values.as_slice());
+        self.found = self.joins.goal(holds, self.values.as_slice());
+        self.own = None;
+        self.close_node();
     }
 
     /// The own tree of the node's scope begins with this line.
-    fn own_line(&mut self, line: Line) -> Result<(), AllocError>
-        requires sound { IsSound self.old }
-        ensures desk { OnOk result (desk_of self.new ≡ own_begins (game_of self.old) (here self.old) line) }
-        ensures none { OnErr result (desk_of self.new ≡ None) }
-        ensures sound { IsSound self.new }
+    fn own_line(&mut self, line: Line)
+        requires node { IsAtNode self.old }
+        ensures tells { NodeTells self.old self.new (λ d. begins (game_of self.old) d line) }
+        ensures ready { IsReady self.new }
         ensures same { game_of self.new ≡ game_of self.old }
     {
         if self.is_at_horizon() {
             self.due = Due::Wrong;
-            return Ok(());
+            return;
         }
         if self.is_at_last() {
             self.due = Due::Wrong;
-            return Ok(());
+            return;
         }
-        self.standing = standing_without_tuple(owner(self.levels.problem, self.number));
-        self.at_end(line)
+        self.joins.clear(ScopeId(self.number));
+        self.at_end(line);
     }
 
     /// A line of a node after its horizon.
-    pub(crate) fn at_body(&mut self, line: Line) -> Result<(), AllocError>
-        requires sound { IsSound self.old }
-        requires inside { self.old.number ≤ length (game_of self.old).scopes }
-        requires full { has_empty self.old.remains.box ≡ false }
-        ensures desk { OnOk result (desk_of self.new ≡ desk_body (game_of self.old) (here self.old) line) }
-        ensures none { OnErr result (desk_of self.new ≡ None) }
-        ensures sound { IsSound self.new }
+    pub(crate) fn at_body(&mut self, line: Line)
+        requires node { IsAtNode self.old }
+        ensures tells { NodeTells self.old self.new (λ d. ledger_body (game_of self.old) d line) }
+        ensures ready { IsReady self.new }
         ensures same { game_of self.new ≡ game_of self.old }
     {
         match line {
-            Line::Stuck => {
-                self.stuck_line();
-                Ok(())
-            }
-            Line::Goal => {
-                self.goal_line();
-                Ok(())
-            }
+            Line::Stuck => self.stuck_line(),
+            Line::Goal => self.goal_line(),
             Line::Prune { .. } => self.own_line(line),
             Line::Bound { .. } => self.own_line(line),
             Line::Empty => self.own_line(line),
@@ -122,7 +147,7 @@ impl<'p> Machine<'p> {
     /// Whether a horizon at scope k may stand here: ahead, and nearer than the one in force.
     fn may_see_to(&self, k: u8) -> bool
         requires inside { self.now.number ≤ length (game_of self.now).scopes }
-        ensures { result ≡ may_see_on (game_of self.now) (here self.now) k }
+        ensures { result ≡ may_see k (place_at (game_of self.now) self.now.number self.now.horizon) }
     {
         if self.is_at_last() {
             return false;
@@ -140,11 +165,9 @@ impl<'p> Machine<'p> {
     }
 
     fn horizon_line(&mut self, k: u8)
-        requires sound { IsSound self.old }
-        requires inside { self.old.number ≤ length (game_of self.old).scopes }
-        requires full { has_empty self.old.remains.box ≡ false }
-        ensures desk { desk_of self.new ≡ desk_node (game_of self.old) (here self.old) (line_of.Horizon k) }
-        ensures sound { IsSound self.new }
+        requires node { IsAtNode self.old }
+        ensures tells { NodeTells self.old self.new (λ d. ledger_node (game_of self.old) d (line_of.Horizon k)) }
+        ensures ready { IsReady self.new }
         ensures same { game_of self.new ≡ game_of self.old }
     {
         if k == 0 {
@@ -160,20 +183,14 @@ impl<'p> Machine<'p> {
     }
 
     /// A line of a node.
-    pub(crate) fn at_node(&mut self, line: Line) -> Result<(), AllocError>
-        requires sound { IsSound self.old }
-        requires inside { self.old.number ≤ length (game_of self.old).scopes }
-        requires full { has_empty self.old.remains.box ≡ false }
-        ensures desk { OnOk result (desk_of self.new ≡ desk_node (game_of self.old) (here self.old) line) }
-        ensures none { OnErr result (desk_of self.new ≡ None) }
-        ensures sound { IsSound self.new }
+    pub(crate) fn at_node(&mut self, line: Line)
+        requires node { IsAtNode self.old }
+        ensures tells { NodeTells self.old self.new (λ d. ledger_node (game_of self.old) d line) }
+        ensures ready { IsReady self.new }
         ensures same { game_of self.new ≡ game_of self.old }
     {
         match line {
-            Line::Horizon { k } => {
-                self.horizon_line(k);
-                Ok(())
-            }
+            Line::Horizon { k } => self.horizon_line(k),
             Line::Prune { .. } => self.at_body(line),
             Line::Bound { .. } => self.at_body(line),
             Line::Empty => self.at_body(line),
@@ -190,49 +207,27 @@ impl<'p> Machine<'p> {
     }
 
     /// A removal of a horizon, by a constraint of a scope up to it.
-    fn seen_line(
-        &mut self,
-        k: u8,
-        mark: Mark,
-        x: VarId,
-        lo: i64,
-        hi: i64,
-        c: ConId,
-    ) -> Result<(), AllocError>
-        requires sound { IsSound self.old }
-        requires order { self.old.number ≤ k }
-        requires bound { k ≤ length (game_of self.old).scopes }
-        requires past { IsPast (game_of self.old) self.old.remains self.old.nesting mark }
-        ensures desk { OnOk result (desk_of self.new ≡ desk_prune (game_of self.old) (here self.old) k (past_box self.old.remains mark.at) (line_of.Prune x lo hi c)) }
-        ensures none { OnErr result (desk_of self.new ≡ None) }
-        ensures sound { IsSound self.new }
+    fn seen_line(&mut self, k: u8, mark: Mark, x: VarId, lo: i64, hi: i64, c: ConId)
+        requires seeing { IsSeeing self.old k mark }
+        ensures tells { NodeTells self.old self.new (λ d. ledger_prune (game_of self.old) d k (past_box self.old.remains mark.at) (line_of.Prune x lo hi c)) }
+        ensures ready { IsReady self.new }
         ensures same { game_of self.new ≡ game_of self.old }
     {
         let span = self
             .levels
             .constraints_between(ScopeId(self.number), ScopeId(k));
-        match prune(self.levels.problem, &mut self.remains, span, x, lo, hi, c) {
-            Ok(true) => {
-                self.due = Due::Prune { k, mark };
-                Ok(())
-            }
-            Ok(false) => {
-                self.due = Due::Wrong;
-                Ok(())
-            }
-            Err(e) => {
-                self.due = Due::Wrong;
-                Err(e)
-            }
+        if prune(self.levels.problem, &mut self.remains, span, x, lo, hi, c) {
+            self.due = Due::Prune { k, mark };
+        } else {
+            self.due = Due::Wrong;
         }
     }
 
     /// The dot after a horizon's removals.
     fn seen_dot(&mut self, k: u8, mark: Mark)
-        requires sound { IsSound self.old }
-        requires past { IsPast (game_of self.old) self.old.remains self.old.nesting mark }
-        ensures desk { desk_of self.new ≡ desk_prune (game_of self.old) (here self.old) k (past_box self.old.remains mark.at) line_of.Dot }
-        ensures sound { IsSound self.new }
+        requires seeing { IsSeeing self.old k mark }
+        ensures tells { NodeTells self.old self.new (λ d. ledger_prune (game_of self.old) d k (past_box self.old.remains mark.at) line_of.Dot) }
+        ensures ready { IsReady self.new }
         ensures same { game_of self.new ≡ game_of self.old }
     {
         if !self.remains.is_empty() {
@@ -245,19 +240,14 @@ impl<'p> Machine<'p> {
     }
 
     /// A line of a horizon.
-    pub(crate) fn at_prune(&mut self, k: u8, mark: Mark, line: Line) -> Result<(), AllocError>
-        requires sound { IsSound self.old }
-        requires scope { self.old.number < length (game_of self.old).scopes }
-        requires order { self.old.number ≤ k }
-        requires bound { k ≤ length (game_of self.old).scopes }
-        requires past { IsPast (game_of self.old) self.old.remains self.old.nesting mark }
-        ensures desk { OnOk result (desk_of self.new ≡ desk_prune (game_of self.old) (here self.old) k (past_box self.old.remains mark.at) line) }
-        ensures none { OnErr result (desk_of self.new ≡ None) }
-        ensures sound { IsSound self.new }
+    pub(crate) fn at_prune(&mut self, k: u8, mark: Mark, line: Line)
+        requires seeing { IsSeeing self.old k mark }
+        ensures tells { NodeTells self.old self.new (λ d. ledger_prune (game_of self.old) d k (past_box self.old.remains mark.at) line) }
+        ensures ready { IsReady self.new }
         ensures same { game_of self.new ≡ game_of self.old }
     {
         match line {
-            Line::Prune { x, lo, hi, c } => return self.seen_line(k, mark, x, lo, hi, c),
+            Line::Prune { x, lo, hi, c } => self.seen_line(k, mark, x, lo, hi, c),
             Line::Dot => self.seen_dot(k, mark),
             Line::Bound { .. } => self.due = Due::Wrong,
             Line::Horizon { .. } => self.due = Due::Wrong,
@@ -271,6 +261,5 @@ impl<'p> Machine<'p> {
             Line::Open => self.due = Due::Wrong,
             Line::Range { .. } => self.due = Due::Wrong,
         }
-        Ok(())
     }
 }

@@ -1,22 +1,14 @@
 //! What is open above the line that comes next, and what that line may be.
 
-use crate::standing::Standing;
 use fd_store::Mark;
 use qc_model::VarId;
 
-/// A scope's own tree that waits for the node after one of its tuples, with what it comes to so far and the horizon in
-/// force there; or a branch on a variable, with a mark at its box and the least number that no case so far covers.
+/// A scope's own tree that waits for the node after one of its tuples, with the horizon in force there; or a branch on a
+/// variable, with a mark at its box and the least number that no case so far covers.
 #[derive(Clone, Copy)]
 pub(crate) enum Open {
-    Next {
-        standing: Standing,
-        horizon: Option<u8>,
-    },
-    Branch {
-        x: VarId,
-        mark: Mark,
-        from: i64,
-    },
+    Next { horizon: Option<u8> },
+    Branch { x: VarId, mark: Mark, from: i64 },
 }
 
 /// What the next line may be: a node; a step of a horizon at scope `k`, or its dot, with a mark at the node's box; a node

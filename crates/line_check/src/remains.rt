@@ -1,15 +1,21 @@
 //! The values left to each variable, and whether a variable has none.
-ghost use Rattle.std.specs.Prelude.{◌≡◌, ◌<◌, ◌≤◌, true, false, not, [], length, IfOk, OnOk, IsTrue};
+ghost use Rattle.std.specs.Prelude.{◌≡◌, ◌<◌, ◌≤◌, true, false, not, [], length, IfOk, IsTrue};
 ghost use Rattle.qc_model.specs.Domains.{Box, is_sub_box, declared_box, box_within, box_without, has_empty, is_none_left, values_left, values_within};
 ghost use Rattle.qc_model.specs.Valid.{is_number};
-ghost use Rattle.fd_store.specs.Held.{trail_len, past_box, Follows, IsUndone};
+ghost use Rattle.fd_store.specs.Held.{trail_len, past_box, count_left, Follows, IsUndone};
 
 use fd_store::{Mark, Removed, Store};
 use qc_model::{Problem, VarId};
 use std::alloc::{AllocError, Global};
 use std::marker::Model;
 
+/// More places of the trail than one removal takes.
+const PLACES: usize = 16_400;
+
 /// A store, and whether a variable has no value left.
+///
+/// The trail has room for each value's removal, and for one removal more, from the beginning: so nothing but `new` takes
+/// memory.
 #[derive(Drop)]
 pub(crate) struct Remains {
     store: Store,
@@ -20,12 +26,26 @@ impl Model for Remains {
     ghost use Rattle.std.specs.Prelude.{◌≡◌};
     ghost use Rattle.qc_model.specs.Domains.{has_empty};
     ghost use Rattle.fd_store.specs.Held.{Held};
+    ghost use Rattle.line_check.specs.Room.{HasRoom};
 
     ghost Value = { Held };
 
     ghost view = { λ r. r.store };
 
-    ghost invariant = { λ r. r.empty ≡ has_empty r.store.box };
+    ghost invariant = { λ r. (r.empty ≡ has_empty r.store.box) × HasRoom r.store };
+}
+
+/// How many values are left to all variables together.
+fn count_values(store: &Store) -> usize
+    requires few { length store.now.box ≤ 500 }
+    ensures count { result ≡ count_left store.now.box }
+    ensures most { result ≤ 2147483647500 }
+{
+    let mut values = 0;
+    for k in 0..store.count() {
+        values += store.size(VarId(k as u16)) as usize;
+    }
+    values
 }
 
 impl Remains {
@@ -34,7 +54,9 @@ impl Remains {
         ensures { IfOk result (λ r. (r.box ≡ declared_box problem.now) × (r.past ≡ [])) }
     {
         problem.known();
-        let store = Store::new(alloc, problem)?;
+        let mut store = Store::new(alloc, problem)?;
+        let values = count_values(&store);
+        store.reserve_trail(values + PLACES)?;
         Ok(Remains {
             store,
             empty: false,
@@ -74,36 +96,35 @@ impl Remains {
         }
     }
 
-    /// Takes the values from lo to hi out of x. After a refusal the box is as before.
-    pub(crate) fn cut(&mut self, x: VarId, lo: i64, hi: i64) -> Result<(), AllocError>
+    /// Takes the values from lo to hi out of x.
+    pub(crate) fn cut(&mut self, x: VarId, lo: i64, hi: i64)
         requires var { x.0 < length self.old.box }
-        ensures content { OnOk result (self.new.box ≡ box_without self.old.box x.0 lo hi) }
+        ensures content { self.new.box ≡ box_without self.old.box x.0 lo hi }
         ensures past { Follows self.old self.new }
         ensures fewer { (large : Box) → is_sub_box self.old.box large ≡ true → is_sub_box self.new.box large ≡ true }
     {
-        let need = self.store.trail_need(x, lo, hi);
-        self.store.reserve_trail(need)?;
+        self.store.trail_known();
+        // at most PLACES
+        let _need = self.store.trail_need(x, lo, hi);
         match self.store.remove(x, lo, hi) {
             Removed::Emptied => self.empty = true,
             Removed::Nothing => {}
             Removed::Some => {}
         }
-        Ok(())
     }
 
     /// Leaves x its values from first to last alone.
-    pub(crate) fn keep(&mut self, x: VarId, first: i64, last: i64) -> Result<(), AllocError>
+    pub(crate) fn keep(&mut self, x: VarId, first: i64, last: i64)
         requires var { x.0 < length self.old.box }
         requires first { IsTrue (is_number first) }
         requires last { IsTrue (is_number last) }
-        ensures content { OnOk result (self.new.box ≡ box_within self.old.box x.0 first last) }
+        ensures content { self.new.box ≡ box_within self.old.box x.0 first last }
         ensures past { Follows self.old self.new }
         ensures fewer { (large : Box) → is_sub_box self.old.box large ≡ true → is_sub_box self.new.box large ≡ true }
     {
         self.store.known(x);
-        self.cut(x, -1_000_000_000, first - 1)?;
-        self.cut(x, last + 1, 1_000_000_000)?;
-        Ok(())
+        self.cut(x, -1_000_000_000, first - 1);
+        self.cut(x, last + 1, 1_000_000_000);
     }
 
     /// Goes back to a box in which each variable had a value.

@@ -1,11 +1,12 @@
-//! Two small games, with certificates worked out by hand.
-use crate::{Found, Standing, judge_lines};
+//! Small games, with certificates worked out by hand.
+ghost use Rattle.std.specs.Prelude.{◌≤◌, ◌^◌, length};
+
+use crate::{Answer, Found, judge_lines};
 use proof_tree::Line;
 use qc_model::{
-    Arg, Argument, ConId, Constraint, Domain, Draft, Kind, Name, Pred, Problem, Scope, ScopeId,
-    VarId, Variable, build,
+    AggId, Aggregate, Arg, Argument, ConId, Condition, Constraint, Domain, Draft, Fold, Kind, Name,
+    Pred, Problem, Scope, ScopeId, Sense, Target, VarId, Variable, build,
 };
-use qc_rules::has_no_condition;
 use std::alloc::{AllocError, Global};
 use std::test::Fail;
 
@@ -29,19 +30,23 @@ fn at_most(alloc: Global, owner: u8, one: Arg, other: Arg) -> Result<Constraint,
     })
 }
 
-fn two_scopes(alloc: Global, second: Kind) -> Result<Draft, AllocError> {
-    let mut draft = Draft {
+fn draft_of(alloc: Global) -> Draft {
+    Draft {
         scopes: Vec::new(alloc),
         variables: Vec::new(alloc),
         aggregates: Vec::new(alloc),
         constraints: Vec::new(alloc),
-    };
-    for kind in [Kind::Exists, second] {
-        draft.scopes.push(Scope {
-            kind,
-            condition: None,
-        })?;
     }
+}
+
+fn scope(kind: Kind, condition: Option<Condition>) -> Scope {
+    Scope { kind, condition }
+}
+
+fn two_scopes(alloc: Global, second: Kind) -> Result<Draft, AllocError> {
+    let mut draft = draft_of(alloc);
+    draft.scopes.push(scope(Kind::Exists, None))?;
+    draft.scopes.push(scope(second, None))?;
     Ok(draft)
 }
 
@@ -67,17 +72,69 @@ fn stuck_later(alloc: Global) -> Result<Option<Problem>, AllocError> {
     Ok(build(draft))
 }
 
+/// The player chooses x from 0 to 3 as small as can be, and it has to be at least 1.
+fn least_choice(alloc: Global) -> Result<Option<Problem>, AllocError> {
+    let mut draft = draft_of(alloc);
+    let least = Condition {
+        sense: Sense::Min,
+        target: Target::Var(VarId(0)),
+    };
+    draft.scopes.push(scope(Kind::Exists, Some(least)))?;
+    draft.variables.push(variable(alloc, "x", 0, 3)?)?;
+    let goal = at_most(alloc, 1, Arg::Num(1), Arg::Var(VarId(0)))?;
+    draft.constraints.push(goal)?;
+    Ok(build(draft))
+}
+
+/// The player chooses x, which is 0, and then y and z from 0 to 1, with y as great as can be. The first wish stands beside
+/// it.
+fn greatest_answer(alloc: Global, first: Option<Condition>) -> Result<Option<Problem>, AllocError> {
+    let mut draft = draft_of(alloc);
+    let greatest = Condition {
+        sense: Sense::Max,
+        target: Target::Var(VarId(1)),
+    };
+    draft.scopes.push(scope(Kind::Exists, first))?;
+    draft.scopes.push(scope(Kind::Exists, Some(greatest)))?;
+    draft.variables.push(variable(alloc, "x", 0, 0)?)?;
+    draft.variables.push(variable(alloc, "y", 1, 1)?)?;
+    draft.variables.push(variable(alloc, "z", 1, 1)?)?;
+    Ok(build(draft))
+}
+
+/// The player chooses x from 0 to 1, and the opponent y from 0 to x. The sum of y over the opponent's choices is to be as
+/// great as can be.
+fn greatest_sum(alloc: Global) -> Result<Option<Problem>, AllocError> {
+    let mut draft = draft_of(alloc);
+    let greatest = Condition {
+        sense: Sense::Max,
+        target: Target::Aggregate(AggId(0)),
+    };
+    draft.scopes.push(scope(Kind::Exists, Some(greatest)))?;
+    draft.scopes.push(scope(Kind::Forall, None))?;
+    draft.variables.push(variable(alloc, "x", 0, 1)?)?;
+    draft.variables.push(variable(alloc, "y", 1, 2)?)?;
+    draft.aggregates.push(Aggregate {
+        name: Name::new(alloc, "s")?,
+        scope: ScopeId(1),
+        fold: Fold::Sum,
+        target: Target::Var(VarId(1)),
+    })?;
+    let limit = at_most(alloc, 1, Arg::Var(VarId(1)), Arg::Var(VarId(0)))?;
+    draft.constraints.push(limit)?;
+    Ok(build(draft))
+}
+
 fn judged(
     alloc: Global,
     problem: Option<Problem>,
     lines: &[Line],
-) -> Result<Option<Found>, AllocError> {
+) -> Result<Option<Answer>, AllocError>
+    requires { length lines.now ≤ 2 ^ 32 }
+{
     let Some(problem) = problem else {
         return Ok(None);
     };
-    if !has_no_condition(&problem) {
-        return Ok(None);
-    }
     judge_lines(alloc, &problem, lines)
 }
 
@@ -90,16 +147,26 @@ fn prune(x: u16, lo: i64, hi: i64, c: u16) -> Line {
     }
 }
 
+fn bound(x: u16, lo: i64, hi: i64) -> Line {
+    Line::Bound {
+        x: VarId(x),
+        lo,
+        hi,
+    }
+}
+
+fn branch(x: u16) -> Line {
+    Line::Branch { x: VarId(x) }
+}
+
 #[test]
 fn won_after_a_removal(rt: HostRuntime) -> Result<(), Fail> {
-    let x = VarId(0);
-    let y = VarId(1);
     let lines = [
         prune(0, 2, 3, 0),
-        Line::Branch { x },
+        branch(0),
         Line::Skip,
         Line::Next,
-        Line::Branch { x: y },
+        branch(1),
         Line::Next,
         Line::Goal,
         Line::Next,
@@ -107,28 +174,29 @@ fn won_after_a_removal(rt: HostRuntime) -> Result<(), Fail> {
         Line::Dot,
         Line::Dot,
     ];
-    let found = judged(rt.alloc(), against_an_opponent(rt.alloc())?, &lines)?;
-    let found = found.ok_or("out of place")?;
-    assert!(rt; found.standing == Standing::Won);
-    assert!(rt; found.turns == 3);
-    assert!(rt; !found.has_open);
+    let answer = judged(rt.alloc(), against_an_opponent(rt.alloc())?, &lines)?;
+    let won = Answer {
+        found: Found::Exact,
+        own: None,
+        turns: 3,
+        has_open: false,
+    };
+    assert!(rt; answer == Some(won));
     Ok(())
 }
 
 #[test]
 fn unrefuted_values_stay(rt: HostRuntime) -> Result<(), Fail> {
-    let x = VarId(0);
-    let lines = [prune(0, 1, 3, 0), Line::Branch { x }, Line::Open, Line::Dot];
-    let found = judged(rt.alloc(), against_an_opponent(rt.alloc())?, &lines)?;
-    assert!(rt; found.is_none());
+    let lines = [prune(0, 1, 3, 0), branch(0), Line::Open, Line::Dot];
+    let answer = judged(rt.alloc(), against_an_opponent(rt.alloc())?, &lines)?;
+    assert!(rt; answer.is_none());
     Ok(())
 }
 
 #[test]
 fn a_range_is_left_open(rt: HostRuntime) -> Result<(), Fail> {
-    let x = VarId(0);
     let lines = [
-        Line::Branch { x },
+        branch(0),
         Line::Range { hi: 1 },
         Line::Open,
         Line::Range { hi: 3 },
@@ -136,10 +204,10 @@ fn a_range_is_left_open(rt: HostRuntime) -> Result<(), Fail> {
         Line::Empty,
         Line::Dot,
     ];
-    let found = judged(rt.alloc(), against_an_opponent(rt.alloc())?, &lines)?;
-    let found = found.ok_or("out of place")?;
-    assert!(rt; found.standing == Standing::Unknown);
-    assert!(rt; found.has_open);
+    let answer = judged(rt.alloc(), against_an_opponent(rt.alloc())?, &lines)?;
+    let answer = answer.ok_or("out of place")?;
+    assert!(rt; answer.found == Found::Unknown);
+    assert!(rt; answer.has_open);
     Ok(())
 }
 
@@ -152,9 +220,9 @@ fn lost_by_a_horizon(rt: HostRuntime) -> Result<(), Fail> {
         Line::Next,
         Line::Stuck,
     ];
-    let found = judged(rt.alloc(), stuck_later(rt.alloc())?, &lines)?;
-    let found = found.ok_or("out of place")?;
-    assert!(rt; found.standing == Standing::Lost);
+    let answer = judged(rt.alloc(), stuck_later(rt.alloc())?, &lines)?;
+    let answer = answer.ok_or("out of place")?;
+    assert!(rt; answer.found == Found::Lost);
     Ok(())
 }
 
@@ -167,7 +235,117 @@ fn a_horizon_needs_its_removals(rt: HostRuntime) -> Result<(), Fail> {
         Line::Next,
         Line::Stuck,
     ];
-    let found = judged(rt.alloc(), stuck_later(rt.alloc())?, &lines)?;
-    assert!(rt; found.is_none());
+    let answer = judged(rt.alloc(), stuck_later(rt.alloc())?, &lines)?;
+    assert!(rt; answer.is_none());
+    Ok(())
+}
+
+#[test]
+fn bounded_choices_are_no_better(rt: HostRuntime) -> Result<(), Fail> {
+    let lines = [
+        bound(0, 2, 3),
+        branch(0),
+        Line::Next,
+        Line::Goal,
+        Line::Next,
+        Line::Goal,
+        Line::Dot,
+    ];
+    let answer = judged(rt.alloc(), least_choice(rt.alloc())?, &lines)?;
+    let best = Answer {
+        found: Found::Exact,
+        own: Some(1),
+        turns: 2,
+        has_open: false,
+    };
+    assert!(rt; answer == Some(best));
+    Ok(())
+}
+
+#[test]
+fn a_bounded_choice_may_be_better(rt: HostRuntime) -> Result<(), Fail> {
+    let lines = [
+        bound(0, 1, 1),
+        branch(0),
+        Line::Next,
+        Line::Goal,
+        Line::Next,
+        Line::Goal,
+        Line::Next,
+        Line::Goal,
+        Line::Dot,
+    ];
+    let answer = judged(rt.alloc(), least_choice(rt.alloc())?, &lines)?;
+    let answer = answer.ok_or("out of place")?;
+    assert!(rt; answer.found == Found::Unknown);
+    assert!(rt; answer.own.is_none());
+    Ok(())
+}
+
+/// With z = 0 the greatest y is 1, and with z = 1 a bound takes that value.
+const TIED: [Line; 12] = [
+    Line::Next,
+    Line::Branch { x: VarId(2) },
+    Line::Branch { x: VarId(1) },
+    Line::Next,
+    Line::Goal,
+    Line::Next,
+    Line::Goal,
+    Line::Dot,
+    Line::Bound {
+        x: VarId(1),
+        lo: 1,
+        hi: 1,
+    },
+    Line::Next,
+    Line::Goal,
+    Line::Dot,
+];
+
+#[test]
+fn a_tie_counts_where_no_more_is_asked(rt: HostRuntime) -> Result<(), Fail> {
+    let answer = judged(rt.alloc(), greatest_answer(rt.alloc(), None)?, &TIED)?;
+    let answer = answer.ok_or("out of place")?;
+    assert!(rt; answer.found == Found::Exact);
+    Ok(())
+}
+
+#[test]
+fn a_tie_is_open_where_more_is_asked(rt: HostRuntime) -> Result<(), Fail> {
+    let least = Condition {
+        sense: Sense::Min,
+        target: Target::Var(VarId(0)),
+    };
+    let answer = judged(rt.alloc(), greatest_answer(rt.alloc(), Some(least))?, &TIED)?;
+    let answer = answer.ok_or("out of place")?;
+    assert!(rt; answer.found == Found::Unknown);
+    Ok(())
+}
+
+#[test]
+fn sums_are_compared(rt: HostRuntime) -> Result<(), Fail> {
+    let lines = [
+        branch(0),
+        Line::Next,
+        branch(1),
+        Line::Next,
+        Line::Goal,
+        Line::Barred,
+        Line::Barred,
+        Line::Dot,
+        Line::Next,
+        branch(1),
+        Line::Next,
+        Line::Goal,
+        Line::Next,
+        Line::Goal,
+        Line::Barred,
+        Line::Dot,
+        Line::Dot,
+    ];
+    let answer = judged(rt.alloc(), greatest_sum(rt.alloc())?, &lines)?;
+    let answer = answer.ok_or("out of place")?;
+    assert!(rt; answer.found == Found::Exact);
+    assert!(rt; answer.own == Some(1));
     Ok(())
 }

@@ -1,10 +1,11 @@
 //! Whether the tuple of a scope is allowed, and whether the goal holds.
-ghost use Rattle.std.specs.Prelude.{◌≡◌, ◌≤◌, true, false, length, take, drop, IsTrue};
+ghost use Rattle.std.specs.Prelude.{◌≡◌, ◌≤◌, true, false, suc, length, map, take, drop, IsSome};
 ghost use Rattle.std.specs.List.{list_all};
-ghost use Rattle.qc_model.specs.Domains.{has_empty, is_single, box_values};
+ghost use Rattle.qc_model.specs.Domains.{has_empty, is_single};
 ghost use Rattle.qc_model.specs.Game.{allows};
-ghost use Rattle.proof_tree.specs.Place.{position};
+ghost use Rattle.qc_model.specs.Valid.{is_number};
 ghost use Rattle.qc_arguments.specs.Asked.{is_box_of};
+ghost use Rattle.line_check.specs.Machine.{IsAt, only, values_to};
 ghost use Rattle.line_check.specs.Tuples.{tuple_of, is_tuple};
 
 use crate::remains::Remains;
@@ -27,26 +28,41 @@ fn are_fixed(store: &Store, from: usize, stop: usize) -> bool
     true
 }
 
-/// Reads the least value left to each variable before `stop` into the first places.
-fn read_values(store: &Store, stop: usize, values: &mut [i64])
+/// Reads the one value left to each variable from `from` to the one before `stop` into its place. Those before stand
+/// there already.
+fn read_values(store: &Store, from: usize, stop: usize, values: &mut [i64])
+    requires order { from ≤ stop }
     requires bound { stop ≤ length store.now.box }
     requires few { length store.now.box ≤ 500 }
-    requires full { has_empty store.now.box ≡ false }
     requires each { length values.old ≡ length store.now.box }
-    ensures read { take stop values.new ≡ box_values (take stop store.now.box) }
+    requires fixed { list_all is_single (drop from (take stop store.now.box)) ≡ true }
+    requires placed { take from store.now.box ≡ map only (take from values.old) }
+    requires numbers { list_all is_number values.old ≡ true }
+    ensures read { take stop store.now.box ≡ map only (take stop values.new) }
+    ensures kept { take from values.new ≡ take from values.old }
     ensures each { length values.new ≡ length values.old }
+    ensures numbers { list_all is_number values.new ≡ true }
 {
-    for k in 0..stop {
-        values[k] = store.min(VarId(k as u16));
+    for k in from..stop {
+        let x = VarId(k as u16);
+        store.known(x);
+        values[k] = store.min(x);
     }
 }
 
-/// Whether the tuple of the scope is allowed; None where a variable has no value, or one of the scope has several.
+/// Whether the tuple of the scope is allowed; None where a variable has no value, or one of the scope has several. The
+/// values of the variables before the scope stand in the first places; where there is an answer, those of the scope
+/// stand after them.
 pub(crate) fn tuple_allowed(level: &Level, remains: &Remains, values: &mut [i64]) -> Option<bool>
     requires declared { is_box_of level.now.problem.now remains.now.box ≡ true }
     requires each { length values.old ≡ length level.now.problem.now.variables }
+    requires numbers { list_all is_number values.old ≡ true }
+    requires placed { has_empty remains.now.box ≡ false → IsAt level.now.problem.now level.now.number values.old remains.now.box }
     ensures tuple { result ≡ tuple_of level.now.problem.now level.now.number remains.now.box }
+    ensures kept { values_to level.now.problem.now level.now.number values.new ≡ values_to level.now.problem.now level.now.number values.old }
+    ensures placed { IsSome result → IsAt level.now.problem.now (suc level.now.number) values.new remains.now.box }
     ensures each { length values.new ≡ length values.old }
+    ensures numbers { list_all is_number values.new ≡ true }
 {
     let problem = level.problem;
     problem.known();
@@ -56,23 +72,17 @@ pub(crate) fn tuple_allowed(level: &Level, remains: &Remains, values: &mut [i64]
     if !are_fixed(remains.store(), level.from, level.stop) {
         return None;
     }
-    read_values(remains.store(), level.stop, values);
+    read_values(remains.store(), level.from, level.stop, values);
     Some(all_hold(problem, level.rules, &values[..level.stop]))
 }
 
-/// Whether the goal holds on the least value left to each variable.
-pub(crate) fn goal_holds(levels: &Levels, remains: &Remains, values: &mut [i64]) -> bool
-    requires declared { is_box_of levels.now.problem.now remains.now.box ≡ true }
-    requires full { has_empty remains.now.box ≡ false }
-    requires each { length values.old ≡ length levels.now.problem.now.variables }
-    ensures goal { result ≡ allows levels.now.problem.now (length levels.now.problem.now.scopes) (position levels.now.problem.now (length levels.now.problem.now.scopes) remains.now.box) }
-    ensures each { length values.new ≡ length values.old }
+/// Whether the goal holds on these values, one for each variable.
+pub(crate) fn goal_holds(levels: &Levels, values: &[i64]) -> bool
+    requires numbers { list_all is_number values.now ≡ true }
+    ensures { result ≡ allows levels.now.problem.now (length levels.now.problem.now.scopes) values.now }
 {
-    let problem = levels.problem;
-    problem.known();
-    let stop = problem.variables();
-    read_values(remains.store(), stop, values);
-    all_hold(problem, levels.goal_rules, &values[..stop])
+    levels.problem.known();
+    all_hold(levels.problem, levels.goal_rules, values)
 }
 
 /// Whether it is known that the tuple is allowed, or that it isn't.

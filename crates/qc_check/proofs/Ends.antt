@@ -17,12 +17,13 @@ use Rattle.proof_text.specs.Answers.{nothing, headed, StandsFor, IsTold}
 use Rattle.proof_text.specs.Laws.{HasFault, IsTextOrFault}
 use Rattle.proof_text.specs.Places.{IsText, BeginsText, IsNotACertificate}
 use Rattle.proof_text.specs.Readings.{Reading}
-use Rattle.qc_rules.specs.Plain.{NoConditions}
 use Rattle.line_check.specs.declared.machine.Machine.{Machine}
-use Rattle.line_check.specs.declared.answer.Found.{Found}
-use Rattle.line_check.specs.Machine.{game_of, desk_of}
-use Rattle.line_check.specs.Turns.{first_desk, turns_on}
-use Rattle.line_check.specs.Found.{found_of, IsAnswer}
+use Rattle.line_check.specs.declared.answer.Answer.{Answer}
+use Rattle.line_check.specs.Ledger.{Ledger}
+use Rattle.line_check.specs.LedgerHeld.{first_ledger, goes_through}
+use Rattle.line_check.specs.Machine.{game_of}
+use Rattle.line_check.specs.Telling.{Tells, TellsAfter}
+use Rattle.line_check.specs.Found.{Answers, IsAnswer}
 use Rattle.qc_check.specs.declared.stated.Stated.{Stated}
 use Rattle.qc_check.specs.Shown.{found_shows}
 use Rattle.qc_check.specs.Checking.{lines_told, HeadIs, IsReading, IsCertificate, IsProof, IsNoProof}
@@ -47,14 +48,15 @@ unended r m h n bytes either k none = elim (either bytes) [ inl t ↦ absurd (no
     by (Want e) (is, known) = absurd (known tt)
 
 -- before the first byte
-pub nothing_read : (r : Reading) (m : Machine) (g : Game) → StandsFor r [] nothing → desk_of m ≡ Some (first_desk g) → game_of m ≡ g → BeginsText 1000 [] → IsReading r m None 0 []
-nothing_read r m g stands desk same begins = record {
+pub nothing_read : (r : Reading) (m : Machine) (g : Game) → StandsFor r [] nothing → TellsAfter 0 m (Some (first_ledger g)) → game_of m ≡ g → BeginsText 1000 [] → IsReading r m None 0 []
+nothing_read r m g stands tells same begins = record {
   told = nothing;
   stands = stands;
   begins = begins;
   counted = refl;
   head_is = refl;
-  desk = desk ∙ ap (λ h. Some (first_desk h)) (sym same);
+  few = omega arith;
+  tells = subst (λ h. TellsAfter 0 m (Some (first_ledger h))) (sym same) tells;
 }
 
 -- a text has a head
@@ -74,39 +76,40 @@ first true b h = refl
 first false b h = cc
 
 -- the certificate whose text the bytes are, and that it proves what the lines come to
-pub record IsJudged (g : Game) (bytes : List ℕ) (st : Stated) (found : Option Found) : Type 0 where
+pub record IsJudged (g : Game) (bytes : List ℕ) (st : Stated) (found : Option Answer) : Type 0 where
   pub version : Version
   pub root : Tree
   pub read : IsCertificate bytes version st.outcome st.optimum root
-  pub proved : proves g st.outcome st.optimum root ≡ found_shows found st.outcome st.optimum
+  pub proved : proves g st.outcome st.optimum root ≡ found_shows g.scopes found st.outcome st.optimum
 
-pub judged : (r : Reading) (m : Machine) (h : Option Stated) (st : Stated) (n : ℕ) (bytes : List ℕ) (k : IsReading r m h n bytes) → h ≡ Some st → NoConditions (game_of m).scopes →
-    ((t : Tree) → depth_of t ≤ 1000 → root_in_place (game_of m) t ≡ true → (f : Found) × (found_of (turns_on (game_of m) (Some (first_desk (game_of m))) (tree_lines t)) ≡ Some f) × IsAnswer (game_of m) t f) →
-    ((t : Tree) (f : Found) → found_of (turns_on (game_of m) (Some (first_desk (game_of m))) (tree_lines t)) ≡ Some f → IsAnswer (game_of m) t f) →
-    IsTold bytes k.told → (found : Option Found) → found ≡ found_of (desk_of m) → IsJudged (game_of m) bytes st found
-judged r m h st n bytes k some plain trees own (v, o, p, t, fits, deep, text, told) found is = by (subst (λ x. HeadIs x k.told) some k.head_is)
+pub judged : (r : Reading) (m : Machine) (h : Option Stated) (st : Stated) (n : ℕ) (bytes : List ℕ) (k : IsReading r m h n bytes) → h ≡ Some st → (found : Option Answer) → ((p : Option Ledger) → Tells m p → Answers found p) →
+    ((t : Tree) (o : Option Answer) → Answers o (goes_through (game_of m) (Some (first_ledger (game_of m))) (tree_lines t)) → depth_of t ≤ 1000 → root_in_place (game_of m) t ≡ true → (f : Answer) × (o ≡ Some f) × IsAnswer (game_of m) t f) →
+    ((t : Tree) (f : Answer) → Answers (Some f) (goes_through (game_of m) (Some (first_ledger (game_of m))) (tree_lines t)) → IsAnswer (game_of m) t f) →
+    IsTold bytes k.told → IsJudged (game_of m) bytes st found
+judged r m h st n bytes k some found says trees own (v, o, p, t, fits, deep, text, told) = by (subst (λ x. HeadIs x k.told) some k.head_is)
   where
     by : HeadIs (Some st) k.told → IsJudged (game_of m) bytes st found
     by (w, ls, e) =
+        let g = game_of m in
         let both : headed v o p (tree_lines t) ≡ headed w st.outcome st.optimum ls = sym told ∙ e in
         let eo : o ≡ st.outcome = same_outcome v w o st.outcome p st.optimum (tree_lines t) ls both in
         let ep : p ≡ st.optimum = same_optimum v w o st.outcome p st.optimum (tree_lines t) ls both in
-        let lines : found_of (turns_on (game_of m) (Some (first_desk (game_of m))) (tree_lines t)) ≡ found =
-        ap (λ ks. found_of (turns_on (game_of m) (Some (first_desk (game_of m))) (lines_told ks))) (sym told) ∙ ap found_of (sym k.desk) ∙ sym is in
-        let whole : proves (game_of m) o p t ≡ found_shows found o p =
-        proves_shown (game_of m) t plain (λ q. trees t deep q) (own t) o p (first (outcome_fits o p) _ fits) ∙ ap (λ q. found_shows q o p) lines in
+        let answers : Answers found (goes_through g (Some (first_ledger g)) (tree_lines t)) =
+        subst (λ ks. Answers found (goes_through g (Some (first_ledger g)) (lines_told ks))) told (says (goes_through g (Some (first_ledger g)) (lines_told k.told)) k.tells.tells) in
+        let whole : proves g o p t ≡ found_shows g.scopes found o p =
+        proves_shown g t found (λ q. trees t found answers deep q) (λ f q. own t f (subst (λ x. Answers x (goes_through g (Some (first_ledger g)) (tree_lines t))) q answers)) o p (first (outcome_fits o p) _ fits) in
         record {
           version = v;
           root = t;
           read = subst (λ x. IsCertificate bytes v x st.optimum t) eo (subst (λ x. IsCertificate bytes v o x t) ep (record { spelled = text; spellable = fits; shallow = deep }));
-          proved = subst (λ x. proves (game_of m) x st.optimum t ≡ found_shows found x st.optimum) eo (subst (λ x. proves (game_of m) o x t ≡ found_shows found o x) ep whole);
+          proved = subst (λ x. proves g x st.optimum t ≡ found_shows g.scopes found x st.optimum) eo (subst (λ x. proves g o x t ≡ found_shows g.scopes found o x) ep whole);
         }
 
-pub proof : (g : Game) (bytes : List ℕ) (st : Stated) (found : Option Found) → ((t : Tree) → IsTrue (proves g st.outcome st.optimum t) → OutcomeMeans st.outcome st.optimum g t) →
-    IsJudged g bytes st found → found_shows found st.outcome st.optimum ≡ true → IsProof g bytes st.outcome st.optimum
+pub proof : (g : Game) (bytes : List ℕ) (st : Stated) (found : Option Answer) → ((t : Tree) → IsTrue (proves g st.outcome st.optimum t) → OutcomeMeans st.outcome st.optimum g t) →
+    IsJudged g bytes st found → found_shows g.scopes found st.outcome st.optimum ≡ true → IsProof g bytes st.outcome st.optimum
 proof g bytes st found means j e = record { version = j.version; root = j.root; read = j.read; proves = j.proved ∙ e; means = means j.root (j.proved ∙ e) }
 
-pub no_proof : (g : Game) (bytes : List ℕ) (st : Stated) (found : Option Found) → IsJudged g bytes st found → found_shows found st.outcome st.optimum ≡ false → IsNoProof g bytes
+pub no_proof : (g : Game) (bytes : List ℕ) (st : Stated) (found : Option Answer) → IsJudged g bytes st found → found_shows g.scopes found st.outcome st.optimum ≡ false → IsNoProof g bytes
 no_proof g bytes st found j e = record { version = j.version; outcome = st.outcome; optimum = st.optimum; root = j.root; read = j.read; fails = λ p. let c : true ≡ false = sym p ∙ j.proved ∙ e in cc }
 
 pub opposed : (b : Bool) → b ≡ false → IsTrue b → ⊥

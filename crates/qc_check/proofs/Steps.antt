@@ -1,5 +1,5 @@
 -- What one byte more makes of a reading.
-use Rattle.std.proofs.Common.{◌≡◌, ◌<◌, ◌+◌, ℕ, zero, suc, List, [], ◌∷◌, ◌++◌, length, take, refl, sym, ap, ◌∙◌, subst, arith, length-append, append_assoc, Option, Some, None, Result, Ok, Err, OnOk, false}
+use Rattle.std.proofs.Common.{◌≡◌, ◌<◌, ◌≤◌, ◌+◌, ℕ, zero, suc, List, [], ◌∷◌, ◌++◌, length, take, refl, sym, ap, ◌∙◌, subst, arith, length-append, append_assoc, Option, Some, None, false}
 use Rattle.std.specs.Prelude.{slice_index}
 use Rattle.std.proofs.lemmas.List.{take-append-le}
 use Rattle.qc_model.specs.Content.{Game}
@@ -12,24 +12,24 @@ use Rattle.proof_text.specs.Answers.{Told, nothing, headed, tell, is_nothing, St
 use Rattle.proof_text.specs.Places.{BeginsText, IsNotACertificate, IsTooDeep}
 use Rattle.proof_text.specs.Readings.{Reading}
 use Rattle.line_check.specs.declared.machine.Machine.{Machine}
-use Rattle.line_check.specs.Machine.{game_of, desk_of}
-use Rattle.line_check.specs.Desk.{Desk, turn}
-use Rattle.line_check.specs.Turns.{first_desk, turns_on}
+use Rattle.line_check.specs.Ledger.{Ledger, goes}
+use Rattle.line_check.specs.LedgerHeld.{first_ledger, goes_through}
+use Rattle.line_check.specs.Machine.{game_of}
+use Rattle.line_check.specs.Telling.{TellsAfter}
 use Rattle.qc_check.specs.declared.stated.Stated.{Stated}
 use Rattle.qc_check.specs.declared.stated.Stop.{Stop}
 use Rattle.qc_check.specs.declared.stated.Stop.TheVariants.{Bad as BadStop, Deep as DeepStop}
 use Rattle.qc_check.specs.Checking.{lines_told, HeadIs, IsReading, IsStopped}
 
-pub on_ok : {T E : Type 0} (r : Result T E) (P Q : Type 0) → (P → Q) → OnOk r P → OnOk r Q
-on_ok (Ok x) P Q f h = f h
-on_ok (Err e) P Q f h = tt
-
 one_more : (n : ℕ) (bytes : List ℕ) (b : ℕ) → n ≡ length bytes → n + 1 ≡ length (bytes ++ b ∷ [])
 one_more n bytes b e = rw length-append (ap (λ k. k + 1) e)
 
-turns_more : (g : Game) (p : Option Desk) (ls : List Line) (l : Line) → turns_on g p (ls ++ l ∷ []) ≡ turn g (turns_on g p ls) l
-turns_more g p [] l = refl
-turns_more g p (k ∷ ls) l = turns_more g (turn g p k) ls l
+goes_more : (g : Game) (p : Option Ledger) (ls : List Line) (l : Line) → goes_through g p (ls ++ l ∷ []) ≡ goes g (goes_through g p ls) l
+goes_more g p [] l = refl
+goes_more g p (k ∷ ls) l = goes_more g (goes g p k) ls l
+
+line_more : (ls : List Line) (l : Line) → length (ls ++ l ∷ []) ≡ suc (length ls)
+line_more ls l = rw length-append (omega arith)
 
 abbrev grown : Told → Line → Told
 grown nothing l = nothing
@@ -48,7 +48,8 @@ within r s m h n bytes b k read e stands says = record {
   begins = (subst (λ q. Says bytes k.told b q) e says).0;
   counted = one_more n bytes b k.counted;
   head_is = k.head_is;
-  desk = k.desk;
+  few = let f = k.few in omega (arith, f);
+  tells = k.tells;
 }
 
 -- the head ends
@@ -62,27 +63,32 @@ head_read r s m h n bytes b k read v st e stands says =
       begins = now.0;
       counted = one_more n bytes b k.counted;
       head_is = (v, [], refl);
-      desk = k.desk ∙ ap (λ t. turns_on (game_of m) (Some (first_desk (game_of m))) (lines_told t)) now.1;
+      few = omega arith;
+      tells = subst (λ t. TellsAfter (length (lines_told t)) m (goes_through (game_of m) (Some (first_ledger (game_of m))) (lines_told t))) now.1 k.tells;
     }
 
 -- a line ends, and the machine is given it
 pub line_read : (r s : Reading) (m w : Machine) (h : Option Stated) (n : ℕ) (bytes : List ℕ) (b : ℕ) (k : IsReading r m h n bytes) (read : Read) (line : Line) → read ≡ Whole line →
-    StandsFor s (bytes ++ b ∷ []) (tell k.told read) → Says bytes k.told b read → game_of w ≡ game_of m → desk_of w ≡ turn (game_of m) (desk_of m) line → IsReading s w h (n + 1) (bytes ++ b ∷ [])
-line_read r s m w h n bytes b k read line e stands says same desk =
+    StandsFor s (bytes ++ b ∷ []) (tell k.told read) → Says bytes k.told b read → game_of w ≡ game_of m → n < 4294967296 →
+    ((i : ℕ) (p : Option Ledger) → i < 4294967296 → TellsAfter i m p → TellsAfter (suc i) w (goes (game_of m) p line)) → IsReading s w h (n + 1) (bytes ++ b ∷ [])
+line_read r s m w h n bytes b k read line e stands says same room taken =
     let now = subst (λ q. Says bytes k.told b q) e says in
-    by k.told (subst (λ q. StandsFor s (bytes ++ b ∷ []) (tell k.told q)) e stands) now.1 k.head_is k.desk now.0
+    by k.told (subst (λ q. StandsFor s (bytes ++ b ∷ []) (tell k.told q)) e stands) now.1 k.head_is k.few k.tells now.0
   where
     by : (t : Told) → StandsFor s (bytes ++ b ∷ []) (tell t (Whole line)) → is_nothing t ≡ false → HeadIs h t →
-        desk_of m ≡ turns_on (game_of m) (Some (first_desk (game_of m))) (lines_told t) → BeginsText 1000 (bytes ++ b ∷ []) → IsReading s w h (n + 1) (bytes ++ b ∷ [])
-    by nothing st some hd dk begins = cc
-    by (headed v o p ls) st some hd dk begins = record {
+        length (lines_told t) ≤ n → TellsAfter (length (lines_told t)) m (goes_through (game_of m) (Some (first_ledger (game_of m))) (lines_told t)) → BeginsText 1000 (bytes ++ b ∷ []) → IsReading s w h (n + 1) (bytes ++ b ∷ [])
+    by nothing st some hd few tells begins = cc
+    by (headed v o p ls) st some hd few tells begins = record {
       told = headed v o p (ls ++ line ∷ []);
       stands = st;
       begins = begins;
       counted = one_more n bytes b k.counted;
       head_is = head_more h v o p ls line hd;
-      desk = subst (λ g. desk_of w ≡ turns_on g (Some (first_desk g)) (ls ++ line ∷ [])) (sym same)
-          (desk ∙ ap (λ d. turn (game_of m) d line) dk ∙ sym (turns_more (game_of m) (Some (first_desk (game_of m))) ls line));
+      few = rw line_more (omega (arith, few));
+      tells = subst (λ g. TellsAfter (length (ls ++ line ∷ [])) w (goes_through g (Some (first_ledger g)) (ls ++ line ∷ []))) (sym same)
+          (subst (λ i. TellsAfter i w (goes_through (game_of m) (Some (first_ledger (game_of m))) (ls ++ line ∷ []))) (sym (line_more ls line))
+          (subst (TellsAfter (suc (length ls)) w) (sym (goes_more (game_of m) (Some (first_ledger (game_of m))) ls line))
+          (taken (length ls) (goes_through (game_of m) (Some (first_ledger (game_of m))) ls) (omega (arith, few, room)) tells)));
     }
 
 index_before : (xs ys : List ℕ) (n : ℕ) → n < length xs → slice_index (xs ++ ys) n ≡ slice_index xs n

@@ -13,8 +13,9 @@ use Rattle.proof_text.specs.Answers.{Told, nothing, headed, StandsFor}
 use Rattle.proof_text.specs.Places.{BeginsText, IsNotACertificate, IsTooDeep}
 use Rattle.proof_text.specs.Readings.{Reading}
 use Rattle.line_check.specs.declared.machine.Machine.{Machine}
-use Rattle.line_check.specs.Machine.{game_of, desk_of}
-use Rattle.line_check.specs.Turns.{first_desk, turns_on}
+use Rattle.line_check.specs.LedgerHeld.{first_ledger, goes_through}
+use Rattle.line_check.specs.Machine.{game_of}
+use Rattle.line_check.specs.Telling.{TellsAfter}
 use Rattle.qc_check.specs.declared.stated.Stated.{Stated}
 use Rattle.qc_check.specs.declared.stated.Stop.{Stop}
 use Rattle.qc_check.specs.declared.stated.Stop.TheVariants.{Bad, Deep}
@@ -39,7 +40,8 @@ pub record IsReading (r : Reading) (m : Machine) (head : Option Stated) (count :
   pub begins : BeginsText 1000 bytes
   pub counted : count ≡ length bytes
   pub head_is : HeadIs head told
-  pub desk : desk_of m ≡ turns_on (game_of m) (Some (first_desk (game_of m))) (lines_told told)
+  pub few : length (lines_told told) ≤ count
+  pub tells : TellsAfter (length (lines_told told)) m (goes_through (game_of m) (Some (first_ledger (game_of m))) (lines_told told))
 
 -- these bytes, and all that begin with them, have this first fault
 abbrev pub IsStopped : Stop → ℕ → List ℕ → Type 0

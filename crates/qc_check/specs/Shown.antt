@@ -1,33 +1,26 @@
--- Whether what lines come to shows an outcome, in a game where nothing is optimised.
-use Rattle.std.specs.Prelude.{◌==◌, Bool, true, false, ◌&&◌, Option, Some, None, ℤ}
+-- Whether what lines come to shows an outcome.
+use Rattle.std.specs.Prelude.{◌==◌, Bool, false, not, ◌&&◌, List, [], Option, Some, None, ℤ}
+use Rattle.qc_model.specs.declared.problem.Scope.{Scope}
+use Rattle.qc_model.specs.Verdict.{Verdict, is_exact, is_lost, is_unknown}
+use Rattle.qc_levels.specs.Seen.{verdict_of}
 use Rattle.proof_tree.specs.declared.tree.Outcome.{Outcome}
 use Rattle.proof_tree.specs.declared.tree.Outcome.TheVariants.{True, False, Open}
-use Rattle.line_check.specs.declared.standing.Standing.{Standing}
-use Rattle.line_check.specs.declared.standing.Standing.TheVariants.{Lost, Unknown, Won}
-use Rattle.line_check.specs.declared.answer.Found.{Found}
+use Rattle.proof_tree.specs.Proves.{optimises_first, is_value}
+use Rattle.line_check.specs.declared.answer.Answer.{Answer}
 
-abbrev pub is_won : Standing → Bool
-is_won Lost = false
-is_won Unknown = false
-is_won Won = true
+-- the verdict but for its vector
+abbrev pub bare_verdict : Answer → Verdict
+bare_verdict f = verdict_of f.found []
 
-abbrev pub is_lost_here : Standing → Bool
-is_lost_here Lost = true
-is_lost_here Unknown = false
-is_lost_here Won = false
+-- an optimum stands beside True where the first of the scopes optimises, and there alone
+abbrev pub answer_shows : List Scope → Answer → Outcome → Option ℤ → Bool
+answer_shows scopes f True None = is_exact (bare_verdict f) && not (optimises_first scopes)
+answer_shows scopes f True (Some v) = is_exact (bare_verdict f) && optimises_first scopes && is_value v f.own
+answer_shows scopes f False None = is_lost (bare_verdict f)
+answer_shows scopes f False (Some v) = false
+answer_shows scopes f (Open n) None = is_unknown (bare_verdict f) && (f.turns == n) && f.has_open
+answer_shows scopes f (Open n) (Some v) = false
 
-abbrev pub is_open : Standing → Bool
-is_open Lost = false
-is_open Unknown = true
-is_open Won = false
-
-abbrev pub root_shows : Found → Outcome → Bool
-root_shows f True = is_won f.standing
-root_shows f False = is_lost_here f.standing
-root_shows f (Open n) = is_open f.standing && (f.turns == n) && f.has_open
-
--- no optimum stands beside the outcome
-abbrev pub found_shows : Option Found → Outcome → Option ℤ → Bool
-found_shows None o v = false
-found_shows (Some f) o (Some v) = false
-found_shows (Some f) o None = root_shows f o
+abbrev pub found_shows : List Scope → Option Answer → Outcome → Option ℤ → Bool
+found_shows scopes None o v = false
+found_shows scopes (Some f) o v = answer_shows scopes f o v

@@ -1,6 +1,5 @@
 //! The checker, byte by byte.
-ghost use Rattle.std.specs.Prelude.{◌≡◌, ◌≤◌, ◌<◌, ◌+◌, ◌^◌, ◌++◌, ◌∷◌, [], None, length, IfOk, OnOk, ℕ, List};
-ghost use Rattle.qc_rules.specs.Plain.{NoConditions};
+ghost use Rattle.std.specs.Prelude.{◌≡◌, ◌≤◌, ◌+◌, ◌^◌, ◌++◌, ◌∷◌, [], None, length, IfOk, ℕ, List};
 ghost use Rattle.line_check.specs.Machine.{game_of, IsReady};
 ghost use Rattle.qc_model.specs.Content.{Game};
 ghost use Rattle.qc_check.specs.Checking.{Comes, IsChecking, IsStopped};
@@ -26,7 +25,7 @@ fn stopped(stop: Stop, at: u64) -> Checked
 }
 
 impl<'p> Checker<'p> {
-    /// A checker before the first byte. All memory but the pages of the box's trail is taken here.
+    /// A checker before the first byte. All memory is taken here.
     pub fn new(alloc: Global, problem: &'p Problem) -> Result<Checker<'p>, AllocError>
         ensures ready { IfOk result (λ c. IsReady c.machine) }
         ensures same { IfOk result (λ c. game_of c.machine ≡ problem.now) }
@@ -46,20 +45,17 @@ impl<'p> Checker<'p> {
     }
 
     // Reads the next byte, where none was a fault.
-    fn next(&mut self, byte: u8) -> Result<(), AllocError>
+    fn next(&mut self, byte: u8)
         requires ready { IsReady self.old.machine }
-        requires room { self.old.read + 1 < 2 ^ 64 }
+        requires room { self.old.read + 1 ≤ 2 ^ 32 }
         requires going { self.old.stop ≡ None }
         ensures ready { IsReady self.new.machine }
         ensures same { game_of self.new.machine ≡ game_of self.old.machine }
         ensures read { self.new.read ≤ self.old.read + 1 }
-        ensures checking { OnOk result ((bytes : List ℕ) → IsChecking self.old bytes → IsChecking self.new (bytes ++ byte ∷ [])) }
+        ensures checking { (bytes : List ℕ) → IsChecking self.old bytes → IsChecking self.new (bytes ++ byte ∷ []) }
     {
         match self.reader.byte(byte) {
-            Read::Within => {
-                self.read += 1;
-                Ok(())
-            }
+            Read::Within => self.read += 1,
             Read::Head {
                 version: _,
                 outcome,
@@ -67,57 +63,47 @@ impl<'p> Checker<'p> {
             } => {
                 self.head = Some(Stated { outcome, optimum });
                 self.read += 1;
-                Ok(())
             }
             Read::Whole(line) => {
                 self.read += 1;
-                self.machine.line(line)
+                self.machine.line(line);
             }
-            Read::TooDeep => {
-                self.stop = Some(Stop::Deep);
-                Ok(())
-            }
-            Read::Bad => {
-                self.stop = Some(Stop::Bad);
-                Ok(())
-            }
+            Read::TooDeep => self.stop = Some(Stop::Deep),
+            Read::Bad => self.stop = Some(Stop::Bad),
         }
     }
 
     /// Reads the next byte.
-    fn byte(&mut self, byte: u8) -> Result<(), AllocError>
+    fn byte(&mut self, byte: u8)
         requires ready { IsReady self.old.machine }
-        requires room { self.old.read + 1 < 2 ^ 64 }
+        requires room { self.old.read + 1 ≤ 2 ^ 32 }
         ensures ready { IsReady self.new.machine }
         ensures same { game_of self.new.machine ≡ game_of self.old.machine }
         ensures read { self.new.read ≤ self.old.read + 1 }
-        ensures checking { OnOk result ((bytes : List ℕ) → IsChecking self.old bytes → IsChecking self.new (bytes ++ byte ∷ [])) }
+        ensures checking { (bytes : List ℕ) → IsChecking self.old bytes → IsChecking self.new (bytes ++ byte ∷ []) }
     {
         match self.stop {
-            Some(_) => Ok(()),
+            Some(_) => {}
             None => self.next(byte),
         }
     }
 
-    /// Reads the next bytes. After a fault they are passed over. It fails only where memory for the trail of the box runs
-    /// out.
-    pub fn feed(&mut self, bytes: &[u8]) -> Result<(), AllocError>
+    /// Reads the next bytes, up to 2^32 in all. After a fault they are passed over.
+    pub fn feed(&mut self, bytes: &[u8])
         requires ready { IsReady self.old.machine }
-        requires room { self.old.read + length bytes.now < 2 ^ 64 }
+        requires room { self.old.read + length bytes.now ≤ 2 ^ 32 }
         ensures ready { IsReady self.new.machine }
         ensures same { game_of self.new.machine ≡ game_of self.old.machine }
         ensures read { self.new.read ≤ self.old.read + length bytes.now }
-        ensures checking { OnOk result ((before : List ℕ) → IsChecking self.old before → IsChecking self.new (before ++ bytes.now)) }
+        ensures checking { (before : List ℕ) → IsChecking self.old before → IsChecking self.new (before ++ bytes.now) }
     {
         for byte in bytes {
-            self.byte(*byte)?;
+            self.byte(*byte);
         }
-        Ok(())
     }
 
     // What the bytes come to, where none was a fault.
     fn judged(&self) -> Checked
-        requires plain { NoConditions (game_of self.now.machine).scopes }
         requires going { self.now.stop ≡ None }
         ensures { (bytes : List ℕ) → IsChecking self.now bytes → Comes (game_of self.now.machine) bytes result }
     {
@@ -131,7 +117,7 @@ impl<'p> Checker<'p> {
         let Some(stated) = self.head else {
             return Checked::NotACertificate { at: self.read };
         };
-        if is_shown(self.machine.finish(), stated) {
+        if is_shown(self.problem, self.machine.finish(), stated) {
             Checked::Yes {
                 outcome: stated.outcome,
                 optimum: stated.optimum,
@@ -143,7 +129,6 @@ impl<'p> Checker<'p> {
 
     /// What all bytes that were read come to.
     pub fn finish(&self) -> Checked
-        requires plain { NoConditions (game_of self.now.machine).scopes }
         ensures { (bytes : List ℕ) → IsChecking self.now bytes → Comes (game_of self.now.machine) bytes result }
     {
         match self.stop {

@@ -4,7 +4,7 @@
 //! machine that keeps a box on its trail and what is open, and nothing of the lines before. So the memory that a check
 //! takes doesn't grow with the certificate. At the end it says what the bytes come to: yes exactly where they are a
 //! certificate that proves what it states, and then what it states is so; or that it doesn't prove that; or the first
-//! place at which the bytes are no certificate, or are nested too deep. Games with conditions aren't taken.
+//! place at which the bytes are no certificate, or are nested too deep.
 #![tactic(auto)]
 
 mod checker;

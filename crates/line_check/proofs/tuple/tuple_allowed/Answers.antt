@@ -1,12 +1,14 @@
-use Rattle.std.proofs.Common.{◌≡◌, ◌∙◌, sym, ap, subst, arith, true, false, not, ◌&&◌, cond, suc, Some, None, Option, Bool, length, take, drop}
+use Rattle.std.proofs.Common.{◌≡◌, ◌∙◌, sym, ap, subst, arith, true, false, not, ◌&&◌, cond, suc, Some, None, Option, Bool, length, take, drop, map}
 use Rattle.std.specs.List.{list_all}
-use Rattle.qc_model.specs.Domains.{box_values, is_single, has_empty}
+use Rattle.qc_model.specs.Domains.{is_single, has_empty}
 use Rattle.qc_model.specs.Game.{allows, before}
 use Rattle.qc_model.specs.Holds.{holds_on}
-use Rattle.qc_model.specs.Valid.{is_constraint, is_number}
+use Rattle.qc_model.specs.Valid.{is_constraint}
 use Rattle.proof_tree.specs.Place.{position, is_fixed}
 use Rattle.fd_store.specs.Held.{Held}
-use Rattle.line_check.proofs.Readings.{box_size, read_numbers, rules_valid}
+use Rattle.line_check.specs.Machine.{only, IsAt}
+use Rattle.line_check.proofs.Readings.{box_size, rules_valid}
+use Rattle.line_check.proofs.Placing.{numbers_to, position_placed}
 use Rattle.line_check.proofs.tuple.tuple_allowed.Goals as goal
 
 pub are_fixed-requires-clause-bound : goal.are_fixed-requires-clause-bound
@@ -45,11 +47,7 @@ all_hold-requires-clause-rules c =
     subst (λ rules. list_all (is_constraint g.variables) rules ≡ true) (sym c.args.level.now.has_rules) (rules_valid g c.args.level.now.number c.known.ensures.constraints)
 
 pub all_hold-requires-clause-values : goal.all_hold-requires-clause-values
-all_hold-requires-clause-values c =
-    let g = c.args.level.now.problem.now in
-    let stop = c.args.level.now.stop in
-    let read = c.read_values.ensures.read ∙ ap (λ (h : Held). box_values (take stop h.box)) c.store-2.ensures in
-    subst (λ vs. list_all is_number vs ≡ true) (sym read) (read_numbers g c.args.remains.now.box stop c.known.ensures.domains c.requires.declared (sym c.is_empty.ensures ∙ c.if-is_empty.false))
+all_hold-requires-clause-values c = numbers_to c.args.level.now.stop c.read_values.new.values c.read_values.ensures.numbers
 
 joined : (e f a : Bool) (o : Option Bool) → e ≡ false → f ≡ true → o ≡ Some a → o ≡ cond (not e && f) (Some a) None
 joined e f a o p q r = r ∙ sym (ap (λ b. cond (not b && f) (Some a) None) p ∙ ap (λ b. cond b (Some a) None) q)
@@ -61,12 +59,13 @@ returns-clause-tuple c =
     let from = c.args.level.now.from in
     let stop = c.args.level.now.stop in
     let box = c.args.remains.now.box in
-    let read = c.read_values.ensures.read ∙ ap (λ (h : Held). box_values (take stop h.box)) c.store-2.ensures in
+    let placed : IsAt g (suc i) c.read_values.new.values box =
+    subst (λ n. take n box ≡ map only (take n c.read_values.new.values)) c.args.level.now.has_stop (sym (ap (λ (h : Held). take stop h.box) c.store-2.ensures) ∙ c.read_values.ensures.read) in
     let fixed : is_fixed g i box ≡ true =
     sym (ap (λ n. list_all is_single (drop n (take stop box))) c.args.level.now.has_from ∙ ap (λ n. list_all is_single (drop (before g i) (take n box))) c.args.level.now.has_stop)
     ∙ (sym (ap (λ (h : Held). list_all is_single (drop from (take stop h.box))) c.store.ensures) ∙ (sym c.are_fixed.ensures ∙ c.if-not-are_fixed.false)) in
     let holds : c.all_hold.result ≡ allows g i (position g (suc i) box) =
     c.all_hold.ensures
     ∙ (ap (λ rules. list_all (λ r. holds_on r (take stop c.read_values.new.values)) rules) c.args.level.now.has_rules
-    ∙ (ap (allows g i) read ∙ ap (λ m. allows g i (box_values (take m box))) c.args.level.now.has_stop)) in
+    ∙ (ap (λ m. allows g i (take m c.read_values.new.values)) c.args.level.now.has_stop ∙ ap (allows g i) (sym (position_placed g (suc i) c.read_values.new.values box placed)))) in
     joined (has_empty box) (is_fixed g i box) (allows g i (position g (suc i) box)) (Some c.all_hold.result) (sym c.is_empty.ensures ∙ c.if-is_empty.false) fixed (ap Some holds)

@@ -1,72 +1,77 @@
-use Rattle.std.proofs.Common.{◌≡◌, subst, refl, rules, OnOk, None}
-use Rattle.std.proofs.lemmas.Int.{to_z-of_z}
-use mir.Val.{SFits}
-use mir.Syntax.{w64}
-use Rattle.line_check.specs.Places.{rest}
-use Rattle.line_check.specs.Desk.{desk_case}
-use Rattle.line_check.specs.Machine.{game_of, fork_at, frames_of, desk_of, here}
-use Rattle.line_check.proofs.Kept.{fork_arm}
+use Rattle.std.proofs.Common.{sym, subst, None}
+use Rattle.line_check.specs.Ledger.{at_entry, ledger_case, ledger_fork}
+use Rattle.line_check.specs.Machine.{game_of}
+use Rattle.line_check.specs.Telling.{PartTells}
+use Rattle.line_check.proofs.Parts.{arm}
 use Rattle.line_check.proofs.machine.Machine.at_fork.Goals as goal
 
-pub returns-in-Skip-clause-desk : goal.returns-in-Skip-clause-desk
-returns-in-Skip-clause-desk c =
-    let from_fits : SFits w64 c.args.from = search rules in
+pub returns-in-Skip-clause-tells : goal.returns-in-Skip-clause-tells
+returns-in-Skip-clause-tells c =
     let m = c.args.self.now in
-    let fork = fork_at m.remains c.args.x c.args.mark c.args.from in
-    let fs = frames_of m.remains (rest m.nesting) in
-    let made : OnOk c.at_case.result (desk_of c.at_case.new.self ≡ desk_case (game_of m) (here m) fork fs None c.args.line) = simp to_z-of_z at c.at_case.ensures.desk in
-    subst (λ p. OnOk c.at_case.result (desk_of c.at_case.new.self ≡ p)) (fork_arm (game_of m) (here m) fork fs c.args.line _ c.in-Skip.is refl) made
+    arm (λ l. PartTells m c.at_case.new.self (λ d. at_entry d.entries (λ b fs. ledger_case (game_of m) d b fs None l)))
+    (λ l. PartTells m c.at_case.new.self (λ d. at_entry d.entries (λ b fs. ledger_fork (game_of m) d b fs l))) c.args.line _ c.in-Skip.is (λ h. h) c.at_case.ensures.tells
 
-pub returns-in-Open-clause-desk : goal.returns-in-Open-clause-desk
-returns-in-Open-clause-desk c =
-    let from_fits : SFits w64 c.args.from = search rules in
+pub returns-in-Open-clause-tells : goal.returns-in-Open-clause-tells
+returns-in-Open-clause-tells c =
     let m = c.args.self.now in
-    let fork = fork_at m.remains c.args.x c.args.mark c.args.from in
-    let fs = frames_of m.remains (rest m.nesting) in
-    let made : OnOk c.at_case-in-Open.result (desk_of c.at_case-in-Open.new.self ≡ desk_case (game_of m) (here m) fork fs None c.args.line) = simp to_z-of_z at c.at_case-in-Open.ensures.desk in
-    subst (λ p. OnOk c.at_case-in-Open.result (desk_of c.at_case-in-Open.new.self ≡ p)) (fork_arm (game_of m) (here m) fork fs c.args.line _ c.in-Open.is refl) made
+    arm (λ l. PartTells m c.at_case-in-Open.new.self (λ d. at_entry d.entries (λ b fs. ledger_case (game_of m) d b fs None l)))
+    (λ l. PartTells m c.at_case-in-Open.new.self (λ d. at_entry d.entries (λ b fs. ledger_fork (game_of m) d b fs l))) c.args.line _ c.in-Open.is (λ h. h) c.at_case-in-Open.ensures.tells
 
-pub returns-in-Prune-clause-desk : goal.returns-in-Prune-clause-desk
-returns-in-Prune-clause-desk c =
-    let from_fits : SFits w64 c.args.from = search rules in
+pub returns-in-Prune-clause-tells : goal.returns-in-Prune-clause-tells
+returns-in-Prune-clause-tells c =
     let m = c.args.self.now in
-    let fork = fork_at m.remains c.args.x c.args.mark c.args.from in
-    let fs = frames_of m.remains (rest m.nesting) in
-    let made : OnOk c.at_case-in-Prune.result (desk_of c.at_case-in-Prune.new.self ≡ desk_case (game_of m) (here m) fork fs None c.args.line) = simp to_z-of_z at c.at_case-in-Prune.ensures.desk in
-    subst (λ p. OnOk c.at_case-in-Prune.result (desk_of c.at_case-in-Prune.new.self ≡ p)) (fork_arm (game_of m) (here m) fork fs c.args.line _ c.in-Prune.is refl) made
+    arm (λ l. PartTells m c.at_case-in-Prune.new.self (λ d. at_entry d.entries (λ b fs. ledger_case (game_of m) d b fs None l)))
+    (λ l. PartTells m c.at_case-in-Prune.new.self (λ d. at_entry d.entries (λ b fs. ledger_fork (game_of m) d b fs l))) c.args.line _ c.in-Prune.is (λ h. h) c.at_case-in-Prune.ensures.tells
 
-pub returns-in-Empty-clause-desk : goal.returns-in-Empty-clause-desk
-returns-in-Empty-clause-desk c =
-    let from_fits : SFits w64 c.args.from = search rules in
+pub returns-in-Bound-clause-tells : goal.returns-in-Bound-clause-tells
+returns-in-Bound-clause-tells c =
     let m = c.args.self.now in
-    let fork = fork_at m.remains c.args.x c.args.mark c.args.from in
-    let fs = frames_of m.remains (rest m.nesting) in
-    let made : OnOk c.at_case-in-Empty.result (desk_of c.at_case-in-Empty.new.self ≡ desk_case (game_of m) (here m) fork fs None c.args.line) = simp to_z-of_z at c.at_case-in-Empty.ensures.desk in
-    subst (λ p. OnOk c.at_case-in-Empty.result (desk_of c.at_case-in-Empty.new.self ≡ p)) (fork_arm (game_of m) (here m) fork fs c.args.line _ c.in-Empty.is refl) made
+    arm (λ l. PartTells m c.at_case-in-Bound.new.self (λ d. at_entry d.entries (λ b fs. ledger_case (game_of m) d b fs None l)))
+    (λ l. PartTells m c.at_case-in-Bound.new.self (λ d. at_entry d.entries (λ b fs. ledger_fork (game_of m) d b fs l))) c.args.line _ c.in-Bound.is (λ h. h) c.at_case-in-Bound.ensures.tells
 
-pub returns-in-Barred-clause-desk : goal.returns-in-Barred-clause-desk
-returns-in-Barred-clause-desk c =
-    let from_fits : SFits w64 c.args.from = search rules in
+pub returns-in-Empty-clause-tells : goal.returns-in-Empty-clause-tells
+returns-in-Empty-clause-tells c =
     let m = c.args.self.now in
-    let fork = fork_at m.remains c.args.x c.args.mark c.args.from in
-    let fs = frames_of m.remains (rest m.nesting) in
-    let made : OnOk c.at_case-in-Barred.result (desk_of c.at_case-in-Barred.new.self ≡ desk_case (game_of m) (here m) fork fs None c.args.line) = simp to_z-of_z at c.at_case-in-Barred.ensures.desk in
-    subst (λ p. OnOk c.at_case-in-Barred.result (desk_of c.at_case-in-Barred.new.self ≡ p)) (fork_arm (game_of m) (here m) fork fs c.args.line _ c.in-Barred.is refl) made
+    arm (λ l. PartTells m c.at_case-in-Empty.new.self (λ d. at_entry d.entries (λ b fs. ledger_case (game_of m) d b fs None l)))
+    (λ l. PartTells m c.at_case-in-Empty.new.self (λ d. at_entry d.entries (λ b fs. ledger_fork (game_of m) d b fs l))) c.args.line _ c.in-Empty.is (λ h. h) c.at_case-in-Empty.ensures.tells
 
-pub returns-in-Next-clause-desk : goal.returns-in-Next-clause-desk
-returns-in-Next-clause-desk c =
-    let from_fits : SFits w64 c.args.from = search rules in
+pub returns-in-Barred-clause-tells : goal.returns-in-Barred-clause-tells
+returns-in-Barred-clause-tells c =
     let m = c.args.self.now in
-    let fork = fork_at m.remains c.args.x c.args.mark c.args.from in
-    let fs = frames_of m.remains (rest m.nesting) in
-    let made : OnOk c.at_case-in-Next.result (desk_of c.at_case-in-Next.new.self ≡ desk_case (game_of m) (here m) fork fs None c.args.line) = simp to_z-of_z at c.at_case-in-Next.ensures.desk in
-    subst (λ p. OnOk c.at_case-in-Next.result (desk_of c.at_case-in-Next.new.self ≡ p)) (fork_arm (game_of m) (here m) fork fs c.args.line _ c.in-Next.is refl) made
+    arm (λ l. PartTells m c.at_case-in-Barred.new.self (λ d. at_entry d.entries (λ b fs. ledger_case (game_of m) d b fs None l)))
+    (λ l. PartTells m c.at_case-in-Barred.new.self (λ d. at_entry d.entries (λ b fs. ledger_fork (game_of m) d b fs l))) c.args.line _ c.in-Barred.is (λ h. h) c.at_case-in-Barred.ensures.tells
 
-pub returns-in-Branch-clause-desk : goal.returns-in-Branch-clause-desk
-returns-in-Branch-clause-desk c =
-    let from_fits : SFits w64 c.args.from = search rules in
+pub returns-in-Next-clause-tells : goal.returns-in-Next-clause-tells
+returns-in-Next-clause-tells c =
     let m = c.args.self.now in
-    let fork = fork_at m.remains c.args.x c.args.mark c.args.from in
-    let fs = frames_of m.remains (rest m.nesting) in
-    let made : OnOk c.at_case-in-Branch.result (desk_of c.at_case-in-Branch.new.self ≡ desk_case (game_of m) (here m) fork fs None c.args.line) = simp to_z-of_z at c.at_case-in-Branch.ensures.desk in
-    subst (λ p. OnOk c.at_case-in-Branch.result (desk_of c.at_case-in-Branch.new.self ≡ p)) (fork_arm (game_of m) (here m) fork fs c.args.line _ c.in-Branch.is refl) made
+    arm (λ l. PartTells m c.at_case-in-Next.new.self (λ d. at_entry d.entries (λ b fs. ledger_case (game_of m) d b fs None l)))
+    (λ l. PartTells m c.at_case-in-Next.new.self (λ d. at_entry d.entries (λ b fs. ledger_fork (game_of m) d b fs l))) c.args.line _ c.in-Next.is (λ h. h) c.at_case-in-Next.ensures.tells
+
+pub returns-in-Branch-clause-tells : goal.returns-in-Branch-clause-tells
+returns-in-Branch-clause-tells c =
+    let m = c.args.self.now in
+    arm (λ l. PartTells m c.at_case-in-Branch.new.self (λ d. at_entry d.entries (λ b fs. ledger_case (game_of m) d b fs None l)))
+    (λ l. PartTells m c.at_case-in-Branch.new.self (λ d. at_entry d.entries (λ b fs. ledger_fork (game_of m) d b fs l))) c.args.line _ c.in-Branch.is (λ h. h) c.at_case-in-Branch.ensures.tells
+
+pub returns-in-Horizon-clause-tells : goal.returns-in-Horizon-clause-tells
+returns-in-Horizon-clause-tells c =
+    let m = c.args.self.now in
+    arm (λ l. PartTells m c.at_case-in-Horizon.new.self (λ d. at_entry d.entries (λ b fs. ledger_case (game_of m) d b fs None l)))
+    (λ l. PartTells m c.at_case-in-Horizon.new.self (λ d. at_entry d.entries (λ b fs. ledger_fork (game_of m) d b fs l))) c.args.line _ c.in-Horizon.is (λ h. h) c.at_case-in-Horizon.ensures.tells
+
+pub returns-in-Stuck-clause-tells : goal.returns-in-Stuck-clause-tells
+returns-in-Stuck-clause-tells c =
+    let m = c.args.self.now in
+    arm (λ l. PartTells m c.at_case-in-Stuck.new.self (λ d. at_entry d.entries (λ b fs. ledger_case (game_of m) d b fs None l)))
+    (λ l. PartTells m c.at_case-in-Stuck.new.self (λ d. at_entry d.entries (λ b fs. ledger_fork (game_of m) d b fs l))) c.args.line _ c.in-Stuck.is (λ h. h) c.at_case-in-Stuck.ensures.tells
+
+pub returns-in-Goal-clause-tells : goal.returns-in-Goal-clause-tells
+returns-in-Goal-clause-tells c =
+    let m = c.args.self.now in
+    arm (λ l. PartTells m c.at_case-in-Goal.new.self (λ d. at_entry d.entries (λ b fs. ledger_case (game_of m) d b fs None l)))
+    (λ l. PartTells m c.at_case-in-Goal.new.self (λ d. at_entry d.entries (λ b fs. ledger_fork (game_of m) d b fs l))) c.args.line _ c.in-Goal.is (λ h. h) c.at_case-in-Goal.ensures.tells
+
+pub returns-in-Dot-clause-tells : goal.returns-in-Dot-clause-tells
+returns-in-Dot-clause-tells c =
+    let m = c.args.self.now in
+    subst (λ l. PartTells m c.dot_line.new.self (λ d. at_entry d.entries (λ b fs. ledger_fork (game_of m) d b fs l))) (sym c.in-Dot.is) c.dot_line.ensures.tells

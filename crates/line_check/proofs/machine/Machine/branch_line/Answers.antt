@@ -1,16 +1,22 @@
-use Rattle.std.proofs.Common.{◌∙◌, sym, ap, ◌∷◌}
-use Rattle.qc_arguments.proofs.Boxes.{left_small}
+use Rattle.std.proofs.Common.{◌∙◌, sym}
 use Rattle.line_check.specs.State.{may_branch}
-use Rattle.line_check.specs.Desk.{Desk, branch_frame, branch_opened, has_room, case_awaited}
-use Rattle.line_check.specs.Machine.{game_of, here, frames_of}
-use Rattle.line_check.proofs.Kept.{only_some, room_is, fork_begins}
+use Rattle.line_check.specs.Machine.{game_of}
+use Rattle.qc_arguments.proofs.Boxes.{left_small}
+use Rattle.line_check.proofs.Parts.{branch_ready, branch_tells, no_room}
 use Rattle.line_check.proofs.machine.Machine.branch_line.Goals as goal
 
-pub returns-clause-desk : goal.returns-clause-desk
-returns-clause-desk c =
+pub returns-then-not-has_room-clause-tells : goal.returns-then-not-has_room-clause-tells
+returns-then-not-has_room-clause-tells c = λ n d es xs u few p k.
     let m = c.args.self.now in
-    let g = game_of m in
-    let begins = fork_begins m.remains c.args.x c.mark-mark.result c.mark-mark.ensures (left_small g m.remains.box c.args.x.0 c.known.ensures.domains c.requires.sound.declared) in
-    let opened = ap (frames_of m.remains) c.push.ensures ∙ ap (λ b. branch_frame b ∷ frames_of m.remains m.nesting) begins in
-    only_some (may_branch g m.number c.args.x.0 m.remains.box) (has_room (here m)) _ (branch_opened (here m) c.args.x.0) (sym c.may_branch_on.ensures ∙ c.if-not-may_branch_on.false) (room_is m.remains m.nesting ∙ (sym c.has_room.ensures ∙ c.if-not-has_room.false))
-    (ap (λ fs. let d : Desk = record { box = m.remains.box; frames = fs; awaited = case_awaited; number = m.number; horizon = m.horizon; standing = m.standing; turns = m.turns; has_open = m.has_open } in d) opened)
+    no_room m d es xs u (may_branch (game_of m) m.number c.args.x.0 m.remains.box) _ p (sym c.has_room.ensures ∙ c.if-not-has_room.true)
+
+pub returns-clause-tells : goal.returns-clause-tells
+returns-clause-tells c =
+    let m = c.args.self.now in
+    branch_tells m c.requires.within c.args.x c.mark-mark.result c.push.new.self c.push.ensures c.mark-mark.ensures (sym c.may_branch_on.ensures ∙ c.if-not-may_branch_on.false)
+    (sym c.has_room.ensures ∙ c.if-not-has_room.false) (left_small (game_of m) m.remains.box c.args.x.0 c.known.ensures.domains c.requires.within.sound.declared)
+
+pub returns-clause-ready : goal.returns-clause-ready
+returns-clause-ready c =
+    let m = c.args.self.now in
+    branch_ready m c.requires.within c.args.x c.mark-mark.result c.push.new.self c.push.ensures c.mark-mark.ensures (sym c.may_branch_on.ensures ∙ c.if-not-may_branch_on.false)

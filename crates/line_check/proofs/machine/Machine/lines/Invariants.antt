@@ -1,11 +1,14 @@
-use Rattle.std.proofs.Common.{◌≡◌, drop}
-use Rattle.line_check.specs.Turns.{turns_on}
-use Rattle.line_check.specs.Machine.{game_of, desk_of, IsReady}
+use Rattle.std.proofs.Common.{◌≡◌, ◌+◌, ◌≤◌, ℕ, Option, length, drop}
+use Rattle.line_check.specs.Ledger.{Ledger}
+use Rattle.line_check.specs.LedgerHeld.{goes_through}
+use Rattle.line_check.specs.Machine.{game_of, IsReady}
+use Rattle.line_check.specs.Telling.{TellsAfter}
 use Rattle.line_check.proofs.machine.Machine.lines.Given as goal
 
 abbrev pub invariant-loop-line : goal.invariant-loop-line
 invariant-loop-line l = record {
-  desk : turns_on (game_of l.fn.self) (desk_of l.self) (drop l.line-index l.lines) ≡ turns_on (game_of l.fn.self) (desk_of l.fn.self) l.lines;
+  tells : (n : ℕ) (p : Option Ledger) → n + length l.lines ≤ 4294967296 → TellsAfter n l.fn.self p →
+      (q : Option Ledger) × TellsAfter (n + l.line-index) l.self q × (goes_through (game_of l.fn.self) q (drop l.line-index l.lines) ≡ goes_through (game_of l.fn.self) p l.lines);
   ready : IsReady l.self;
   same : game_of l.self ≡ game_of l.fn.self;
 }

@@ -8,7 +8,7 @@ use Rattle.line_check.proofs.machine.Machine.may_branch_on.Goals as goal
 pub is_fixed-requires : goal.is_fixed-requires
 is_fixed-requires c =
     let m = c.args.self.now in
-    let size = box_size (game_of m) m.remains.box c.requires.sound.declared in
+    let size = box_size (game_of m) m.remains.box c.requires.within.sound.declared in
     let same = ap (λ (h : Held). length h.box) c.store.ensures in
     let there = ap (λ (g : Game). length g.variables) c.level-level.ensures.problem in
     let within = c.level-level.result.now.stop_within in

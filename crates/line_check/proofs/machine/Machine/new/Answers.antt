@@ -1,29 +1,44 @@
-use Rattle.std.proofs.Common.{◌≡◌, ◌∙◌, ◌≤◌, sym, ap, subst, arith, rules, length, ℕ, []}
+use Rattle.std.proofs.Common.{◌≡◌, ◌∙◌, sym, ap, subst, refl, rules, length, arith, true, replicate}
+use Rattle.std.specs.Prelude.{pos}
+use Rattle.std.specs.List.{list_all}
+use Rattle.qc_model.specs.Valid.{is_number}
 use Rattle.qc_model.specs.Content.{Game}
 use Rattle.qc_model.specs.Domains.{has_empty}
+use Rattle.qc_arguments.specs.Asked.{is_box_of}
 use Rattle.fd_store.specs.Held.{trail_len}
-use Rattle.line_check.specs.Machine.{AreMarks, FramesSafe, frames_of}
+use Rattle.line_check.specs.LedgerSizes.{VerdictLaws}
+use Rattle.line_check.specs.Tracking.{TracksAll}
+use Rattle.line_check.specs.Machine.{AreFrames}
 use Rattle.line_check.proofs.Emptying.{declared_full}
-use Rattle.line_check.proofs.Ready.{declared_is}
+use Rattle.line_check.proofs.Declared.{declared_is}
+use Rattle.line_check.proofs.LedgerSizes.{verdict_laws}
+use Rattle.line_check.proofs.Turning.{new_tells, at_first, numbers_none}
 use Rattle.line_check.proofs.machine.Machine.new.Goals as goal
+
+pub returns-clause-tells : goal.returns-clause-tells
+returns-clause-tells c =
+    let g = c.args.problem.now in
+    let r = new_tells g _ c.known.ensures.domains c.in_ok-levels.ensures c.in_ok-remains.ensures.0 c.in_ok-nesting.ensures refl refl refl refl in
+    record { tells = r.0; sizes = r.1 }
 
 pub returns-clause-ready : goal.returns-clause-ready
 returns-clause-ready c =
     let g = c.args.problem.now in
     let same : c.in_ok-levels.levels.problem.now ≡ g = c.in_ok-levels.ensures in
     let box = c.in_ok-remains.ensures.0 in
-    let none = c.in_ok-nesting.ensures in
     let size : length c.in_ok-values.values.items ≡ c.variables.result = search rules in
+    let zeros : c.in_ok-values.values.items ≡ replicate c.variables.result (pos 0) = c.in_ok-values.ensures.items_if_clones_equal (λ y e. e) in
     record {
       sound = record {
+        laws = subst VerdictLaws (sym same) (verdict_laws g c.known.ensures);
+        tracks = subst (λ (u : Game). TracksAll u c.in_ok-bounds.bounds) (sym same) c.in_ok-bounds.ensures;
+        joined = c.in_ok-joins.ensures.same ∙ sym same;
         value_each = size ∙ (c.variables.ensures ∙ sym (ap (λ (u : Game). length u.variables) same));
-        declared = subst (λ (u : Game). Rattle.qc_arguments.specs.Asked.is_box_of u c.in_ok-remains.remains.box ≡ Rattle.std.proofs.Common.true) (sym same) (declared_is g c.in_ok-remains.remains.box c.known.ensures.domains box);
-        marks = subst (AreMarks c.in_ok-levels.levels.problem.now c.in_ok-remains.remains (trail_len c.in_ok-remains.remains)) (sym none) tt;
-        due = tt;
-      };
-      safe = record {
+        numbers = subst (λ vs. list_all is_number vs ≡ true) (sym zeros) (numbers_none c.variables.result);
+        declared = subst (λ (u : Game). is_box_of u c.in_ok-remains.remains.box ≡ true) (sym same) (declared_is g c.in_ok-remains.remains.box c.known.ensures.domains box);
         inside = omega arith;
-        frames = subst (λ fs. FramesSafe c.in_ok-levels.levels.problem.now 0 (frames_of c.in_ok-remains.remains fs)) (sym none) tt;
-        waits = ap has_empty box ∙ declared_full g c.known.ensures.domains;
+        placed = λ full. at_first c.in_ok-levels.levels.problem.now c.in_ok-values.values.items c.in_ok-remains.remains.box;
+        frames = subst (AreFrames c.in_ok-levels.levels.problem.now c.in_ok-remains.remains c.in_ok-values.values.items 0 (trail_len c.in_ok-remains.remains)) (sym c.in_ok-nesting.ensures) tt;
       };
+      full = ap has_empty box ∙ declared_full g c.known.ensures.domains;
     }

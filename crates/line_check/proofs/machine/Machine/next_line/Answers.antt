@@ -1,24 +1,49 @@
-use Rattle.std.proofs.Common.{◌≡◌, ◌∙◌, sym, ap, true, ◌+◌}
+use Rattle.std.proofs.Common.{◌≡◌, ◌∙◌, sym, ap, true}
+use Rattle.std.specs.Vec.{with_items}
 use Rattle.line_check.specs.State.{goes_on}
 use Rattle.line_check.specs.Tuples.{is_tuple}
-use Rattle.line_check.specs.Desk.{Desk, next_opened, has_room, node_awaited}
-use Rattle.line_check.specs.Machine.{game_of, here, frames_of}
-use Rattle.line_check.proofs.Kept.{tuple_goes, tuple_there, only_none, only_some, room_is}
+use Rattle.line_check.specs.Ledger.{space_left}
+use Rattle.line_check.specs.Machine.{game_of}
+use Rattle.line_check.specs.Telling.{part_at}
+use Rattle.line_check.proofs.Parts.{IsRead, read_there, read_back, tuple_goes, next_ready, next_tells, no_room, not_first}
 use Rattle.line_check.proofs.machine.Machine.next_line.Goals as goal
+use Rattle.line_check.proofs.machine.Machine.next_line.Goals.{After-tuple_allowed-found, After-says}
 
-pub returns-then-not-says-clause-desk : goal.returns-then-not-says-clause-desk
-returns-then-not-says-clause-desk c =
+read : (c : After-tuple_allowed-found) → IsRead (game_of c.args.self.now) c.args.self.now.number c.args.self.now.remains.box c.args.self.now.values.items (with_items c.args.self.now.values c.tuple_allowed-found.new.values).items c.tuple_allowed-found.result
+read c =
     let m = c.args.self.now in
-    let g = game_of m in
-    let found = c.tuple_allowed-found.ensures.tuple ∙ tuple_there g c.level-level.result.now.problem.now m.number c.level-level.result.now.number m.remains.box c.level-level.ensures.problem c.level-level.ensures.number in
-    let says : c.says.result ≡ goes_on g m.number m.remains.box = c.says.ensures ∙ (ap (is_tuple true) found ∙ sym (tuple_goes g m.number m.remains.box)) in
-    only_none (goes_on g m.number m.remains.box) (has_room (here m)) (next_opened (here m)) (sym says ∙ c.if-not-says.true)
+    let l = c.level-level in
+    let t = c.tuple_allowed-found in
+    read_back (game_of m) m.number m.remains.box m.values t.new.values t.result
+    (read_there (game_of m) l.result.now.problem.now m.number l.result.now.number m.remains.box m.values.items c.as_mut_slice.result.now t.new.values t.result l.ensures.problem l.ensures.number c.as_mut_slice.ensures.value
+    (record { tuple = t.ensures.tuple; kept = t.ensures.kept; placed = t.ensures.placed; each = t.ensures.each; numbers = t.ensures.numbers }))
 
-pub returns-clause-desk : goal.returns-clause-desk
-returns-clause-desk c =
+says : (c : After-says) → c.says.result ≡ goes_on (game_of c.args.self.now) c.args.self.now.number c.args.self.now.remains.box
+says c =
     let m = c.args.self.now in
-    let g = game_of m in
-    let found = c.tuple_allowed-found.ensures.tuple ∙ tuple_there g c.level-level.result.now.problem.now m.number c.level-level.result.now.number m.remains.box c.level-level.ensures.problem c.level-level.ensures.number in
-    let says : c.says.result ≡ goes_on g m.number m.remains.box = c.says.ensures ∙ (ap (is_tuple true) found ∙ sym (tuple_goes g m.number m.remains.box)) in
-    only_some (goes_on g m.number m.remains.box) (has_room (here m)) _ (next_opened (here m)) (sym says ∙ c.if-not-says.false) (room_is m.remains m.nesting ∙ (sym c.has_room.ensures ∙ c.if-not-has_room.false))
-    (ap (λ fs. let d : Desk = record { box = m.remains.box; frames = frames_of m.remains fs; awaited = node_awaited; number = m.number + 1; horizon = m.horizon; standing = m.standing; turns = m.turns; has_open = m.has_open } in d) c.push.ensures)
+    let r = read (goal.at.After-says c).After-tuple_allowed-found in
+    c.says.ensures ∙ (ap (is_tuple true) r.tuple ∙ sym (tuple_goes (game_of m) m.number m.remains.box))
+
+pub returns-then-not-says-clause-tells : goal.returns-then-not-says-clause-tells
+returns-then-not-says-clause-tells c = λ n d es xs u few p k.
+    let m = c.args.self.now in
+    not_first (goes_on (game_of m) m.number m.remains.box) (space_left (part_at m d es xs u)) _ (sym (says (goal.at.returns-then-not-says-clause-tells c).After-says) ∙ c.if-not-says.true)
+
+pub returns-then-not-has_room-clause-tells : goal.returns-then-not-has_room-clause-tells
+returns-then-not-has_room-clause-tells c = λ n d es xs u few p k.
+    let m = c.args.self.now in
+    no_room m d es xs u (goes_on (game_of m) m.number m.remains.box) _ p (sym c.has_room.ensures ∙ c.if-not-has_room.true)
+
+pub returns-clause-tells : goal.returns-clause-tells
+returns-clause-tells c =
+    let m = c.args.self.now in
+    let t = c.tuple_allowed-found in
+    next_tells m (with_items m.values t.new.values) t.result c.requires.within (read (goal.at.returns-clause-tells c).After-tuple_allowed-found) c.push.new.self c.push.ensures
+    (sym (says (goal.at.returns-clause-tells c).After-says) ∙ c.if-not-says.false) (sym c.has_room.ensures ∙ c.if-not-has_room.false)
+
+pub returns-clause-ready : goal.returns-clause-ready
+returns-clause-ready c =
+    let m = c.args.self.now in
+    let t = c.tuple_allowed-found in
+    next_ready m (with_items m.values t.new.values) t.result c.requires.within (read (goal.at.returns-clause-ready c).After-tuple_allowed-found) c.push.new.self c.push.ensures
+    (sym (says (goal.at.returns-clause-ready c).After-says) ∙ c.if-not-says.false)

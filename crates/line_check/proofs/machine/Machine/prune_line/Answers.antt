@@ -6,33 +6,41 @@ use Rattle.qc_model.specs.Content.{Game}
 use Rattle.qc_model.specs.Block.{force_stop}
 use Rattle.qc_model.specs.Domains.{box_without}
 use Rattle.qc_rules.specs.Spans.{IsSpanOf}
-use Rattle.line_check.specs.declared.open.Due.TheVariants as due
-use Rattle.line_check.specs.Desk.{part_awaited}
 use Rattle.line_check.specs.Machine.{game_of}
-use Rattle.line_check.proofs.Kept.{pruned, sound_followed}
+use Rattle.line_check.proofs.Parts.{pruned_ready, pruned_tells, not_pruned}
 use Rattle.line_check.proofs.machine.Machine.prune_line.Goals as goal
 
 span_there : (g u : Game) (i n first end : ℕ) → u ≡ g → n ≡ i → IsSpanOf u n (force_stop (drop n u.scopes) n) first end → IsSpanOf g i (force_stop (drop i g.scopes) i) first end
 span_there g u i n first end e f h =
     subst (λ (w : Game). IsSpanOf w i (force_stop (drop i w.scopes) i) first end) e (subst (λ k. IsSpanOf u k (force_stop (drop k u.scopes) k) first end) f h)
 
-pub returns-in-Ok-true-clause-desk : goal.returns-in-Ok-true-clause-desk
-returns-in-Ok-true-clause-desk c =
+pub returns-then-prune-clause-tells : goal.returns-then-prune-clause-tells
+returns-then-prune-clause-tells c =
     let lo_fits : SFits w64 c.args.lo = search rules in
     let hi_fits : SFits w64 c.args.hi = search rules in
     let m = c.args.self.now in
     let g = game_of m in
     let l = c.level.result.now in
     let span = span_there g l.problem.now m.number l.number l.in_force.first l.in_force.end c.level.ensures.problem c.level.ensures.number l.has_force in
-    let legal = simp to_z-of_z at (c.in-Ok-true.ensures.legal m.number (force_stop (drop m.number g.scopes) m.number) span) in
-    let content : c.prune.new.remains.box ≡ box_without m.remains.box c.args.x.0 c.args.lo c.args.hi = simp to_z-of_z at (c.in-Ok-true.ensures.content c.in-Ok-true.field-0-test) in
-    pruned m c.prune.new.remains c.args.x c.args.lo c.args.hi c.args.c part_awaited _ c.requires.sound c.prune.ensures.past (sym legal ∙ c.in-Ok-true.field-0-test) content
+    let legal = simp to_z-of_z at (c.prune.ensures.legal m.number (force_stop (drop m.number g.scopes) m.number) span) in
+    let content : c.prune.new.remains.box ≡ box_without m.remains.box c.args.x.0 c.args.lo c.args.hi = simp to_z-of_z at (c.prune.ensures.content c.if-prune.true) in
+    pruned_tells m c.requires.within c.prune.new.remains c.prune.ensures.past c.prune.ensures.declared c.args.x c.args.lo c.args.hi c.args.c content (sym legal ∙ c.if-prune.true)
 
-pub returns-in-Ok-true-clause-sound : goal.returns-in-Ok-true-clause-sound
-returns-in-Ok-true-clause-sound c = sound_followed c.args.self.now c.prune.new.remains due.Part c.requires.sound c.prune.ensures.declared c.prune.ensures.past tt
+pub returns-else-prune-clause-tells : goal.returns-else-prune-clause-tells
+returns-else-prune-clause-tells c = λ n d es xs u few p k.
+    let lo_fits : SFits w64 c.args.lo = search rules in
+    let hi_fits : SFits w64 c.args.hi = search rules in
+    let m = c.args.self.now in
+    let g = game_of m in
+    let l = c.level.result.now in
+    let span = span_there g l.problem.now m.number l.number l.in_force.first l.in_force.end c.level.ensures.problem c.level.ensures.number l.has_force in
+    let legal = simp to_z-of_z at (c.prune.ensures.legal m.number (force_stop (drop m.number g.scopes) m.number) span) in
+    not_pruned m d es xs u c.args.x c.args.lo c.args.hi c.args.c (sym legal ∙ c.if-prune.false)
 
-pub returns-in-Ok-false-clause-sound : goal.returns-in-Ok-false-clause-sound
-returns-in-Ok-false-clause-sound c = sound_followed c.args.self.now c.prune.new.remains due.Wrong c.requires.sound c.prune.ensures.declared c.prune.ensures.past tt
-
-pub returns-in-Err-clause-sound : goal.returns-in-Err-clause-sound
-returns-in-Err-clause-sound c = sound_followed c.args.self.now c.prune.new.remains due.Wrong c.requires.sound c.prune.ensures.declared c.prune.ensures.past tt
+pub returns-then-prune-clause-ready : goal.returns-then-prune-clause-ready
+returns-then-prune-clause-ready c =
+    let lo_fits : SFits w64 c.args.lo = search rules in
+    let hi_fits : SFits w64 c.args.hi = search rules in
+    let m = c.args.self.now in
+    let content : c.prune.new.remains.box ≡ box_without m.remains.box c.args.x.0 c.args.lo c.args.hi = simp to_z-of_z at (c.prune.ensures.content c.if-prune.true) in
+    pruned_ready m c.requires.within c.prune.new.remains c.prune.ensures.past c.prune.ensures.declared c.args.x c.args.lo c.args.hi content

@@ -1,7 +1,12 @@
 use Rattle.std.proofs.Common.{◌∙◌, sym, ap}
 use Rattle.qc_model.specs.Domains.{has_empty}
 use Rattle.line_check.proofs.Emptying.{declared_full}
+use Rattle.line_check.proofs.Rooms.{room_at_first}
 use Rattle.line_check.proofs.remains.Remains.new.Goals as goal
 
 pub invariant_of-result : goal.invariant_of-result
-invariant_of-result c = sym (ap has_empty c.in_ok-store.ensures.0 ∙ declared_full c.args.problem.now c.known.ensures.domains)
+invariant_of-result c =
+    let first = c.in_ok-store.ensures in (
+      sym (ap has_empty (c.reserve_trail.ensures.content ∙ first.0) ∙ declared_full c.args.problem.now c.known.ensures.domains),
+      room_at_first c.in_ok-store.store c.reserve_trail.new.self c.count_values-values.result first.1 c.reserve_trail.ensures.content c.reserve_trail.ensures.past c.count_values-values.ensures.count c.in_ok-reserve_trail.ensures.reserved,
+    )

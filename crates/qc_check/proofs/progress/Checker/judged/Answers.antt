@@ -1,4 +1,6 @@
-use Rattle.std.proofs.Common.{subst, sym, ◌∙◌}
+use Rattle.std.proofs.Common.{◌≡◌, subst, sym, ap, ◌∙◌}
+use Rattle.qc_model.specs.Content.{Game}
+use Rattle.qc_check.specs.Shown.{found_shows}
 use Rattle.qc_model.specs.Valid.{IsValid}
 use Rattle.line_check.specs.Machine.{game_of}
 use Rattle.qc_check.specs.Checking.{IsCheckingBy}
@@ -19,19 +21,23 @@ pub returns-then-is_shown : goal.returns-then-is_shown
 returns-then-is_shown c = λ bytes h.
     let k = subst (λ s. IsCheckingBy s c.args.self.now bytes) c.requires.going h in
     let g = game_of c.args.self.now.machine in
+    let there : found_shows g.scopes c.finish.result c.in-Some.stated.outcome c.in-Some.stated.optimum ≡ c.is_shown.result =
+    ap (λ (u : Game). found_shows u.scopes c.finish.result c.in-Some.stated.outcome c.in-Some.stated.optimum) c.args.self.now.of_problem ∙ sym c.is_shown.ensures in
     proof g bytes c.in-Some.stated c.finish.result
     (λ t q. c.outcomes_are_true.ensures g c.in-Some.stated.outcome c.in-Some.stated.optimum t (subst IsValid (sym c.args.self.now.of_problem) c.known.ensures) q)
-    (judged _ _ _ c.in-Some.stated _ bytes k c.in-Some.is c.requires.plain
-    (λ t deep placed. c.answers_are_right.ensures.trees g t c.requires.plain deep placed) (λ t f e. c.answers_are_right.ensures.own g t f c.requires.plain e)
-    (c.is_ended.ensures.told bytes k.told k.stands c.if-not-is_ended.false) c.finish.result c.finish.ensures)
-    (sym c.is_shown.ensures ∙ c.if-is_shown.true)
+    (judged _ _ _ c.in-Some.stated _ bytes k c.in-Some.is c.finish.result c.finish.ensures
+    (λ t o a deep placed. c.answers_are_right.ensures.trees g t o a deep placed) (λ t f a. c.answers_are_right.ensures.own g t f a)
+    (c.is_ended.ensures.told bytes k.told k.stands c.if-not-is_ended.false))
+    (there ∙ c.if-is_shown.true)
 
 pub returns-else-is_shown : goal.returns-else-is_shown
 returns-else-is_shown c = λ bytes h.
     let k = subst (λ s. IsCheckingBy s c.args.self.now bytes) c.requires.going h in
     let g = game_of c.args.self.now.machine in
+    let there : found_shows g.scopes c.finish.result c.in-Some.stated.outcome c.in-Some.stated.optimum ≡ c.is_shown.result =
+    ap (λ (u : Game). found_shows u.scopes c.finish.result c.in-Some.stated.outcome c.in-Some.stated.optimum) c.args.self.now.of_problem ∙ sym c.is_shown.ensures in
     no_proof g bytes c.in-Some.stated c.finish.result
-    (judged _ _ _ c.in-Some.stated _ bytes k c.in-Some.is c.requires.plain
-    (λ t deep placed. c.answers_are_right.ensures.trees g t c.requires.plain deep placed) (λ t f e. c.answers_are_right.ensures.own g t f c.requires.plain e)
-    (c.is_ended.ensures.told bytes k.told k.stands c.if-not-is_ended.false) c.finish.result c.finish.ensures)
-    (sym c.is_shown.ensures ∙ c.if-is_shown.false)
+    (judged _ _ _ c.in-Some.stated _ bytes k c.in-Some.is c.finish.result c.finish.ensures
+    (λ t o a deep placed. c.answers_are_right.ensures.trees g t o a deep placed) (λ t f a. c.answers_are_right.ensures.own g t f a)
+    (c.is_ended.ensures.told bytes k.told k.stands c.if-not-is_ended.false))
+    (there ∙ c.if-is_shown.false)

@@ -3,4 +3,4 @@ use Rattle.qc_check.proofs.Ends.{nothing_read}
 use Rattle.qc_check.proofs.progress.Checker.new.Goals as goal
 
 pub returns-clause-checking : goal.returns-clause-checking
-returns-clause-checking c = nothing_read _ _ _ c.new-2.ensures c.in_ok-machine.ensures.desk c.in_ok-machine.ensures.same (c.each_standing_is_right.ensures []).begins
+returns-clause-checking c = nothing_read _ _ _ c.new-2.ensures c.in_ok-machine.ensures.tells c.in_ok-machine.ensures.same (c.each_standing_is_right.ensures []).begins

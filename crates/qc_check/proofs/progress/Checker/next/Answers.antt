@@ -1,6 +1,6 @@
-use Rattle.std.proofs.Common.{subst}
+use Rattle.std.proofs.Common.{subst, arith}
 use Rattle.qc_check.specs.Checking.{IsCheckingBy}
-use Rattle.qc_check.proofs.Steps.{on_ok, within, head_read, line_read, deep_read, bad_read}
+use Rattle.qc_check.proofs.Steps.{within, head_read, line_read, deep_read, bad_read}
 use Rattle.qc_check.proofs.progress.Checker.next.Goals as goal
 
 pub returns-in-Within-clause-checking : goal.returns-in-Within-clause-checking
@@ -15,12 +15,11 @@ returns-in-Head-clause-checking c = λ bytes h.
     (c.byte.ensures.stands bytes k.told k.stands) (c.byte.ensures.says bytes k.told k.stands))
 
 pub returns-in-Whole-clause-checking : goal.returns-in-Whole-clause-checking
-returns-in-Whole-clause-checking c = on_ok c.line.result _ _
-    (λ desk bytes h.
+returns-in-Whole-clause-checking c = λ bytes h.
     let k = subst (λ s. IsCheckingBy s c.args.self.now bytes) c.requires.going h in
+    let room = c.requires.room in
     rw c.requires.going (line_read _ _ _ _ _ _ bytes c.args.byte k c.byte.result c.in-Whole.line c.in-Whole.is
-    (c.byte.ensures.stands bytes k.told k.stands) (c.byte.ensures.says bytes k.told k.stands) c.line.ensures.same desk))
-    c.line.ensures.desk
+    (c.byte.ensures.stands bytes k.told k.stands) (c.byte.ensures.says bytes k.told k.stands) c.line.ensures.same (omega (arith, room)) c.line.ensures.tells)
 
 pub returns-in-TooDeep-clause-checking : goal.returns-in-TooDeep-clause-checking
 returns-in-TooDeep-clause-checking c = λ bytes h.

@@ -1,0 +1,16 @@
+use Rattle.std.proofs.Common.{◌≡◌, ◌∙◌, ◌-◌, sym, subst, suc, arith}
+use Rattle.proof_tree.specs.declared.line.Line.TheVariants.{Horizon}
+use Rattle.line_check.specs.declared.open.Due.TheVariants as due
+use Rattle.line_check.specs.Ledger.{ledger_node}
+use Rattle.line_check.specs.Machine.{game_of}
+use Rattle.line_check.specs.Telling.{NodeTells}
+use Rattle.line_check.proofs.AtNodes.{horizon_tells}
+use Rattle.line_check.proofs.machine.Machine.horizon_line.Goals as goal
+
+pub returns-clause-tells : goal.returns-clause-tells
+returns-clause-tells c =
+    let m = c.args.self.now in
+    let k = c.args.k in
+    let back : suc (k - 1) ≡ k = omega arith in
+    subst (λ j. NodeTells m (record m { due = due.Prune (k - 1) c.mark-mark.result }) (λ d. ledger_node (game_of m) d (Horizon j))) back
+    (horizon_tells m c.requires.node (k - 1) c.mark-mark.result c.mark-mark.ensures (sym c.may_see_to.ensures ∙ c.if-not-may_see_to.false))
