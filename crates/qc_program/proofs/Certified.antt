@@ -7,7 +7,7 @@ use Rattle.proof_tree.specs.declared.tree.Outcome.TheVariants.{True, False, Open
 use Rattle.strategy_arena.specs.Certificate.{text_of_lines}
 use Rattle.game_search.specs.Solution.{SolutionLines}
 use Rattle.qc_program.specs.declared.status.Status.{Status}
-use Rattle.qc_program.specs.Answers.{SolvesPlain}
+use Rattle.qc_program.specs.Answers.{SolvesProblem}
 use Rattle.qc_program.specs.Certifies.{status_of, Certifies}
 
 certified : (g : Game) (turns : ℕ) (o : Outcome) (v : Option ℤ) (lines : List Line) (s : Status) (t : List ℕ) →
@@ -18,6 +18,7 @@ certified g turns o v lines s t h ends text = record {
   root = h.tree;
   proved = h.solution.proves;
   ordered = h.solution.in_order;
+  diligent = h.solution.diligent;
   few = h.solution.few;
   spent = h.solution.spent;
   spellable = h.solution.has_text;
@@ -26,11 +27,11 @@ certified g turns o v lines s t h ends text = record {
   means = h.solution.means;
 }
 
-answered : (g : Game) (turns : ℕ) (o : Outcome) (s : Status) (t : List ℕ) → s ≡ status_of o → Certifies g turns s t → SolvesPlain turns g s t
-answered g turns True s t e c = subst (λ q. SolvesPlain turns g q t) (sym e) (subst (λ q. Certifies g turns q t) e c)
-answered g turns False s t e c = subst (λ q. SolvesPlain turns g q t) (sym e) (subst (λ q. Certifies g turns q t) e c)
-answered g turns (OpenOutcome n) s t e c = subst (λ q. SolvesPlain turns g q t) (sym e) (subst (λ q. Certifies g turns q t) e c)
+answered : (g : Game) (turns : ℕ) (o : Outcome) (s : Status) (t : List ℕ) → s ≡ status_of o → Certifies g turns s t → SolvesProblem turns g s t
+answered g turns True s t e c = subst (λ q. SolvesProblem turns g q t) (sym e) (subst (λ q. Certifies g turns q t) e c)
+answered g turns False s t e c = subst (λ q. SolvesProblem turns g q t) (sym e) (subst (λ q. Certifies g turns q t) e c)
+answered g turns (OpenOutcome n) s t e c = subst (λ q. SolvesProblem turns g q t) (sym e) (subst (λ q. Certifies g turns q t) e c)
 
 pub solved : (g : Game) (turns : ℕ) (o : Outcome) (v : Option ℤ) (lines : List Line) → SolutionLines g turns o v lines →
-    (s : Status) (t : List ℕ) → (s ≡ status_of o) × (t ≡ text_of_lines o v lines) → SolvesPlain turns g s t
+    (s : Status) (t : List ℕ) → (s ≡ status_of o) × (t ≡ text_of_lines o v lines) → SolvesProblem turns g s t
 solved g turns o v lines h s t is = answered g turns o s t is.0 (certified g turns o v lines s t h is.0 is.1)

@@ -22,8 +22,7 @@ use Rattle.qdimacs.specs.Laws.{OneFile, NeverBoth as NeverRefusedFormula}
 use Rattle.qc_program.specs.declared.status.Status.{Status}
 use Rattle.qc_program.specs.declared.status.Status.TheVariants.{Done, NotProved, Open, Usage, BadProblem, BadCertificate, TooLong, ReadFault, WriteFault, Memory, BadQdimacs}
 use Rattle.qc_program.specs.Words.{Asked, solves, checks, prints, decides, rewrites}
-use Rattle.qc_program.specs.Refusals.{IsPlain}
-use Rattle.qc_program.specs.Answers.{Denies, FaultLine, IsProblemOf, IsNoProblem, AnswersProblem, SolvesProblem, PrintsProblem, ChecksProblem, Answers}
+use Rattle.qc_program.specs.Answers.{Denies, FaultLine, IsProblemOf, IsNoProblem, AnswersProblem, SolvesProblem, PrintsProblem, ChecksFile, Answers}
 use Rattle.qc_program.specs.Certifies.{status_of}
 use Rattle.qc_program.specs.Files.{IsLong, IsFile, Wrote}
 use Rattle.qc_program.specs.Formulas.{IsFormulaOf, HasNoFormula, AnswersFormula, DecidesFormula, RewritesFormula}
@@ -63,34 +62,18 @@ open_below False g turns root e m f = let k : Open ≡ Done = e in cc
 open_below (OpenOutcome n) g turns root e m f = let all : n ≡ turns = m.all in let below : n < full_turns_of g = m.below in omega arith
 
 solves_done : Laws → (name : List ℕ) (turns : ℕ) (told : Option (List ℕ)) (gave : ℕ → Type 0) (s : Status) (t : List ℕ) →
-    AnswersProblem (SolvesProblem turns) name told gave s t → ¬ (s ≡ Memory) → ¬ (s ≡ ReadFault) →
-    (g : Game) → TellsProblem told g → IsPlain g → full_turns_of g ≤ turns → s ≡ Done
-solves_done l name turns told gave Done t h m r g tells plain f = refl
-solves_done l name turns told gave NotProved t h m r g tells plain f = elim h [ inl d ↦ absurd d | inr (h0, of, k) ↦ elim k [ inl d ↦ absurd d | inr (p, x) ↦ absurd x ] ]
-solves_done l name turns told gave Open t h m r g tells plain f =
-    elim h [
-      | inl d ↦ absurd d
-      | inr (h0, of, k) ↦ elim k [
-        | inl d ↦ absurd d
-        | inr (p, c) ↦ absurd (open_below c.outcome h0 turns c.root c.ends c.spent (subst (λ q. full_turns_of q ≤ turns) (sym (same_game l.one told g h0 tells of)) f))
-      ]
-    ]
-solves_done l name turns told gave Usage t h m r g tells plain f = elim h [ inl d ↦ absurd d | inr (h0, of, k) ↦ elim k [ inl d ↦ absurd d | inr (p, x) ↦ absurd x ] ]
-solves_done l name turns told gave BadProblem t h m r g tells plain f =
-    elim h [
-      | inl d ↦ absurd (never_refused l.either told g t tells d)
-      | inr (h0, of, k) ↦ elim k [
-        | inl d ↦ absurd (d.beyond (subst IsPlain (sym (same_game l.one told g h0 tells of)) plain))
-        | inr (p, x) ↦ absurd x
-      ]
-    ]
-solves_done l name turns told gave BadCertificate t h m r g tells plain f = elim h [ inl d ↦ absurd d | inr (h0, of, k) ↦ elim k [ inl d ↦ absurd d | inr (p, x) ↦ absurd x ] ]
-solves_done l name turns told gave TooLong t h m r g tells plain f =
-    elim h [ inl d ↦ absurd (never_long 4194304 name told gave t tells.bytes tells.told_is tells.within d) | inr (h0, of, k) ↦ elim k [ inl d ↦ absurd d | inr (p, x) ↦ absurd x ] ]
-solves_done l name turns told gave ReadFault t h m r g tells plain f = absurd (r refl)
-solves_done l name turns told gave WriteFault t h m r g tells plain f = elim h [ inl d ↦ absurd d | inr (h0, of, k) ↦ elim k [ inl d ↦ absurd d | inr (p, x) ↦ absurd x ] ]
-solves_done l name turns told gave Memory t h m r g tells plain f = absurd (m refl)
-solves_done l name turns told gave BadQdimacs t h m r g tells plain f = elim h [ inl d ↦ absurd d | inr (h0, of, k) ↦ elim k [ inl d ↦ absurd d | inr (p, x) ↦ absurd x ] ]
+    AnswersProblem (SolvesProblem turns) name told gave s t → ¬ (s ≡ Memory) → ¬ (s ≡ ReadFault) → (g : Game) → TellsProblem told g → full_turns_of g ≤ turns → s ≡ Done
+solves_done l name turns told gave Done t h m r g tells f = refl
+solves_done l name turns told gave NotProved t h m r g tells f = elim h [ inl d ↦ absurd d | inr (h0, of, k) ↦ absurd k ]
+solves_done l name turns told gave Open t h m r g tells f = elim h [ inl d ↦ absurd d | inr (h0, of, c) ↦ absurd (open_below c.outcome h0 turns c.root c.ends c.spent (subst (λ q. full_turns_of q ≤ turns) (sym (same_game l.one told g h0 tells of)) f)) ]
+solves_done l name turns told gave Usage t h m r g tells f = elim h [ inl d ↦ absurd d | inr (h0, of, k) ↦ absurd k ]
+solves_done l name turns told gave BadProblem t h m r g tells f = elim h [ inl d ↦ absurd (never_refused l.either told g t tells d) | inr (h0, of, k) ↦ absurd k ]
+solves_done l name turns told gave BadCertificate t h m r g tells f = elim h [ inl d ↦ absurd d | inr (h0, of, k) ↦ absurd k ]
+solves_done l name turns told gave TooLong t h m r g tells f = elim h [ inl d ↦ absurd (never_long 4194304 name told gave t tells.bytes tells.told_is tells.within d) | inr (h0, of, k) ↦ absurd k ]
+solves_done l name turns told gave ReadFault t h m r g tells f = absurd (r refl)
+solves_done l name turns told gave WriteFault t h m r g tells f = elim h [ inl d ↦ absurd d | inr (h0, of, k) ↦ absurd k ]
+solves_done l name turns told gave Memory t h m r g tells f = absurd (m refl)
+solves_done l name turns told gave BadQdimacs t h m r g tells f = elim h [ inl d ↦ absurd d | inr (h0, of, k) ↦ absurd k ]
 
 prints_done : Laws → (name : List ℕ) (told : Option (List ℕ)) (gave : ℕ → Type 0) (s : Status) (t : List ℕ) →
     AnswersProblem PrintsProblem name told gave s t → ¬ (s ≡ Memory) → ¬ (s ≡ ReadFault) → (g : Game) → TellsProblem told g → s ≡ Done
@@ -134,53 +117,18 @@ never_faulty never told g bytes t fault proof file is line =
     (subst (IsFault fault) e is, no_want fault t line)
 
 checks_done : Laws → (name certificate : List ℕ) (told proof : Option (List ℕ)) (gave : ℕ → Type 0) (s : Status) (t : List ℕ) →
-    AnswersProblem (ChecksProblem certificate proof gave) name told gave s t → ¬ (s ≡ Memory) → ¬ (s ≡ ReadFault) →
-    (g : Game) → TellsProblem told g → IsPlain g → TellsProof proof g → s ≡ Done
-checks_done l name certificate told proof gave Done t h m r g tells plain proves = refl
-checks_done l name certificate told proof gave NotProved t h m r g tells plain proves =
-    elim h [
-      | inl d ↦ absurd d
-      | inr (h0, of, k) ↦ elim k [
-        | inl d ↦ absurd d
-        | inr (p, x) ↦ elim x [
-          | inl d ↦ absurd d
-          | inr (bytes, file, y) ↦ absurd (never_denied l.certificate proof g bytes t proves file (subst (λ q. Denies q bytes t) (same_game l.one told g h0 tells of) y))
-        ]
-      ]
-    ]
-checks_done l name certificate told proof gave Open t h m r g tells plain proves = elim h [ inl d ↦ absurd d | inr (h0, of, k) ↦ elim k [ inl d ↦ absurd d | inr (p, x) ↦ elim x [ inl d ↦ absurd d | inr (bytes, file, y) ↦ absurd y ] ] ]
-checks_done l name certificate told proof gave Usage t h m r g tells plain proves = elim h [ inl d ↦ absurd d | inr (h0, of, k) ↦ elim k [ inl d ↦ absurd d | inr (p, x) ↦ elim x [ inl d ↦ absurd d | inr (bytes, file, y) ↦ absurd y ] ] ]
-checks_done l name certificate told proof gave BadProblem t h m r g tells plain proves =
-    elim h [
-      | inl d ↦ absurd (never_refused l.either told g t tells d)
-      | inr (h0, of, k) ↦ elim k [
-        | inl d ↦ absurd (d.beyond (subst IsPlain (sym (same_game l.one told g h0 tells of)) plain))
-        | inr (p, x) ↦ elim x [ inl d ↦ absurd d | inr (bytes, file, y) ↦ absurd y ]
-      ]
-    ]
-checks_done l name certificate told proof gave BadCertificate t h m r g tells plain proves =
-    elim h [
-      | inl d ↦ absurd d
-      | inr (h0, of, k) ↦ elim k [
-        | inl d ↦ absurd d
-        | inr (p, x) ↦ elim x [
-          | inl d ↦ absurd d
-          | inr (bytes, file, (fault, is, line)) ↦ absurd (never_faulty l.never proof g bytes t fault proves file is line)
-        ]
-      ]
-    ]
-checks_done l name certificate told proof gave TooLong t h m r g tells plain proves =
-    elim h [
-      | inl d ↦ absurd (never_long 4194304 name told gave t tells.bytes tells.told_is tells.within d)
-      | inr (h0, of, k) ↦ elim k [
-        | inl d ↦ absurd d
-        | inr (p, x) ↦ elim x [ inl d ↦ absurd (never_long 1073741824 certificate proof gave t proves.bytes proves.told_is proves.within d) | inr (bytes, file, y) ↦ absurd y ]
-      ]
-    ]
-checks_done l name certificate told proof gave ReadFault t h m r g tells plain proves = absurd (r refl)
-checks_done l name certificate told proof gave WriteFault t h m r g tells plain proves = elim h [ inl d ↦ absurd d | inr (h0, of, k) ↦ elim k [ inl d ↦ absurd d | inr (p, x) ↦ elim x [ inl d ↦ absurd d | inr (bytes, file, y) ↦ absurd y ] ] ]
-checks_done l name certificate told proof gave Memory t h m r g tells plain proves = absurd (m refl)
-checks_done l name certificate told proof gave BadQdimacs t h m r g tells plain proves = elim h [ inl d ↦ absurd d | inr (h0, of, k) ↦ elim k [ inl d ↦ absurd d | inr (p, x) ↦ elim x [ inl d ↦ absurd d | inr (bytes, file, y) ↦ absurd y ] ] ]
+    AnswersProblem (ChecksFile certificate proof gave) name told gave s t → ¬ (s ≡ Memory) → ¬ (s ≡ ReadFault) → (g : Game) → TellsProblem told g → TellsProof proof g → s ≡ Done
+checks_done l name certificate told proof gave Done t h m r g tells proves = refl
+checks_done l name certificate told proof gave NotProved t h m r g tells proves = elim h [ inl d ↦ absurd d | inr (h0, of, x) ↦ elim x [ inl d ↦ absurd d | inr (bytes, file, y) ↦ absurd (never_denied l.certificate proof g bytes t proves file (subst (λ q. Denies q bytes t) (same_game l.one told g h0 tells of) y)) ] ]
+checks_done l name certificate told proof gave Open t h m r g tells proves = elim h [ inl d ↦ absurd d | inr (h0, of, x) ↦ elim x [ inl d ↦ absurd d | inr (bytes, file, y) ↦ absurd y ] ]
+checks_done l name certificate told proof gave Usage t h m r g tells proves = elim h [ inl d ↦ absurd d | inr (h0, of, x) ↦ elim x [ inl d ↦ absurd d | inr (bytes, file, y) ↦ absurd y ] ]
+checks_done l name certificate told proof gave BadProblem t h m r g tells proves = elim h [ inl d ↦ absurd (never_refused l.either told g t tells d) | inr (h0, of, x) ↦ elim x [ inl d ↦ absurd d | inr (bytes, file, y) ↦ absurd y ] ]
+checks_done l name certificate told proof gave BadCertificate t h m r g tells proves = elim h [ inl d ↦ absurd d | inr (h0, of, x) ↦ elim x [ inl d ↦ absurd d | inr (bytes, file, (fault, is, line)) ↦ absurd (never_faulty l.never proof g bytes t fault proves file is line) ] ]
+checks_done l name certificate told proof gave TooLong t h m r g tells proves = elim h [ inl d ↦ absurd (never_long 4194304 name told gave t tells.bytes tells.told_is tells.within d) | inr (h0, of, x) ↦ elim x [ inl d ↦ absurd (never_long 1073741824 certificate proof gave t proves.bytes proves.told_is proves.within d) | inr (bytes, file, y) ↦ absurd y ] ]
+checks_done l name certificate told proof gave ReadFault t h m r g tells proves = absurd (r refl)
+checks_done l name certificate told proof gave WriteFault t h m r g tells proves = elim h [ inl d ↦ absurd d | inr (h0, of, x) ↦ elim x [ inl d ↦ absurd d | inr (bytes, file, y) ↦ absurd y ] ]
+checks_done l name certificate told proof gave Memory t h m r g tells proves = absurd (m refl)
+checks_done l name certificate told proof gave BadQdimacs t h m r g tells proves = elim h [ inl d ↦ absurd d | inr (h0, of, x) ↦ elim x [ inl d ↦ absurd d | inr (bytes, file, y) ↦ absurd y ] ]
 
 same_file : OneFile → (told : Option (List ℕ)) (f h : File) → TellsFormula told f → IsFormulaOf told h → h ≡ f
 same_file one told f h tells of =
@@ -242,10 +190,10 @@ asked_done l None told gave s t h m r = words s h where
   words WriteFault h = absurd h
   words Memory h = absurd h
   words BadQdimacs h = absurd h
-asked_done l (Some (solves name turns)) told gave s t h m r = λ g tells plain f. solves_done l name turns (told name) gave s t h m r g tells plain f
+asked_done l (Some (solves name turns)) told gave s t h m r = λ g tells f. solves_done l name turns (told name) gave s t h m r g tells f
 asked_done l (Some (prints name)) told gave s t h m r = λ g tells. prints_done l name (told name) gave s t h m r g tells
 asked_done l (Some (checks name certificate)) told gave s t h m r =
-    λ g tells plain proof. checks_done l name certificate (told name) (told certificate) gave s t h m r g tells plain proof
+    λ g tells proof. checks_done l name certificate (told name) (told certificate) gave s t h m r g tells proof
 asked_done l (Some (decides name turns)) told gave s t h m r = λ f tells full. decides_done l name turns (told name) gave s t h m r f tells full
 asked_done l (Some (rewrites name)) told gave s t h m r = λ f tells. rewrites_done l name (told name) gave s t h m r f tells
 

@@ -12,7 +12,7 @@ use Rattle.qc_program.specs.declared.status.Status.{Status}
 use Rattle.qc_program.specs.declared.status.Status.TheVariants.{Done, NotProved, Open, Usage, BadProblem, BadCertificate, TooLong, ReadFault, WriteFault, Memory, BadQdimacs}
 use Rattle.qc_program.specs.Refusals.{TurnsDown, TurnsTextDown}
 use Rattle.qc_program.specs.Formulas.{TurnsFormulaDown, TurnsFormulaTextDown, TurnsQdimacsDown}
-use Rattle.qc_program.specs.Answers.{TurnsProblemDown, ChecksFile, ChecksProblem}
+use Rattle.qc_program.specs.Answers.{TurnsProblemDown, ChecksFile}
 use Rattle.qc_program.specs.Files.{IsFile, IsLong, TurnsFileDown}
 
 pub rose_after : (m n a b c : ℕ) → RoseBy m a b → RoseBy n b c → RoseBy n a c
@@ -107,7 +107,5 @@ file_before limit name told gave gave' f Memory t h = h
 file_before limit name told gave gave' f BadQdimacs t h = h
 
 pub checks_before : (name : List ℕ) (told : Option (List ℕ)) (gave gave' : ℕ → Type 0) (g : Game) → ((n : ℕ) → gave n → gave' n) →
-    (s : Status) (t : List ℕ) → ChecksProblem name told gave g s t → ChecksProblem name told gave' g s t
-checks_before name told gave gave' g f s t h = elim h [ inl d ↦ inl d | inr c ↦ inr (c.0, inner c.1) ] where
-  inner : ChecksFile g name told gave s t → ChecksFile g name told gave' s t
-  inner c = elim c [ inl d ↦ inl (file_before 1073741824 name told gave gave' f s t d) | inr b ↦ inr b ]
+    (s : Status) (t : List ℕ) → ChecksFile name told gave g s t → ChecksFile name told gave' g s t
+checks_before name told gave gave' g f s t h = elim h [ inl d ↦ inl (file_before 1073741824 name told gave gave' f s t d) | inr b ↦ inr b ]

@@ -1,32 +1,20 @@
--- The games of formulas: nothing is optimised in them, and what is stated of them is so of the formulas.
-use Rattle.std.proofs.Common.{◌↔◌, ℕ, List, [], ◌∷◌, map, Bool, true, false, Option, Some, None, ℤ, IsTrue, IsFalse, refl, ap, sym, subst}
+-- The games of formulas: what is stated of them is so of the formulas.
+use Rattle.std.proofs.Common.{◌↔◌, ℕ, List, Bool, true, false, Option, Some, None, ℤ, IsTrue, IsFalse, refl, subst}
 use Rattle.qc_model.specs.Content.{Game}
 use Rattle.qc_model.specs.Game.{IsWon}
 use Rattle.proof_tree.specs.declared.tree.Outcome.{Outcome}
 use Rattle.proof_tree.specs.declared.tree.Outcome.TheVariants.{True, False, Open as OpenOutcome}
 use Rattle.proof_tree.specs.Tree.{Tree}
 use Rattle.proof_tree.specs.Meaning.{OutcomeMeans}
-use Rattle.qdimacs.specs.Formula.{Block, Formula, is_true}
-use Rattle.qdimacs.specs.Content.{scope_of, game_of}
+use Rattle.qdimacs.specs.Formula.{Formula, is_true}
+use Rattle.qdimacs.specs.Content.{game_of}
 use Rattle.qdimacs.specs.Refusals.{formula_of}
 use Rattle.qdimacs.specs.Read.{IsProblemOf as IsGameOf}
-use Rattle.qc_rules.specs.Plain.{NoConditions}
 use Rattle.qc_program.specs.declared.status.Status.{Status}
 use Rattle.qc_program.specs.declared.status.Status.TheVariants.{Done, NotProved, Open, Usage, BadProblem, BadCertificate, TooLong, ReadFault, WriteFault, Memory, BadQdimacs}
-use Rattle.qc_program.specs.Refusals.{IsPlain}
-use Rattle.qc_program.specs.Answers.{SolvesPlain, PrintsProblem}
+use Rattle.qc_program.specs.Answers.{SolvesProblem, PrintsProblem}
 use Rattle.qc_program.specs.Certifies.{Certifies}
 use Rattle.qc_program.specs.Formulas.{Tells, Decides, DecidesFormula, RewritesFormula}
-
-no_conditions : (bs : List Block) → NoConditions (map scope_of bs)
-no_conditions [] = tt
-no_conditions (b ∷ bs) = (refl, no_conditions bs)
-
-pub formula_is_plain : (bytes : List ℕ) (g : Game) → IsGameOf bytes g → IsPlain g
-formula_is_plain bytes g h = record {
-  no_conditions = subst (λ q. NoConditions q.scopes) (sym h.content) (no_conditions (formula_of h.file).blocks);
-  no_aggregates = ap (λ q. q.aggregates) h.content;
-}
 
 is_false : (b : Bool) → (IsTrue b → ⊥) → IsFalse b
 is_false true never = absurd (never refl)
@@ -41,7 +29,7 @@ tells φ (OpenOutcome n) v t won means = tt
 decides : (φ : Formula) (turns : ℕ) (s : Status) (t : List ℕ) → (IsWon (game_of φ) ↔ IsTrue (is_true φ)) → Certifies (game_of φ) turns s t → Decides φ turns s t
 decides φ turns s t won c = record { certifies = c; tells = tells φ c.outcome c.optimum c.root won c.means }
 
-decides_by : (φ : Formula) (turns : ℕ) (s : Status) (t : List ℕ) → (IsWon (game_of φ) ↔ IsTrue (is_true φ)) → SolvesPlain turns (game_of φ) s t → DecidesFormula turns φ s t
+decides_by : (φ : Formula) (turns : ℕ) (s : Status) (t : List ℕ) → (IsWon (game_of φ) ↔ IsTrue (is_true φ)) → SolvesProblem turns (game_of φ) s t → DecidesFormula turns φ s t
 decides_by φ turns Done t won h = decides φ turns Done t won h
 decides_by φ turns NotProved t won h = h
 decides_by φ turns Open t won h = decides φ turns Open t won h
@@ -55,10 +43,10 @@ decides_by φ turns Memory t won h = h
 decides_by φ turns BadQdimacs t won h = h
 
 -- a formula's game that was solved
-pub decided : (bytes : List ℕ) (g : Game) (turns : ℕ) (h : IsGameOf bytes g) (s : Status) (t : List ℕ) → SolvesPlain turns g s t → DecidesFormula turns (formula_of h.file) s t
+pub decided : (bytes : List ℕ) (g : Game) (turns : ℕ) (h : IsGameOf bytes g) (s : Status) (t : List ℕ) → SolvesProblem turns g s t → DecidesFormula turns (formula_of h.file) s t
 decided bytes g turns h s t x =
     let φ = formula_of h.file in
-    decides_by φ turns s t (subst (λ q. IsWon q ↔ IsTrue (is_true φ)) h.content h.meaning) (subst (λ q. SolvesPlain turns q s t) h.content x)
+    decides_by φ turns s t (subst (λ q. IsWon q ↔ IsTrue (is_true φ)) h.content h.meaning) (subst (λ q. SolvesProblem turns q s t) h.content x)
 
 rewrites_by : (φ : Formula) (s : Status) (t : List ℕ) → PrintsProblem (game_of φ) s t → RewritesFormula φ s t
 rewrites_by φ Done t h = h

@@ -2,6 +2,7 @@ pub mod Written
 mod Certified
 mod Completeness
 mod Down
+mod Feeding
 mod FormulaGames
 mod Numerals
 mod Parts

@@ -12,31 +12,17 @@ use Rattle.qc_check.specs.Checking.{IsProof, IsNoProof}
 use Rattle.qc_program.specs.declared.status.Status.{Status}
 use Rattle.qc_program.specs.declared.status.Status.TheVariants.{Done, NotProved, Open, Usage, BadProblem, BadCertificate, Memory}
 use Rattle.qc_program.specs.Words.{Asked, solves, checks, prints, decides, rewrites}
-use Rattle.qc_program.specs.Refusals.{IsRefused, IsPlain}
+use Rattle.qc_program.specs.Refusals.{IsRefused}
 use Rattle.qc_program.specs.Certifies.{Certifies}
 use Rattle.qc_program.specs.Files.{IsFile, TurnsFileDown}
 use Rattle.qc_program.specs.Formulas.{AnswersFormula, DecidesFormula, RewritesFormula}
 
--- a problem that isn't taken by now
-pub record IsNotBuilt (g : Game) (text : List ℕ) : Type 0 where
-  pub beyond : IsPlain g → ⊥
-  pub line : text ≡ codes "bad problem: not built\n"
-
--- what is answered where the problem isn't taken
-abbrev pub TurnsGameDown : Game → Status → List ℕ → Type 0
-TurnsGameDown g BadProblem text = IsNotBuilt g text
-TurnsGameDown g status text = ⊥
-
--- what `solve` answers for a problem that is taken, and so many turns
-abbrev pub SolvesPlain : ℕ → Game → Status → List ℕ → Type 0
-SolvesPlain turns g Done text = Certifies g turns Done text
-SolvesPlain turns g Open text = Certifies g turns Open text
-SolvesPlain turns g Memory text = text ≡ []
-SolvesPlain turns g status text = ⊥
-
--- and for any problem
+-- what `solve` answers for a problem, and so many turns
 abbrev pub SolvesProblem : ℕ → Game → Status → List ℕ → Type 0
-SolvesProblem turns g status text = TurnsGameDown g status text ⊎ (IsPlain g × SolvesPlain turns g status text)
+SolvesProblem turns g Done text = Certifies g turns Done text
+SolvesProblem turns g Open text = Certifies g turns Open text
+SolvesProblem turns g Memory text = text ≡ []
+SolvesProblem turns g status text = ⊥
 
 -- what `print` answers for a problem
 abbrev pub PrintsProblem : Game → Status → List ℕ → Type 0
@@ -67,7 +53,6 @@ abbrev pub ChecksBytes : Game → List ℕ → Status → List ℕ → Type 0
 ChecksBytes g bytes Done text = Confirms g bytes text
 ChecksBytes g bytes NotProved text = Denies g bytes text
 ChecksBytes g bytes BadCertificate text = (fault : CertFault) × IsFault fault bytes × FaultLine fault text
-ChecksBytes g bytes Memory text = text ≡ []
 ChecksBytes g bytes status text = ⊥
 
 -- the bytes of the file are no problem's text
@@ -93,20 +78,16 @@ AnswersProblem P name told gave status text =
     TurnsProblemDown name told gave status text ⊎ ((g : Game) × IsProblemOf told g × P g status text)
 
 -- what `check` answers for a certificate's file
-abbrev pub ChecksFile : Game → List ℕ → Option (List ℕ) → (ℕ → Type 0) → Status → List ℕ → Type 0
-ChecksFile g name told gave status text =
+abbrev pub ChecksFile : List ℕ → Option (List ℕ) → (ℕ → Type 0) → Game → Status → List ℕ → Type 0
+ChecksFile name told gave g status text =
     TurnsFileDown 1073741824 name told gave status text ⊎ ((bytes : List ℕ) × IsFile 1073741824 told bytes × ChecksBytes g bytes status text)
-
--- and for a problem, after which the certificate's file is read
-abbrev pub ChecksProblem : List ℕ → Option (List ℕ) → (ℕ → Type 0) → Game → Status → List ℕ → Type 0
-ChecksProblem name told gave g status text = TurnsGameDown g status text ⊎ (IsPlain g × ChecksFile g name told gave status text)
 
 -- what is answered for what is asked: a table for each command
 abbrev pub AnswersAsked : Asked → (List ℕ → Option (List ℕ)) → (ℕ → Type 0) → Status → List ℕ → Type 0
 AnswersAsked (solves name turns) told gave status text = AnswersProblem (SolvesProblem turns) name (told name) gave status text
 AnswersAsked (prints name) told gave status text = AnswersProblem PrintsProblem name (told name) gave status text
 AnswersAsked (checks problem certificate) told gave status text =
-    AnswersProblem (ChecksProblem certificate (told certificate) gave) problem (told problem) gave status text
+    AnswersProblem (ChecksFile certificate (told certificate) gave) problem (told problem) gave status text
 AnswersAsked (decides name turns) told gave status text = AnswersFormula (DecidesFormula turns) name (told name) gave status text
 AnswersAsked (rewrites name) told gave status text = AnswersFormula RewritesFormula name (told name) gave status text
 

@@ -1,5 +1,5 @@
 -- What a run answers in which nothing failed, and where memory sufficed.
-use Rattle.std.specs.Prelude.{◌≡◌, ◌≤◌, ℕ, List, length, Option, Some, None, ℤ, IsTrue}
+use Rattle.std.specs.Prelude.{◌≡◌, ◌≤◌, ◌+◌, ⊤, ℕ, List, length, Option, Some, None, IfSome, ℤ, IsTrue}
 use Rattle.qc_model.specs.Content.{Game}
 use Rattle.qc_model.specs.Turns.{full_turns_of}
 use Rattle.qc_syntax.specs.Reads.{Reads}
@@ -12,7 +12,6 @@ use Rattle.proof_tree.specs.Tree.{Tree}
 use Rattle.qc_program.specs.declared.status.Status.{Status}
 use Rattle.qc_program.specs.declared.status.Status.TheVariants.{Done, Usage}
 use Rattle.qc_program.specs.Words.{Asked, solves, checks, prints, decides, rewrites}
-use Rattle.qc_program.specs.Refusals.{IsPlain}
 use Rattle.proof_tree.specs.Proves.{proves}
 use Rattle.qc_check.specs.Checking.{IsCertificate}
 
@@ -45,13 +44,23 @@ pub record TellsFormula (told : Option (List ℕ)) (f : File) : Type 0 where
 -- A problem is solved where the turns are as many as the whole game can take; a certificate that proves what it states is
 -- confirmed; a problem is printed. A formula is decided where the turns are as many as its game can take, or its game is printed.
 abbrev pub Completes : Asked → (List ℕ → Option (List ℕ)) → Status → Type 0
-Completes (solves name turns) told status = (g : Game) → TellsProblem (told name) g → IsPlain g → full_turns_of g ≤ turns → status ≡ Done
+Completes (solves name turns) told status = (g : Game) → TellsProblem (told name) g → full_turns_of g ≤ turns → status ≡ Done
 Completes (prints name) told status = (g : Game) → TellsProblem (told name) g → status ≡ Done
 Completes (checks problem certificate) told status =
-    (g : Game) → TellsProblem (told problem) g → IsPlain g → TellsProof (told certificate) g → status ≡ Done
+    (g : Game) → TellsProblem (told problem) g → TellsProof (told certificate) g → status ≡ Done
 Completes (decides name turns) told status = (f : File) → TellsFormula (told name) f → full_turns_of (game_of (formula_of f)) ≤ turns → status ≡ Done
 Completes (rewrites name) told status = (f : File) → TellsFormula (told name) f → status ≡ Done
 
 abbrev pub IsComplete : Option Asked → (List ℕ → Option (List ℕ)) → Status → Type 0
 IsComplete None told status = status ≡ Usage
 IsComplete (Some asked) told status = Completes asked told status
+
+-- Where memory may run out: words that match no command need none, and `check` needs none from the first byte of the
+-- certificate on. Before it, no more was given than the problem's file has.
+abbrev pub MayRunOut : Option Asked → (List ℕ → Option (List ℕ)) → ℕ → ℕ → Type 0
+MayRunOut None told before now = ⊥
+MayRunOut (Some (solves name turns)) told before now = ⊤
+MayRunOut (Some (prints name)) told before now = ⊤
+MayRunOut (Some (checks problem certificate)) told before now = IfSome (told problem) (λ bytes. now ≤ before + length bytes)
+MayRunOut (Some (decides name turns)) told before now = ⊤
+MayRunOut (Some (rewrites name)) told before now = ⊤

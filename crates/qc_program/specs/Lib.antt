@@ -3,6 +3,7 @@ pub mod Certifies
 pub mod Complete
 pub mod Edge
 pub mod Files
+pub mod Fed
 pub mod Formulas
 pub mod Refusals
 pub mod View

@@ -1,12 +1,10 @@
--- The lines that tell why a text is no problem, or none that is taken by now.
+-- The lines that tell why a text is no problem.
 use Rattle.std.specs.Prelude.{◌≡◌, ℕ, List, [], ◌++◌, codes, decimal}
-use Rattle.qc_model.specs.Content.{Game}
 use Rattle.qc_syntax.specs.declared.fault.Refused13.{Refused13}
 use Rattle.qc_syntax.specs.declared.fault.Refused13.TheVariants.{BadByte, BadNumber, Syntax, DuplicateName, UnknownName, UnknownPredicate, WrongArguments, OutOfRange, EmptyDomain, TooWide, TooMany, NotVisible, BottleneckFirst}
 use Rattle.qc_syntax.specs.declared.fault.ReadFault.{ReadFault}
 use Rattle.qc_syntax.specs.declared.fault.ReadFault.TheVariants.{Refused, Memory as Want}
 use Rattle.qc_syntax.specs.Reads.{Refuses}
-use Rattle.qc_rules.specs.Plain.{NoConditions}
 use Rattle.qc_program.specs.declared.status.Status.{Status}
 use Rattle.qc_program.specs.declared.status.Status.TheVariants.{BadProblem, Memory}
 
@@ -46,8 +44,3 @@ abbrev pub TurnsTextDown : List ℕ → Status → List ℕ → Type 0
 TurnsTextDown bytes BadProblem text = IsRefused bytes text
 TurnsTextDown bytes Memory text = text ≡ []
 TurnsTextDown bytes status text = ⊥
-
--- nothing is optimised: such problems are checked by now
-pub record IsPlain (g : Game) : Type 0 where
-  pub no_conditions : NoConditions g.scopes
-  pub no_aggregates : g.aggregates ≡ []

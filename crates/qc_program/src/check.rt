@@ -1,29 +1,26 @@
 //! `check`: whether a certificate proves what it states of a problem.
-ghost use Rattle.std.specs.Prelude.{◌≡◌, ◌≢◌, ◌≤◌, ◌++◌, ◌⊎◌, [], ℕ, List, codes, decimal, length};
+ghost use Rattle.std.specs.Prelude.{◌≡◌, ◌≢◌, ◌≤◌, ◌<◌, ◌+◌, ◌++◌, ◌⊎◌, [], ℕ, List, codes, decimal, length, IfSome};
 ghost use Rattle.qc_io.specs.Counts.{Rose, RoseBy};
 ghost use Rattle.proof_tree.specs.Text.{outcome_text};
 ghost use Rattle.qc_model.specs.Content.{Game};
-ghost use Rattle.qc_rules.specs.Plain.{NoConditions};
 ghost use Rattle.line_check.specs.Machine.{game_of, IsReady};
 ghost use Rattle.qc_check.specs.Checking.{Comes, IsChecking};
-ghost use Rattle.qc_program.specs.Refusals.{IsPlain};
-ghost use Rattle.qc_program.specs.Answers.{ChecksBytes, ChecksFile, ChecksProblem, AnswersProblem};
+ghost use Rattle.qc_program.specs.Answers.{ChecksBytes, ChecksFile, AnswersProblem};
 ghost use Rattle.qc_program.specs.Files.{Wrote};
 
-use crate::file::open_file;
+use crate::certificate::{Unread, feed_file};
 use crate::problem_file::open_problem;
-use crate::refuse::{is_plain, not_built};
 use crate::status::Status;
-use crate::writing::{finish, finish_parts};
+use crate::writing::{finish, finish_parts, too_long};
 use itoa::Buffer;
 use proof_tree::Outcome;
 use qc_check::{Checked, Checker};
 use qc_io::{Shelf, Sink};
 use qc_model::Problem;
-use std::alloc::{AllocError, Global};
+use std::alloc::Global;
 
-/// The most bytes of a certificate's text.
-const CERTIFICATE_LIMIT: u64 = 1_073_741_824;
+/// How many bytes of a certificate are asked for at once.
+const PIECE: usize = 65_536;
 
 /// Checks the certificate of one file against the problem of another.
 pub(crate) fn check_files<S: Shelf, K: Sink>(
@@ -34,9 +31,10 @@ pub(crate) fn check_files<S: Shelf, K: Sink>(
     out: &mut K,
 ) -> Status
     ensures wrote { Wrote (K.written out.old) (K.written out.new) (K.faults out.old) (K.faults out.new) result
-        (AnswersProblem (ChecksProblem certificate.now (S.told shelf.old certificate.now) (λ n. RoseBy n (S.given shelf.old) (S.given shelf.new)))
+        (AnswersProblem (ChecksFile certificate.now (S.told shelf.old certificate.now) (λ n. RoseBy n (S.given shelf.old) (S.given shelf.new)))
         problem.now (S.told shelf.old problem.now) (λ n. RoseBy n (S.given shelf.old) (S.given shelf.new))) }
     ensures usage { result ≢ Status.Usage }
+    ensures memory { result ≡ Status.Memory → IfSome (S.told shelf.old problem.now) (λ bytes. S.given shelf.new ≤ S.given shelf.old + length bytes) }
     ensures read_fault { result ≡ Status.ReadFault → Rose (S.faults shelf.old) (S.faults shelf.new) }
     ensures no_read_fault { result ≢ Status.ReadFault → S.faults shelf.new ≡ S.faults shelf.old }
 {
@@ -54,56 +52,44 @@ fn check_problem<S: Shelf, K: Sink>(
     out: &mut K,
 ) -> Status
     ensures wrote { Wrote (K.written out.old) (K.written out.new) (K.faults out.old) (K.faults out.new) result
-        (ChecksProblem certificate.now (S.told shelf.old certificate.now) (λ n. RoseBy n (S.given shelf.old) (S.given shelf.new)) problem.now) }
+        (ChecksFile certificate.now (S.told shelf.old certificate.now) (λ n. RoseBy n (S.given shelf.old) (S.given shelf.new)) problem.now) }
     ensures usage { result ≢ Status.Usage }
+    ensures memory { result ≡ Status.Memory → S.given shelf.new ≡ S.given shelf.old }
     ensures read_fault { result ≡ Status.ReadFault → Rose (S.faults shelf.old) (S.faults shelf.new) }
     ensures no_read_fault { result ≢ Status.ReadFault → S.faults shelf.new ≡ S.faults shelf.old }
 {
-    if is_plain(problem) {
-        check_plain(alloc, problem, certificate, shelf, out)
-    } else {
-        not_built(out)
-    }
+    let Ok(mut checker) = Checker::new(alloc, problem) else {
+        return Status::Memory;
+    };
+    let Ok(mut piece) = vec![in alloc; 0u8; PIECE] else {
+        return Status::Memory;
+    };
+    check_file(&mut checker, &mut piece, certificate, shelf, out)
 }
 
-fn check_plain<S: Shelf, K: Sink>(
-    alloc: Global,
-    problem: &Problem,
-    certificate: &str,
+// Whether the file has a certificate that proves what it states, by a checker that was given no byte yet. It takes no
+// memory.
+fn check_file<S: Shelf, K: Sink>(
+    checker: &mut Checker,
+    piece: &mut [u8],
+    name: &str,
     shelf: &mut S,
     out: &mut K,
 ) -> Status
-    requires { IsPlain problem.now }
-    ensures wrote { Wrote (K.written out.old) (K.written out.new) (K.faults out.old) (K.faults out.new) result
-        (ChecksFile problem.now certificate.now (S.told shelf.old certificate.now) (λ n. RoseBy n (S.given shelf.old) (S.given shelf.new))) }
-    ensures rows { (result ≢ Status.Usage) × (result ≢ Status.BadProblem) }
-    ensures read_fault { result ≡ Status.ReadFault → Rose (S.faults shelf.old) (S.faults shelf.new) }
-    ensures no_read_fault { result ≢ Status.ReadFault → S.faults shelf.new ≡ S.faults shelf.old }
-{
-    let mut checker = match Checker::new(alloc, problem) {
-        Ok(checker) => checker,
-        Err(AllocError) => return Status::Memory,
-    };
-    match open_file(alloc, certificate, CERTIFICATE_LIMIT, shelf, out) {
-        Ok(text) => check_bytes(&mut checker, &text, out),
-        Err(status) => status,
-    }
-}
-
-// Whether the bytes are a certificate that proves what it states, by a checker that was given none.
-fn check_bytes<K: Sink>(checker: &mut Checker, text: &[u8], out: &mut K) -> Status
-    requires plain { NoConditions (game_of checker.old.machine).scopes }
+    requires piece { 0 < length piece.old }
     requires ready { IsReady checker.old.machine }
     requires fresh { IsChecking checker.old [] }
     requires none { checker.old.read ≡ 0 }
-    requires few { length text.now ≤ 1073741824 }
     ensures wrote { Wrote (K.written out.old) (K.written out.new) (K.faults out.old) (K.faults out.new) result
-        (ChecksBytes (game_of checker.old.machine) text.now) }
-    ensures rows { (result ≢ Status.Usage) × (result ≢ Status.BadProblem) × (result ≢ Status.TooLong) × (result ≢ Status.ReadFault) }
+        (ChecksFile name.now (S.told shelf.old name.now) (λ n. RoseBy n (S.given shelf.old) (S.given shelf.new)) (game_of checker.old.machine)) }
+    ensures rows { (result ≢ Status.Usage) × (result ≢ Status.Memory) }
+    ensures read_fault { result ≡ Status.ReadFault → Rose (S.faults shelf.old) (S.faults shelf.new) }
+    ensures no_read_fault { result ≢ Status.ReadFault → S.faults shelf.new ≡ S.faults shelf.old }
 {
-    match checker.feed(text) {
+    match feed_file(shelf, name, piece, checker) {
         Ok(()) => tell(out, checker.finish()),
-        Err(AllocError) => Status::Memory,
+        Err(Unread::TooLong) => too_long(out, name),
+        Err(Unread::Fault) => Status::ReadFault,
     }
 }
 

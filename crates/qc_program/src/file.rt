@@ -1,5 +1,5 @@
 //! The bytes of a file, or the answer that tells why they can't be had.
-ghost use Rattle.std.specs.Prelude.{◌≡◌, ◌≢◌, ◌≤◌, Err, IfOk, IfErr, OnOk};
+ghost use Rattle.std.specs.Prelude.{◌≡◌, ◌≢◌, ◌≤◌, ◌+◌, length, Err, IfSome, IfOk, IfErr, OnOk};
 ghost use Rattle.qc_io.specs.Counts.{Rose, RoseBy};
 ghost use Rattle.qc_program.specs.Files.{IsFile, TurnsFileDown, Wrote};
 
@@ -28,6 +28,7 @@ pub(crate) fn open_file<S: Shelf, K: Sink>(
     ensures read_fault { result ≡ Err Status.ReadFault → Rose (S.faults shelf.old) (S.faults shelf.new) }
     ensures no_read_fault { result ≢ Err Status.ReadFault → S.faults shelf.new ≡ S.faults shelf.old }
     ensures given { OnOk result (RoseBy 0 (S.given shelf.old) (S.given shelf.new)) }
+    ensures few { IfSome (S.told shelf.old name.now) (λ bytes. S.given shelf.new ≤ S.given shelf.old + length bytes) }
     ensures stays { S.told shelf.new ≡ S.told shelf.old }
 {
     match read_all(alloc, shelf, name, limit) {

@@ -6,7 +6,7 @@ ghost use Rattle.qc_program.specs.Formulas.{AnswersFormula, DecidesFormula, Rewr
 
 use crate::formula_file::open_formula;
 use crate::print::write_problem;
-use crate::solve::solve_plain;
+use crate::solve::solve_problem;
 use crate::status::Status;
 use qc_io::{Shelf, Sink};
 use std::alloc::Global;
@@ -27,7 +27,7 @@ pub(crate) fn decide_file<S: Shelf, K: Sink>(
     ensures no_read_fault { result ≢ Status.ReadFault → S.faults shelf.new ≡ S.faults shelf.old }
 {
     match open_formula(alloc, name, shelf, out) {
-        Ok(problem) => solve_plain(alloc, &problem, turns, out),
+        Ok(problem) => solve_problem(alloc, &problem, turns, out),
         Err(status) => status,
     }
 }

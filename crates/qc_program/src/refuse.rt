@@ -1,13 +1,12 @@
-//! Problems that are turned down, and the lines that tell why.
-ghost use Rattle.std.specs.Prelude.{◌≡◌, ◌++◌, ◌⊎◌, ◌↔◌, codes, IsTrue};
-ghost use Rattle.qc_program.specs.Refusals.{kind_text, refusal_line, TurnsDown, IsPlain};
+//! Texts that are turned down, and the lines that tell why.
+ghost use Rattle.std.specs.Prelude.{◌≡◌, ◌++◌, ◌⊎◌, codes};
+ghost use Rattle.qc_program.specs.Refusals.{kind_text, refusal_line, TurnsDown};
 ghost use Rattle.qc_program.specs.Files.{Wrote};
 
 use crate::status::Status;
-use crate::writing::{finish, finish_parts};
+use crate::writing::finish_parts;
 use itoa::Buffer;
 use qc_io::Sink;
-use qc_model::Problem;
 use qc_syntax::{ReadFault, Refused13};
 
 /// Tells why the text is no problem; nothing is written where memory was refused.
@@ -55,20 +54,4 @@ fn front_of(kind: Refused13) -> &'static [u8]
         Refused13::NotVisible => b"bad problem: 12 NotVisible at ",
         Refused13::BottleneckFirst => b"bad problem: 14 BottleneckFirst at ",
     }
-}
-
-/// Whether nothing is optimised.
-pub(crate) fn is_plain(problem: &Problem) -> bool
-    ensures { IsTrue result ↔ IsPlain problem.now }
-{
-    qc_rules::has_no_condition(problem) && problem.aggregates() == 0
-}
-
-/// Tells that the problem isn't taken by now.
-pub(crate) fn not_built<K: Sink>(out: &mut K) -> Status
-    ensures wrote { Wrote (K.written out.old) (K.written out.new) (K.faults out.old) (K.faults out.new) result
-        (λ s t. (s ≡ Status.BadProblem) × (t ≡ codes "bad problem: not built\n")) }
-    ensures rows { (result ≡ Status.BadProblem) ⊎ (result ≡ Status.WriteFault) }
-{
-    finish(out, b"bad problem: not built\n", Status::BadProblem)
 }

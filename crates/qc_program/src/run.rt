@@ -1,11 +1,11 @@
 //! The top call: reads what the words name, and writes the answer.
-ghost use Rattle.std.specs.Prelude.{◌≡◌, ◌≢◌, map, IsSome, None};
+ghost use Rattle.std.specs.Prelude.{◌≡◌, ◌≢◌, map, None};
 ghost use Rattle.qc_io.specs.Counts.{NoneRose, Rose, RoseBy};
 ghost use Rattle.qc_io.specs.Memory.{sound_state, sound_told};
 ghost use Rattle.qc_program.specs.Words.{asked_of};
 ghost use Rattle.qc_program.specs.Answers.{Answers};
 ghost use Rattle.qc_program.specs.Files.{Wrote};
-ghost use Rattle.qc_program.specs.Complete.{IsComplete};
+ghost use Rattle.qc_program.specs.Complete.{IsComplete, MayRunOut};
 
 use crate::check::check_files;
 use crate::formula::{decide_file, rewrite_file};
@@ -33,7 +33,7 @@ pub fn run<S: Shelf, K: Sink>(alloc: Global, words: &[&str], shelf: &mut S, out:
         (Answers (asked_of (map (λ w. w.now) words.now)) (S.told shelf.old) (λ n. RoseBy n (S.given shelf.old) (S.given shelf.new))) }
 
     ensures usage { result ≡ Status.Usage → asked_of (map (λ w. w.now) words.now) ≡ None }
-    ensures memory { result ≡ Status.Memory → IsSome (asked_of (map (λ w. w.now) words.now)) }
+    ensures memory { result ≡ Status.Memory → MayRunOut (asked_of (map (λ w. w.now) words.now)) (S.told shelf.old) (S.given shelf.old) (S.given shelf.new) }
     ensures read_fault { result ≡ Status.ReadFault → Rose (S.faults shelf.old) (S.faults shelf.new) }
     ensures no_read_fault { result ≢ Status.ReadFault → S.faults shelf.new ≡ S.faults shelf.old }
 
@@ -50,7 +50,7 @@ fn answer<S: Shelf, K: Sink>(alloc: Global, words: &[&str], shelf: &mut S, out: 
     ensures wrote { Wrote (K.written out.old) (K.written out.new) (K.faults out.old) (K.faults out.new) result
         (Answers (asked_of (map (λ w. w.now) words.now)) (S.told shelf.old) (λ n. RoseBy n (S.given shelf.old) (S.given shelf.new))) }
     ensures usage { result ≡ Status.Usage → asked_of (map (λ w. w.now) words.now) ≡ None }
-    ensures memory { result ≡ Status.Memory → IsSome (asked_of (map (λ w. w.now) words.now)) }
+    ensures memory { result ≡ Status.Memory → MayRunOut (asked_of (map (λ w. w.now) words.now)) (S.told shelf.old) (S.given shelf.old) (S.given shelf.new) }
     ensures read_fault { result ≡ Status.ReadFault → Rose (S.faults shelf.old) (S.faults shelf.new) }
     ensures no_read_fault { result ≢ Status.ReadFault → S.faults shelf.new ≡ S.faults shelf.old }
 {

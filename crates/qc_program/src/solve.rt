@@ -4,13 +4,11 @@ ghost use Rattle.std.specs.List.{list_all};
 ghost use Rattle.qc_io.specs.Counts.{Rose, RoseBy};
 ghost use Rattle.proof_tree.specs.Text.{outcome_fits};
 ghost use Rattle.strategy_arena.specs.Certificate.{text_of_lines, line_fits};
-ghost use Rattle.qc_program.specs.Refusals.{IsPlain};
-ghost use Rattle.qc_program.specs.Answers.{AnswersProblem, SolvesProblem, SolvesPlain};
+ghost use Rattle.qc_program.specs.Answers.{AnswersProblem, SolvesProblem};
 ghost use Rattle.qc_program.specs.Certifies.{status_of};
 ghost use Rattle.qc_program.specs.Files.{Wrote};
 
 use crate::problem_file::open_problem;
-use crate::refuse::{is_plain, not_built};
 use crate::status::Status;
 use game_search::{Flat, solve_flat};
 use proof_tree::Outcome;
@@ -39,31 +37,17 @@ pub(crate) fn solve_file<S: Shelf, K: Sink>(
     }
 }
 
-fn solve_problem<K: Sink>(alloc: Global, problem: &Problem, turns: u64, out: &mut K) -> Status
-    requires turns { (1 ≤ turns) × (turns ≤ 10000000) }
-    ensures wrote { Wrote (K.written out.old) (K.written out.new) (K.faults out.old) (K.faults out.new) result (SolvesProblem turns problem.now) }
-    ensures rows { (result ≢ Status.Usage) × (result ≢ Status.ReadFault) }
-{
-    if is_plain(problem) {
-        solve_plain(alloc, problem, turns, out)
-    } else {
-        not_built(out)
-    }
-}
-
-/// Solves a problem in which nothing is optimised.
-pub(crate) fn solve_plain<K: Sink>(
+/// Solves a problem within so many turns.
+pub(crate) fn solve_problem<K: Sink>(
     alloc: Global,
     problem: &Problem,
     turns: u64,
     out: &mut K,
 ) -> Status
-    requires plain { IsPlain problem.now }
     requires turns { (1 ≤ turns) × (turns ≤ 10000000) }
-    ensures wrote { Wrote (K.written out.old) (K.written out.new) (K.faults out.old) (K.faults out.new) result (SolvesPlain turns problem.now) }
+    ensures wrote { Wrote (K.written out.old) (K.written out.new) (K.faults out.old) (K.faults out.new) result (SolvesProblem turns problem.now) }
     ensures rows { (result ≢ Status.Usage) × (result ≢ Status.BadProblem) × (result ≢ Status.ReadFault) }
 {
-    problem.known();
     match solve_flat(alloc, problem, turns) {
         Ok(flat) => write_flat(&flat, out),
         Err(AllocError) => Status::Memory,

@@ -1,6 +1,7 @@
 //! Worked runs over a shelf and a sink in memory.
 mod examples;
 mod formulas;
+mod optima;
 mod refusals;
 mod table;
 
@@ -103,50 +104,15 @@ fn games_are_answered(rt: HostRuntime) -> Result<(), Fail> {
     Ok(())
 }
 
-const PRICES: &[u8] = b"exists maximize total;
-var 0..10: t1; var 0..10: t2; var 0..10: t3;
-forall;
-var 1..3: k;
-aggregate total = sum(income);
-exists minimize cost;
-var 1..4: a; var 1..12: i; var 0..20: base; var 0..10: toll;
-var 0..30: cost; var 1..3: dem; var 0..30: income;
-constraint int_lin_eq([4,1,-1],[k,a,i],4);
-constraint array_int_element(i,[3,6,20,10,6,3,20,9,20,4,5,7],base);
-constraint array_var_int_element(a,[t1,t2,t3,0],toll);
-constraint int_plus(base,toll,cost);
-constraint array_int_element(k,[2,1,3],dem);
-constraint int_times(dem,toll,income);
-goal;
-solve;
-";
-
-// A condition, and an aggregate, aren't taken by now.
-#[test]
-fn problems_that_are_not_taken_are_told(rt: HostRuntime) -> Result<(), Fail> {
-    let rows: [&[u8]; 2] = [
-        PRICES,
-        b"forall; var 0..1: t; aggregate g = sum(t); goal; solve;",
-    ];
-    for text in rows {
-        let (answer, sink) = answered(rt.alloc(), "solve", text)?;
-        assert_eq!(rt; answer, Status::BadProblem, "at {text:?}");
-        assert!(rt; sink.bytes() == b"bad problem: not built\n".as_slice());
-        assert_eq!(rt; answered(rt.alloc(), "print", text)?.0, Status::Done);
-    }
-    Ok(())
-}
-
 const ODD: &[u8] =
     b"forall; var bool: a; var bool: b; exists; var bool: c; goal; constraint bool_xor(a,b,c); solve;";
 
-// Five turns, then what is open; twelve are enough. The whole game has 24.
+// Five turns, then what is open; six are enough, since the last value follows. The whole game has 24.
 #[test]
 fn budgets_are_kept(rt: HostRuntime) -> Result<(), Fail> {
-    let rows: [(&str, Status, &[u8], &[u8]); 3] = [
+    let rows: [(&str, Status, &[u8], &[u8]); 2] = [
         ("5", Status::Open, b"qcert 2\nopen 5\n", b"yes open 5\n"),
-        ("11", Status::Open, b"qcert 2\nopen 11\n", b"yes open 11\n"),
-        ("12", Status::Done, b"qcert 2\ntrue\n", b"yes true\n"),
+        ("6", Status::Done, b"qcert 2\ntrue\n", b"yes true\n"),
     ];
     let alloc = rt.alloc();
     for (turns, status, front, yes) in rows {

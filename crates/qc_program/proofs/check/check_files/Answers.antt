@@ -1,6 +1,6 @@
 use Rattle.std.proofs.Common.{◌≡◌, inl, inr, subst}
 use Rattle.qc_io.specs.Counts.{RoseBy}
-use Rattle.qc_program.specs.Answers.{ChecksProblem}
+use Rattle.qc_program.specs.Answers.{ChecksFile}
 use Rattle.qc_program.proofs.Down.{rose_after, checks_before}
 use Rattle.qc_program.proofs.Written.{Wrote-weaker, wrote_from}
 use Rattle.qc_program.proofs.check.check_files.Goals as goal
@@ -19,7 +19,7 @@ returns-in-Ok-clause-wrote g c =
       c.in-Ok.problem,
       c.in-Ok.ensures.problem,
       checks_before name (told name) (λ n. RoseBy n mid new) (λ n. RoseBy n old new) c.in-Ok.problem (λ n k. rose_after 0 n old mid new c.in-Ok.ensures.given k) s t
-          (subst (λ q. ChecksProblem name (q name) (λ n. RoseBy n mid new) c.in-Ok.problem s t) stays h),
+          (subst (λ q. ChecksFile name (q name) (λ n. RoseBy n mid new) c.in-Ok.problem s t) stays h),
     ))
     c.check_problem.ensures.wrote)
 

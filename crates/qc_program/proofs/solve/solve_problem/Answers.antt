@@ -1,6 +1,6 @@
 use Rattle.qc_program.proofs.Written.{Wrote-weaker}
 use Rattle.qc_program.proofs.Certified.{solved}
-use Rattle.qc_program.proofs.solve.solve_plain.Goals as goal
+use Rattle.qc_program.proofs.solve.solve_problem.Goals as goal
 
 pub returns-in-Ok-clause-wrote : goal.returns-in-Ok-clause-wrote
 returns-in-Ok-clause-wrote g c =
