@@ -18,10 +18,10 @@ found; `--alone` looks at that without the program.
 --turns N   a budget for `solve`, which may then answer open
 --stepless  the program answers `no` to certificates with steps, horizons or taken ranges, even where they prove
 --diligent  the program propagates, so that its certificates are diligent (promises.py)
+--incumbents  it bounds by what it has found, so that no value is left that is worse
 --jobs J    plays in J processes; the seed and a game's number say what is played, whichever process plays it
 
-A problem that the program answers with `not built` is counted apart where it has a condition or an aggregate, and so is
-a budget that the program doesn't know.
+A budget that the program doesn't know is counted apart.
 """
 import argparse
 import multiprocessing
@@ -42,8 +42,6 @@ from reader import SIGNATURES
 from rows import CHECKED, PROMISED, REFUSED, SOLVED, TURNS
 
 PROGRAM = "crates/qc_program/out/qc_program"
-NOT_BUILT = (b"bad problem: not built\n", 4)
-MOST_TURNS = 10_000_000
 USUAL_TURNS = 1_000_000
 MOST_TUPLES = 1_500
 SAMPLES = 12
@@ -362,8 +360,6 @@ class Player:
         kind = self.outcome.split()[0] + (" with an optimum" if " " in self.outcome else "")
         self.met[f"games: {kind}"] += 1
         certificates = [] if self.options.alone else self.solved()
-        if certificates is None:
-            return
         certificates += [self.whole(steps) for steps in (0.5, 0.0)]
         certificates += [self.woven(self.game, steps) for steps in (0.7, 0.5, 0.1)]
         certificates += [damaged(self.random, self.random.choice(certificates)) for _ in range(6)]
@@ -381,11 +377,8 @@ class Player:
         return certificate.text()
 
     def solved(self):
-        """The certificate that the program writes, alone in a list; None where the program doesn't take the game."""
+        """The certificate that the program writes, alone in a list; none where it doesn't know the budget."""
         written, status = self.run("solve", self.game.text)
-        if (written, status) == NOT_BUILT and (not self.game.is_plain() or self.game.full_turns() > MOST_TURNS):
-            self.met["solve: not built"] += 1
-            return None
         if self.options.turns and status == 3:
             self.met["solve: a budget isn't known"] += 1
             return []
@@ -407,6 +400,7 @@ class Player:
         if not is_open and head != self.outcome:
             self.differs("solve: another outcome", written, head, self.outcome)
         broken = proof.disorder | (proof.idle if self.options.diligent else set())
+        broken |= proof.slack if self.options.incumbents else set()
         if broken:
             self.differs("solve: a promise is broken", written, sorted(broken), "none")
         if proof.turns > budget or status != (2 if is_open else 0) or certificate.version != 2:
@@ -424,9 +418,7 @@ class Player:
         self.met["check: " + wanted[0].decode().split(" at ")[0].rstrip("-0123456789 \n")] += 1
         if not self.options.alone:
             written = self.run("check", self.game.text, certificate)
-            if written == NOT_BUILT and not self.game.is_plain():
-                self.met["check: not built"] += 1
-            elif written != wanted:
+            if written != wanted:
                 self.differs("check", certificate, written, wanted)
 
 
@@ -467,7 +459,7 @@ def self_test():
         failed += told((text, certificate), line, wanted)
     for text, certificate, wanted in PROMISED:
         proof = Promises(Game(text.encode()), Text(certificate.encode()).certificate().lines)
-        failed += told((text, certificate), sorted(proof.disorder | proof.idle), wanted)
+        failed += told((text, certificate), sorted(proof.disorder | proof.idle | proof.slack), wanted)
     for text, wanted in REFUSED:
         failed += told(text[:60], reader.answer(text.encode()).decode().strip(), wanted)
     chance = random.Random(1)
@@ -491,7 +483,7 @@ def options_of(words):
     parser.add_argument("--program", default=PROGRAM)
     parser.add_argument("--turns", type=int)
     parser.add_argument("--jobs", type=int, default=1)
-    for flag in ("--plain", "--stepless", "--diligent", "--alone", "--self-test"):
+    for flag in ("--plain", "--stepless", "--diligent", "--incumbents", "--alone", "--self-test"):
         parser.add_argument(flag, action="store_true")
     return parser.parse_args(words)
 

@@ -34,10 +34,10 @@ def closed_within(game, box, constraints):
 
 
 class Promises(Proof):
-    """`broken` tells which promises aren't kept: sentences on order, and those on diligence."""
+    """Which promises aren't kept: sentences on order, on diligence, and on values that a bound would take."""
 
     def __init__(self, game, lines):
-        self.disorder, self.idle = set(), set()
+        self.disorder, self.idle, self.slack = set(), set(), set()
         self.last_leaves = None
         super().__init__(game, lines)
 
@@ -66,7 +66,7 @@ class Promises(Proof):
             return
         found = [vector[0] for what, vector in leaves if what == "exact"]
         if any(better(sense, value, other) for value in found for other in box[target.var]):
-            self.idle.add("a value is left that is worse than what was found")
+            self.slack.add("a value is left that is worse than what was found")
 
     def at_case(self, i, covered, leaves):
         letter = self.next()
