@@ -8,7 +8,7 @@ use Rattle.qc_model.specs.Content.{Game}
 use Rattle.qc_model.specs.Domains.{Box, has_empty, is_single, values_left}
 use Rattle.qc_model.specs.Game.{before}
 use Rattle.qc_model.proofs.Before.{before_up}
-use Rattle.qc_rules.proofs.Reaching.{still_single}
+use Rattle.qc_rules.proofs.Singles.{still_single}
 use Rattle.qc_model.specs.Verdict.{Seen}
 use Rattle.proof_tree.specs.Cover.{box_to}
 use Rattle.proof_tree.specs.Lines.{upto_lines}

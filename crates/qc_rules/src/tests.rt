@@ -1,5 +1,5 @@
 //! One game, worked through by hand.
-use crate::{Board, Levels};
+use crate::Levels;
 use qc_arguments::Span;
 use qc_model::{
     Arg, Argument, Constraint, Domain, Draft, Kind, Name, Pred, Problem, Scope, ScopeId, VarId,
@@ -81,21 +81,5 @@ fn spans_between_scopes(rt: HostRuntime) -> Result<(), Fail> {
     assert!(rt; levels.constraints_between(ScopeId(0), ScopeId(1)) == Span { first: 0, end: 2 });
     assert!(rt; levels.constraints_between(ScopeId(1), ScopeId(3)) == Span { first: 1, end: 5 });
     assert!(rt; levels.goal_rules.len() == 2);
-    Ok(())
-}
-
-#[test]
-fn a_value_chosen_and_given_back(rt: HostRuntime) -> Result<(), Fail> {
-    let problem = game(rt.alloc())?.ok_or("no game")?;
-    let mut board = Board::new(rt.alloc(), &problem)?;
-    assert!(rt; board.count() == 3);
-    assert!(rt; !board.is_fixed(VarId(0)));
-    board.fix(VarId(0), 1);
-    assert!(rt; board.is_fixed(VarId(0)));
-    assert!(rt; !board.are_fixed(0, 2));
-    assert!(rt; board.are_fixed(0, 1));
-    assert!(rt; board.values_to(1).first() == Some(&1));
-    board.free(VarId(0));
-    assert!(rt; !board.is_fixed(VarId(0)));
     Ok(())
 }

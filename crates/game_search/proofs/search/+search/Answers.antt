@@ -5,7 +5,7 @@ use Rattle.qc_model.specs.Content.{Game}
 use Rattle.qc_model.specs.Domains.{Box, declared_box, has_empty, has_value, is_ascending, values_left}
 use Rattle.qc_model.specs.Game.{before}
 use Rattle.qc_model.specs.Valid.{is_number}
-use Rattle.qc_rules.proofs.BoardLaws.{passed}
+use Rattle.qc_rules.proofs.Numbers.{passed}
 use Rattle.qc_arguments.specs.Asked.{is_box_of}
 use Rattle.qc_arguments.proofs.Boxes.{sub_ascending, left_small}
 use Rattle.fd_store.specs.Held.{Held, values_from}
