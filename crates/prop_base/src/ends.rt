@@ -2,7 +2,7 @@
 //!
 //! An end of a variable is tried by the refuter. Where it is refuted, it goes with the widest range from there that is
 //! refuted as a whole, so an end that moves by n values takes some 2 log n questions and one step.
-ghost use Rattle.std.specs.Prelude.{◌≡◌, ◌<◌, length, IsTrue, IfNone, IfSome, IfOk, slice_get, Some};
+ghost use Rattle.std.specs.Prelude.{◌≡◌, ◌<◌, length, IsTrue, IfNone, IfSome, IfOk, slice_get, Some, ⊤};
 ghost use Rattle.std.specs.List.{list_all};
 ghost use Rattle.qc_model.specs.Valid.{arg_sees, argument_sees};
 ghost use Rattle.qc_arguments.specs.Asked.{IsAsked};
@@ -11,9 +11,9 @@ ghost use Rattle.prop_base.specs.Pruning.{IsPruning, IsFiltered, is_just};
 
 use crate::answer::Filtered;
 use crate::cuts::Cut;
+use crate::cutting::{Cutter, filter_by_cuts};
 use crate::ranges::widest;
 use crate::refuting::Refuter;
-use crate::removal::prune;
 use fd_store::Store;
 use proof_tree::StepList;
 use qc_arguments::{arguments, width};
@@ -133,6 +133,19 @@ fn find_cut<R: Refuter>(
     None
 }
 
+// The cuts that a refuter finds.
+struct Ends<'r, R> {
+    refuter: &'r R,
+}
+
+impl<'r, R: Refuter> Cutter for Ends<'r, R> {
+    ghost serves = { λ ends rule. ⊤ };
+
+    fn next_cut(&self, problem: &Problem, rule: &Constraint, store: &Store) -> Option<Cut> {
+        find_cut(self.refuter, problem, rule, store)
+    }
+}
+
 /// Removes ranges as the constraint c refutes them, until a domain is empty or the constraint refutes the box with none
 /// of its variables at its least or greatest value.
 pub fn filter_by_ends<R: Refuter>(
@@ -148,16 +161,6 @@ pub fn filter_by_ends<R: Refuter>(
     ensures pruning { IsPruning (is_just c.0) problem.now store.old store.new steps.old steps.new }
     ensures answer { IfOk result (λ f. IsFiltered f rule.now store.new.box steps.old steps.new) }
 {
-    let mut changed = false;
-    while let Some(cut) = find_cut(refuter, problem, rule, store) {
-        if prune(problem, c, rule, cut, store, steps)? {
-            return Ok(Filtered::Emptied);
-        }
-        changed = true;
-    }
-    if changed {
-        Ok(Filtered::Changed)
-    } else {
-        Ok(Filtered::Stable)
-    }
+    let ends = Ends { refuter };
+    filter_by_cuts(&ends, problem, c, rule, store, steps)
 }

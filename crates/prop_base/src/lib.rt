@@ -1,14 +1,17 @@
-//! What all filters share: one removal with its step, and the filter that goes end by end.
+//! What all filters share: one removal with its step, the loop that takes cuts until there is none, and the filter that
+//! goes end by end.
 //!
 //! A filter removes values that a constraint refutes, and writes a step for each removal. `prune` does one removal; every
-//! filter goes through it. `filter_by_ends` serves any predicate: it tries the least and the greatest value of each
-//! variable of the constraint by a refuter, and removes those that are refuted, each with as many values beside it as are
-//! refuted as one range, until none is. Faster filters take its place one by one; their contract is the same. Where they
-//! find that a constraint refutes the whole box, `empty_first` takes all values of one variable.
+//! filter goes through it. `filter_by_cuts` takes what a `Cutter` finds, one cut after another. `filter_by_ends` does so for
+//! any predicate: it tries the least and the greatest value of each variable of the constraint by a refuter, and removes
+//! those that are refuted, each with as many values beside it as are refuted as one range, until none is. Faster filters
+//! take its place one by one; their contract is the same. Where they find that a constraint refutes the whole box,
+//! `empty_first` takes all values of one variable.
 #![tactic(auto)]
 
 mod answer;
 mod cuts;
+mod cutting;
 mod emptying;
 mod ends;
 mod ranges;
@@ -17,6 +20,7 @@ mod removal;
 
 pub use answer::Filtered;
 pub use cuts::Cut;
+pub use cutting::{Cutter, filter_by_cuts};
 pub use emptying::{empty_first, first_variable};
 pub use ends::filter_by_ends;
 pub use refuting::Refuter;

@@ -6,10 +6,9 @@ ghost use Rattle.qc_arguments.specs.Asked.{IsAsked};
 ghost use Rattle.prop_base.specs.Pruning.{IsPruning, IsFiltered, is_just};
 
 use crate::forms::form_of;
-use crate::settling::settle;
 use fd_store::Store;
 use proof_tree::StepList;
-use prop_base::{Filtered, filter_by_ends};
+use prop_base::{Filtered, filter_by_cuts, filter_by_ends};
 use prop_compare::{Table, filter_telling};
 use prop_different::filter_different;
 use qc_model::{ConId, Constraint, Pred, Problem};
@@ -65,7 +64,7 @@ fn filter_rule(
     ensures answer { IfOk result (λ f. IsFiltered f rule.now store.new.box steps.old steps.new) }
 {
     match form_of(rule) {
-        Some(form) => settle(form, problem, c, rule, store, steps),
+        Some(form) => filter_by_cuts(&form, problem, c, rule, store, steps),
         None => filter_other(problem, c, rule, store, steps),
     }
 }

@@ -1,7 +1,7 @@
 use Rattle.std.proofs.Common.{◌≡◌, ◌<◌, length, true, false}
 use Rattle.qc_model.specs.Domains.{has_empty, declared_box, is_sub_box}
 use Rattle.prop_base.specs.Pruning.{IsPruning, is_just, total}
-use Rattle.prop_base.proofs.ends.filter_by_ends.Given as goal
+use Rattle.prop_base.proofs.cutting.filter_by_cuts.Given as goal
 
 abbrev pub invariant-loop-cut : goal.invariant-loop-cut
 invariant-loop-cut g l = record {

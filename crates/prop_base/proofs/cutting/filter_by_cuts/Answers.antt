@@ -2,18 +2,18 @@ use Rattle.std.proofs.Common.{◌≡◌, ◌∙◌, ◌<◌, ◌+◌, sym, ap, l
 use Rattle.qc_model.specs.Domains.{declared_box}
 use Rattle.prop_base.specs.Pruning.{is_just}
 use Rattle.prop_base.proofs.Steps.{pruning_more, pruning_sub, pruning_step}
-use Rattle.prop_element.proofs.settling.settle.Goals as goal
+use Rattle.prop_base.proofs.cutting.filter_by_cuts.Goals as goal
 
 pub returns-in_err-prune-clause-pruning : goal.returns-in_err-prune-clause-pruning
-returns-in_err-prune-clause-pruning c =
+returns-in_err-prune-clause-pruning g c =
     pruning_more (is_just c.args.c.0) c.args.problem.now _ _ _ _ _ _ c.loop-cut.invariant.pruning c.prune.ensures.pruning
 
 pub returns-then-branch-clause-pruning : goal.returns-then-branch-clause-pruning
-returns-then-branch-clause-pruning c =
+returns-then-branch-clause-pruning g c =
     pruning_more (is_just c.args.c.0) c.args.problem.now _ _ _ _ _ _ c.loop-cut.invariant.pruning c.prune.ensures.pruning
 
 pub loop-cut-smaller : goal.loop-cut-smaller
-loop-cut-smaller c = pruning_step (is_just c.args.c.0) c.args.problem.now _ _ _ _ c.prune.ensures.pruning c.in_ok-prune.ensures.grown
+loop-cut-smaller g c = pruning_step (is_just c.args.c.0) c.args.problem.now _ _ _ _ c.prune.ensures.pruning c.in_ok-prune.ensures.grown
 
 -- steps were appended before, or none
 longer : (b : Bool) (n m k : ℕ) → (b ≡ false → m ≡ n) → (b ≡ true → n < m) → k ≡ m + 1 → n < k
@@ -21,7 +21,7 @@ longer true n m k p q h = omega (arith, q refl)
 longer false n m k p q h = omega (arith, p refl)
 
 pub loop-cut-preserved : goal.loop-cut-preserved
-loop-cut-preserved c =
+loop-cut-preserved g c =
     let i = c.loop-cut.invariant in
     record {
       pruning = pruning_more (is_just c.args.c.0) c.args.problem.now _ _ _ _ _ _ i.pruning c.prune.ensures.pruning;
@@ -32,12 +32,12 @@ loop-cut-preserved c =
     }
 
 pub returns-then-changed-clause-answer : goal.returns-then-changed-clause-answer
-returns-then-changed-clause-answer c =
+returns-then-changed-clause-answer g c =
     let i = c.loop-cut.invariant in
     let grown = i.grown c.if-changed.true in
     (i.full, λ e. omega (arith, grown, ap length e), c.in_default.ensures.none)
 
 pub returns-else-changed-clause-answer : goal.returns-else-changed-clause-answer
-returns-else-changed-clause-answer c =
+returns-else-changed-clause-answer g c =
     let i = c.loop-cut.invariant in
     (i.full, i.same c.if-changed.false, c.in_default.ensures.none)
