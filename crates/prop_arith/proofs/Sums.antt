@@ -28,8 +28,8 @@ use Rattle.qc_refuter.specs.Met.{lefts, is_open, are_met}
 use Rattle.qc_refuter.proofs.Ready.{rule_met}
 use Rattle.prop_base.specs.Closed.{keeps_arg, keeps_argument}
 use Rattle.prop_base.proofs.Keeps.{keeps_all}
-use Rattle.prop_linear.specs.Sides.{IsBalanced, AreOwn}
-use Rattle.prop_linear.specs.Tightening.{term_of}
+use Rattle.prop_linear.specs.Sides.{IsBalanced}
+use Rattle.prop_linear.specs.Tightening.{AreOwn, term_of}
 use Rattle.prop_linear.proofs.Sides.{opposite_times}
 use Rattle.prop_linear.proofs.Spread.{low_of, high_of}
 
@@ -84,8 +84,8 @@ plus_open g c box d a e =
     let P : List Argument → Type 0 = λ args. are_met box args ≡ true → list_all (is_open box) (three args) ≡ true in
     subst P (sym s.is) (λ k. k) (rule_met g box d a.declared a.full c a.rule)
 
-plus_own : (xs : List Variable) (c : Rule) → is_constraint xs c ≡ true → c.pred ≡ IntPlus → AreOwn c (three c.args)
-plus_own xs c h e = λ box k.
+plus_own : (xs : List Variable) (c : Rule) → is_constraint xs c ≡ true → c.pred ≡ IntPlus → (start : Box) → AreOwn c start (three c.args)
+plus_own xs c h e start = λ box _ _ k.
     let s = plus_shape xs c h e in
     let P : List Argument → Type 0 = λ args. list_all (keeps_arg c box) (three args) ≡ true → list_all (keeps_argument c box) args ≡ true in
     keeps_all c box (subst P (sym s.is) (λ m. m) k)
@@ -167,9 +167,9 @@ plus_misses d e f =
     (same_over (greatest_value d) (greatest_value e) (least_value f) (term_of (pos 1) d).to (term_of (pos 1) e).to (term_of (negsuc 0) f).to (one_high d) (one_high e) (less_high f))
     (same_under (least_value d) (least_value e) (greatest_value f) (term_of (pos 1) d).from (term_of (pos 1) e).from (term_of (negsuc 0) f).from (one_low d) (one_low e) (less_low f))
 
-pub plus_balanced : (xs : List Variable) (c : Rule) → is_constraint xs c ≡ true → c.pred ≡ IntPlus → IsBalanced c signs (three c.args) (pos 0)
-plus_balanced xs c h e = record {
-  refuted = λ box.
+pub plus_balanced : (xs : List Variable) (c : Rule) → is_constraint xs c ≡ true → c.pred ≡ IntPlus → (start : Box) → IsBalanced c start signs (three c.args) (pos 0)
+plus_balanced xs c h e start = record {
+  refuted = λ box _.
       let l = lefts box c.args in
       let d = left_to box (arg_at c.args 0) in
       let f = left_to box (arg_at c.args 1) in
@@ -178,7 +178,7 @@ plus_balanced xs c h e = record {
       ∙ (ap (λ v. ranges_miss (range_sum (span v) (range_at l 1)) (range_at l 2)) (left_written box c.args 0)
       ∙ (ap (λ v. ranges_miss (range_sum (span d) (span v)) (range_at l 2)) (left_written box c.args 1)
       ∙ (ap (λ v. ranges_miss (range_sum (span d) (span f)) (span v)) (left_written box c.args 2) ∙ plus_misses d f k)));
-  own = plus_own xs c h e;
+  own = plus_own xs c h e start;
 }
 
 pub row : (a b c d e f : Arg) → a ≡ d → b ≡ e → c ≡ f → (a ∷ b ∷ c ∷ []) ≡ (d ∷ e ∷ f ∷ [])

@@ -1,5 +1,5 @@
 -- Steps that are legal at their moment.
-use Rattle.std.specs.Prelude.{◌≡◌, ◌≢◌, ◌+◌, ◌==◌, ℕ, Bool, true, false, ◌&&◌, Option, Some, None, List, [], ◌∷◌, ◌++◌, length, slice_get, IsTrue, IsFalse}
+use Rattle.std.specs.Prelude.{◌≡◌, ◌≢◌, ◌+◌, ◌==◌, ℕ, Bool, true, false, ◌&&◌, Option, Some, None, List, [], ◌∷◌, ◌++◌, length, slice_get, IsTrue, IsFalse, ⊤}
 use Rattle.qc_model.specs.Content.{Game, Rule}
 use Rattle.qc_model.specs.Closed.{keeps_ends}
 use Rattle.qc_model.specs.Domains.{Box, box_within, has_empty}
@@ -44,6 +44,12 @@ is_just c k = k == c
 abbrev pub total : Box → ℕ
 total [] = 0
 total (vs ∷ box) = length vs + total box
+
+-- a domain is empty, or nothing was removed
+abbrev pub IsAllOrNone : Filtered → Type 0
+IsAllOrNone Emptied = ⊤
+IsAllOrNone Stable = ⊤
+IsAllOrNone Changed = ⊥
 
 -- what a filter answers, by the box that it leaves and the steps before and after
 abbrev pub IsFiltered : Filtered → Rule → Box → List Step → List Step → Type 0

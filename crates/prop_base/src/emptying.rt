@@ -6,7 +6,7 @@ ghost use Rattle.qc_model.specs.Arguments.{arg_variables, argument_variables, va
 ghost use Rattle.qc_model.specs.Refuted.{refuted_by};
 ghost use Rattle.qc_model.specs.Valid.{arg_sees, argument_sees};
 ghost use Rattle.qc_arguments.specs.Asked.{IsAsked};
-ghost use Rattle.prop_base.specs.Pruning.{IsPruning, IsFiltered, is_just};
+ghost use Rattle.prop_base.specs.Pruning.{IsPruning, IsFiltered, IsAllOrNone, is_just};
 
 use crate::answer::Filtered;
 use crate::cuts::Cut;
@@ -72,6 +72,7 @@ pub fn empty_first(
     requires refuted { IsTrue (refuted_by rule.now store.old.box) }
     ensures pruning { IsPruning (is_just c.0) problem.now store.old store.new steps.old steps.new }
     ensures answer { IfOk result (λ f. IsFiltered f rule.now store.new.box steps.old steps.new) }
+    ensures whole { IfOk result IsAllOrNone }
 {
     problem.known();
     let Some(x) = first_variable(problem, rule) else {

@@ -33,4 +33,5 @@ pub use filtering::filter_comparison;
 pub use reading::{greatest, has, is_fixed, least, next_of, previous_of};
 pub use reified::filter_reified;
 pub use table::Table;
+pub use truths::what_is_told;
 pub use untold::filter_telling;

@@ -1,11 +1,14 @@
 //! Truth values of the argument that tells.
-ghost use Rattle.std.specs.Prelude.{◌≡◌, IsTrue, IsFalse, IfNone, IfSome};
+ghost use Rattle.std.specs.Prelude.{◌≡◌, [], ◌∷◌, IsTrue, IsFalse, IfNone, IfSome};
+ghost use Rattle.std.specs.List.{list_all};
 ghost use Rattle.qc_model.specs.declared.problem.Arg.TheVariants.{Var};
 ghost use Rattle.qc_model.specs.Domains.{is_single, values_left};
 ghost use Rattle.qc_model.specs.Refuted.{left_to};
+ghost use Rattle.qc_model.specs.Valid.{is_truth};
 ghost use Rattle.qc_refuter.specs.Met.{is_open};
 ghost use Rattle.prop_compare.specs.Telling.{truth_of};
 
+use crate::reading::{is_fixed, least};
 use fd_store::Store;
 use prop_base::Cut;
 use qc_model::{Arg, VarId};
@@ -20,6 +23,19 @@ pub(crate) fn loose(r: Arg, store: &Store) -> Option<VarId>
     match r {
         Arg::Num(_) => None,
         Arg::Var(x) => { if store.is_fixed(x) { None } else { Some(x) } }
+    }
+}
+
+/// What an argument with truth values tells, once one is left.
+pub fn what_is_told(r: Arg, store: &Store) -> Option<bool>
+    requires open { IsTrue (is_open store.now.box r) }
+    requires truths { IsTrue (list_all is_truth (left_to store.now.box r)) }
+    ensures { IfSome result (λ t. left_to store.now.box r ≡ truth_of t ∷ []) }
+{
+    if is_fixed(r, store) {
+        Some(least(r, store) > 0)
+    } else {
+        None
     }
 }
 

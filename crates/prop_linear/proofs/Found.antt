@@ -32,7 +32,7 @@ pub open_there : (g : Game) (c : Rule) (box : Box) (items : List Arg) (k : ℕ) 
     is_domain_left (values_left box x.0) ≡ true
 open_there g c box items k x e d a s l q = var_open g box d a.declared a.full x.0 (declared_below g.variables c.owner.0 x.0 (seen_at g c items k x e s l q))
 
-pub cut_of : (c : Rule) (ns : List ℤ) (xs : List Arg) (s : ℕ) (box : Box) (k : ℕ) (x : VarId) (cut : Cut) (e : Arg) → IsPast c ns xs (least_sum ns xs box +ℤ pos s) → has_repeat xs ≡ false → k < length ns → k < length xs →
+pub cut_of : (c : Rule) (ns : List ℤ) (xs : List Arg) (s : ℕ) (box : Box) (k : ℕ) (x : VarId) (cut : Cut) (e : Arg) → IsPast c box ns xs (least_sum ns xs box +ℤ pos s) → has_repeat xs ≡ false → k < length ns → k < length xs →
     get_or xs k e ≡ Var x → x.0 < length box → cut.x ≡ x → IsTightening (get_or ns k (pos 0)) s (values_left box x.0) cut.lo cut.hi → IsCut c box cut
 cut_of c ns xs s box k x cut e b r l h q m f t =
     let P : VarId → Type 0 = λ y. IsCut c box (record { x = y; lo = cut.lo; hi = cut.hi }) in

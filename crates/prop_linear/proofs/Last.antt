@@ -28,8 +28,9 @@ use Rattle.qc_refuter.proofs.Terms.{open_at}
 use Rattle.prop_base.specs.Closed.{IsCut, keeps_arg}
 use Rattle.prop_base.proofs.Keeps.{within_one, stays}
 use Rattle.qc_arguments.specs.Repeats.{same_variable, has_repeat}
-use Rattle.prop_linear.specs.Tightening.{term_of, least_sum}
+use Rattle.prop_linear.specs.Tightening.{AlikeOutside, term_of, least_sum}
 use Rattle.prop_linear.specs.Unequal.{is_loose, loose_at, IsUnequal, IsHit}
+use Rattle.prop_linear.proofs.Alike.{alike_more, alike_at}
 use Rattle.prop_linear.proofs.Hits.{one_hit}
 use Rattle.prop_linear.proofs.Loose.{two_apart, loose_apart, sum_apart, apart_point, left_at_place, length_left, keeps_both, open_some, no_term, stays_sum}
 use Rattle.prop_linear.proofs.Moves.{moved}
@@ -133,7 +134,7 @@ open_set box x v (a ∷ xs) m n o =
         ap is_domain_left (ap (values_left (box_at box x.0 v)) (sym (same x.0 y.0 e)) ∙ get_or-set_same box x.0 (v ∷ []) [] m) ∙ alone (is_number v) n
 
 -- the value that is hit may go
-pub hit_cut : (c : Rule) (ns : List ℤ) (xs : List Arg) (bound : ℤ) (box : Box) (p : ℕ) (x : VarId) (v : ℤ) → IsUnequal c ns xs bound → has_repeat xs ≡ false → length ns ≡ length xs → p < length xs → get_or xs p (Num (pos 0)) ≡ Var x → x.0 < length box →
+pub hit_cut : (c : Rule) (ns : List ℤ) (xs : List Arg) (bound : ℤ) (box : Box) (p : ℕ) (x : VarId) (v : ℤ) → IsUnequal c box ns xs bound → has_repeat xs ≡ false → length ns ≡ length xs → p < length xs → get_or xs p (Num (pos 0)) ≡ Var x → x.0 < length box →
     list_all (is_open box) xs ≡ true → is_domain_left (values_left box x.0) ≡ true → OthersTight ns xs box p → has_value (values_left box x.0) v ≡ true → IsHit (least_sum ns xs box) (get_or ns p (pos 0)) (values_left box x.0) bound v → IsCut c box (record { x = x; lo = v; hi = v })
 hit_cut c ns xs bound box p x v u r l k q m o dom t h hit =
     let d = values_left box x.0 in
@@ -151,7 +152,7 @@ hit_cut c ns xs bound box p x v u r l k q m o dom t h hit =
       some = stays d v asc h;
       refuted =
           ap (refuted_by c) (within_one box x.0 v asc h)
-          ∙ (u.refuted at ∙ together (int_eq s.from bound) (int_eq s.to bound) ((Decides-int_eq s.from bound).1 low) ((Decides-int_eq s.to bound).1 (sym same ∙ low)));
+          ∙ (u.refuted at (alike_at xs box p x (v ∷ []) (Num (pos 0)) k q) ∙ together (int_eq s.from bound) (int_eq s.to bound) ((Decides-int_eq s.from bound).1 low) ((Decides-int_eq s.to bound).1 (sym same ∙ low)));
     }
   where
     cancel : (a u w f : ℤ) → a +ℤ f ≡ u +ℤ w → u +ℤ w ≡ bound +ℤ f → a ≡ bound
@@ -214,16 +215,19 @@ sum_off ns xs bound box p x (w ∷ v ∷ us) r l k q m o z f =
     loose false h = refl
 
 -- where no value that is left hits, all ends are kept
-pub last_keeps : (c : Rule) (ns : List ℤ) (xs : List Arg) (bound : ℤ) (box : Box) (p : ℕ) (x : VarId) (us : Values) → IsUnequal c ns xs bound → has_repeat xs ≡ false → length ns ≡ length xs → p < length xs → get_or xs p (Num (pos 0)) ≡ Var x → x.0 < length box →
+pub last_keeps : (c : Rule) (ns : List ℤ) (xs : List Arg) (bound : ℤ) (box : Box) (p : ℕ) (x : VarId) (us : Values) → IsUnequal c box ns xs bound → has_repeat xs ≡ false → length ns ≡ length xs → p < length xs → get_or xs p (Num (pos 0)) ≡ Var x → x.0 < length box →
     list_all (is_open (set box x.0 us)) xs ≡ true → OthersTight ns xs box p → int_eq (get_or ns p (pos 0)) (pos 0) ≡ false → ((w : ℤ) → has_value us w ≡ true → IsHit (least_sum ns xs box) (get_or ns p (pos 0)) (values_left box x.0) bound w → ⊥) →
     keeps_ends (set box x.0 us) c ≡ true
 last_keeps c ns xs bound box p x us u r l k q m o t z f =
-    u.own b2
+    u.own b2 alike (u.refuted b2 alike ∙ sum_off ns xs bound box p x us r l k q m dom z f)
     (all_by (keeps_arg c b2) xs (Num (pos 0))
-    (λ j h. keeps_both c b2 (get_or xs j (Num (pos 0))) (λ y w g i. by (y.0 == x.0) y w (same y.0 x.0) refl i) (λ y g. open_some b2 (get_or xs j (Num (pos 0))) y (open_at b2 xs j (Num (pos 0)) h o) g)))
+    (λ j h. keeps_both c b2 (get_or xs j (Num (pos 0))) (λ y w g i. by (y.0 == x.0) y w (alike_more xs box b2 (box_at b2 y.0 w) alike (alike_at xs b2 j y (w ∷ []) (Num (pos 0)) h g)) (same y.0 x.0) refl i) (λ y g. open_some b2 (get_or xs j (Num (pos 0))) y (open_at b2 xs j (Num (pos 0)) h o) g)))
   where
     b2 : Box
     b2 = set box x.0 us
+
+    alike : AlikeOutside xs box b2
+    alike = alike_at xs box p x us (Num (pos 0)) k q
 
     same : (a b : ℕ) → (a == b) ≡ true → a ≡ b
     same a b h = grind (arith, nat_tests)
@@ -240,7 +244,7 @@ last_keeps c ns xs bound box p x us u r l k q m o t z f =
     here : (w : ℤ) → has_value us w ≡ true → refutes_at c b2 x.0 w ≡ false
     here w h =
         ap (refuted_by c) (set_twice box x.0 us (w ∷ []))
-        ∙ (u.refuted (box_at box x.0 w) ∙ never (is_point bound (sum_range ns (map (left_to (box_at box x.0 w)) xs))) (λ g. f w h (hit_of ns xs box p x w bound r l k q m g)))
+        ∙ (u.refuted (box_at box x.0 w) (alike_at xs box p x (w ∷ []) (Num (pos 0)) k q) ∙ never (is_point bound (sum_range ns (map (left_to (box_at box x.0 w)) xs))) (λ g. f w h (hit_of ns xs box p x w bound r l k q m g)))
 
     apart : (y : VarId) → (y.0 == x.0) ≡ false → (j : ℕ) → j < length xs → (is_loose (get_or ns j (pos 0)) (left_to b2 (get_or xs j (Num (pos 0)))) ≡ false) ⊎ (same_variable (get_or xs j (Num (pos 0))) (Var y) ≡ false)
     apart y e j h = split (j == p) (same j p) (differ j p)
@@ -249,12 +253,12 @@ last_keeps c ns xs bound box p x us u r l k q m o t z f =
         split true g n = inr (ap (λ i. same_variable (get_or xs i (Num (pos 0))) (Var y)) (g refl) ∙ (ap (λ a. same_variable a (Var y)) q ∙ e))
         split false g n = inl (others_tight ns xs box p x us r k q t j h (n refl))
 
-    by : (b : Bool) (y : VarId) (w : ℤ) → ((y.0 == x.0) ≡ true → y.0 ≡ x.0) → (y.0 == x.0) ≡ b → has_value (values_left b2 y.0) w ≡ true → refutes_at c b2 y.0 w ≡ false
-    by true y w s e h =
+    by : (b : Bool) (y : VarId) (w : ℤ) → AlikeOutside xs box (box_at b2 y.0 w) → ((y.0 == x.0) ≡ true → y.0 ≡ x.0) → (y.0 == x.0) ≡ b → has_value (values_left b2 y.0) w ≡ true → refutes_at c b2 y.0 w ≡ false
+    by true y w a s e h =
         let i = s e in
         ap (λ n. refutes_at c b2 n w) i ∙ here w (ap (λ d. has_value d w) (sym left_here) ∙ (ap (λ n. has_value (values_left b2 n) w) (sym i) ∙ h))
-    by false y w s e h =
-        u.refuted (box_at b2 y.0 w)
+    by false y w a s e h =
+        u.refuted (box_at b2 y.0 w) a
         ∙ (ap (is_point bound) (stays_sum ns xs b2 y w (Num (pos 0)) (has_place b2 y.0 w h) h l (apart y e)) ∙ sum_off ns xs bound box p x us r l k q m dom z f)
 
 -- a default that isn't taken
@@ -272,7 +276,7 @@ pub factor_of : (a : ℤ) (d : Values) → is_loose a d ≡ true → int_eq a (p
 factor_of a d h = not_false (int_eq a (pos 0)) (first (not (int_eq a (pos 0))) (not (is_single d)) h)
 
 -- no value hits, so all may stay
-pub all_stay : (c : Rule) (ns : List ℤ) (xs : List Arg) (bound : ℤ) (box : Box) (p : ℕ) (x : VarId) → IsUnequal c ns xs bound → has_repeat xs ≡ false → length ns ≡ length xs → p < length xs → get_or xs p (Num (pos 0)) ≡ Var x → x.0 < length box →
+pub all_stay : (c : Rule) (ns : List ℤ) (xs : List Arg) (bound : ℤ) (box : Box) (p : ℕ) (x : VarId) → IsUnequal c box ns xs bound → has_repeat xs ≡ false → length ns ≡ length xs → p < length xs → get_or xs p (Num (pos 0)) ≡ Var x → x.0 < length box →
     list_all (is_open box) xs ≡ true → OthersTight ns xs box p → int_eq (get_or ns p (pos 0)) (pos 0) ≡ false → ((w : ℤ) → has_value (values_left box x.0) w ≡ true → IsHit (least_sum ns xs box) (get_or ns p (pos 0)) (values_left box x.0) bound w → ⊥) →
     keeps_ends box c ≡ true
 all_stay c ns xs bound box p x u r l k q m o t z f =

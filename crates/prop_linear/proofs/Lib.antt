@@ -1,8 +1,10 @@
 pub mod Spread
+pub mod Alike
 pub mod Ends
 pub mod Moves
 pub mod Found
 pub mod Shapes
+pub mod ToldSums
 pub mod Sides
 pub mod Balanced
 pub mod Still

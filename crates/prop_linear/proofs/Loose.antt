@@ -29,8 +29,9 @@ use Rattle.qc_refuter.specs.Met.{is_domain_left, is_open}
 use Rattle.qc_refuter.proofs.Terms.{open_at}
 use Rattle.prop_base.specs.Closed.{keeps_arg}
 use Rattle.qc_arguments.specs.Repeats.{same_variable}
-use Rattle.prop_linear.specs.Tightening.{term_of}
+use Rattle.prop_linear.specs.Tightening.{AlikeOutside, term_of}
 use Rattle.prop_linear.specs.Unequal.{is_loose, IsUnequal}
+use Rattle.prop_linear.proofs.Alike.{alike_same, alike_at}
 use Rattle.prop_linear.proofs.Spread.{low_of, high_of, up_gap, down_gap}
 
 -- a term and a sum are in order
@@ -141,16 +142,16 @@ pub length_left : (box : Box) (xs : List Arg) → length (map (left_to box) xs) 
 length_left box xs = length-map xs (left_to box)
 
 -- a loose place of another variable keeps the sum from being one number
-loose_keeps : (c : Rule) (ns : List ℤ) (xs : List Arg) (bound : ℤ) (box : Box) (x : VarId) (v : ℤ) (k : ℕ) (e : Arg) → IsUnequal c ns xs bound → list_all (is_open box) xs ≡ true → k < length ns → k < length xs →
+loose_keeps : (c : Rule) (ns : List ℤ) (xs : List Arg) (bound : ℤ) (box : Box) (x : VarId) (v : ℤ) (k : ℕ) (e : Arg) → IsUnequal c box ns xs bound → AlikeOutside xs box (box_at box x.0 v) → list_all (is_open box) xs ≡ true → k < length ns → k < length xs →
     is_loose (get_or ns k (pos 0)) (left_to box (get_or xs k e)) ≡ true → same_variable (get_or xs k e) (Var x) ≡ false → refutes_at c box x.0 v ≡ false
-loose_keeps c ns xs bound box x v k e u o h l s n =
+loose_keeps c ns xs bound box x v k e u f o h l s n =
     let at = box_at box x.0 v in
     let ds = map (left_to at) xs in
     let a = get_or ns k (pos 0) in
     let d = left_to box (get_or xs k e) in
     let same : get_or ds k [] ≡ d = left_at_place at xs k e l ∙ other_left box x (v ∷ []) (get_or xs k e) n in
     let P : Values → Type 0 = λ z. (term_of a z).from <ℤ (term_of a z).to in
-    u.refuted at ∙ apart_point bound (sum_range ns ds) (sum_apart ns ds k h (omega (arith, length_left at xs, l)) (subst P (sym same) (loose_apart a d (open_at box xs k e l o) s)))
+    u.refuted at f ∙ apart_point bound (sum_range ns ds) (sum_apart ns ds k h (omega (arith, length_left at xs, l)) (subst P (sym same) (loose_apart a d (open_at box xs k e l o) s)))
 
 -- of two variables that differ, one isn't the third
 either_differs : (a b z : Arg) → same_variable a b ≡ false → same_variable a z ≡ true → same_variable b z ≡ true → ⊥
@@ -162,11 +163,11 @@ either_differs (Var x) (Var y) (Num n) h k l = cc
 either_differs (Var x) (Num n) z h k l = cc
 either_differs (Num n) b z h k l = cc
 
-two_keep : (c : Rule) (ns : List ℤ) (xs : List Arg) (bound : ℤ) (box : Box) (x : VarId) (v : ℤ) (p q : ℕ) (e : Arg) → IsUnequal c ns xs bound → list_all (is_open box) xs ≡ true → length ns ≡ length xs → p < length xs → q < length xs →
+two_keep : (c : Rule) (ns : List ℤ) (xs : List Arg) (bound : ℤ) (box : Box) (x : VarId) (v : ℤ) (p q : ℕ) (e : Arg) → IsUnequal c box ns xs bound → AlikeOutside xs box (box_at box x.0 v) → list_all (is_open box) xs ≡ true → length ns ≡ length xs → p < length xs → q < length xs →
     is_loose (get_or ns p (pos 0)) (left_to box (get_or xs p e)) ≡ true → is_loose (get_or ns q (pos 0)) (left_to box (get_or xs q e)) ≡ true → same_variable (get_or xs p e) (get_or xs q e) ≡ false → refutes_at c box x.0 v ≡ false
-two_keep c ns xs bound box x v p q e u o l h k s t d =
+two_keep c ns xs bound box x v p q e u f o l h k s t d =
     by (same_variable (get_or xs p e) (Var x)) (same_variable (get_or xs q e) (Var x)) (either_differs (get_or xs p e) (get_or xs q e) (Var x) d)
-    (loose_keeps c ns xs bound box x v p e u o (omega (arith, l, h)) h s) (loose_keeps c ns xs bound box x v q e u o (omega (arith, l, k)) k t)
+    (loose_keeps c ns xs bound box x v p e u f o (omega (arith, l, h)) h s) (loose_keeps c ns xs bound box x v q e u f o (omega (arith, l, k)) k t)
   where
     by : (a b : Bool) → (a ≡ true → b ≡ true → ⊥) → (a ≡ false → refutes_at c box x.0 v ≡ false) → (b ≡ false → refutes_at c box x.0 v ≡ false) → refutes_at c box x.0 v ≡ false
     by true true n f g = absurd (n refl refl)
@@ -185,13 +186,21 @@ keeps_both c box (Var x) f g =
 pub open_some : (box : Box) (a : Arg) (x : VarId) → is_open box a ≡ true → a ≡ Var x → is_none_left (values_left box x.0) ≡ false
 open_some box a x o h = some_left (values_left box x.0) (ap (is_open box) (sym h) ∙ o)
 
+-- a sum with a loose place isn't one number
+loose_apart_point : (ns : List ℤ) (xs : List Arg) (bound : ℤ) (box : Box) (k : ℕ) (e : Arg) → list_all (is_open box) xs ≡ true → k < length ns → k < length xs → is_loose (get_or ns k (pos 0)) (left_to box (get_or xs k e)) ≡ true → is_point bound (sum_range ns (map (left_to box) xs)) ≡ false
+loose_apart_point ns xs bound box k e o h l s =
+    let a = get_or ns k (pos 0) in
+    let ds = map (left_to box) xs in
+    let P : Values → Type 0 = λ z. (term_of a z).from <ℤ (term_of a z).to in
+    apart_point bound (sum_range ns ds) (sum_apart ns ds k h (omega (arith, length_left box xs, l)) (subst P (sym (left_at_place box xs k e l)) (loose_apart a (left_to box (get_or xs k e)) (open_at box xs k e l o) s)))
+
 -- where two places are loose, of variables that differ, all ends are kept
-pub two_loose : (c : Rule) (ns : List ℤ) (xs : List Arg) (bound : ℤ) (box : Box) (p q : ℕ) (e : Arg) → IsUnequal c ns xs bound → list_all (is_open box) xs ≡ true → length ns ≡ length xs → p < length xs → q < length xs →
+pub two_loose : (c : Rule) (ns : List ℤ) (xs : List Arg) (bound : ℤ) (box : Box) (p q : ℕ) (e : Arg) → IsUnequal c box ns xs bound → list_all (is_open box) xs ≡ true → length ns ≡ length xs → p < length xs → q < length xs →
     is_loose (get_or ns p (pos 0)) (left_to box (get_or xs p e)) ≡ true → is_loose (get_or ns q (pos 0)) (left_to box (get_or xs q e)) ≡ true → same_variable (get_or xs p e) (get_or xs q e) ≡ false → keeps_ends box c ≡ true
 two_loose c ns xs bound box p q e u o l h k s t d =
-    u.own box
+    u.own box (alike_same xs box) (u.refuted box (alike_same xs box) ∙ loose_apart_point ns xs bound box p e o (omega (arith, l, h)) h s)
     (all_by (keeps_arg c box) xs e
-    (λ j m. keeps_both c box (get_or xs j e) (λ x v f g. two_keep c ns xs bound box x v p q e u o l h k s t d) (λ x f. open_some box (get_or xs j e) x (open_at box xs j e m o) f)))
+    (λ j m. keeps_both c box (get_or xs j e) (λ x v f g. two_keep c ns xs bound box x v p q e u (alike_at xs box j x (v ∷ []) e m f) o l h k s t d) (λ x f. open_some box (get_or xs j e) x (open_at box xs j e m o) f)))
 
 -- a term that isn't loose stays as it is where a variable takes one of its values
 pub no_term : (d : Values) → term_of (pos 0) d ≡ range_of (pos 0) (pos 0)
@@ -249,9 +258,9 @@ stays_sum (n ∷ ns) (a ∷ xs) box x v e m h l f =
     ∙ ap (range_sum (term_of n (left_to box a))) (stays_sum ns xs box x v e m h (omega (arith, l)) (λ j k. f (suc j) (omega (arith, k))))
 
 -- where no place is loose, the constraint is decided
-pub none_loose : (c : Rule) (ns : List ℤ) (xs : List Arg) (bound : ℤ) (box : Box) (e : Arg) → IsUnequal c ns xs bound → list_all (is_open box) xs ≡ true → length ns ≡ length xs → ((j : ℕ) (x : VarId) → j < length xs → get_or xs j e ≡ Var x → x.0 < length box) →
+pub none_loose : (c : Rule) (ns : List ℤ) (xs : List Arg) (bound : ℤ) (box : Box) (e : Arg) → IsUnequal c box ns xs bound → list_all (is_open box) xs ≡ true → length ns ≡ length xs → ((j : ℕ) (x : VarId) → j < length xs → get_or xs j e ≡ Var x → x.0 < length box) →
     ((j : ℕ) → j < length xs → is_loose (get_or ns j (pos 0)) (left_to box (get_or xs j e)) ≡ false) → is_point bound (sum_range ns (map (left_to box) xs)) ≡ false → keeps_ends box c ≡ true
 none_loose c ns xs bound box e u o l m f r =
-    u.own box
+    u.own box (alike_same xs box) (u.refuted box (alike_same xs box) ∙ r)
     (all_by (keeps_arg c box) xs e
-    (λ j k. keeps_both c box (get_or xs j e) (λ x v h g. u.refuted (box_at box x.0 v) ∙ (ap (is_point bound) (stays_sum ns xs box x v e (m j x k h) g l (λ i q. inl (f i q))) ∙ r)) (λ x h. open_some box (get_or xs j e) x (open_at box xs j e k o) h)))
+    (λ j k. keeps_both c box (get_or xs j e) (λ x v h g. u.refuted (box_at box x.0 v) (alike_at xs box j x (v ∷ []) e k h) ∙ (ap (is_point bound) (stays_sum ns xs box x v e (m j x k h) g l (λ i q. inl (f i q))) ∙ r)) (λ x h. open_some box (get_or xs j e) x (open_at box xs j e k o) h)))

@@ -19,8 +19,9 @@ use Rattle.qc_arguments.proofs.Items.{none_at, other_left, others_left, all_by}
 use Rattle.qc_arguments.proofs.Kept.{not_lower}
 use Rattle.prop_base.specs.Closed.{keeps_arg}
 use Rattle.qc_arguments.specs.Repeats.{same_variable, has_repeat}
-use Rattle.prop_linear.specs.Tightening.{term_of, IsNear, IsTightening, AllNear, least_sum, IsBounded}
+use Rattle.prop_linear.specs.Tightening.{term_of, IsNear, IsTightening, AllNear, AlikeOutside, least_sum, IsBounded}
 use Rattle.prop_linear.specs.Sides.{IsPast}
+use Rattle.prop_linear.proofs.Alike.{alike_same, alike_at}
 use Rattle.prop_linear.proofs.Spread.{low_of, high_of}
 
 -- the sum moves by its one place
@@ -106,38 +107,42 @@ value_near ns xs s box k x v r l h q m near t =
     sum : (r u f t g w : ℤ) → r +ℤ f ≡ u +ℤ g → g ≡ int_min w w → t ≤ℤ (f +ℤ pos s) → w ≤ℤ t → r ≤ℤ (u +ℤ pos s)
     sum r u f t g w h i l m = omega (arith, ints, clamps, h, i, l, m)
 
-keeps_value : (c : Rule) (ns : List ℤ) (xs : List Arg) (bound : ℤ) (s : ℕ) (box : Box) (x : VarId) (v : ℤ) → IsBounded c ns xs bound → bound ≡ least_sum ns xs box +ℤ pos s →
+keeps_value : (c : Rule) (ns : List ℤ) (xs : List Arg) (bound : ℤ) (s : ℕ) (box : Box) (x : VarId) (v : ℤ) → IsBounded c box ns xs bound → AlikeOutside xs box (box_at box x.0 v) → bound ≡ least_sum ns xs box +ℤ pos s →
     least_sum ns xs (box_at box x.0 v) ≤ℤ (least_sum ns xs box +ℤ pos s) → not (refutes_at c box x.0 v) ≡ true
-keeps_value c ns xs bound s box x v b e n =
-    not_true (refutes_at c box x.0 v) (b.refuted (box_at box x.0 v) ∙ not_lower bound (least_sum ns xs (box_at box x.0 v)) (subst (λ z. least_sum ns xs (box_at box x.0 v) ≤ℤ z) (sym e) n))
+keeps_value c ns xs bound s box x v b f e n =
+    not_true (refutes_at c box x.0 v) (b.refuted (box_at box x.0 v) f ∙ not_lower bound (least_sum ns xs (box_at box x.0 v)) (subst (λ z. least_sum ns xs (box_at box x.0 v) ≤ℤ z) (sym e) n))
 
 -- near places keep their ends
-keeps_place : (c : Rule) (ns : List ℤ) (xs : List Arg) (bound : ℤ) (s : ℕ) (box : Box) (k : ℕ) (a : Arg) → IsBounded c ns xs bound → has_repeat xs ≡ false → length ns ≡ length xs → k < length xs →
+keeps_place : (c : Rule) (ns : List ℤ) (xs : List Arg) (bound : ℤ) (s : ℕ) (box : Box) (k : ℕ) (a : Arg) → IsBounded c box ns xs bound → has_repeat xs ≡ false → length ns ≡ length xs → k < length xs →
     get_or xs k (Num (pos 0)) ≡ a → ((x : VarId) → a ≡ Var x → x.0 < length box) → bound ≡ least_sum ns xs box +ℤ pos s → IsNear (get_or ns k (pos 0)) s (left_to box a) → keeps_arg c box a ≡ true
 keeps_place c ns xs bound s box k (Num n) b r l h q f e near = refl
 keeps_place c ns xs bound s box k (Var x) b r l h q f e near =
     let d = values_left box x.0 in
     let n = get_or ns k (pos 0) in
     together (not (refutes_at c box x.0 (least_value d))) (not (refutes_at c box x.0 (greatest_value d)))
-    (keeps_value c ns xs bound s box x (least_value d) b e (value_near ns xs s box k x (least_value d) r l h q (f x refl) near (times_low n d)))
-    (keeps_value c ns xs bound s box x (greatest_value d) b e (value_near ns xs s box k x (greatest_value d) r l h q (f x refl) near (times_high n d)))
+    (keeps_value c ns xs bound s box x (least_value d) b (alike_at xs box k x (least_value d ∷ []) (Num (pos 0)) h q) e (value_near ns xs s box k x (least_value d) r l h q (f x refl) near (times_low n d)))
+    (keeps_value c ns xs bound s box x (greatest_value d) b (alike_at xs box k x (greatest_value d ∷ []) (Num (pos 0)) h q) e (value_near ns xs s box k x (greatest_value d) r l h q (f x refl) near (times_high n d)))
 
-pub keeps_items : (c : Rule) (ns : List ℤ) (xs : List Arg) (bound : ℤ) (s : ℕ) (box : Box) → IsBounded c ns xs bound → has_repeat xs ≡ false → length ns ≡ length xs →
+pub keeps_items : (c : Rule) (ns : List ℤ) (xs : List Arg) (bound : ℤ) (s : ℕ) (box : Box) → IsBounded c box ns xs bound → has_repeat xs ≡ false → length ns ≡ length xs →
     ((k : ℕ) (x : VarId) → k < length xs → get_or xs k (Num (pos 0)) ≡ Var x → x.0 < length box) → bound ≡ least_sum ns xs box +ℤ pos s → AllNear s ns xs box → keeps_ends box c ≡ true
 keeps_items c ns xs bound s box b r l f e near =
-    b.own box
+    b.own box (alike_same xs box)
+    (b.refuted box (alike_same xs box) ∙ not_lower bound (least_sum ns xs box) (within (least_sum ns xs box) e))
     (all_by (keeps_arg c box) xs (Num (pos 0))
     (λ k h. keeps_place c ns xs bound s box k (get_or xs k (Num (pos 0))) b r l h refl (λ x q. f k x h q) e (near_at s ns xs k box (pos 0) (Num (pos 0)) (omega (arith, l)) h near)))
+  where
+    within : (z : ℤ) → bound ≡ z +ℤ pos s → z ≤ℤ bound
+    within z h = omega (arith, ints, h)
 
 -- the cut of a place is refuted
-pub cut_refuted : (c : Rule) (ns : List ℤ) (xs : List Arg) (s : ℕ) (box : Box) (k : ℕ) (x : VarId) (lo hi : ℤ) (e : Arg) → IsPast c ns xs (least_sum ns xs box +ℤ pos s) → has_repeat xs ≡ false → k < length ns → k < length xs →
+pub cut_refuted : (c : Rule) (ns : List ℤ) (xs : List Arg) (s : ℕ) (box : Box) (k : ℕ) (x : VarId) (lo hi : ℤ) (e : Arg) → IsPast c box ns xs (least_sum ns xs box +ℤ pos s) → has_repeat xs ≡ false → k < length ns → k < length xs →
     get_or xs k e ≡ Var x → x.0 < length box → IsTightening (get_or ns k (pos 0)) s (values_left box x.0) lo hi → refuted_by c (box_within box x.0 lo hi) ≡ true
 cut_refuted c ns xs s box k x lo hi e b r l h q m t =
     let n = get_or ns k (pos 0) in
     let d = values_left box x.0 in
     let us = values_within lo hi d in
     let move = moved ns xs k box x us (pos 0) e r l h q m in
-    b (box_within box x.0 lo hi) (above (least_sum ns xs (box_within box x.0 lo hi)) (least_sum ns xs box) (term_of n d).from (term_of n us).from move t.far)
+    b (box_within box x.0 lo hi) (alike_at xs box k x us e l q) (above (least_sum ns xs (box_within box x.0 lo hi)) (least_sum ns xs box) (term_of n d).from (term_of n us).from move t.far)
   where
     above : (r u f g : ℤ) → r +ℤ f ≡ u +ℤ g → (f +ℤ pos s) <ℤ g → (u +ℤ pos s) <ℤ r
     above r u f g h k = omega (arith, ints, h, k)

@@ -16,8 +16,9 @@ use Rattle.qc_model.specs.Refuted.{left_to}
 use Rattle.qc_arguments.specs.Repeats.{has_repeat}
 use Rattle.qc_arguments.proofs.Kept.{ordered, is_lower}
 use Rattle.qc_arguments.proofs.Bools.{or_left, or_right}
-use Rattle.prop_linear.specs.Tightening.{term_of, IsNear, least_sum, IsBounded}
+use Rattle.prop_linear.specs.Tightening.{term_of, IsNear, AlikeOutside, least_sum, IsBounded}
 use Rattle.prop_linear.specs.Sides.{greatest_sum, opposite, signed, IsPast, IsBalanced}
+use Rattle.prop_linear.proofs.Alike.{alike_more}
 use Rattle.prop_linear.proofs.Ends.{end_kept_low, end_kept_high}
 use Rattle.prop_linear.proofs.Moves.{moved}
 use Rattle.prop_linear.proofs.Spread.{low_of, high_of, rise_up, rise_down}
@@ -72,22 +73,23 @@ range_opposite (n ∷ ns) (d ∷ ds) =
 pub sum_opposite : (ns : List ℤ) (xs : List Arg) (box : Box) → least_sum (signed true ns) xs box ≡ opposite (greatest_sum ns xs box)
 sum_opposite ns xs box = range_opposite ns (map (left_to box) xs)
 
-pub bounded_past : (c : Rule) (ns : List ℤ) (xs : List Arg) (bound : ℤ) → IsBounded c ns xs bound → IsPast c ns xs bound
-bounded_past c ns xs bound b = λ box h. b.refuted box ∙ is_lower bound (least_sum ns xs box) h
+pub bounded_past : (c : Rule) (start : Box) (ns : List ℤ) (xs : List Arg) (bound : ℤ) → IsBounded c start ns xs bound → IsPast c start ns xs bound
+bounded_past c start ns xs bound b = λ box f h. b.refuted box f ∙ is_lower bound (least_sum ns xs box) h
 
-pub balanced_past : (c : Rule) (ns : List ℤ) (xs : List Arg) (bound : ℤ) → IsBalanced c ns xs bound → IsPast c ns xs bound
-balanced_past c ns xs bound b = λ box h.
-    b.refuted box ∙ or_right (int_lt (greatest_sum ns xs box) bound) (int_lt bound (least_sum ns xs box)) (is_lower bound (least_sum ns xs box) h)
+pub balanced_past : (c : Rule) (start : Box) (ns : List ℤ) (xs : List Arg) (bound : ℤ) → IsBalanced c start ns xs bound → IsPast c start ns xs bound
+balanced_past c start ns xs bound b = λ box f h.
+    b.refuted box f ∙ or_right (int_lt (greatest_sum ns xs box) bound) (int_lt bound (least_sum ns xs box)) (is_lower bound (least_sum ns xs box) h)
 
-pub balanced_short : (c : Rule) (ns : List ℤ) (xs : List Arg) (bound : ℤ) → IsBalanced c ns xs bound → IsPast c (signed true ns) xs (opposite bound)
-balanced_short c ns xs bound b = λ box h.
-    b.refuted box ∙ or_left (int_lt (greatest_sum ns xs box) bound) (int_lt bound (least_sum ns xs box)) (under (greatest_sum ns xs box) bound (least_sum (signed true ns) xs box) (sum_opposite ns xs box) h)
+pub balanced_short : (c : Rule) (start : Box) (ns : List ℤ) (xs : List Arg) (bound : ℤ) → IsBalanced c start ns xs bound → IsPast c start (signed true ns) xs (opposite bound)
+balanced_short c start ns xs bound b = λ box f h.
+    b.refuted box f ∙ or_left (int_lt (greatest_sum ns xs box) bound) (int_lt bound (least_sum ns xs box)) (under (greatest_sum ns xs box) bound (least_sum (signed true ns) xs box) (sum_opposite ns xs box) h)
   where
     under : (g b l : ℤ) → l ≡ pos 0 -ℤ g → (pos 0 -ℤ b) <ℤ l → int_lt g b ≡ true
     under g b l h k = is_lower g b (omega (arith, ints, h, k))
 
-pub past_more : (c : Rule) (ns : List ℤ) (xs : List Arg) (b d : ℤ) → b ≤ℤ d → IsPast c ns xs b → IsPast c ns xs d
-past_more c ns xs b d h p = λ box k. p box (trans b d (least_sum ns xs box) h k)
+-- a greater bound, on a box that is alike
+pub past_more : (c : Rule) (start new : Box) (ns : List ℤ) (xs : List Arg) (b d : ℤ) → AlikeOutside xs start new → b ≤ℤ d → IsPast c start ns xs b → IsPast c new ns xs d
+past_more c start new ns xs b d f h p = λ box g k. p box (alike_more xs start new box f g) (trans b d (least_sum ns xs box) h k)
   where
     trans : (a b c : ℤ) → a ≤ℤ b → b <ℤ c → a <ℤ c
     trans a b c h k = omega (arith, ints, h, k)

@@ -18,7 +18,7 @@ use Rattle.qc_refuter.specs.Met.{is_open}
 use Rattle.qc_refuter.proofs.Ready.{var_open}
 use Rattle.prop_base.specs.declared.answer.Filtered.{Filtered}
 use Rattle.prop_base.specs.declared.answer.Filtered.TheVariants.{Emptied, Stable, Changed}
-use Rattle.prop_base.specs.Pruning.{IsPruning, IsFiltered}
+use Rattle.prop_base.specs.Pruning.{IsPruning, IsFiltered, IsAllOrNone}
 use Rattle.prop_linear.specs.Sides.{IsRound}
 
 none_more : (a more : List Step) → a ≡ a ++ more → more ≡ []
@@ -46,6 +46,13 @@ round_of ok g c s t a b Changed p h = (h.0, more_steps ok g s t a b p h.1)
 pub rounded : (ok : ℕ → Bool) (g : Game) (c : Rule) (s t : Held) (a b : List Step) (r : Result Filtered AllocError) → IsPruning ok g s t a b → IfOk r (λ f. IsFiltered f c t.box a b) → IfOk r (λ f. IsRound f c t.box a b)
 rounded ok g c s t a b (Ok f) p h = round_of ok g c s t a b f p h
 rounded ok g c s t a b (Err e) p h = h
+
+-- such an answer is never that something is left to do
+pub never_changed : (X : Type 0) (r : Result Filtered AllocError) → IfOk r IsAllOrNone → IfOk r (λ f. f ≡ Changed → X)
+never_changed X (Ok Emptied) h = λ e. absurd cc
+never_changed X (Ok Stable) h = λ e. absurd cc
+never_changed X (Ok Changed) h = absurd h
+never_changed X (Err e) h = h
 
 -- items that were open are open on each box of the problem
 pub open_again : (g : Game) (c : Rule) (old new : Box) (items : List Arg) → list_all (λ v. is_domain v.domain) g.variables ≡ true → IsAsked g c new → list_all (arg_sees g.variables c.owner.0) items ≡ true → list_all (is_open old) items ≡ true →

@@ -20,8 +20,8 @@ use Rattle.qc_arguments.proofs.Kept.{ordered}
 use Rattle.qc_refuter.specs.Met.{lefts}
 use Rattle.prop_compare.specs.Untold.{RefutesNone}
 use Rattle.prop_compare.proofs.Lasts.{refutes_none}
-use Rattle.prop_linear.specs.declared.filtering.Relation.{Relation}
-use Rattle.prop_linear.specs.declared.filtering.Relation.TheVariants.{AtMost, Equal, Different}
+use Rattle.prop_linear.specs.declared.relation.Relation.{Relation}
+use Rattle.prop_linear.specs.declared.relation.Relation.TheVariants.{AtMost, Equal, Different}
 use Rattle.prop_linear.specs.Relations.{told_pred}
 use Rattle.prop_linear.proofs.Loose.{sum_order}
 

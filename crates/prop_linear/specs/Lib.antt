@@ -2,3 +2,4 @@ pub mod Tightening
 pub mod Sides
 pub mod Relations
 pub mod Unequal
+pub mod Demands

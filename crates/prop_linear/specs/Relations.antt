@@ -1,8 +1,8 @@
 -- The predicates of sums.
 use Rattle.qc_model.specs.declared.problem.Pred.{Pred}
 use Rattle.qc_model.specs.declared.problem.Pred.TheVariants.{IntLinLe, IntLinEq, IntLinNe, IntLinLeReif, IntLinEqReif, IntLinNeReif}
-use Rattle.prop_linear.specs.declared.filtering.Relation.{Relation}
-use Rattle.prop_linear.specs.declared.filtering.Relation.TheVariants.{AtMost, Equal, Different}
+use Rattle.prop_linear.specs.declared.relation.Relation.{Relation}
+use Rattle.prop_linear.specs.declared.relation.Relation.TheVariants.{AtMost, Equal, Different}
 
 -- the predicate that says this of a sum and a number
 abbrev pub sum_pred : Relation → Pred

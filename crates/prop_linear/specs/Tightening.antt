@@ -1,14 +1,17 @@
 -- What one place of a sum lets go.
 use Rattle.std.specs.Prelude.{◌≡◌, ⊤, ℕ, List, [], ◌∷◌, map, int_lt, ℤ, pos, ◌+ℤ◌, ◌≤ℤ◌, ◌<ℤ◌, IsTrue, IsFalse}
-use Rattle.std.specs.List.{list_all}
+use Rattle.std.specs.List.{list_all, list_any}
 use Rattle.qc_model.specs.declared.problem.Arg.{Arg}
+use Rattle.qc_model.specs.declared.problem.Arg.TheVariants.{Var}
+use Rattle.qc_model.specs.declared.problem.VarId.{VarId}
 use Rattle.qc_model.specs.Closed.{keeps_ends}
 use Rattle.qc_model.specs.Content.{Rule}
-use Rattle.qc_model.specs.Domains.{Values, Box, values_within, values_outside, is_none_left}
+use Rattle.qc_model.specs.Domains.{Values, Box, values_left, values_within, values_outside, is_none_left}
 use Rattle.qc_model.specs.Left.{span, sum_range}
 use Rattle.qc_model.specs.Ranges.{Range, point, product}
 use Rattle.qc_model.specs.Refuted.{left_to, refuted_by}
 use Rattle.qc_model.specs.Valid.{is_number}
+use Rattle.qc_arguments.specs.Repeats.{same_variable}
 use Rattle.prop_base.specs.Closed.{keeps_arg}
 
 -- what a factor times one of these values can be
@@ -39,7 +42,15 @@ AllNear s (n ∷ ns) (x ∷ xs) box = IsNear n s (left_to box x) × AllNear s ns
 abbrev pub least_sum : List ℤ → List Arg → Box → ℤ
 least_sum ns xs box = (sum_range ns (map (left_to box) xs)).from
 
--- a constraint that says no more than that a sum is at most a number
-pub record IsBounded (c : Rule) (ns : List ℤ) (xs : List Arg) (bound : ℤ) : Type 0 where
-  pub refuted : (box : Box) → refuted_by c box ≡ int_lt bound (least_sum ns xs box)
-  pub own : (box : Box) → IsTrue (list_all (keeps_arg c box) xs) → IsTrue (keeps_ends box c)
+-- two boxes that may differ at the variables among these alone
+abbrev pub AlikeOutside : List Arg → Box → Box → Type 0
+AlikeOutside xs box other = (x : VarId) → IsFalse (list_any (same_variable (Var x)) xs) → values_left other x.0 ≡ values_left box x.0
+
+-- where it doesn't refute, and keeps the ends of the items' variables, the constraint keeps those of all its own
+abbrev pub AreOwn : Rule → Box → List Arg → Type 0
+AreOwn c box xs = (other : Box) → AlikeOutside xs box other → IsFalse (refuted_by c other) → IsTrue (list_all (keeps_arg c other) xs) → IsTrue (keeps_ends other c)
+
+-- a constraint that says no more than that a sum is at most a number, while nothing but its items changes
+pub record IsBounded (c : Rule) (box : Box) (ns : List ℤ) (xs : List Arg) (bound : ℤ) : Type 0 where
+  pub refuted : (other : Box) → AlikeOutside xs box other → refuted_by c other ≡ int_lt bound (least_sum ns xs other)
+  pub own : AreOwn c box xs

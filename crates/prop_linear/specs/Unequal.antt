@@ -8,17 +8,16 @@ use Rattle.qc_model.specs.Domains.{Values, Box, is_single}
 use Rattle.qc_model.specs.Left.{sum_range}
 use Rattle.qc_model.specs.Ranges.{is_point}
 use Rattle.qc_model.specs.Refuted.{left_to, refuted_by}
-use Rattle.prop_linear.specs.Sides.{AreOwn}
-use Rattle.prop_linear.specs.Tightening.{term_of}
+use Rattle.prop_linear.specs.Tightening.{AlikeOutside, AreOwn, term_of}
 
 -- a factor times one of these values can still be more than one number
 abbrev pub is_loose : ℤ → Values → Bool
 is_loose a d = not (int_eq a (pos 0)) && not (is_single d)
 
--- a constraint that says no more than that a sum isn't a number
-pub record IsUnequal (c : Rule) (ns : List ℤ) (xs : List Arg) (bound : ℤ) : Type 0 where
-  pub refuted : (box : Box) → refuted_by c box ≡ is_point bound (sum_range ns (map (left_to box) xs))
-  pub own : AreOwn c xs
+-- a constraint that says no more than that a sum isn't a number, while nothing but its items changes
+pub record IsUnequal (c : Rule) (box : Box) (ns : List ℤ) (xs : List Arg) (bound : ℤ) : Type 0 where
+  pub refuted : (other : Box) → AlikeOutside xs box other → refuted_by c other ≡ is_point bound (sum_range ns (map (left_to other) xs))
+  pub own : AreOwn c box xs
 
 -- the term at a place
 abbrev pub loose_at : List ℤ → List Arg → Box → ℕ → Bool

@@ -1,4 +1,4 @@
-//! The filter of a constraint that says no more than that a sum isn't a number.
+//! The filter of a constraint that says no more than that a sum isn't a number, while nothing but its items changes.
 //!
 //! A term is loose while it can be more than one number. While two terms of different variables are, nothing is refuted,
 //! so most calls end at the second loose term. The last loose term loses the one value with which the sum would be the
@@ -75,7 +75,7 @@ fn decide(
 ) -> Result<Filtered, AllocError>
     requires c { slice_get problem.now.constraints c.0 ≡ Some rule.now }
     requires asked { IsAsked problem.now rule.now store.old.box }
-    requires unequal { IsUnequal rule.now factors.now items.now bound }
+    requires unequal { IsUnequal rule.now store.old.box factors.now items.now bound }
     requires equal { length factors.now ≡ length items.now }
     requires few { length items.now ≤ 1000 }
     requires factors { IsTrue (list_all is_number factors.now) }
@@ -107,7 +107,7 @@ fn lose_last(
 ) -> Result<Filtered, AllocError>
     requires c { slice_get problem.now.constraints c.0 ≡ Some rule.now }
     requires asked { IsAsked problem.now rule.now store.old.box }
-    requires unequal { IsUnequal rule.now factors.now items.now bound }
+    requires unequal { IsUnequal rule.now store.old.box factors.now items.now bound }
     requires once { IsFalse (has_repeat items.now) }
     requires equal { length factors.now ≡ length items.now }
     requires few { length items.now ≤ 1000 }
@@ -147,7 +147,7 @@ pub(crate) fn filter_sum_different(
 ) -> Result<Filtered, AllocError>
     requires c { slice_get problem.now.constraints c.0 ≡ Some rule.now }
     requires asked { IsAsked problem.now rule.now store.old.box }
-    requires unequal { IsUnequal rule.now factors.now items.now bound }
+    requires unequal { IsUnequal rule.now store.old.box factors.now items.now bound }
     requires equal { length factors.now ≡ length items.now }
     requires few { length items.now ≤ 1000 }
     requires factors { IsTrue (list_all is_number factors.now) }

@@ -1,4 +1,4 @@
-//! The filter of a constraint that says no more than that a sum is a number.
+//! The filter of a constraint that says no more than that a sum is a number, while nothing but its items changes.
 ghost use Rattle.std.specs.Prelude.{◌≡◌, ◌≤◌, IsTrue, IsFalse, IfOk, length, slice_get, Some, cond};
 ghost use Rattle.std.specs.List.{list_all};
 ghost use Rattle.qc_model.specs.Valid.{arg_sees, is_number};
@@ -7,6 +7,7 @@ ghost use Rattle.qc_refuter.specs.Met.{is_open};
 ghost use Rattle.prop_base.specs.declared.answer.Filtered.TheVariants.{Changed, Stable};
 ghost use Rattle.prop_base.specs.Pruning.{IsPruning, IsFiltered, is_just};
 ghost use Rattle.prop_linear.specs.Sides.{IsBalanced, IsRound};
+ghost use Rattle.prop_linear.specs.Tightening.{AlikeOutside};
 ghost use Rattle.qc_arguments.specs.Repeats.{has_repeat};
 
 use crate::rounds::tighten_round;
@@ -33,7 +34,7 @@ fn run_round(
 ) -> Result<Filtered, AllocError>
     requires c { slice_get problem.now.constraints c.0 ≡ Some rule.now }
     requires asked { IsAsked problem.now rule.now store.old.box }
-    requires balanced { IsBalanced rule.now factors.now items.now bound }
+    requires balanced { IsBalanced rule.now store.old.box factors.now items.now bound }
     requires once { IsFalse (has_repeat items.now) }
     requires equal { length factors.now ≡ length items.now }
     requires few { length items.now ≤ 1000 }
@@ -42,6 +43,7 @@ fn run_round(
     requires open { IsTrue (list_all (is_open store.old.box) items.now) }
     ensures pruning { IsPruning (is_just c.0) problem.now store.old store.new steps.old steps.new }
     ensures answer { IfOk result (λ f. IsRound f rule.now store.new.box steps.old steps.new) }
+    ensures alike { IfOk result (λ f. f ≡ Changed → AlikeOutside items.now store.old.box store.new.box) }
 {
     problem.known();
     let sum = sum_extent(problem, rule, factors, items, store);
@@ -85,7 +87,7 @@ pub fn filter_sum_equal(
 ) -> Result<Filtered, AllocError>
     requires c { slice_get problem.now.constraints c.0 ≡ Some rule.now }
     requires asked { IsAsked problem.now rule.now store.old.box }
-    requires balanced { IsBalanced rule.now factors.now items.now bound }
+    requires balanced { IsBalanced rule.now store.old.box factors.now items.now bound }
     requires equal { length factors.now ≡ length items.now }
     requires few { length items.now ≤ 1000 }
     requires factors { IsTrue (list_all is_number factors.now) }

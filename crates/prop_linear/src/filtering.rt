@@ -1,29 +1,98 @@
 //! The filter.
-ghost use Rattle.std.specs.Prelude.{◌≡◌, ◌<◌, length, IfOk, slice_get, Some};
+ghost use Rattle.std.specs.Prelude.{◌≡◌, ◌<◌, ◌≤◌, length, IsTrue, IfOk, slice_get, Some};
+ghost use Rattle.std.specs.List.{list_all};
 ghost use Rattle.qc_model.specs.Content.{Rule};
+ghost use Rattle.qc_model.specs.Valid.{arg_sees, is_number};
 ghost use Rattle.qc_arguments.specs.Asked.{IsAsked};
+ghost use Rattle.qc_refuter.specs.Met.{is_open};
 ghost use Rattle.prop_base.specs.Pruning.{IsPruning, IsFiltered, is_just};
+ghost use Rattle.prop_linear.specs.Demands.{IsDemanded, IsSaid};
 ghost use Rattle.prop_linear.specs.Relations.{sum_pred, told_pred};
 
 use crate::at_most::filter_at_most;
 use crate::different::filter_sum_different;
 use crate::equal::filter_sum_equal;
+use crate::relation::{Demand, Relation, demanded};
+use crate::signs::under_opposite;
 use fd_store::Store;
 use proof_tree::StepList;
 use prop_base::{Filtered, filter_by_ends};
-use prop_compare::{Comparison, Table, filter_comparison, filter_reified, filter_telling};
-use qc_arguments::{arguments, items_at, numbers_at, one_at};
+use prop_compare::{
+    Comparison, Table, filter_comparison, filter_reified, filter_telling, what_is_told,
+};
+use qc_arguments::{arguments, items_at, last_one, numbers_at, one_at};
 use qc_model::{Arg, ConId, Constraint, Pred, Problem};
 use std::alloc::{AllocError, Global};
 
-// What a sum is to be, beside a number.
-#[derive(Clone, Copy, PartialEq, Eq)]
-enum Relation {
-    AtMost,
-    Equal,
-    Different,
+// The sum is to be what is demanded, and the constraint says no more.
+fn filter_demanded(
+    problem: &Problem,
+    c: ConId,
+    rule: &Constraint,
+    demand: Demand,
+    factors: &[i64],
+    items: &[Arg],
+    bound: i64,
+    store: &mut Store,
+    steps: &mut StepList,
+) -> Result<Filtered, AllocError>
+    requires c { slice_get problem.now.constraints c.0 ≡ Some rule.now }
+    requires asked { IsAsked problem.now rule.now store.old.box }
+    requires demanded { IsDemanded demand rule.now store.old.box factors.now items.now bound }
+    requires bound { IsTrue (is_number bound) }
+    requires equal { length factors.now ≡ length items.now }
+    requires few { length items.now ≤ 1000 }
+    requires factors { IsTrue (list_all is_number factors.now) }
+    requires sees { IsTrue (list_all (arg_sees problem.now.variables rule.now.owner.0) items.now) }
+    requires open { IsTrue (list_all (is_open store.old.box) items.now) }
+    ensures pruning { IsPruning (is_just c.0) problem.now store.old store.new steps.old steps.new }
+    ensures answer { IfOk result (λ f. IsFiltered f rule.now store.new.box steps.old steps.new) }
+{
+    match demand {
+        Demand::UpTo => filter_at_most(
+            problem, c, rule, factors, items, false, bound, store, steps,
+        ),
+        Demand::Over => {
+            let most = under_opposite(bound);
+            filter_at_most(problem, c, rule, factors, items, true, most, store, steps)
+        }
+        Demand::Exactly => filter_sum_equal(problem, c, rule, factors, items, bound, store, steps),
+        Demand::Off => filter_sum_different(
+            problem, c, rule, factors, items, bound, store, steps,
+        ),
+    }
 }
 
+// It is said whether the relation holds.
+fn filter_said(
+    problem: &Problem,
+    c: ConId,
+    rule: &Constraint,
+    relation: Relation,
+    holds: bool,
+    store: &mut Store,
+    steps: &mut StepList,
+) -> Result<Filtered, AllocError>
+    requires said { IsSaid relation holds rule.now store.old.box }
+    requires c { slice_get problem.now.constraints c.0 ≡ Some rule.now }
+    requires asked { IsAsked problem.now rule.now store.old.box }
+    ensures pruning { IsPruning (is_just c.0) problem.now store.old store.new steps.old steps.new }
+    ensures answer { IfOk result (λ f. IsFiltered f rule.now store.new.box steps.old steps.new) }
+{
+    problem.known();
+    let args = arguments(rule);
+    let factors = numbers_at(args, 0);
+    let items = items_at(args, 1);
+    let Arg::Num(bound) = one_at(args, 2) else {
+        return filter_by_ends(&Table {}, problem, c, rule, store, steps);
+    };
+    let demand = demanded(relation, holds);
+    filter_demanded(
+        problem, c, rule, demand, factors, items, bound, store, steps,
+    )
+}
+
+// The relation holds.
 fn filter_sum(
     problem: &Problem,
     c: ConId,
@@ -38,23 +107,10 @@ fn filter_sum(
     ensures pruning { IsPruning (is_just c.0) problem.now store.old store.new steps.old steps.new }
     ensures answer { IfOk result (λ f. IsFiltered f rule.now store.new.box steps.old steps.new) }
 {
-    problem.known();
-    let args = arguments(rule);
-    let factors = numbers_at(args, 0);
-    let items = items_at(args, 1);
-    let Arg::Num(bound) = one_at(args, 2) else {
-        return filter_by_ends(&Table {}, problem, c, rule, store, steps);
-    };
-    match relation {
-        Relation::AtMost => filter_at_most(problem, c, rule, factors, items, bound, store, steps),
-        Relation::Equal => filter_sum_equal(problem, c, rule, factors, items, bound, store, steps),
-        Relation::Different => filter_sum_different(
-            problem, c, rule, factors, items, bound, store, steps,
-        ),
-    }
+    filter_said(problem, c, rule, relation, true, store, steps)
 }
 
-// The last argument tells whether the sum is that.
+// The last argument tells whether the relation holds.
 fn filter_told_sum(
     problem: &Problem,
     c: ConId,
@@ -69,8 +125,11 @@ fn filter_told_sum(
     ensures pruning { IsPruning (is_just c.0) problem.now store.old store.new steps.old steps.new }
     ensures answer { IfOk result (λ f. IsFiltered f rule.now store.new.box steps.old steps.new) }
 {
-    let _ = relation;
-    filter_telling(problem, c, rule, store, steps)
+    problem.known();
+    match what_is_told(last_one(arguments(rule)), store) {
+        None => filter_telling(problem, c, rule, store, steps),
+        Some(holds) => filter_said(problem, c, rule, relation, holds, store, steps),
+    }
 }
 
 fn filter_rule(

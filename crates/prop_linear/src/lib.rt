@@ -1,5 +1,8 @@
 //! The filter of comparisons and linear sums, plain and reified.
 //!
+//! A sum that a last argument tells of goes by two questions to the refuter while that can tell both. Once it tells one, the
+//! sum is filtered as a plain one, or as its contrary.
+//!
 //! A sum that is to be at most a number takes one pass over its places. A sum that is to be one number takes rounds over
 //! both sides until one removes nothing; `filter_sum_equal` does this for any constraint that says no more than that. A sum
 //! that isn't to be a number loses nothing until one term is left that can be more than one number.
@@ -11,6 +14,7 @@ mod equal;
 mod filtering;
 mod missing;
 mod places;
+mod relation;
 mod rounds;
 mod signs;
 mod slacks;

@@ -11,7 +11,7 @@ ghost use Rattle.qc_refuter.specs.Met.{is_domain_left};
 ghost use Rattle.prop_base.specs.Pruning.{IsPruning, is_just};
 ghost use Rattle.prop_linear.specs.Sides.{IsPast, AreNear, signed};
 ghost use Rattle.qc_arguments.specs.Repeats.{has_repeat};
-ghost use Rattle.prop_linear.specs.Tightening.{IsNear, least_sum};
+ghost use Rattle.prop_linear.specs.Tightening.{AlikeOutside, IsNear, least_sum};
 
 use crate::places::moves;
 use crate::tighten::tighten_place;
@@ -50,8 +50,8 @@ fn tighten_both(
 ) -> Result<bool, AllocError>
     requires c { slice_get problem.now.constraints c.0 ≡ Some rule.now }
     requires asked { IsAsked problem.now rule.now store.old.box }
-    requires over { IsPast rule.now factors.now items.now (least_sum factors.now items.now store.old.box +ℤ pos s) }
-    requires under { IsPast rule.now (signed true factors.now) items.now (least_sum (signed true factors.now) items.now store.old.box +ℤ pos t) }
+    requires over { IsPast rule.now store.old.box factors.now items.now (least_sum factors.now items.now store.old.box +ℤ pos s) }
+    requires under { IsPast rule.now store.old.box (signed true factors.now) items.now (least_sum (signed true factors.now) items.now store.old.box +ℤ pos t) }
     requires once { IsFalse (has_repeat items.now) }
     requires equal { length factors.now ≡ length items.now }
     requires factors { IsTrue (list_all is_number factors.now) }
@@ -60,6 +60,7 @@ fn tighten_both(
     ensures pruning { IsPruning (is_just c.0) problem.now store.old store.new steps.old steps.new }
     ensures full { OnOk result (IsFalse (has_empty store.new.box)) }
     ensures rises { OnOk result ((b : Bool) → least_sum (signed b factors.now) items.now store.old.box ≤ℤ least_sum (signed b factors.now) items.now store.new.box) }
+    ensures alike { OnOk result (AlikeOutside items.now store.old.box store.new.box) }
     ensures near { IfOk result (λ b. b ≡ false → AreNear k s t factors.now items.now store.old.box → AreNear (k + 1) s t factors.now items.now store.old.box) }
     ensures grown { IfOk result (λ b. (b ≡ true → length steps.old < length steps.new) × (b ≡ false → steps.new ≡ steps.old)) }
 {
@@ -90,14 +91,15 @@ pub(crate) fn tighten_round(
 ) -> Result<bool, AllocError>
     requires c { slice_get problem.now.constraints c.0 ≡ Some rule.now }
     requires asked { IsAsked problem.now rule.now store.old.box }
-    requires over { IsPast rule.now factors.now items.now (least_sum factors.now items.now store.old.box +ℤ pos s) }
-    requires under { IsPast rule.now (signed true factors.now) items.now (least_sum (signed true factors.now) items.now store.old.box +ℤ pos t) }
+    requires over { IsPast rule.now store.old.box factors.now items.now (least_sum factors.now items.now store.old.box +ℤ pos s) }
+    requires under { IsPast rule.now store.old.box (signed true factors.now) items.now (least_sum (signed true factors.now) items.now store.old.box +ℤ pos t) }
     requires once { IsFalse (has_repeat items.now) }
     requires equal { length factors.now ≡ length items.now }
     requires factors { IsTrue (list_all is_number factors.now) }
     requires sees { IsTrue (list_all (arg_sees problem.now.variables rule.now.owner.0) items.now) }
     ensures pruning { IsPruning (is_just c.0) problem.now store.old store.new steps.old steps.new }
     ensures full { OnOk result (IsFalse (has_empty store.new.box)) }
+    ensures alike { OnOk result (AlikeOutside items.now store.old.box store.new.box) }
     ensures near { IfOk result (λ b. b ≡ false → AreNear (length items.now) s t factors.now items.now store.old.box) }
     ensures grown { IfOk result (λ b. (b ≡ true → length steps.old < length steps.new) × (b ≡ false → steps.new ≡ steps.old)) }
 {

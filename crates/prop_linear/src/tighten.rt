@@ -12,7 +12,7 @@ ghost use Rattle.qc_arguments.specs.Asked.{IsAsked};
 ghost use Rattle.prop_base.specs.Pruning.{IsPruning, is_just};
 ghost use Rattle.prop_linear.specs.Sides.{IsPast, signed};
 ghost use Rattle.qc_arguments.specs.Repeats.{has_repeat};
-ghost use Rattle.prop_linear.specs.Tightening.{AllNear, IsBounded, least_sum};
+ghost use Rattle.prop_linear.specs.Tightening.{AlikeOutside, AllNear, IsBounded, least_sum};
 
 use crate::places::place_cut;
 use crate::signs::factor_at;
@@ -38,7 +38,7 @@ pub(crate) fn tighten_place(
 ) -> Result<bool, AllocError>
     requires c { slice_get problem.now.constraints c.0 ≡ Some rule.now }
     requires asked { IsAsked problem.now rule.now store.old.box }
-    requires past { IsPast rule.now (signed negative factors.now) items.now (least_sum (signed negative factors.now) items.now store.old.box +ℤ pos s) }
+    requires past { IsPast rule.now store.old.box (signed negative factors.now) items.now (least_sum (signed negative factors.now) items.now store.old.box +ℤ pos s) }
     requires once { IsFalse (has_repeat items.now) }
     requires equal { length factors.now ≡ length items.now }
     requires factors { IsTrue (list_all is_number factors.now) }
@@ -46,6 +46,7 @@ pub(crate) fn tighten_place(
     requires place { k < length items.now }
     ensures pruning { IsPruning (is_just c.0) problem.now store.old store.new steps.old steps.new }
     ensures full { OnOk result (IsFalse (has_empty store.new.box)) }
+    ensures alike { OnOk result (AlikeOutside items.now store.old.box store.new.box) }
     ensures rises { OnOk result ((b : Bool) → least_sum (signed b factors.now) items.now store.old.box ≤ℤ least_sum (signed b factors.now) items.now store.new.box) }
     ensures sum { OnOk result (least_sum (signed negative factors.now) items.now store.new.box ≡ least_sum (signed negative factors.now) items.now store.old.box) }
     ensures near { OnOk result (AllNear s (take k (signed negative factors.now)) (take k items.now) store.old.box → AllNear s (take (k + 1) (signed negative factors.now)) (take (k + 1) items.now) store.new.box) }
@@ -65,20 +66,22 @@ pub(crate) fn tighten_place(
     }
 }
 
-/// Removes at each place what is too far, and answers whether something was removed. No domain is emptied.
+/// Removes at each place what is too far, for the sum or for its negative, and answers whether something was removed. No
+/// domain is emptied.
 pub(crate) fn tighten_all(
     problem: &Problem,
     c: ConId,
     rule: &Constraint,
     factors: &[i64],
     items: &[Arg],
+    negative: bool,
     s: u128,
     store: &mut Store,
     steps: &mut StepList,
 ) -> Result<bool, AllocError>
     requires c { slice_get problem.now.constraints c.0 ≡ Some rule.now }
     requires asked { IsAsked problem.now rule.now store.old.box }
-    requires bounded { IsBounded rule.now factors.now items.now (least_sum factors.now items.now store.old.box +ℤ pos s) }
+    requires bounded { IsBounded rule.now store.old.box (signed negative factors.now) items.now (least_sum (signed negative factors.now) items.now store.old.box +ℤ pos s) }
     requires once { IsFalse (has_repeat items.now) }
     requires equal { length factors.now ≡ length items.now }
     requires factors { IsTrue (list_all is_number factors.now) }
@@ -90,7 +93,7 @@ pub(crate) fn tighten_all(
 {
     let mut changed = false;
     for k in 0..items.len() {
-        if tighten_place(problem, c, rule, factors, items, k, false, s, store, steps)? {
+        if tighten_place(problem, c, rule, factors, items, k, negative, s, store, steps)? {
             changed = true;
         }
     }

@@ -14,8 +14,8 @@ filter_sum_equal-requires-clause-balanced c =
     let r = c.args.rule.now in
     let args = c.arguments-args.ensures in
     let e = row c.one_at.result c.one_at-2.result c.one_at-3.result (arg_at r.args 0) (arg_at r.args 1) (arg_at r.args 2) (c.one_at.ensures ∙ ap (λ a. arg_at a 0) args) (c.one_at-2.ensures ∙ ap (λ a. arg_at a 1) args) (c.one_at-3.ensures ∙ ap (λ a. arg_at a 2) args) in
-    let P : List Arg → Type 0 = λ xs. IsBalanced r signs xs (pos 0) in
-    subst P (sym e) (plus_balanced c.args.problem.now.variables r c.requires.asked.rule c.requires.pred)
+    let P : List Arg → Type 0 = λ xs. IsBalanced r c.args.store.now.box signs xs (pos 0) in
+    subst P (sym e) (plus_balanced c.args.problem.now.variables r c.requires.asked.rule c.requires.pred c.args.store.now.box)
 
 pub filter_sum_equal-requires-clause-sees : goal.filter_sum_equal-requires-clause-sees
 filter_sum_equal-requires-clause-sees c =

@@ -5,6 +5,7 @@ use mir.Syntax.{w64, w128}
 use Rattle.qc_model.specs.declared.problem.Arg.TheVariants.{Num}
 use Rattle.qc_model.specs.Ranges.{is_point}
 use Rattle.std.specs.Prelude.{pos}
+use Rattle.prop_linear.proofs.Alike.{alike_same}
 use Rattle.prop_linear.proofs.Found.{placed}
 use Rattle.prop_linear.proofs.Loose.{none_loose}
 use Rattle.prop_linear.proofs.different.decide.Goals as goal
@@ -15,7 +16,7 @@ empty_first-requires-clause-refuted c =
     let f_fits : SFits w128 c.sum_extent-sum.result.from = search rules in
     let t_fits : SFits w128 c.sum_extent-sum.result.to = search rules in
     let e = simp to_z-of_z at c.is_only.ensures in
-    c.requires.unequal.refuted c.args.store.now.box ∙ (ap (is_point c.args.bound) (sym c.sum_extent-sum.ensures.value) ∙ (sym e ∙ c.if-is_only.true))
+    c.requires.unequal.refuted c.args.store.now.box (alike_same c.args.items.now c.args.store.now.box) ∙ (ap (is_point c.args.bound) (sym c.sum_extent-sum.ensures.value) ∙ (sym e ∙ c.if-is_only.true))
 
 pub returns-else-is_only-clause-answer : goal.returns-else-is_only-clause-answer
 returns-else-is_only-clause-answer c =

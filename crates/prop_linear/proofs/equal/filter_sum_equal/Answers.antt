@@ -4,8 +4,13 @@ use Rattle.prop_base.specs.Pruning.{is_just, IsFiltered}
 use Rattle.prop_base.proofs.Steps.{pruning_more, pruning_sub, pruning_total}
 use Rattle.prop_base.specs.declared.answer.Filtered.{Filtered}
 use Rattle.prop_linear.specs.Sides.{IsRound}
+use Rattle.prop_linear.proofs.Alike.{alike_more, balanced_again}
 use Rattle.prop_linear.proofs.Still.{ended_filtered, open_again}
 use Rattle.prop_linear.proofs.equal.filter_sum_equal.Goals as goal
+
+pub run_round-requires-clause-balanced : goal.run_round-requires-clause-balanced
+run_round-requires-clause-balanced c =
+    balanced_again c.args.rule.now c.args.factors.now c.args.items.now c.args.bound c.args.store.now.box c.loop-changed.store.box c.loop-changed.invariant.alike c.requires.balanced
 
 pub returns-in_err-run_round-clause-pruning : goal.returns-in_err-run_round-clause-pruning
 returns-in_err-run_round-clause-pruning c =
@@ -50,6 +55,7 @@ loop-changed-preserved c =
       declared = declared;
       full = a.0;
       opened = open_again g r c.loop-changed.store.box c.run_round.new.store.box c.args.items.now c.known.ensures.domains (record { rule = c.requires.asked.rule; declared = declared; full = a.0 }) c.requires.sees i.opened;
+      alike = alike_more c.args.items.now c.args.store.now.box c.loop-changed.store.box c.run_round.new.store.box i.alike (c.in_ok-run_round.ensures.alike c.in-Changed.is);
       same = λ e. cc;
       grown = λ e. longer c.loop-changed.changed _ _ _ (λ f. ap length (i.same f)) i.grown a.1;
     }

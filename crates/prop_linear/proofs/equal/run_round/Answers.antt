@@ -8,12 +8,12 @@ use Rattle.qc_model.specs.declared.problem.Arg.TheVariants.{Num}
 use Rattle.qc_model.specs.Closed.{keeps_ends}
 use Rattle.qc_model.specs.Ranges.{Range, range_of}
 use Rattle.prop_base.specs.Pruning.{is_just}
-use Rattle.prop_linear.specs.Tightening.{AllNear}
+use Rattle.prop_linear.specs.Tightening.{AlikeOutside, AllNear}
 use Rattle.prop_linear.specs.Sides.{signed}
 use Rattle.prop_linear.proofs.Sides.{signed_length}
 use Rattle.prop_linear.proofs.Balanced.{balanced_over, balanced_under, over_past, under_past, balanced_keeps}
 use Rattle.prop_linear.proofs.Small.{greatest_sum_small}
-use Rattle.prop_linear.proofs.Still.{same_box, rounded}
+use Rattle.prop_linear.proofs.Still.{same_box, rounded, never_changed}
 use Rattle.prop_linear.proofs.Found.{placed}
 use Rattle.prop_linear.proofs.equal.run_round.Goals as goal
 
@@ -92,3 +92,9 @@ returns-else-branch-clause-answer c =
     (λ j x h q. placed g r box xs j x (Num (pos 0)) c.requires.asked c.requires.sees h q)
     (s ∙ ap (λ z. z +ℤ pos c.slack-s.result) low) (sym high ∙ t) over under in
     (c.in_ok-tighten_round.ensures.full, same, ap (λ b. keeps_ends b r) still ∙ keeps)
+
+pub returns-then-bound-sum-clause-alike : goal.returns-then-bound-sum-clause-alike
+returns-then-bound-sum-clause-alike c = never_changed (AlikeOutside c.args.items.now c.args.store.now.box c.empty_first.new.store.box) c.empty_first.result c.empty_first.ensures.whole
+
+pub returns-then-sum-bound-clause-alike : goal.returns-then-sum-bound-clause-alike
+returns-then-sum-bound-clause-alike c = never_changed (AlikeOutside c.args.items.now c.args.store.now.box c.empty_first-then-sum-bound.new.store.box) c.empty_first-then-sum-bound.result c.empty_first-then-sum-bound.ensures.whole

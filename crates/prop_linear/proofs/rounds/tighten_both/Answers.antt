@@ -9,6 +9,7 @@ use Rattle.prop_base.specs.Pruning.{is_just}
 use Rattle.prop_base.proofs.Steps.{pruning_more, pruning_sub}
 use Rattle.prop_linear.specs.Tightening.{AllNear, least_sum}
 use Rattle.prop_linear.specs.Sides.{signed}
+use Rattle.prop_linear.proofs.Alike.{alike_more}
 use Rattle.prop_linear.proofs.Sides.{past_more}
 use Rattle.prop_linear.proofs.Found.{placed, open_there}
 use Rattle.prop_linear.proofs.Sided.{near_both, number_default}
@@ -61,7 +62,7 @@ tighten_place-requires-2-clause-past c =
     let old = least_sum ms xs c.args.store.now.box in
     let new = least_sum ms xs c.tighten_place.new.store.box in
     let r = c.in_ok-over.ensures.rises true in
-    past_more c.args.rule.now ms xs (old +ℤ pos c.args.t) (new +ℤ pos c.args.t) (omega (arith, ints, r)) c.requires.under
+    past_more c.args.rule.now c.args.store.now.box c.tighten_place.new.store.box ms xs (old +ℤ pos c.args.t) (new +ℤ pos c.args.t) c.in_ok-over.ensures.alike (omega (arith, ints, r)) c.requires.under
 
 pub returns-in_err-under-clause-pruning : goal.returns-in_err-under-clause-pruning
 returns-in_err-under-clause-pruning c =
@@ -83,3 +84,11 @@ returns-else-over-clause-near c e a =
     let T : Box → Type 0 = λ b. AllNear c.args.t (take (k + 1) ms) (take (k + 1) xs) b in
     let U : Box → Type 0 = λ b. AllNear c.args.t (take k ms) (take k xs) b in
     (subst S mid (c.in_ok-over.ensures.near a.0), subst T (end ∙ mid) (c.in_ok-under.ensures.near (subst U (sym mid) a.1)))
+
+pub returns-then-over-clause-alike : goal.returns-then-over-clause-alike
+returns-then-over-clause-alike c =
+    alike_more c.args.items.now c.args.store.now.box c.tighten_place.new.store.box c.tighten_place-2.new.store.box c.in_ok-over.ensures.alike c.in_ok-under.ensures.alike
+
+pub returns-else-over-clause-alike : goal.returns-else-over-clause-alike
+returns-else-over-clause-alike c =
+    alike_more c.args.items.now c.args.store.now.box c.tighten_place.new.store.box c.tighten_place-2.new.store.box c.in_ok-over.ensures.alike c.in_ok-under.ensures.alike

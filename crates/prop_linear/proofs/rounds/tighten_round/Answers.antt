@@ -7,6 +7,7 @@ use Rattle.prop_base.specs.Pruning.{is_just}
 use Rattle.prop_base.proofs.Steps.{pruning_more, pruning_sub}
 use Rattle.prop_linear.specs.Tightening.{least_sum}
 use Rattle.prop_linear.specs.Sides.{AreNear, signed}
+use Rattle.prop_linear.proofs.Alike.{alike_more}
 use Rattle.prop_linear.proofs.Sides.{past_more}
 use Rattle.prop_linear.proofs.Still.{same_box}
 use Rattle.prop_linear.proofs.rounds.tighten_round.Goals.{then-branch, else-branch}
@@ -19,7 +20,7 @@ tighten_both-requires-clause-over c =
     let old = least_sum ns xs c.args.store.now.box in
     let new = least_sum ns xs c.loop-k.store.box in
     let r = c.loop-k.invariant.rises false in
-    past_more c.args.rule.now ns xs (old +ℤ pos c.args.s) (new +ℤ pos c.args.s) (omega (arith, ints, r)) c.requires.over
+    past_more c.args.rule.now c.args.store.now.box c.loop-k.store.box ns xs (old +ℤ pos c.args.s) (new +ℤ pos c.args.s) c.loop-k.invariant.alike (omega (arith, ints, r)) c.requires.over
 
 pub tighten_both-requires-clause-under : goal.tighten_both-requires-clause-under
 tighten_both-requires-clause-under c =
@@ -28,7 +29,7 @@ tighten_both-requires-clause-under c =
     let old = least_sum ms xs c.args.store.now.box in
     let new = least_sum ms xs c.loop-k.store.box in
     let r = c.loop-k.invariant.rises true in
-    past_more c.args.rule.now ms xs (old +ℤ pos c.args.t) (new +ℤ pos c.args.t) (omega (arith, ints, r)) c.requires.under
+    past_more c.args.rule.now c.args.store.now.box c.loop-k.store.box ms xs (old +ℤ pos c.args.t) (new +ℤ pos c.args.t) c.loop-k.invariant.alike (omega (arith, ints, r)) c.requires.under
 
 pub returns-in_err-tighten_both-clause-pruning : goal.returns-in_err-tighten_both-clause-pruning
 returns-in_err-tighten_both-clause-pruning c =
@@ -52,6 +53,7 @@ loop-k-preserved c =
     let pruned = pruning_more ok g _ _ _ _ _ _ i.pruning c.tighten_both.ensures.pruning in
     let declared = pruning_sub ok g _ _ _ _ (declared_box g) c.tighten_both.ensures.pruning i.declared in
     let rises : (b : Bool) → least_sum (signed b ns) xs c.args.store.now.box ≤ℤ least_sum (signed b ns) xs c.tighten_both.new.store.box = λ b. rise_on (least_sum (signed b ns) xs c.args.store.now.box) (least_sum (signed b ns) xs c.loop-k.store.box) (least_sum (signed b ns) xs c.tighten_both.new.store.box) (i.rises b) (t.rises b) in
+    let alike = alike_more xs c.args.store.now.box c.loop-k.store.box c.tighten_both.new.store.box i.alike t.alike in
     elim c.if-branch.branch [
       | then-branch w ↦
           (record {
@@ -59,6 +61,7 @@ loop-k-preserved c =
             declared = declared;
             full = t.full;
             rises = rises;
+            alike = alike;
             near = λ e. absurd (clash c.if-branch.changed w.changed-is e);
             same = λ e. absurd (clash c.if-branch.changed w.changed-is e);
             grown = λ e. longer c.loop-k.changed _ _ _ (λ f. ap length (i.same f)) i.grown (t.grown.0 w.if-branch.true);
@@ -69,6 +72,7 @@ loop-k-preserved c =
             declared = declared;
             full = t.full;
             rises = rises;
+            alike = alike;
             near = λ e.
                 let unchanged = sym w.changed-is ∙ e in
                 let box = same_box ok g _ _ _ _ i.pruning (i.same unchanged) in

@@ -8,9 +8,10 @@ use Rattle.qc_arguments.proofs.Bools.{clash}
 use Rattle.prop_base.specs.Pruning.{is_just}
 use Rattle.prop_base.proofs.Steps.{pruning_more, pruning_sub}
 use Rattle.prop_linear.specs.Tightening.{AllNear, least_sum}
-use Rattle.prop_linear.specs.Sides.{IsPast}
+use Rattle.prop_linear.specs.Sides.{IsPast, signed}
 use Rattle.prop_linear.proofs.Moves.{keeps_items}
-use Rattle.prop_linear.proofs.Sides.{bounded_past}
+use Rattle.prop_linear.proofs.Alike.{alike_more, bounded_again}
+use Rattle.prop_linear.proofs.Sides.{bounded_past, signed_length}
 use Rattle.prop_linear.proofs.Found.{placed}
 use Rattle.prop_linear.proofs.tighten.tighten_all.Goals.{then-branch, else-branch}
 use Rattle.prop_linear.proofs.tighten.tighten_all.Goals as goal
@@ -18,10 +19,11 @@ use Rattle.prop_linear.proofs.tighten.tighten_all.Goals as goal
 pub tighten_place-requires-clause-past : goal.tighten_place-requires-clause-past
 tighten_place-requires-clause-past c =
     let r = c.args.rule.now in
-    let ns = c.args.factors.now in
+    let ns = signed c.args.negative c.args.factors.now in
     let xs = c.args.items.now in
-    let P : ℤ → Type 0 = λ z. IsPast r ns xs (z +ℤ pos c.args.s) in
-    subst P (sym c.loop-k.invariant.sum) (bounded_past r ns xs (least_sum ns xs c.args.store.now.box +ℤ pos c.args.s) c.requires.bounded)
+    let P : ℤ → Type 0 = λ z. IsPast r c.loop-k.store.box ns xs (z +ℤ pos c.args.s) in
+    let bound = least_sum ns xs c.args.store.now.box +ℤ pos c.args.s in
+    subst P (sym c.loop-k.invariant.sum) (bounded_past r c.loop-k.store.box ns xs bound (bounded_again r ns xs bound c.args.store.now.box c.loop-k.store.box c.loop-k.invariant.alike c.requires.bounded))
 
 pub returns-in_err-tighten_place-clause-pruning : goal.returns-in_err-tighten_place-clause-pruning
 returns-in_err-tighten_place-clause-pruning c =
@@ -38,12 +40,14 @@ loop-k-preserved c =
     let t = c.in_ok-tighten_place.ensures in
     let pruned = pruning_more (is_just c.args.c.0) c.args.problem.now _ _ _ _ _ _ i.pruning c.tighten_place.ensures.pruning in
     let declared = pruning_sub (is_just c.args.c.0) c.args.problem.now _ _ _ _ (declared_box c.args.problem.now) c.tighten_place.ensures.pruning i.declared in
+    let alike = alike_more c.args.items.now c.args.store.now.box c.loop-k.store.box c.tighten_place.new.store.box i.alike t.alike in
     elim c.if-branch.branch [
       | then-branch w ↦
           (record {
             pruning = pruned;
             declared = declared;
             full = t.full;
+            alike = alike;
             sum = t.sum ∙ i.sum;
             near = t.near i.near;
             same = λ e. absurd (clash c.if-branch.changed w.changed-is e);
@@ -54,6 +58,7 @@ loop-k-preserved c =
             pruning = pruned;
             declared = declared;
             full = t.full;
+            alike = alike;
             sum = t.sum ∙ i.sum;
             near = t.near i.near;
             same = λ e. t.grown.1 w.if-branch.false ∙ i.same (sym w.changed-is ∙ e);
@@ -66,15 +71,16 @@ returns-clause-keeps c =
     let i = c.loop-k.invariant in
     let g = c.args.problem.now in
     let r = c.args.rule.now in
-    let ns = c.args.factors.now in
+    let ns = signed c.args.negative c.args.factors.now in
     let xs = c.args.items.now in
     let box = c.loop-k.store.box in
     let k = c.loop-k.k in
     let asked : IsAsked g r box = record { rule = c.requires.asked.rule; declared = i.declared; full = i.full } in
-    let all_ns : take k ns ≡ ns = take_all k ns (omega (arith, c.requires.equal)) in
+    let all_ns : take k ns ≡ ns = take_all k ns (omega (arith, signed_length c.args.negative c.args.factors.now, c.requires.equal)) in
     let all_xs : take k xs ≡ xs = take_all k xs (omega arith) in
     let near : AllNear c.args.s ns xs box =
     subst (λ l. AllNear c.args.s l xs box) all_ns (subst (λ l. AllNear c.args.s (take k ns) l box) all_xs i.near) in
-    keeps_items r ns xs (least_sum ns xs c.args.store.now.box +ℤ pos c.args.s) c.args.s box c.requires.bounded c.requires.once c.requires.equal
+    let bound = least_sum ns xs c.args.store.now.box +ℤ pos c.args.s in
+    keeps_items r ns xs bound c.args.s box (bounded_again r ns xs bound c.args.store.now.box box i.alike c.requires.bounded) c.requires.once (signed_length c.args.negative c.args.factors.now ∙ c.requires.equal)
     (λ j x h q. placed g r box xs j x (Num (pos 0)) asked c.requires.sees h q)
     (ap (λ z. z +ℤ pos c.args.s) (sym i.sum)) near

@@ -7,8 +7,9 @@ use Rattle.qc_model.specs.declared.problem.Arg.TheVariants.{Var}
 use Rattle.qc_model.specs.Domains.{Box, values_left, values_outside, has_empty}
 use Rattle.qc_model.specs.Refuted.{left_to}
 use Rattle.qc_arguments.proofs.Boxes.{set_full}
-use Rattle.prop_linear.specs.Tightening.{AllNear, IsNear, IsTightening, least_sum}
+use Rattle.prop_linear.specs.Tightening.{AlikeOutside, AllNear, IsNear, IsTightening, least_sum}
 use Rattle.prop_linear.specs.Sides.{signed}
+use Rattle.prop_linear.proofs.Alike.{alike_at}
 use Rattle.prop_linear.proofs.Moves.{near_more, near_after, near_number, sum_kept}
 use Rattle.prop_linear.proofs.Sides.{signed_length, sides_rise}
 use Rattle.prop_linear.proofs.Found.{placed, open_there, cut_of, cut_left}
@@ -121,3 +122,14 @@ returns-in_ok-prune-in-Some-clause-near c a =
     subst N (sym e)
     (rw add-one
     (near_after c.args.s ns xs c.args.k box c.in-Var.x cut.lo cut.hi (Var (record { 0 = 0 })) c.requires.once (omega (arith, signed_length c.args.negative c.args.factors.now, c.requires.equal, c.requires.place)) c.requires.place c.in-Var.is m u a))
+
+pub returns-in_ok-prune-in-Some-clause-alike : goal.returns-in_ok-prune-in-Some-clause-alike
+returns-in_ok-prune-in-Some-clause-alike c =
+    let f_fits : SFits w64 c.factor_at-factor.result = search rules in
+    let box = c.args.store.now.box in
+    let xs = c.args.items.now in
+    let cut = c.in-Some.cut in
+    let t = simp to_z-of_z at c.in-Some.ensures.some in
+    let e = cut_left box c.prune.new.store.box c.in-Var.x cut t.0 c.in_ok-prune-in-Some.ensures.content in
+    let A : Box → Type 0 = λ b. AlikeOutside xs box b in
+    subst A (sym e) (alike_at xs box c.args.k c.in-Var.x (values_outside cut.lo cut.hi (values_left box c.in-Var.x.0)) (Var (record { 0 = 0 })) c.requires.place c.in-Var.is)
