@@ -143,10 +143,17 @@ def yardsticks():
     ones = listed([1] * 500)
     yield "a sum of 500, at most, 10,000 closings", text("0..9", 500, f"int_lin_le({ones},{listed(names)},2000)"), ["again", "10000"]
     yield "a sum of 500, equal, 10,000 closings", text("0..9", 500, f"int_lin_eq({ones},{listed(names)},2000)"), ["again", "10000"]
+    for relation, truth in ("le", "true"), ("le", "false"), ("eq", "true"), ("eq", "false"):
+        told = f"int_lin_{relation}_reif({ones},{listed(names)},2000,{truth})"
+        yield f"a sum of 500, {relation} told {truth}, 10,000 closings", text("0..9", 500, told), ["again", "10000"]
     clauses = [
         f"bool_clause({listed(pick.sample(names, 1))},{listed(pick.sample(names, 2))})" for _ in range(20_000)
     ]
     yield "20,000 clauses, 10,000 closings", text("bool", 500, *clauses), ["again", "10000"]
+    few = [f"bool_clause({listed(names[k : k + 1])},{listed([names[k - 1], names[k - 2]])})" for k in range(500)] * 6
+    few += [f"bool_clause({listed(names[k : k + 1])},{listed([names[k - 1]])})" for k in range(500)]
+    few += ["bool_clause([true],[])"] * (20_000 - len(few))
+    yield "20,000 clauses, 20 of a variable, 10,000 closings", text("bool", 500, *few), ["again", "10000"]
     yield "500 that differ, 100 closings", text("0..520", 500, f"all_different_int({listed(names)})"), ["again", "100"]
     rows = listed(pick.randrange(20) for _ in range(100_000))
     yield "a table of 20,000 rows, 1,000 closings", text("0..19", 5, f"table_int({listed(names[:5])},{rows})"), ["again", "1000"]
