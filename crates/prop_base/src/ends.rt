@@ -134,6 +134,7 @@ fn find_cut<R: Refuter>(
 }
 
 // The cuts that a refuter finds.
+#[derive(Drop)]
 struct Ends<'r, R> {
     refuter: &'r R,
 }

@@ -126,8 +126,8 @@ sum_numbers xs c h e = let s = sum_shape xs c h e in ap (λ args. list_all is_nu
 pub sum_few : (xs : List Variable) (c : Rule) → is_constraint xs c ≡ true → IsLinear c.pred → length (args_at c.args 1) ≤ 1000
 sum_few xs c h e = let s = sum_shape xs c h e in subst (λ args. length (args_at args 1) ≤ 1000) (sym s.is) s.few
 
-pub sum_equal : (xs : List Variable) (c : Rule) → is_constraint xs c ≡ true → IsLinear c.pred → length (ints_at c.args 0) ≡ length (args_at c.args 1)
-sum_equal xs c h e =
+pub sum_paired : (xs : List Variable) (c : Rule) → is_constraint xs c ≡ true → IsLinear c.pred → length (ints_at c.args 0) ≡ length (args_at c.args 1)
+sum_paired xs c h e =
     let s = sum_shape xs c h e in
     let sorted = are_of_sorts xs (arg_kinds_of c.pred) c.args in
     let lengths = have_lengths (meaning_of c.pred) c.args in

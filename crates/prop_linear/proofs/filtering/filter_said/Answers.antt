@@ -9,7 +9,7 @@ use Rattle.qc_arguments.specs.Written.{arg_at, args_at, ints_at}
 use Rattle.qc_refuter.specs.Met.{is_open}
 use Rattle.prop_linear.specs.declared.relation.Demand.{Demand}
 use Rattle.prop_linear.specs.Demands.{demand_of, IsDemanded}
-use Rattle.prop_linear.proofs.Shapes.{sum_equal, sum_open, sum_literal, sum_numbers, sum_few, sum_sees}
+use Rattle.prop_linear.proofs.Shapes.{sum_paired, sum_open, sum_literal, sum_numbers, sum_few, sum_sees}
 use Rattle.prop_linear.proofs.ToldSums.{said_linear, said_demanded}
 use Rattle.prop_linear.proofs.filtering.filter_said.Goals as goal
 
@@ -39,7 +39,7 @@ filter_demanded-requires-clause-equal c =
     let r = c.args.rule.now in
     let ns = c.numbers_at-factors.ensures ∙ ap (λ a. ints_at a 0) c.arguments-args.ensures in
     let xs = c.items_at-items.ensures ∙ ap (λ a. args_at a 1) c.arguments-args.ensures in
-    ap length ns ∙ (sum_equal c.args.problem.now.variables r c.requires.asked.rule (said_linear r c.args.store.now.box c.args.relation c.args.holds c.requires.said) ∙ sym (ap length xs))
+    ap length ns ∙ (sum_paired c.args.problem.now.variables r c.requires.asked.rule (said_linear r c.args.store.now.box c.args.relation c.args.holds c.requires.said) ∙ sym (ap length xs))
 
 pub filter_demanded-requires-clause-few : goal.filter_demanded-requires-clause-few
 filter_demanded-requires-clause-few c =

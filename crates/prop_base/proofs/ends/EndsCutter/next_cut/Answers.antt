@@ -7,7 +7,7 @@ use Rattle.qc_model.specs.Domains.{Box}
 use Rattle.prop_base.specs.Closed.{keeps_argument}
 use Rattle.prop_base.specs.declared.cuts.Cut.{Cut}
 use Rattle.prop_base.proofs.Keeps.{keeps_all}
-use Rattle.prop_base.proofs.ends.Ends.next_cut.Goals as goal
+use Rattle.prop_base.proofs.ends.EndsCutter.next_cut.Goals as goal
 
 none_kept : (c : Rule) (box : Box) (r : Option Cut) → IfNone r (list_all (keeps_argument c box) c.args ≡ true) → IfNone r (keeps_ends box c ≡ true)
 none_kept c box None h = keeps_all c box h
