@@ -142,7 +142,7 @@ cut_refuted c ns xs s box k x lo hi e b r l h q m t =
     let d = values_left box x.0 in
     let us = values_within lo hi d in
     let move = moved ns xs k box x us (pos 0) e r l h q m in
-    b (box_within box x.0 lo hi) (alike_at xs box k x us e l q) (above (least_sum ns xs (box_within box x.0 lo hi)) (least_sum ns xs box) (term_of n d).from (term_of n us).from move t.far)
+    b (box_within box x.0 lo hi) (alike_at xs box k x us e h q) (above (least_sum ns xs (box_within box x.0 lo hi)) (least_sum ns xs box) (term_of n d).from (term_of n us).from move t.far)
   where
     above : (r u f g : ℤ) → r +ℤ f ≡ u +ℤ g → (f +ℤ pos s) <ℤ g → (u +ℤ pos s) <ℤ r
     above r u f g h k = omega (arith, ints, h, k)

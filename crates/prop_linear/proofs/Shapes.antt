@@ -22,7 +22,7 @@ use Rattle.qc_model.specs.Entailed.{entailed_as}
 use Rattle.qc_model.specs.Meaning.{meaning_of, sum_at_most, sum_equal, sum_different}
 use Rattle.qc_model.specs.Refuted.{left_to, refuted_as}
 use Rattle.qc_model.specs.Signature.{arg_kinds_of}
-use Rattle.qc_model.specs.Valid.{is_number, is_domain, is_integer, is_of_sort, are_of_sorts, have_lengths, is_sum, is_literal, arg_sees, argument_sees, is_constraint}
+use Rattle.qc_model.specs.Valid.{is_number, is_domain, is_integer, are_of_sorts, have_lengths, is_sum, is_literal, arg_sees, argument_sees, is_constraint}
 use Rattle.qc_model.proofs.Readable.{first, second}
 use Rattle.qc_arguments.specs.Asked.{IsAsked}
 use Rattle.qc_arguments.specs.Written.{arg_at, args_at, ints_at}

@@ -38,11 +38,7 @@ fn least_of(
     ensures small { unsigned_abs result ≤ 10 ^ 21 }
 {
     let sum = sum_extent(problem, rule, factors, items, store);
-    if negative {
-        turned(sum.to)
-    } else {
-        sum.from
-    }
+    if negative { turned(sum.to) } else { sum.from }
 }
 
 /// One pass over the sum, or over its negative, where no variable stands twice; end by end otherwise. Where the bound is
@@ -77,9 +73,7 @@ pub(crate) fn filter_at_most(
         return empty_first(problem, c, rule, store, steps);
     }
     let s = slack(bound, least);
-    if tighten_all(
-        problem, c, rule, factors, items, negative, s, store, steps,
-    )? {
+    if tighten_all(problem, c, rule, factors, items, negative, s, store, steps)? {
         Ok(Filtered::Changed)
     } else {
         Ok(Filtered::Stable)

@@ -57,9 +57,7 @@ fn filter_demanded(
             filter_at_most(problem, c, rule, factors, items, true, most, store, steps)
         }
         Demand::Exactly => filter_sum_equal(problem, c, rule, factors, items, bound, store, steps),
-        Demand::Off => filter_sum_different(
-            problem, c, rule, factors, items, bound, store, steps,
-        ),
+        Demand::Off => filter_sum_different(problem, c, rule, factors, items, bound, store, steps),
     }
 }
 

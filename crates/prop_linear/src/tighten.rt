@@ -93,7 +93,9 @@ pub(crate) fn tighten_all(
 {
     let mut changed = false;
     for k in 0..items.len() {
-        if tighten_place(problem, c, rule, factors, items, k, negative, s, store, steps)? {
+        if tighten_place(
+            problem, c, rule, factors, items, k, negative, s, store, steps,
+        )? {
             changed = true;
         }
     }

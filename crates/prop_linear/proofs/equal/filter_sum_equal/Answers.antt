@@ -1,4 +1,7 @@
-use Rattle.std.proofs.Common.{◌≡◌, ◌<◌, refl, sym, ap, subst, arith, length, true, false, Bool, ℕ}
+use Rattle.std.proofs.Common.{◌≡◌, ◌<◌, refl, sym, ap, subst, arith, rules, length, true, false, Bool, ℕ}
+use Rattle.std.proofs.lemmas.Int.{to_z-of_z}
+use mir.Val.{SFits}
+use mir.Syntax.{w64}
 use Rattle.qc_model.specs.Domains.{declared_box, is_sub_box}
 use Rattle.prop_base.specs.Pruning.{is_just, IsFiltered}
 use Rattle.prop_base.proofs.Steps.{pruning_more, pruning_sub, pruning_total}
@@ -10,7 +13,8 @@ use Rattle.prop_linear.proofs.equal.filter_sum_equal.Goals as goal
 
 pub run_round-requires-clause-balanced : goal.run_round-requires-clause-balanced
 run_round-requires-clause-balanced c =
-    balanced_again c.args.rule.now c.args.factors.now c.args.items.now c.args.bound c.args.store.now.box c.loop-changed.store.box c.loop-changed.invariant.alike c.requires.balanced
+    let b_fits : SFits w64 c.args.bound = search rules in
+    simp to_z-of_z (balanced_again c.args.rule.now c.args.factors.now c.args.items.now c.args.bound c.args.store.now.box c.loop-changed.store.box c.loop-changed.invariant.alike c.requires.balanced)
 
 pub returns-in_err-run_round-clause-pruning : goal.returns-in_err-run_round-clause-pruning
 returns-in_err-run_round-clause-pruning c =

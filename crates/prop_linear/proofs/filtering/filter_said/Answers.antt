@@ -1,4 +1,4 @@
-use Rattle.std.proofs.Common.{◌≡◌, ◌∙◌, ◌≤◌, sym, ap, subst, rules, length, List, ℤ}
+use Rattle.std.proofs.Common.{◌∙◌, ◌≤◌, sym, ap, subst, rules, length, List, ℤ}
 use Rattle.std.specs.List.{list_all}
 use Rattle.std.proofs.lemmas.Int.{to_z-of_z}
 use mir.Val.{SFits}

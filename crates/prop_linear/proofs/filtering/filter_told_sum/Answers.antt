@@ -1,5 +1,4 @@
 use Rattle.std.proofs.Common.{◌∙◌, inr, sym, ap, subst}
-use Rattle.qc_model.specs.declared.problem.Arg.{Arg}
 use Rattle.qc_model.specs.Refuted.{left_to}
 use Rattle.qc_arguments.specs.Written.{last_arg}
 use Rattle.prop_compare.proofs.Lasts.{IsTruthLast, truth_last}
