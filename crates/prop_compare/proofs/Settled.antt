@@ -1,15 +1,15 @@
 -- A constraint whose last argument can tell both.
-use Rattle.std.proofs.Common.{◌≡◌, ◌≢◌, ℕ, zero, suc, ◌<◌, ◌+◌, Bool, true, false, not, ◌&&◌, List, [], ◌∷◌, ◌++◌, length, set, refl, sym, ap, ◌∙◌, subst, arith, ℤ, length-append}
+use Rattle.std.proofs.Common.{◌≡◌, ◌≢◌, ℕ, zero, suc, ◌<◌, Bool, true, false, not, ◌&&◌, List, [], ◌∷◌, ◌++◌, length, set, refl, sym, ap, ◌∙◌, subst, arith, ℤ, length-append}
 use Rattle.std.specs.Prelude.{pos, ◌==◌}
 use Rattle.std.specs.List.{list_all}
-use Rattle.std.proofs.lemmas.List.{get_or-set_other}
+use Rattle.std.proofs.lemmas.List.{get_or-set_same, get_or-set_other}
 use Rattle.std.proofs.lemmas.Bool.Decides.{nat_tests}
 use Rattle.qc_model.specs.declared.problem.VarId.{VarId}
 use Rattle.qc_model.specs.declared.problem.Arg.TheVariants.{Var}
 use Rattle.qc_model.specs.Arguments.{variables_of}
 use Rattle.qc_model.specs.Closed.{refutes_at, keeps_ends}
 use Rattle.qc_model.specs.Content.{Rule}
-use Rattle.qc_model.specs.Domains.{Values, Box, values_left, values_within, values_outside, box_at, box_within, box_without, is_none_left, has_empty, least_value, greatest_value}
+use Rattle.qc_model.specs.Domains.{Values, Box, values_left, values_within, values_outside, box_at, box_within, box_without, is_none_left, is_single, has_empty, least_value, greatest_value}
 use Rattle.qc_model.specs.Refuted.{refuted_by}
 use Rattle.qc_model.specs.Valid.{is_number}
 use Rattle.qc_model.proofs.Readable.{together}
@@ -22,7 +22,7 @@ use Rattle.prop_base.specs.declared.cuts.Cut.{Cut}
 use Rattle.prop_base.specs.Closed.{IsCut}
 use Rattle.prop_base.specs.Pruning.{IsFiltered}
 use Rattle.prop_compare.specs.Telling.{truth_of}
-use Rattle.prop_compare.specs.Untold.{RefutesNone, after_change}
+use Rattle.prop_compare.specs.Untold.{RefutesNone, IsGrown, after}
 use Rattle.prop_compare.proofs.Told.{one_within, one_without, small_truth}
 
 place : (box : Box) (x : ℕ) → values_left box x ≡ pos 0 ∷ pos 1 ∷ [] → x < length box
@@ -99,14 +99,21 @@ untold_keeps c box x f b none p q = all_pass (λ y. not (refutes_at c box y (lea
         (not_true (refutes_at c box y l) (same_or_not y x.0 (refutes_at c box y l ≡ false) (λ e. ap (λ z. refutes_at c box z (least_value (values_left box z))) e ∙ (ap (λ d. refutes_at c box x.0 (least_value d)) b ∙ q)) (other y l)))
         (not_true (refutes_at c box y g) (same_or_not y x.0 (refutes_at c box y g ≡ false) (λ e. ap (λ z. refutes_at c box z (greatest_value (values_left box z))) e ∙ (ap (λ d. refutes_at c box x.0 (greatest_value d)) b ∙ p)) (other y g)))
 
+-- one truth value is left
+pub told_single : (box new : Box) (x : VarId) (t : Bool) (cut : Cut) → values_left box x.0 ≡ pos 0 ∷ pos 1 ∷ [] → cut ≡ record { x = x; lo = truth_of t; hi = truth_of t } → new ≡ box_without box cut.x.0 cut.lo cut.hi → is_single (values_left new x.0) ≡ true
+told_single box new x t cut h q n =
+    ap (λ b. is_single (values_left b x.0)) (n ∙ (ap (λ (z : Cut). box_without box z.x.0 z.lo z.hi) q ∙ truth_gone box x.0 t h))
+    ∙ ap is_single (get_or-set_same box x.0 (truth_of (not t) ∷ []) [] (place box x.0 h))
+
 -- steps of two calls
-pub changed_then : (c : Rule) (box : Box) (a b d more : List Step) (f g : Filtered) → length b ≡ length a + 1 → d ≡ b ++ more → IsFiltered f c box b d → g ≡ after_change f → IsFiltered g c box a d
-changed_then c box a b d more f g l e h q = subst (λ z. IsFiltered z c box a d) (sym q) (by f h)
+pub joined_filtered : (c : Rule) (box : Box) (a b d more : List Step) (t : Bool) (f g : Filtered) → IsGrown t a b → d ≡ b ++ more → IsFiltered f c box b d → g ≡ after t f → IsFiltered g c box a d
+joined_filtered c box a b d more true f g l e h q = subst (λ z. IsFiltered z c box a d) (sym q) (by f h)
   where
     longer : d ≡ a → ⊥
-    longer s = omega (arith, l, ap length e, ap length s, length-append b more)
+    longer s = omega (arith, l.0 refl, ap length e, ap length s, length-append b more)
 
-    by : (f : Filtered) → IsFiltered f c box b d → IsFiltered (after_change f) c box a d
+    by : (f : Filtered) → IsFiltered f c box b d → IsFiltered (after true f) c box a d
     by Emptied h = h
     by Stable h = (h.0, longer, h.2)
     by Changed h = (h.0, longer, h.2)
+joined_filtered c box a b d more false f g l e h q = subst (λ z. IsFiltered z c box a d) (sym q) (subst (λ z. IsFiltered f c box z d) (l.1 refl) h)

@@ -26,11 +26,12 @@ pub(crate) fn loose(r: Arg, store: &Store) -> Option<VarId>
     }
 }
 
-/// What an argument with truth values tells, once one is left.
+/// What an argument with truth values tells, once one is left. None comes exactly while both are.
 pub fn what_is_told(r: Arg, store: &Store) -> Option<bool>
     requires open { IsTrue (is_open store.now.box r) }
     requires truths { IsTrue (list_all is_truth (left_to store.now.box r)) }
-    ensures { IfSome result (λ t. left_to store.now.box r ≡ truth_of t ∷ []) }
+    ensures none { IfNone result (IsFalse (is_single (left_to store.now.box r))) }
+    ensures some { IfSome result (λ t. left_to store.now.box r ≡ truth_of t ∷ []) }
 {
     if is_fixed(r, store) {
         Some(least(r, store) > 0)

@@ -9,7 +9,7 @@ use crate::forms::form_of;
 use fd_store::Store;
 use proof_tree::StepList;
 use prop_base::{Filtered, filter_by_cuts, filter_by_ends};
-use prop_compare::{Table, filter_telling};
+use prop_compare::{Table, joined, tell};
 use prop_different::filter_different;
 use qc_model::{ConId, Constraint, Pred, Problem};
 use std::alloc::{AllocError, Global};
@@ -28,7 +28,9 @@ fn filter_told_member(
     ensures pruning { IsPruning (is_just c.0) problem.now store.old store.new steps.old steps.new }
     ensures answer { IfOk result (λ f. IsFiltered f rule.now store.new.box steps.old steps.new) }
 {
-    filter_telling(problem, c, rule, store, steps)
+    let changed = tell(problem, c, rule, store, steps)?;
+    let later = filter_by_ends(&Table {}, problem, c, rule, store, steps)?;
+    Ok(joined(changed, later))
 }
 
 // No range says what to keep.

@@ -18,7 +18,7 @@ use fd_store::Store;
 use proof_tree::StepList;
 use prop_base::{Filtered, filter_by_ends};
 use prop_compare::{
-    Comparison, Table, filter_comparison, filter_reified, filter_telling, what_is_told,
+    Comparison, Table, filter_comparison, filter_reified, joined, tell, what_is_told,
 };
 use qc_arguments::{arguments, items_at, last_one, numbers_at, one_at};
 use qc_model::{Arg, ConId, Constraint, Pred, Problem};
@@ -124,9 +124,13 @@ fn filter_told_sum(
     ensures answer { IfOk result (λ f. IsFiltered f rule.now store.new.box steps.old steps.new) }
 {
     problem.known();
+    let changed = tell(problem, c, rule, store, steps)?;
     match what_is_told(last_one(arguments(rule)), store) {
-        None => filter_telling(problem, c, rule, store, steps),
-        Some(holds) => filter_said(problem, c, rule, relation, holds, store, steps),
+        None => Ok(Filtered::Stable),
+        Some(holds) => {
+            let later = filter_said(problem, c, rule, relation, holds, store, steps)?;
+            Ok(joined(changed, later))
+        }
     }
 }
 

@@ -5,7 +5,7 @@ use Rattle.qc_arguments.specs.Written.{last_arg}
 use Rattle.prop_compare.specs.Untold.{RefutesNone}
 use Rattle.prop_compare.proofs.Decided.{both_truths}
 use Rattle.prop_compare.proofs.Lasts.{IsTruthLast, truth_last}
-use Rattle.prop_compare.proofs.untold.filter_telling.Goals as goal
+use Rattle.prop_compare.proofs.untold.tell.Goals as goal
 
 pub loose-requires : goal.loose-requires
 loose-requires c =
@@ -13,15 +13,15 @@ loose-requires c =
     let last = c.last_one-r.ensures ∙ ap last_arg c.arguments.ensures in
     (subst (IsTruthLast box) (sym last) (truth_last c.args.problem.now c.args.rule.now box c.known.ensures.domains c.requires.asked c.requires.truth)).met
 
-pub filter_untold-requires-clause-both : goal.filter_untold-requires-clause-both
-filter_untold-requires-clause-both c =
+pub tell_untold-requires-clause-both : goal.tell_untold-requires-clause-both
+tell_untold-requires-clause-both c =
     let box = c.args.store.now.box in
     let last = sym (c.last_one-r.ensures ∙ ap last_arg c.arguments.ensures) ∙ c.in-Some.ensures.variable in
     let t = subst (IsTruthLast box) last (truth_last c.args.problem.now c.args.rule.now box c.known.ensures.domains c.requires.asked c.requires.truth) in
     both_truths (values_left box c.in-Some.x.0) t.met t.truth c.in-Some.ensures.some
 
-pub filter_untold-requires-clause-none : goal.filter_untold-requires-clause-none
-filter_untold-requires-clause-none c =
+pub tell_untold-requires-clause-none : goal.tell_untold-requires-clause-none
+tell_untold-requires-clause-none c =
     let box = c.args.store.now.box in
     let last = sym (c.last_one-r.ensures ∙ ap last_arg c.arguments.ensures) ∙ c.in-Some.ensures.variable in
     let P : Arg → Type 0 = λ z. RefutesNone c.args.rule.now box z in
