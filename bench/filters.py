@@ -150,8 +150,7 @@ def yardsticks():
         f"bool_clause({listed(pick.sample(names, 1))},{listed(pick.sample(names, 2))})" for _ in range(20_000)
     ]
     yield "20,000 clauses, 10,000 closings", text("bool", 500, *clauses), ["again", "10000"]
-    few = [f"bool_clause({listed(names[k : k + 1])},{listed([names[k - 1], names[k - 2]])})" for k in range(500)] * 6
-    few += [f"bool_clause({listed(names[k : k + 1])},{listed([names[k - 1]])})" for k in range(500)]
+    few = [f"bool_clause([],{listed(names[k - i * step] for i in range(4))})" for k in range(500) for step in range(1, 6)]
     few += ["bool_clause([true],[])"] * (20_000 - len(few))
     yield "20,000 clauses, 20 of a variable, 10,000 closings", text("bool", 500, *few), ["again", "10000"]
     yield "500 that differ, 100 closings", text("0..520", 500, f"all_different_int({listed(names)})"), ["again", "100"]
