@@ -1,6 +1,8 @@
-use Rattle.std.proofs.Common.{◌≡◌, ◌∙◌, sym, ap, refl, subst, ◌<◌, ◌+◌, ◌-◌, ◌*◌, suc, length, drop, w64, to_z, of_z, arith, true, [], ◌∷◌, ◌++◌}
+use Rattle.std.proofs.Common.{◌≡◌, ◌∙◌, sym, ap, refl, subst, ◌<◌, ◌+◌, ◌-◌, ◌*◌, rules, suc, length, drop, w64, to_z, of_z, arith, true, [], ◌∷◌, ◌++◌}
 use Rattle.std.specs.List.{list_all}
+use Rattle.std.proofs.lemmas.Int.{to_z-of_z}
 use Rattle.std.proofs.lemmas.Result.{on_ok_weaker, IfOk-weaker}
+use mir.Val.{SFits}
 use Rattle.qc_model.specs.Content.{Game}
 use Rattle.qc_model.specs.Domains.{Box, declared_box, has_empty, has_value, is_ascending, values_left}
 use Rattle.qc_model.specs.Game.{before}
@@ -27,6 +29,7 @@ use Rattle.search_box.proofs.Places.{read_numbers}
 use Rattle.game_search.specs.Going.{GoesOn}
 use Rattle.game_search.specs.Aims.{tracked_at}
 use Rattle.game_search.specs.Beaten.{seen_bounds}
+use Rattle.game_search.specs.Narrowed.{NarrowTold}
 use Rattle.game_search.specs.Told.{IsReady, StepsTold, PartTold, CaseTold, BodyTold, NodeTold}
 use Rattle.game_search.specs.Uppers.{upto_between, without_before}
 use Rattle.game_search.proofs.Covers.{covers_after, many_of, rest_of}
@@ -353,8 +356,10 @@ with_value-returns-clause-told t c =
     let box = box_to c.args.walk.now.remains.store.box c.args.x.0 (c.args.value ∷ []) in
     let h = scope_number c.args.stage.now.horizon in
     let joins = c.narrow.new.walk.joins in
+    let fits : SFits w64 c.args.value = search rules in
     λ before ready.
-    let n = c.in_ok-closed.ensures.told before ready.stands in
+    let told = c.in_ok-closed.ensures.told before ready.stands in
+    let n : NarrowTold g l.number box c.narrow.new.walk.remains.store.box before joins c.narrow.new.steps = simp to_z-of_z at told in
     let stepped = subst (λ ss. StepsTold g l.number box c.narrow.new.walk.remains.store.box before n.ms ss) (sym c.items.ensures) n.stepped in
     let left = subst (λ m. IsReady g l.number c.args.walk.now.joins (2 + 2 * m) before) (sym c.narrow.ensures.left) ready in
     let again = ready_after g l.number box c.narrow.new.walk.remains.store.box c.args.walk.now.joins joins c.narrow.new.walk.left before c.narrow.new.steps n left in
