@@ -1,5 +1,6 @@
 -- What the record of a branch's cases follows from: one lemma for each kind of case.
-use Rattle.std.proofs.Common.{◌≡◌, ◌≤◌, ◌<◌, ◌+◌, inl, inr, ℕ, Bool, true, false, not, ◌&&◌, ◌||◌, List, [], ◌∷◌, length, map, refl, sym, ap, ◌∙◌, arith, Option, None, ◌++◌, subst, suc}
+use Rattle.std.proofs.Common.{◌≡◌, ◌≤◌, ◌<◌, ◌+◌, inl, inr, ℕ, Bool, true, false, not, ◌&&◌, ◌||◌, List, [], ◌∷◌, length, map, refl, sym, ap, ◌∙◌, arith, Option, None, ◌++◌, subst, suc, ◌*◌, append_assoc}
+use Rattle.std.proofs.lemmas.List.{append-nil}
 use Rattle.std.specs.Prelude.{ℤ, ◌⊎◌, nat_lt}
 use Rattle.std.specs.List.{list_all, list_any}
 use Rattle.qc_model.specs.declared.problem.Condition.{Condition}
@@ -8,11 +9,12 @@ use Rattle.qc_model.specs.Content.{Game}
 use Rattle.qc_model.specs.Demands.{demands}
 use Rattle.qc_model.specs.Domains.{Box, Values, values_left, is_none_left}
 use Rattle.qc_model.specs.Valid.{is_number}
-use Rattle.qc_model.specs.Verdict.{Seen, seen_skipped}
+use Rattle.qc_model.specs.Verdict.{Seen, seen_skipped, bounds}
 use Rattle.proof_tree.specs.Tree.{Ending, Branches, no_more, piece, skip, left_open, go}
 use Rattle.proof_tree.specs.Cover.{is_cover, uncovered, box_to}
 use Rattle.proof_tree.specs.Pieces.{is_open}
 use Rattle.proof_tree.specs.Counts.{ending_turns, ending_opens, branch_turns, branch_opens, case_count}
+use Rattle.proof_tree.specs.Incumbents.{first_values, branches_keep}
 use Rattle.proof_tree.specs.Place.{list_after}
 use Rattle.proof_tree.specs.Read.{leaves, branch_leaves, marks}
 use Rattle.proof_tree.specs.Finding.{Leaf, seen_of, comes_to}
@@ -24,15 +26,19 @@ use Rattle.proof_tree.specs.declared.tree.Version.TheVariants.{Two}
 use Rattle.qc_joins.proofs.Lengths.{long_join}
 use Rattle.qc_joins.proofs.Sizing.{sizes_both}
 use Rattle.game_search.specs.Uppers.{upto_all}
-use Rattle.qc_joins.specs.Sizes.{AreLong, HasSizes}
+use Rattle.qc_joins.specs.Sizes.{HasSizes}
+use Rattle.qc_joins.specs.Verdicts.{scope_wishes}
+use Rattle.game_search.specs.Beaten.{firsts, seen_bounds, is_beaten, are_beaten, AreAmong}
 use Rattle.game_search.specs.Settled.{is_settled, is_vague}
 use Rattle.game_search.specs.Made.{CasesMade, PartMade}
 use Rattle.game_search.proofs.Bools.{two, not_first, not_second, is_below, none_below}
-use Rattle.game_search.proofs.Joining.{seen-append, settled-append, vague-append, any_leaf, neither, or_first, or_second, or_none}
+use Rattle.game_search.proofs.Joining.{seen-append, settled-append, vague-append, any_leaf, neither, or_first, or_second, or_none, settled_wishes}
+use Rattle.game_search.proofs.Beating.{all_both, among_self, among_more, among_join, among_as, beaten_among, none_beaten}
+use Rattle.game_search.proofs.Marks.{firsts-append, firsts_marks, bounds-append}
 use Rattle.game_search.proofs.Covers.{covers_all}
 use Rattle.game_search.proofs.Fitting.{upper_fits}
 use Rattle.game_search.proofs.Sizes.{sizes_none, sizes_skipped}
-use Rattle.game_search.proofs.Stepping.{part_says, unmarked}
+use Rattle.game_search.proofs.Stepping.{part_says, part_settled, part_vague, part_beaten, part_sizes, part_long}
 
 -- without turns no case is taken
 pub no_turns : (bs : Branches) → branch_turns bs ≡ 0 → has_go bs ≡ false
@@ -46,15 +52,15 @@ go_apart upto steps e no_more = refl
 go_apart upto steps e (piece high c bs) = refl
 
 module _ (cuts : Bool) (g : Game) (later : List Scope) (i : ℕ) (d : List Condition) (box : Box) (h : Option ℕ) (x : ℕ) where
-  abbrev AreMade : Values → Bool → List Seen → ℕ → ℕ → Branches → Type 0
-  AreMade vs was_settled seen had left bs = CasesMade cuts g later i d box h x vs was_settled seen had left bs
+  abbrev AreMade : Values → Bool → List Seen → List Seen → ℕ → ℕ → Branches → Type 0
+  AreMade vs was_settled before seen had left bs = CasesMade cuts g later i d box h x vs was_settled before seen had left bs
 
   abbrev Settled : List Seen → Bool
   Settled seen = is_settled later (list_after g later d) seen
 
   -- no value is left
-  pub none_made : (was : Bool) (had : ℕ) → AreMade [] was [] had had no_more
-  none_made was had = record {
+  pub none_made : (was : Bool) (before : List Seen) (had : ℕ) → AreMade [] was before [] had had no_more
+  none_made was before had = record {
     placed = refl;
     says = refl;
     settled = refl;
@@ -68,23 +74,28 @@ module _ (cuts : Bool) (g : Game) (later : List Scope) (i : ℕ) (d : List Condi
     gap = λ o p q. refl;
     skips = λ e p. cc;
     rests = λ e. refl;
+    beaten = λ o. refl;
+    keeps = λ reached a. refl;
     long = tt;
     sizes = sizes_none 0;
     closed = refl;
     foreseen = tt;
   }
 
-  -- a case that is taken, without a bound, and those after it
-  pub go_made : (v : ℤ) (vs : Values) (seen rest : List Seen) (had left last : ℕ) (steps : List Step) (e : Ending) (bs : Branches) →
-      1 < length (values_left box x) → (p : PartMade cuts g later i d (box_to box x (v ∷ [])) h seen had left steps e) → p.first ≡ [] → AreMade vs (Settled seen) rest left last bs →
-      AreMade (v ∷ vs) false (seen ++ rest) (1 + had) last (piece None (go steps e) bs)
-  go_made v vs seen rest had left last steps e bs many p none r =
+  -- a case that is taken, and those after it
+  pub go_made : (v : ℤ) (vs : Values) (before : List Seen) (ms : List ℤ) (seen rest : List Seen) (had left last : ℕ) (steps : List Step) (e : Ending) (bs : Branches) →
+      1 < length (values_left box x) → (p : PartMade cuts g later i d (box_to box x (v ∷ [])) h before ms seen had left steps e) → AreMade vs (Settled seen) (before ++ seen) rest left last bs →
+      AreMade (v ∷ vs) false before (seen ++ rest) (1 + had) last (piece None (go steps e) bs)
+  go_made v vs before ms seen rest had left last steps e bs many p r =
       let m = p.ended in
       let at = box_to box x (v ∷ []) in
+      let w = scope_wishes later g d in
       let ls = marks g later i d steps at ++ leaves g e later i d (after_steps steps at) in
       let others = branch_leaves g bs x vs later i d box in
-      let says : seen ≡ map seen_of ls = part_says cuts g later i d at h seen had left steps e p in
-      let all : p.last ≡ seen = unmarked cuts g later i d at h seen had left steps e p none in
+      let says : seen ≡ map seen_of ls = part_says cuts g later i d at h before ms seen had left steps e p in
+      let all : Settled seen ≡ Settled p.last = part_settled cuts g later i d at h before ms seen had left steps e p in
+      let known : firsts (before ++ (seen ++ rest)) ≡ firsts (before ++ seen) ++ firsts rest = ap firsts (sym (append_assoc before seen rest)) ∙ firsts-append (before ++ seen) rest in
+      let among = among_as (firsts (before ++ seen)) (firsts (before ++ seen) ++ firsts rest) (firsts (before ++ (seen ++ rest))) (sym known) (among_more (firsts (before ++ seen)) (firsts (before ++ seen)) (firsts rest) (among_self (firsts (before ++ seen)))) in
       record {
         placed = two _ _ (two _ _ (two _ _ (is_below 1 (length (values_left box x)) many) p.stepped.legal) m.placed) r.placed;
         says = ap (λ xs. xs ++ rest) says ∙ (ap (λ xs. map seen_of ls ++ xs) r.says ∙ sym (seen-append ls others));
@@ -99,11 +110,20 @@ module _ (cuts : Bool) (g : Game) (later : List Scope) (i : ℕ) (d : List Condi
         gap = λ o f q.
             let q2 = neither (Settled seen) (Settled rest) (sym (settled-append later (list_after g later d) seen rest) ∙ q) in
             vague-append seen rest
-            ∙ or_none (is_vague seen) (is_vague rest) (ap is_vague (sym all) ∙ m.gap (omega (arith, o)) (ap Settled all ∙ q2.0)) (r.gap (omega (arith, o)) q2.0 q2.1);
-        skips = λ f q. settled-append later (list_after g later d) seen rest ∙ skipped (skips e) (Settled seen) f refl (λ u. ap Settled (sym all) ∙ m.skips u) r.skips;
+            ∙ or_none (is_vague seen) (is_vague rest) (part_vague cuts g later i d at h before ms seen had left steps e p ∙ m.gap (omega (arith, o)) (sym all ∙ q2.0)) (r.gap (omega (arith, o)) q2.0 q2.1);
+        skips = λ f q. settled-append later (list_after g later d) seen rest ∙ skipped (skips e) (Settled seen) f refl (λ u. all ∙ m.skips u) r.skips;
         rests = λ f. cc;
-        long = long_join (demands g (suc i)) seen rest (subst (AreLong g i) all m.long) r.long;
-        sizes = subst (λ n. HasSizes n (seen ++ rest)) (regroup (ending_turns e) (branch_turns bs)) (sizes_both (suc (ending_turns e)) (branch_turns bs) seen rest (subst (HasSizes (suc (ending_turns e))) all m.sizes) r.sizes);
+        beaten = λ o.
+            let first = beaten_among w (firsts (before ++ seen)) (firsts (before ++ (seen ++ rest))) (bounds seen) among (part_beaten cuts g later i d at h before ms seen had left steps e p (omega (arith, o))) in
+            let second : are_beaten w (firsts (before ++ (seen ++ rest))) (bounds rest) ≡ true = subst (λ xs. are_beaten w (firsts xs) (bounds rest) ≡ true) (append_assoc before seen rest) (r.beaten (omega (arith, o))) in
+            ap (are_beaten w (firsts (before ++ (seen ++ rest)))) (bounds-append seen rest) ∙ all_both (is_beaten w (firsts (before ++ (seen ++ rest)))) (bounds seen) (bounds rest) first second;
+        keeps = λ reached a.
+            let own : firsts seen ≡ first_values ls = ap firsts says in
+            let here = m.keeps reached (among_as reached (firsts before) (firsts (before ++ seen_bounds ms)) (sym (firsts_marks before ms)) a) in
+            let after = r.keeps (reached ++ firsts seen) (among_as (reached ++ firsts seen) (firsts before ++ firsts seen) (firsts (before ++ seen)) (sym (firsts-append before seen)) (among_join reached (firsts seen) (firsts before) a)) in
+            two _ _ here (subst (λ ns. branches_keep g bs x vs later i d box (reached ++ ns) ≡ true) own after);
+        long = long_join (demands g (suc i)) seen rest (part_long cuts g later i d at h before ms seen had left steps e p) r.long;
+        sizes = subst (λ n. HasSizes n (seen ++ rest)) (regroup (ending_turns e) (branch_turns bs)) (sizes_both (2 * suc (ending_turns e)) (2 * branch_turns bs) seen rest (part_sizes cuts g later i d at h before ms seen had left steps e p) r.sizes);
         closed = two _ _ m.closed r.closed;
         foreseen = (m.foreseen, r.foreseen);
       }
@@ -128,15 +148,15 @@ module _ (cuts : Bool) (g : Game) (later : List Scope) (i : ℕ) (d : List Condi
       skipped false true f u p q = or_first (Settled seen) (Settled rest) u
       skipped false false f u p q = or_second (Settled seen) (Settled rest) (q f u)
 
-      regroup : (m n : ℕ) → suc m + n ≡ (1 + m) + n
+      regroup : (m n : ℕ) → 2 * suc m + 2 * n ≡ 2 * ((1 + m) + n)
       regroup m n = omega arith
 
   left_none : (v : ℤ) (vs : Values) → is_none_left (uncovered (upto_all (v ∷ vs)) (v ∷ vs)) ≡ true
   left_none v vs = ap is_none_left (covers_all v vs).leaves_none
 
   -- the cases after the one that settles the scope
-  pub skip_made : (v : ℤ) (vs : Values) (had : ℕ) → upto_fits Two (upto_all (v ∷ vs)) ≡ true → AreMade (v ∷ vs) true (seen_skipped ∷ []) had had (piece (upto_all (v ∷ vs)) skip no_more)
-  skip_made v vs had q = record {
+  pub skip_made : (v : ℤ) (vs : Values) (before : List Seen) (had : ℕ) → upto_fits Two (upto_all (v ∷ vs)) ≡ true → AreMade (v ∷ vs) true before (seen_skipped ∷ []) had had (piece (upto_all (v ∷ vs)) skip no_more)
+  skip_made v vs before had q = record {
     placed = two _ _ (two _ _ (covers_all v vs).is_case refl) (left_none v vs);
     says = refl;
     settled = refl;
@@ -150,6 +170,8 @@ module _ (cuts : Bool) (g : Game) (later : List Scope) (i : ℕ) (d : List Condi
     gap = λ o f p. cc;
     skips = λ f p. cc;
     rests = λ f. refl;
+    beaten = λ o. refl;
+    keeps = λ reached a. refl;
     long = tt;
     sizes = sizes_skipped 0;
     closed = refl;
@@ -157,8 +179,8 @@ module _ (cuts : Bool) (g : Game) (later : List Scope) (i : ℕ) (d : List Condi
   }
 
   -- the cases that are left open
-  pub open_made : (was : Bool) (v : ℤ) (vs : Values) (had : ℕ) → had ≡ 0 → upto_fits Two (upto_all (v ∷ vs)) ≡ true → AreMade (v ∷ vs) was (seen_skipped ∷ []) had had (piece (upto_all (v ∷ vs)) left_open no_more)
-  open_made was v vs had e q = record {
+  pub open_made : (was : Bool) (v : ℤ) (vs : Values) (before : List Seen) (had : ℕ) → had ≡ 0 → upto_fits Two (upto_all (v ∷ vs)) ≡ true → AreMade (v ∷ vs) was before (seen_skipped ∷ []) had had (piece (upto_all (v ∷ vs)) left_open no_more)
+  open_made was v vs before had e q = record {
     placed = two _ _ (two _ _ (covers_all v vs).is_case refl) (left_none v vs);
     says = refl;
     settled = refl;
@@ -172,6 +194,8 @@ module _ (cuts : Bool) (g : Game) (later : List Scope) (i : ℕ) (d : List Condi
     gap = λ o f p. absurd (omega arith);
     skips = λ f p. cc;
     rests = λ f. refl;
+    beaten = λ o. refl;
+    keeps = λ reached a. refl;
     long = tt;
     sizes = sizes_skipped 0;
     closed = refl;
@@ -179,10 +203,14 @@ module _ (cuts : Bool) (g : Game) (later : List Scope) (i : ℕ) (d : List Condi
   }
 
   -- the first cases, where a later one settled the scope
-  pub first_skipped : (u : Option ℤ) (vs here : Values) (seen : List Seen) (had left : ℕ) (bs : Branches) → is_cover u vs ≡ true → uncovered u vs ≡ here → list_all is_number vs ≡ true → Settled seen ≡ true →
-      is_joined u skip bs ≡ true → AreMade here false seen had left bs → AreMade vs false (seen_skipped ∷ seen) had left (piece u skip bs)
-  first_skipped u vs here seen had left bs case leaves numbers settled apart m =
-      let r = subst (λ us. AreMade us false seen had left bs) (sym leaves) m in
+  pub first_skipped : (u : Option ℤ) (vs here : Values) (before seen : List Seen) (had left : ℕ) (bs : Branches) → is_cover u vs ≡ true → uncovered u vs ≡ here → list_all is_number vs ≡ true → Settled seen ≡ true →
+      is_joined u skip bs ≡ true → AreMade here false (before ++ seen_skipped ∷ []) seen had left bs → AreMade vs false before (seen_skipped ∷ seen) had left (piece u skip bs)
+  first_skipped u vs here before seen had left bs case there numbers settled apart m =
+      let skipped = before ++ seen_skipped ∷ [] in
+      let same : firsts skipped ≡ firsts before = firsts-append before (seen_skipped ∷ []) ∙ append-nil (firsts before) in
+      let r = subst (λ us. AreMade us false skipped seen had left bs) (sym there) m in
+      let w = scope_wishes later g d in
+      let nothing : w ≡ [] = settled_wishes g later d seen settled in
       record {
         placed = two _ _ (two _ _ case refl) r.placed;
         says = ap (λ xs. seen_skipped ∷ xs) r.says;
@@ -197,19 +225,26 @@ module _ (cuts : Bool) (g : Game) (later : List Scope) (i : ℕ) (d : List Condi
         gap = λ o f q. let p : true ≡ false = sym settled ∙ q in cc;
         skips = λ f p. settled;
         rests = λ f. cc;
+        beaten = λ o.
+            let some = subst (λ l. are_beaten l (firsts (skipped ++ seen)) (bounds seen) ≡ true) nothing (r.beaten (omega (arith, o))) in
+            subst (λ l. are_beaten l (firsts (before ++ seen_skipped ∷ seen)) (bounds seen) ≡ true) (sym nothing) (none_beaten (firsts (skipped ++ seen)) (firsts (before ++ seen_skipped ∷ seen)) (bounds seen) some);
+        keeps = λ reached a. r.keeps (reached ++ []) (subst (λ ns. AreAmong ns (firsts skipped)) (sym (append-nil reached)) (among_as reached (firsts before) (firsts skipped) (sym same) a));
         long = r.long;
-        sizes = sizes_both 0 (branch_turns bs) (seen_skipped ∷ []) seen (sizes_skipped 0) r.sizes;
+        sizes = subst (λ n. HasSizes n (seen_skipped ∷ seen)) (no_turn (branch_turns bs)) (sizes_both 0 (2 * branch_turns bs) (seen_skipped ∷ []) seen (sizes_skipped 0) r.sizes);
         closed = two _ _ refl r.closed;
         foreseen = (tt, r.foreseen);
       }
     where
+      no_turn : (n : ℕ) → 0 + 2 * n ≡ 2 * (0 + n)
+      no_turn n = omega arith
+
       also : ((branch_opens bs ≡ 0) ⊎ (left ≡ 0)) → (branch_opens (piece u skip bs) ≡ 0) ⊎ (left ≡ 0)
       also (inl e) = inl (omega arith)
       also (inr e) = inr e
 
   -- more turns may have been cut
-  pub cut_more : (vs : Values) (was : Bool) (seen : List Seen) (more had left : ℕ) (bs : Branches) → cuts ≡ true → more ≤ had → AreMade vs was seen more left bs → AreMade vs was seen had left bs
-  cut_more vs was seen more had left bs cut h m = record {
+  pub cut_more : (vs : Values) (was : Bool) (before seen : List Seen) (more had left : ℕ) (bs : Branches) → cuts ≡ true → more ≤ had → AreMade vs was before seen more left bs → AreMade vs was before seen had left bs
+  cut_more vs was before seen more had left bs cut h m = record {
     placed = m.placed;
     says = m.says;
     settled = m.settled;
@@ -223,6 +258,8 @@ module _ (cuts : Bool) (g : Game) (later : List Scope) (i : ℕ) (d : List Condi
     gap = m.gap;
     skips = m.skips;
     rests = m.rests;
+    beaten = m.beaten;
+    keeps = m.keeps;
     long = m.long;
     sizes = m.sizes;
     closed = m.closed;

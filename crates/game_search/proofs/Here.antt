@@ -1,5 +1,5 @@
 -- A scope's join beside the records of the scope's own tree.
-use Rattle.std.proofs.Common.{◌≡◌, ◌≤◌, ◌<◌, ◌+◌, ◌-◌, ◌∙◌, inl, inr, ℕ, zero, suc, Bool, true, false, cond, ◌&&◌, ◌||◌, List, [], ◌∷◌, ◌++◌, map, length, drop, take, refl, sym, ap, subst, arith, Option, None, Some, add-one, append_assoc, drop_of_length-le, ℤ}
+use Rattle.std.proofs.Common.{◌≡◌, ◌≤◌, ◌<◌, ◌+◌, ◌*◌, ◌-◌, ◌∙◌, inl, inr, ℕ, zero, suc, Bool, true, false, cond, ◌&&◌, ◌||◌, List, [], ◌∷◌, ◌++◌, map, length, drop, take, refl, sym, ap, subst, arith, Option, None, Some, add-one, append_assoc, drop_of_length-le, ℤ}
 use Rattle.std.specs.Prelude.{◌⊎◌}
 use Rattle.std.specs.List.{list_all}
 use Rattle.std.proofs.lemmas.List.{append-nil}
@@ -21,7 +21,8 @@ use Rattle.qc_model.specs.Verdict.{Verdict, lost, Seen, seen_barred, seen_skippe
 use Rattle.proof_tree.specs.Cover.{box_to, is_cover, uncovered}
 use Rattle.proof_tree.specs.Counts.{turns_of, ending_turns}
 use Rattle.proof_tree.specs.Diligent.{SeesAhead}
-use Rattle.proof_tree.specs.Finding.{leaf_bound, seen_of, kind_stuck, stuck_finding}
+use Rattle.proof_tree.specs.Finding.{kind_stuck, stuck_finding}
+use Rattle.proof_tree.specs.Incumbents.{has_no_worse}
 use Rattle.proof_tree.specs.InPlace.{is_horizon, horizon_in_place, horizon_below}
 use Rattle.proof_tree.specs.Text.{is_place, horizon_fits}
 use Rattle.proof_tree.specs.Place.{position, is_fixed, is_fixed_to, is_goal, list_after, next_scopes, tracked_variable}
@@ -43,26 +44,29 @@ use Rattle.qc_joins.specs.declared.joins.Joins.{Joins}
 use Rattle.qc_joins.proofs.Lengths.{verdict_long, goal_long, stuck_long}
 use Rattle.qc_joins.proofs.Sizing.{sizes_both, leaf_fits, verdict_sized, goal_sized, stuck_sized}
 use Rattle.search_box.specs.Closes.{IsPruned}
+use Rattle.game_search.specs.Aims.{tracked_at}
 use Rattle.game_search.specs.Attempted.{Attempted}
+use Rattle.game_search.specs.Beaten.{firsts, seen_bounds}
 use Rattle.game_search.specs.Own.{IsOwnSized}
 use Rattle.game_search.specs.Settled.{is_settled, is_vague_verdict}
 use Rattle.game_search.specs.Uppers.{upto_all, upto_between, without_before}
 use Rattle.game_search.specs.Made.{NodeMade, EndingMade, StepsMade}
 use Rattle.game_search.specs.Written.{NodeWritten}
-use Rattle.game_search.specs.Told.{IsReady, IsTold, EndingTold, PartTold, CasesTold, BodyTold, NodeTold}
+use Rattle.game_search.specs.Told.{IsReady, IsTold, EndingTold, StepsTold, PartTold, CaseTold, CasesTold, BodyTold, NodeTold}
+use Rattle.game_search.proofs.Beating.{no_worse_yet}
 use Rattle.game_search.proofs.Joining.{settled_is, settled_so, own_so, own_none, settled-append, or_first, or_second, neither}
 use Rattle.game_search.proofs.Nodes.{goal_made, node_made, horizon_made, stuck_made, empty_made, next_made, barred_made, branch_made}
 use Rattle.game_search.proofs.Places.{next_at}
 use Rattle.game_search.proofs.Progress.{Progress, start, taken_from, none, skipped, opened, cut_after}
 use Rattle.game_search.proofs.Sizes.{sizes_none, own_sized}
-use Rattle.game_search.proofs.Stepping.{part_says, unmarked}
+use Rattle.game_search.proofs.Stepping.{part_says, part_long}
 
 some_scope : (n : ℕ) (ss : List Scope) → n < length ss → is_goal (drop n ss) ≡ false
 some_scope n [] h = absurd (omega arith)
 some_scope zero (s ∷ ss) h = refl
 some_scope (suc n) (s ∷ ss) h = some_scope n ss (omega arith)
 
-demands_next : (g : Game) (ss : List Scope) (i : ℕ) (d : List Condition) → i < length ss → list_after g (drop i ss) (demands_from g (take i ss) d) ≡ demands_from g (take (suc i) ss) d
+pub demands_next : (g : Game) (ss : List Scope) (i : ℕ) (d : List Condition) → i < length ss → list_after g (drop i ss) (demands_from g (take i ss) d) ≡ demands_from g (take (suc i) ss) d
 demands_next g [] i d h = absurd (omega arith)
 demands_next g (s ∷ ss) zero d h = refl
 demands_next g (s ∷ ss) (suc i) d h = demands_next g ss i (demands_after g s.kind s.condition d) (omega arith)
@@ -117,7 +121,7 @@ module _ (g : Game) (i : ℕ) where
 -- the cases of a branch on x so far: what was seen in them, and what the join stands for
 pub record Passing (cuts : Bool) (g : Game) (i : ℕ) (box : Box) (h : Option ℕ) (x : ℕ) (vs : Values) (before : List Seen) (had : ℕ) (old : List Line) (here : Values) (left : ℕ) (now : List Line) (joins : Joins) : Type 0 where
   pub seen : List Seen
-  pub progress : Progress cuts g (drop i g.scopes) i (demands g i) box h x vs had old here seen left now
+  pub progress : Progress cuts g (drop i g.scopes) i (demands g i) box h x vs before had old here seen left now
   pub told : IsTold g i joins (before ++ seen)
 
 -- what the join answers when it is asked whether the scope is settled
@@ -127,7 +131,7 @@ Answers g i joins b = (ys : List Seen) → StandsAt joins i ys → b ≡ settled
 pub asked_here : (g h : Game) (i : ℕ) (joins : Joins) (b : Bool) → h ≡ g → ((ys : List Seen) → StandsAt joins i ys → b ≡ settled_at h i ys) → Answers g i joins b
 asked_here g h i joins b e f ys s = f ys s ∙ ap (λ k. settled_at k i ys) e
 
-module _ (cuts : Bool) (g : Game) (i : ℕ) (box : Box) (h : Option ℕ) (x : ℕ) (vs : Values) (xs : List Seen) (had : ℕ) (old : List Line) (first : Joins) (ready : IsReady g i first had xs) where
+module _ (cuts : Bool) (g : Game) (i : ℕ) (box : Box) (h : Option ℕ) (x : ℕ) (vs : Values) (xs : List Seen) (had : ℕ) (old : List Line) (first : Joins) (ready : IsReady g i first (suc (2 * had)) xs) where
   abbrev Goes : Values → ℕ → List Line → Joins → Type 0
   Goes here left now joins = Passing cuts g i box h x vs xs had old here left now joins
 
@@ -137,19 +141,19 @@ module _ (cuts : Bool) (g : Game) (i : ℕ) (box : Box) (h : Option ℕ) (x : �
   pub started : Goes vs had old first
   started = record {
     seen = [];
-    progress = start cuts g (drop i g.scopes) i (demands g i) box h x vs had old;
+    progress = start cuts g (drop i g.scopes) i (demands g i) box h x vs xs had old;
     told = all_told g i first xs (xs ++ []) ready.stands (sym (append-nil xs));
   }
 
   -- a case may be gone into
-  pub ready_again : (here : Values) (left : ℕ) (now : List Line) (joins : Joins) (b : Bool) → Answers g i joins b → b ≡ false → ¬ (left ≡ 0) → (p : Goes here left now joins) → IsReady g i joins (left - 1) (xs ++ p.seen)
+  pub ready_again : (here : Values) (left : ℕ) (now : List Line) (joins : Joins) (b : Bool) → Answers g i joins b → b ≡ false → ¬ (left ≡ 0) → (p : Goes here left now joins) → IsReady g i joins (2 + 2 * (left - 1)) (xs ++ p.seen)
   ready_again here left now joins b asked e some p =
       let r = unsettled_stands g i joins (xs ++ p.seen) b asked e p.told in
       record {
         stands = r.0;
         unsettled = r.1;
-        size = ready.size + p.progress.used;
-        sizes = sizes_both ready.size p.progress.used xs p.seen ready.sizes p.progress.sizes;
+        size = ready.size + 2 * p.progress.used;
+        sizes = sizes_both ready.size (2 * p.progress.used) xs p.seen ready.sizes p.progress.sizes;
         room = omega (arith, ready.room, p.progress.fell, some);
       }
 
@@ -160,31 +164,31 @@ module _ (cuts : Bool) (g : Game) (i : ℕ) (box : Box) (h : Option ℕ) (x : �
 
   -- it was gone into, and its lines stay
   went_on : (here rest : Values) (v : ℤ) (left next_left : ℕ) (now next_now : List Line) (joins next_joins : Joins) (b : Bool) → 1 < length (values_left box x) → here ≡ v ∷ rest → Answers g i joins b → b ≡ false → ¬ (left ≡ 0) →
-      (p : Goes here left now joins) → PartTold cuts g i (box_to box x (v ∷ [])) h (xs ++ p.seen) (left - 1) next_left now next_now next_joins → Goes rest next_left next_now next_joins
+      (p : Goes here left now joins) → CaseTold cuts g i (box_to box x (v ∷ [])) h (xs ++ p.seen) (left - 1) next_left now next_now next_joins → Goes rest next_left next_now next_joins
   went_on here rest v left next_left now next_now joins next_joins b many at asked e some p w = record {
-    seen = p.seen ++ w.seen;
-    progress = taken_from cuts g (drop i g.scopes) i (demands g i) box h x vs had old here rest v p.seen w.seen left next_left now next_now many at (unsettled_now joins p.seen b asked e p.told) some p.progress w.written w.unbounded;
-    told = subst (IsTold g i next_joins) (append_assoc xs p.seen w.seen) w.told;
+    seen = p.seen ++ w.part.seen;
+    progress = taken_from cuts g (drop i g.scopes) i (demands g i) box h x vs xs had old here rest v p.seen w.ms w.part.seen left next_left now next_now many at (unsettled_now joins p.seen b asked e p.told) some p.progress w.part.written;
+    told = subst (IsTold g i next_joins) (append_assoc xs p.seen w.part.seen) w.part.told;
   }
 
   -- it settled the scope, and the cases before it are cut
   was_cut : cuts ≡ true → list_all is_number vs ≡ true → (u : Option ℤ) (here rest : Values) (v : ℤ) (left next_left : ℕ) (now next_now new : List Line) (joins next_joins : Joins) (b c : Bool) → 1 < length (values_left box x) → is_cover u vs ≡ true → uncovered u vs ≡ v ∷ rest →
-      Answers g i joins b → b ≡ false → ¬ (left ≡ 0) → Answers g i next_joins c → c ≡ true → (p : Goes here left now joins) → PartTold cuts g i (box_to box x (v ∷ [])) h (xs ++ p.seen) (left - 1) next_left now next_now next_joins →
+      Answers g i joins b → b ≡ false → ¬ (left ≡ 0) → Answers g i next_joins c → c ≡ true → (p : Goes here left now joins) → CaseTold cuts g i (box_to box x (v ∷ [])) h (xs ++ p.seen) (left - 1) next_left now next_now next_joins →
       new ≡ take (length old) next_now ++ ((upto_lines u ++ Skip ∷ []) ++ drop (length now) next_now) → Goes rest next_left new next_joins
   was_cut cut numbers u here rest v left next_left now next_now new joins next_joins b c many case leaves asked e turns asked_then f p w q =
       let before = (unsettled_stands g i joins (xs ++ p.seen) b asked e p.told).1 in
-      let all = settled_told g i next_joins ((xs ++ p.seen) ++ w.seen) c asked_then f w.told in
-      let last : Settled g i w.seen ≡ true = settled_last g i (xs ++ p.seen) w.seen before all.1 in
+      let all = settled_told g i next_joins ((xs ++ p.seen) ++ w.part.seen) c asked_then f w.part.told in
+      let last : Settled g i w.part.seen ≡ true = settled_last g i (xs ++ p.seen) w.part.seen before all.1 in
       record {
-        seen = seen_skipped ∷ w.seen;
-        progress = cut_after cuts g (drop i g.scopes) i (demands g i) box h x vs had old cut numbers u here rest v p.seen w.seen left next_left now next_now new many case leaves last turns p.progress w.written w.unbounded q;
-        told = record { stood = w.told.stood; stands = w.told.stands; same = inr (all.0, settled_then g i xs (seen_skipped ∷ w.seen) last) };
+        seen = seen_skipped ∷ w.part.seen;
+        progress = cut_after cuts g (drop i g.scopes) i (demands g i) box h x vs xs had old cut numbers u here rest v p.seen w.ms w.part.seen left next_left now next_now new many case leaves last turns p.progress w.part.written q;
+        told = record { stood = w.part.told.stood; stands = w.part.told.stands; same = inr (all.0, settled_then g i xs (seen_skipped ∷ w.part.seen) last) };
       }
 
   -- either way
   pub case_done : list_all is_number vs ≡ true → (low : ℤ) (before dropped : Option ℤ) (here rest : Values) (v : ℤ) (left next_left : ℕ) (now next_now new : List Line) (joins next_joins : Joins) (b c : Bool) → 1 < length (values_left box x) → here ≡ v ∷ rest →
       ((p : ℤ) → before ≡ Some p → (is_cover (upto_between low p) vs ≡ true) × (uncovered (upto_between low p) vs ≡ here)) → Answers g i joins b → b ≡ false → ¬ (left ≡ 0) → Answers g i next_joins c → dropped ≡ cond (cuts && c) before None →
-      (p : Goes here left now joins) → PartTold cuts g i (box_to box x (v ∷ [])) h (xs ++ p.seen) (left - 1) next_left now next_now next_joins → new ≡ without_before dropped low (length old) (length now) next_now → Goes rest next_left new next_joins
+      (p : Goes here left now joins) → CaseTold cuts g i (box_to box x (v ∷ [])) h (xs ++ p.seen) (left - 1) next_left now next_now next_joins → new ≡ without_before dropped low (length old) (length now) next_now → Goes rest next_left new next_joins
   case_done numbers low before None here rest v left next_left now next_now new joins next_joins b c many at covers asked e turns asked_then d p w q =
       subst (λ ls. Goes rest next_left ls next_joins) (sym q) (went_on here rest v left next_left now next_now joins next_joins b many at asked e turns p w)
   case_done numbers low before (Some last) here rest v left next_left now next_now new joins next_joins b c many at covers asked e turns asked_then d p w q =
@@ -205,7 +209,7 @@ module _ (cuts : Bool) (g : Game) (i : ℕ) (box : Box) (h : Option ℕ) (x : �
       let last : Settled g i p.seen ≡ true = settled_last g i xs p.seen ready.unsettled all.1 in
       record {
         seen = p.seen ++ seen_skipped ∷ [];
-        written = skipped cuts g (drop i g.scopes) i (demands g i) box h x vs had old here p.seen left now new some numbers last p.progress q;
+        written = skipped cuts g (drop i g.scopes) i (demands g i) box h x vs xs had old here p.seen left now new some numbers last p.progress q;
         told = record { stood = p.told.stood; stands = p.told.stands; same = inr (all.0, subst (λ us. settled_at g i us ≡ true) (append_assoc xs p.seen (seen_skipped ∷ [])) (settled_more g i (xs ++ p.seen) (seen_skipped ∷ []) all.1)) };
       }
 
@@ -213,23 +217,23 @@ module _ (cuts : Bool) (g : Game) (i : ℕ) (box : Box) (h : Option ℕ) (x : �
       ((ys : List Seen) → StandsAt joins i ys → StandsAt next_joins i (ys ++ seen_skipped ∷ [])) → Goes here left now joins → new ≡ now ++ (upto_lines (upto_all here) ++ Open ∷ []) → Done left new next_joins
   rest_opened here left now new joins next_joins b some numbers asked e none_left added p q = record {
     seen = p.seen ++ seen_skipped ∷ [];
-    written = opened cuts g (drop i g.scopes) i (demands g i) box h x vs had old here p.seen left now new some numbers none_left p.progress q;
+    written = opened cuts g (drop i g.scopes) i (demands g i) box h x vs xs had old here p.seen left now new some numbers none_left p.progress q;
     told = all_told g i next_joins ((xs ++ p.seen) ++ seen_skipped ∷ []) (xs ++ (p.seen ++ seen_skipped ∷ [])) (added (xs ++ p.seen) (unsettled_stands g i joins (xs ++ p.seen) b asked e p.told).0) (append_assoc xs p.seen (seen_skipped ∷ []));
   }
 
   pub rest_none : (left : ℕ) (now : List Line) (joins : Joins) → Goes [] left now joins → Done left now joins
   rest_none left now joins p = record {
     seen = p.seen;
-    written = none cuts g (drop i g.scopes) i (demands g i) box h x vs had old p.seen left now p.progress;
+    written = none cuts g (drop i g.scopes) i (demands g i) box h x vs xs had old p.seen left now p.progress;
     told = p.told;
   }
 
 -- the parts of a scope's own tree
-module _ (cuts : Bool) (g : Game) (i : ℕ) (box : Box) (h : Option ℕ) (xs : List Seen) (had : ℕ) (old : List Line) (first : Joins) (ready : IsReady g i first had xs) where
+module _ (cuts : Bool) (g : Game) (i : ℕ) (box : Box) (h : Option ℕ) (xs : List Seen) (had : ℕ) (old : List Line) (first : Joins) (ready : IsReady g i first (suc (2 * had)) xs) where
   pub empty_told : (new : List Line) → has_empty box ≡ true → new ≡ old ++ Empty ∷ [] → EndingTold cuts g i box h xs had had old new first
   empty_told new none_left q = record {
     seen = [];
-    written = record { ending = empty; lines = q; made = empty_made cuts g (drop i g.scopes) i (demands g i) h box had none_left };
+    written = record { ending = empty; lines = q; made = empty_made cuts g (drop i g.scopes) i (demands g i) h box xs had none_left };
     told = all_told g i first xs (xs ++ []) ready.stands (sym (append-nil xs));
   }
 
@@ -237,70 +241,78 @@ module _ (cuts : Bool) (g : Game) (i : ℕ) (box : Box) (h : Option ℕ) (xs : L
       EndingTold cuts g i box h xs had had old new joins
   barred_told new joins full fixed refused added q = record {
     seen = seen_barred ∷ [];
-    written = record { ending = barred; lines = q; made = barred_made cuts g (drop i g.scopes) i (demands g i) h box had full fixed refused };
+    written = record { ending = barred; lines = q; made = barred_made cuts g (drop i g.scopes) i (demands g i) h box xs had full fixed refused };
     told = all_told g i joins (xs ++ seen_barred ∷ []) (xs ++ seen_barred ∷ []) (added xs ready.stands) refl;
   }
 
   -- so many turns that the node's join takes what is below
-  pub few_turns : had < 4294967296
+  pub few_turns : had < 2147483648
   few_turns = omega (arith, ready.room)
 
-  pub next_told : i < length g.scopes → (v : Verdict) (left : ℕ) (mid new : List Line) (below joins : Joins) → has_empty box ≡ false → is_fixed g i box ≡ true → allows g i (position g (suc i) box) ≡ true → mid ≡ old ++ Next ∷ [] →
+  pub next_told : i < length g.scopes → (v : Verdict) (left : ℕ) (mid new : List Line) (below joins : Joins) → has_empty box ≡ false → is_fixed g i box ≡ true → allows g i (position g (suc i) box) ≡ true → has_no_worse (tracked_at g i) (firsts xs) box ≡ true → mid ≡ old ++ Next ∷ [] →
       NodeTold cuts g (i + 1) box h v had left mid new below → (StandsAt first i xs → StandsAt below i xs) → ((ys : List Seen) → StandsAt below i ys → LeafFits g i ys v → StandsAt joins i (ys ++ seen_node v ∷ [])) → EndingTold cuts g i box h xs had left old new joins
-  next_told scope v left mid new below joins full fixed passes q node kept added =
+  next_told scope v left mid new below joins full fixed passes worse q node kept added =
       let n = subst (λ k. NodeWritten cuts g (drop k g.scopes) k (demands g k) box h v had left mid new) (add-one i) node.written in
       let m1 = subst (λ ss. NodeMade cuts g ss (suc i) (demands g (suc i)) box h v had left n.tree) (sym (next_at i g.scopes)) n.made in
       let m2 = subst (λ d. NodeMade cuts g (next_scopes (drop i g.scopes)) (suc i) d box h v had left n.tree) (sym (demands_next g g.scopes i [] scope)) m1 in
-      let fits = leaf_fits g i ready.size (suc (turns_of n.tree)) xs v n.made.long ready.sizes n.made.sized (omega (arith, ready.room, n.made.spent)) in
+      let fits = leaf_fits g i ready.size (suc (2 * turns_of n.tree)) xs v n.made.long ready.sizes n.made.sized (omega (arith, ready.room, n.made.spent)) in
       record {
         seen = seen_node v ∷ [];
         written = record {
           ending = next n.tree;
           lines = n.lines ∙ (ap (λ ls. ls ++ tree_lines n.tree) q ∙ append_assoc old (Next ∷ []) (tree_lines n.tree));
-          made = next_made cuts g (drop i g.scopes) i (demands g i) h box v had left n.tree full fixed passes m2;
+          made = next_made cuts g (drop i g.scopes) i (demands g i) h box xs v had left n.tree full fixed passes worse m2;
         };
         told = all_told g i joins (xs ++ seen_node v ∷ []) (xs ++ seen_node v ∷ []) (added xs (kept ready.stands) fits) refl;
       }
 
 -- removals by constraints alone
-pub pruned_made : (g : Game) (i : ℕ) (d : List Condition) (box left : Box) (steps : List Step) → IsPruned g i box left [] steps → StepsMade g (drop i g.scopes) i d box [] steps
+pruned_made : (g : Game) (i : ℕ) (d : List Condition) (box left : Box) (steps : List Step) → IsPruned g i box left [] steps → StepsMade g (drop i g.scopes) i d box [] steps
 pruned_made g i d box left steps p =
     let later = drop i g.scopes in
-    subst (λ (ss : List Step). StepsMade g later i d box [] ss) (sym p.appended)
-    (record { legal = p.placed d; says = sym (ap (λ ms. map seen_of (map leaf_bound ms)) (p.unmarked (tracked_variable g later i (list_after g later d)))); fits = p.fits })
+    subst (λ (ss : List Step). StepsMade g later i d box [] ss) (sym p.appended) (record { legal = p.placed d; marked = sym (p.unmarked (tracked_variable g later i (list_after g later d))); fits = p.fits })
 
-pub part_told : (cuts : Bool) (g : Game) (i : ℕ) (box left_box : Box) (h : Option ℕ) (xs : List Seen) (had left : ℕ) (old mid new : List Line) (joins : Joins) (steps : List Step) → IsPruned g i box left_box [] steps → mid ≡ old ++ map step_line steps →
-    EndingTold cuts g i left_box h xs had left mid new joins → PartTold cuts g i box h xs had left old new joins
-part_told cuts g i box left_box h xs had left old mid new joins steps p q w =
-    let reached : left_box ≡ after_steps steps box = p.reached ∙ ap (λ ss. after_steps ss box) (sym p.appended) in
+-- so where a scope's own tree begins
+pub pruned_told : (g : Game) (i : ℕ) (box left : Box) (steps : List Step) → IsPruned g i box left [] steps → StepsTold g i box left [] [] steps
+pruned_told g i box left steps p = record {
+  reached = p.reached ∙ ap (λ ss. after_steps ss box) (sym p.appended);
+  stepped = pruned_made g i (demands g i) box left steps p;
+  beaten = refl;
+  one = sizes_none 1;
+  worse = no_worse_yet (tracked_at g i) left;
+}
+
+pub part_told : (cuts : Bool) (g : Game) (i : ℕ) (box left_box : Box) (h : Option ℕ) (xs : List Seen) (ms : List ℤ) (had left : ℕ) (old mid new : List Line) (joins : Joins) (steps : List Step) → StepsTold g i box left_box xs ms steps → mid ≡ old ++ map step_line steps →
+    EndingTold cuts g i left_box h (xs ++ seen_bounds ms) had left mid new joins → PartTold cuts g i box h xs ms had left old new joins
+part_told cuts g i box left_box h xs ms had left old mid new joins steps p q w =
     let e = w.written.ending in
     record {
-      seen = w.seen;
+      seen = seen_bounds ms ++ w.seen;
       written = record {
         steps = steps;
         ending = e;
         lines = w.written.lines ∙ (ap (λ ls. ls ++ ending_lines e) q ∙ append_assoc old (map step_line steps) (ending_lines e));
         made = record {
-          first = [];
           last = w.seen;
           both = refl;
-          stepped = pruned_made g i (demands g i) box left_box steps p;
-          ended = subst (λ b. EndingMade cuts g (drop i g.scopes) i (demands g i) b h w.seen had left e) reached w.written.made;
+          stepped = p.stepped;
+          marks_beaten = p.beaten;
+          one = p.one;
+          ended = subst (λ b. EndingMade cuts g (drop i g.scopes) i (demands g i) b h (xs ++ seen_bounds ms) w.seen had left e) p.reached w.written.made;
         };
       };
-      unbounded = refl;
-      told = w.told;
+      told = subst (IsTold g i joins) (append_assoc xs (seen_bounds ms) w.seen) w.told;
     }
 
 -- a branch, by its cases
 pub branch_told : (cuts : Bool) (g : Game) (i : ℕ) (box : Box) (h : Option ℕ) (xs : List Seen) (had left : ℕ) (old mid new last : List Line) (joins : Joins) (x : VarId) → has_empty box ≡ false → is_of_scope g i x.0 ≡ true → is_single (values_left box x.0) ≡ false → is_place 500 x.0 ≡ true →
-    is_closed (constraints_in_force g (drop i g.scopes) i) box ≡ true → is_fixed_to g i x.0 box ≡ true → mid ≡ old ++ BranchLine x ∷ [] → last ≡ new ++ Dot ∷ [] → CasesTold cuts g i box h x.0 (values_left box x.0) xs had left mid new joins → EndingTold cuts g i box h xs had left old last joins
-branch_told cuts g i box h xs had left old mid new last joins x full own many place closed earlier p q w = record {
+    is_closed (constraints_in_force g (drop i g.scopes) i) box ≡ true → is_fixed_to g i x.0 box ≡ true → has_no_worse (tracked_at g i) (firsts xs) box ≡ true → mid ≡ old ++ BranchLine x ∷ [] → last ≡ new ++ Dot ∷ [] → CasesTold cuts g i box h x.0 (values_left box x.0) xs had left mid new joins → EndingTold cuts g i box h xs had left old last joins
+branch_told cuts g i box h xs had left old mid new last joins x full own many place closed earlier worse p q w = record {
   seen = w.seen;
   written = record {
     ending = branch x w.written.cases;
     lines = q ∙ (ap (λ ls. ls ++ Dot ∷ []) (w.written.lines ∙ ap (λ ls. ls ++ branches_lines w.written.cases) p) ∙ around old (branches_lines w.written.cases) (BranchLine x) Dot);
-    made = branch_made cuts g (drop i g.scopes) i (demands g i) h box x w.seen had left w.written.cases full own many place closed earlier w.written.made;
+    made = branch_made cuts g (drop i g.scopes) i (demands g i) h box x xs w.seen had left w.written.cases full own many place closed earlier worse w.written.made;
   };
   told = w.told;
 }
@@ -329,7 +341,7 @@ module _ (cuts : Bool) (g : Game) (i : ℕ) (scope : i < length g.scopes) (box :
           own_none g (drop i g.scopes) (demands g i) seen (sym (settled_here g i seen) ∙ q.1)
           ∙ sym (own_none g (drop i g.scopes) (demands g i) t.stood (sym (settled_here g i t.stood) ∙ q.0))
 
-  node_told : is_horizon h i ≡ false → SeesAhead g (drop i g.scopes) i box h → (had left : ℕ) (old new : List Line) (mid joins : Joins) (v : Verdict) → PartTold cuts g i box h [] had left old new mid → ((xs : List Seen) → StandsAt mid i xs → v ≡ verdict_at g i (position g i box) xs) →
+  node_told : is_horizon h i ≡ false → SeesAhead g (drop i g.scopes) i box h → (had left : ℕ) (old new : List Line) (mid joins : Joins) (v : Verdict) → PartTold cuts g i box h [] [] had left old new mid → ((xs : List Seen) → StandsAt mid i xs → v ≡ verdict_at g i (position g i box) xs) →
       ((xs : List Seen) → StandsAt mid i xs → StandsAt joins i xs) → ((xs : List Seen) → AreLong g i xs → IsLong g i (verdict_at g i (position g i box) xs)) → ((xs : List Seen) (n : ℕ) → HasSizes n xs → 1 ≤ n → IsSized n (verdict_at g i (position g i box) xs)) →
       BodyTold cuts g i box h v had left old new joins
   node_told apart ahead had left old new mid joins v w says kept long sized =
@@ -339,16 +351,15 @@ module _ (cuts : Bool) (g : Game) (i : ℕ) (scope : i < length g.scopes) (box :
       let steps = w.written.steps in
       let e = w.written.ending in
       let a = position g i box in
-      let all : p.last ≡ w.seen = unmarked cuts g later i d box h w.seen had left steps e p w.unbounded in
-      let sizes = subst (HasSizes (suc (ending_turns e))) all p.ended.sizes in
+      let sizes = subst (HasSizes (suc (2 * ending_turns e))) (sym p.both) p.ended.sizes in
       let comes : verdict_at g i a w.seen ≡ v = sym (verdict_told mid w.seen w.told a) ∙ sym (says w.told.stood w.told.stands) in
       let own : (read_body g (cases steps e) later i d box).own ≡ own_at g i w.seen =
-      own_so g later i d a _ ∙ ap (scope_own later g d) (sym (part_says cuts g later i d box h w.seen had left steps e p)) in
+      own_so g later i d a _ ∙ ap (scope_own later g d) (sym (part_says cuts g later i d box h [] [] w.seen had left steps e p)) in
       record {
         body = cases steps e;
         lines = w.written.lines;
-        made = node_made cuts g later i d h (some_scope i g.scopes scope) apart box w.seen v had left steps e p w.unbounded comes (subst (IsLong g i) comes (long w.seen (subst (AreLong g i) all p.ended.long)))
-            (subst (IsSized (suc (ending_turns e))) comes (sized w.seen (suc (ending_turns e)) sizes (omega arith))) (subst (IsOwnSized (suc (ending_turns e))) (sym own) (own_sized g later d (suc (ending_turns e)) w.seen sizes)) ahead;
+        made = node_made cuts g later i d h (some_scope i g.scopes scope) (demands_next g g.scopes i [] scope) apart box w.seen v had left steps e p comes (subst (IsLong g i) comes (long w.seen (part_long cuts g later i d box h [] [] w.seen had left steps e p)))
+            (subst (IsSized (suc (2 * ending_turns e))) comes (sized w.seen (suc (2 * ending_turns e)) sizes (omega arith))) (subst (IsOwnSized (suc (2 * ending_turns e))) (sym own) (own_sized g later d (suc (2 * ending_turns e)) w.seen sizes)) ahead;
         own = λ s. record { stood = w.told.stood; stands = kept w.told.stood w.told.stands; is_own = own ∙ own_told mid w.seen w.told };
       }
 
@@ -357,15 +368,15 @@ settled_none g i = settled_here g i []
 
 -- the node's own tree begins with nothing seen, and its join says at the end what it comes to
 pub node_ended : (cuts : Bool) (g : Game) (i : ℕ) (h : Option ℕ) → IsValid g → i < length g.scopes → (box last_box : Box) → last_box ≡ box → list_all is_number (position g i box) ≡ true → is_horizon h i ≡ false → SeesAhead g (drop i g.scopes) i box h → (had left last_left : ℕ) (old new last_new : List Line) (first mid joins : Joins) (v : Verdict) →
-    StandsAt first i [] → had < 4294967296 → ((xs : List Seen) → IsReady g i first had xs → PartTold cuts g i box h xs had left old new mid) → ((xs : List Seen) → StandsAt mid i xs → v ≡ verdict_at g i (position g i last_box) xs) → KeepsAll mid joins → last_new ≡ new → last_left ≡ left →
+    StandsAt first i [] → had < 2147483648 → (IsReady g i first (suc (2 * had)) [] → PartTold cuts g i box h [] [] had left old new mid) → ((xs : List Seen) → StandsAt mid i xs → v ≡ verdict_at g i (position g i last_box) xs) → KeepsAll mid joins → last_new ≡ new → last_left ≡ left →
     BodyTold cuts g i box h v had last_left old last_new joins
 node_ended cuts g i h valid scope box last_box b numbers apart ahead had left last_left old new last_new first mid joins v stands few told says kept e f =
     subst (λ ls. BodyTold cuts g i box h v had last_left old ls joins) (sym e)
     (subst (λ n. BodyTold cuts g i box h v had n old new joins) (sym f)
-    (node_told cuts g i scope box h apart ahead had left old new mid joins v (told [] ready) (λ xs s. subst (λ d. v ≡ verdict_at g i (position g i d) xs) b (says xs s)) (λ xs s. kept i xs s)
+    (node_told cuts g i scope box h apart ahead had left old new mid joins v (told ready) (λ xs s. subst (λ d. v ≡ verdict_at g i (position g i d) xs) b (says xs s)) (λ xs s. kept i xs s)
     (λ xs s. verdict_long g i (position g i box) xs scope s) (λ xs n s l. verdict_sized g i (position g i box) xs n valid numbers s l)))
   where
-    ready : IsReady g i first had []
+    ready : IsReady g i first (suc (2 * had)) []
     ready = record { stands = stands; unsettled = settled_none g i; size = 0; sizes = sizes_none 0; room = omega (arith, few) }
 
 -- a node that nobody passes

@@ -15,8 +15,11 @@ use Rattle.qc_model.specs.ForallVerdict.{bounded_forall, entry_values, numbers_f
 use Rattle.proof_tree.specs.Finding.{Leaf, leaf_barred, leaf_skipped, leaf_bound, leaf_node, seen_of, comes_to, scope_finding, kind_finding}
 use Rattle.proof_tree.specs.Place.{list_after, is_goal}
 use Rattle.proof_tree.specs.Order.{settles}
-use Rattle.qc_joins.specs.Verdicts.{scope_verdict, kind_verdict, scope_settled, kind_settled, scope_own, kind_own}
+use Rattle.qc_joins.specs.Sizes.{EachHas}
+use Rattle.qc_joins.specs.Verdicts.{scope_verdict, kind_verdict, scope_settled, kind_settled, scope_own, kind_own, scope_wishes, kind_wishes}
+use Rattle.game_search.specs.Beaten.{firsts, are_beaten}
 use Rattle.game_search.specs.Settled.{is_settled, is_vague, is_vague_verdict}
+use Rattle.game_search.proofs.Beating.{best_beats, some_beats, each_long}
 
 pub seen-append : (ks ls : List Leaf) → map seen_of (ks ++ ls) ≡ map seen_of ks ++ map seen_of ls
 seen-append [] ls = refl
@@ -59,7 +62,7 @@ pub vague-append : (xs ys : List Seen) → is_vague (xs ++ ys) ≡ (is_vague xs 
 vague-append [] ys = refl
 vague-append (seen_barred ∷ xs) ys = vague-append xs ys
 vague-append (seen_skipped ∷ xs) ys = refl
-vague-append (seen_bound m ∷ xs) ys = refl
+vague-append (seen_bound m ∷ xs) ys = vague-append xs ys
 vague-append (seen_node v ∷ xs) ys = ap (λ b. is_vague_verdict v || b) (vague-append xs ys) ∙ or_assoc (is_vague_verdict v) (is_vague xs) (is_vague ys)
 
 pub any_leaf : (p : Verdict → Bool) (ls : List Leaf) → list_any (comes_to p) ls ≡ some_node p (map seen_of ls)
@@ -116,24 +119,24 @@ settled_known (s ∷ later) e = by s.kind
 
 -- where nothing stays open, it is known what the scope comes to
 record Plain (xs : List Seen) : Type 0 where
-  pub no_bounds : is_none_of (bounds xs) ≡ true
   pub none_open : some_open xs ≡ false
   pub some : each_node is_lost xs ≡ false → is_none_of (exact_vectors xs) ≡ false
   pub each : some_node is_lost xs ≡ false → each_node is_exact xs ≡ true
 
 plain : (xs : List Seen) → is_vague xs ≡ false → Plain xs
-plain [] e = record { no_bounds = refl; none_open = refl; some = λ f. cc; each = λ f. refl }
-plain (seen_barred ∷ xs) e = let p = plain xs e in record { no_bounds = p.no_bounds; none_open = p.none_open; some = p.some; each = p.each }
+plain [] e = record { none_open = refl; some = λ f. cc; each = λ f. refl }
+plain (seen_barred ∷ xs) e = let p = plain xs e in record { none_open = p.none_open; some = p.some; each = p.each }
 plain (seen_skipped ∷ xs) e = cc
-plain (seen_bound m ∷ xs) e = cc
-plain (seen_node lost ∷ xs) e = let p = plain xs e in record { no_bounds = p.no_bounds; none_open = p.none_open; some = p.some; each = λ f. cc }
-plain (seen_node (exact v) ∷ xs) e = let p = plain xs e in record { no_bounds = p.no_bounds; none_open = p.none_open; some = λ f. refl; each = p.each }
+plain (seen_bound m ∷ xs) e = let p = plain xs e in record { none_open = p.none_open; some = p.some; each = p.each }
+plain (seen_node lost ∷ xs) e = let p = plain xs e in record { none_open = p.none_open; some = p.some; each = λ f. cc }
+plain (seen_node (exact v) ∷ xs) e = let p = plain xs e in record { none_open = p.none_open; some = λ f. refl; each = p.each }
 plain (seen_node (at_most n) ∷ xs) e = cc
 plain (seen_node unknown ∷ xs) e = cc
 
-pub known : (g : Game) (later : List Scope) (d : List Condition) (a : List ℤ) (xs : List Seen) → is_goal later ≡ false → is_vague xs ≡ false → is_vague_verdict (scope_verdict later g d a xs) ≡ false
-known g [] d a xs e f = cc
-known g (s ∷ later) d a xs e f = by s.kind s.condition
+pub known : (g : Game) (later : List Scope) (d : List Condition) (a : List ℤ) (xs : List Seen) → is_goal later ≡ false → is_vague xs ≡ false → EachHas (list_after g later d) xs → are_beaten (scope_wishes later g d) (firsts xs) (bounds xs) ≡ true →
+    is_vague_verdict (scope_verdict later g d a xs) ≡ false
+known g [] d a xs e f l b = cc
+known g (s ∷ later) d a xs e f l b = by s.kind s.condition l b
   where
     p : Plain xs
     p = plain xs f
@@ -147,49 +150,63 @@ known g (s ∷ later) d a xs e f = by s.kind s.condition
         none_exact [] e f h = cc
         none_exact (seen_barred ∷ ys) e f h = none_exact ys e f h
         none_exact (seen_skipped ∷ ys) e f h = cc
-        none_exact (seen_bound m ∷ ys) e f h = cc
+        none_exact (seen_bound m ∷ ys) e f h = none_exact ys e f h
         none_exact (seen_node lost ∷ ys) e f h = none_exact ys e f h
         none_exact (seen_node (exact v) ∷ ys) e f h = cc
         none_exact (seen_node (at_most n) ∷ ys) e f h = cc
         none_exact (seen_node unknown ∷ ys) e f h = cc
 
     -- the tests of a bounded existential scope: all lost, no bound, some open, no exact leaf, the best beats the bounds
-    tests : (lost_all no_bound open_any none_any beaten : Bool) (v : List ℤ) (w : Verdict) → no_bound ≡ true → open_any ≡ false → (lost_all ≡ false → none_any ≡ false) → beaten ≡ true →
+    tests : (lost_all no_bound open_any none_any beaten : Bool) (v : List ℤ) (w : Verdict) → open_any ≡ false → (lost_all ≡ false → none_any ≡ false) → (no_bound ≡ false → none_any ≡ false) → beaten ≡ true →
         is_vague_verdict (cond (lost_all && no_bound) lost (cond open_any unknown (cond (not none_any && beaten) (exact v) w))) ≡ false
-    tests true true o n b v w q r s t = refl
-    tests l false o n b v w q r s t = cc
-    tests l m true n b v w q r s t = cc
-    tests false true false true b v w q r s t = let u = s refl in cc
-    tests false true false false true v w q r s t = refl
-    tests l m o n false v w q r s t = cc
+    tests true true o n b v w q r u t = refl
+    tests true false true n b v w q r u t = cc
+    tests true false false true b v w q r u t = let k = u refl in cc
+    tests true false false false true v w q r u t = refl
+    tests true false false false false v w q r u t = cc
+    tests false m true n b v w q r u t = cc
+    tests false m false true b v w q r u t = let k = r refl in cc
+    tests false m false false true v w q r u t = refl
+    tests false m false false false v w q r u t = cc
 
-    none_beats : (q : ℤ → Bool) (ms : List ℤ) → is_none_of ms ≡ true → list_all q ms ≡ true
-    none_beats q [] e = refl
-    none_beats q (m ∷ ms) e = cc
-
-    existing : (own : Option Condition) (dd : List Condition) → is_vague_verdict (exists_verdict own dd xs) ≡ false
-    existing own [] = plainly (each_node is_lost xs) (some_node is_exact xs) refl refl
-    existing own (c ∷ dd) =
+    existing : (own : Option Condition) (dd : List Condition) → EachHas dd xs → are_beaten dd (firsts xs) (bounds xs) ≡ true → is_vague_verdict (exists_verdict own dd xs) ≡ false
+    existing own [] l b = plainly (each_node is_lost xs) (some_node is_exact xs) refl refl
+    existing own (c ∷ dd) l b =
         let v = best_vector (c ∷ dd) (exact_vectors xs) in
         tests (each_node is_lost xs) (is_none_of (bounds xs)) (some_open xs) (is_none_of (exact_vectors xs)) (list_all (beats c.sense (is_none_of dd) (first_value v)) (bounds xs)) (without_own own v)
-        (cond (is_none own) (at_most (best_number c.sense (map first_value (exact_vectors xs) ++ bounds xs))) unknown) p.no_bounds p.none_open p.some (none_beats (beats c.sense (is_none_of dd) (first_value v)) (bounds xs) p.no_bounds)
+        (cond (is_none own) (at_most (best_number c.sense (map first_value (exact_vectors xs) ++ bounds xs))) unknown) p.none_open p.some (some_beats (c ∷ dd) (exact_vectors xs) (bounds xs) b)
+        (best_beats c dd (exact_vectors xs) (bounds xs) (each_long (c ∷ dd) xs l) b)
 
     universal : (b c : Bool) (v : List ℤ) (w : Verdict) → (b ≡ false → c ≡ true) → is_vague_verdict (cond b lost (cond c (exact v) w)) ≡ false
     universal true c v w q = refl
     universal false true v w q = refl
     universal false false v w q = let r = q refl in cc
 
-    by : (k : Kind) (own : Option Condition) → is_vague_verdict (kind_verdict k own g d a xs) ≡ false
-    by Exists own = existing own (demands_after g Exists own d)
-    by Forall own = universal (some_node is_lost xs) (each_node is_exact xs) (entry_values g d a (numbers_for d (exact_vectors xs))) (bounded_forall g d xs) p.each
+    by : (k : Kind) (own : Option Condition) → EachHas (demands_after g k own d) xs → are_beaten (kind_wishes k own g d) (firsts xs) (bounds xs) ≡ true → is_vague_verdict (kind_verdict k own g d a xs) ≡ false
+    by Exists own l b = existing own (demands_after g Exists own d) l b
+    by Forall own l b = universal (some_node is_lost xs) (each_node is_exact xs) (entry_values g d a (numbers_for d (exact_vectors xs))) (bounded_forall g d xs) p.each
 
--- nothing stays open, or the scope is settled
-pub decided : (g : Game) (later : List Scope) (d : List Condition) (a : List ℤ) (xs : List Seen) → is_goal later ≡ false → (is_settled later (list_after g later d) xs ≡ false → is_vague xs ≡ false) → is_vague_verdict (scope_verdict later g d a xs) ≡ false
-decided g later d a xs e f = by (is_settled later (list_after g later d) xs) refl
+-- nothing stays open and all bounds are beaten, or the scope is settled
+pub decided : (g : Game) (later : List Scope) (d : List Condition) (a : List ℤ) (xs : List Seen) → is_goal later ≡ false → (is_settled later (list_after g later d) xs ≡ false → is_vague xs ≡ false) → EachHas (list_after g later d) xs →
+    are_beaten (scope_wishes later g d) (firsts xs) (bounds xs) ≡ true → is_vague_verdict (scope_verdict later g d a xs) ≡ false
+decided g later d a xs e f l b = by (is_settled later (list_after g later d) xs) refl
   where
     by : (b : Bool) → is_settled later (list_after g later d) xs ≡ b → is_vague_verdict (scope_verdict later g d a xs) ≡ false
     by true q = ap is_vague_verdict (settled_is g later d a xs q) ∙ settled_known later e
-    by false q = known g later d a xs e (f q)
+    by false q = known g later d a xs e (f q) l b
+
+-- bounds speak of nothing in a scope that a leaf settles
+pub settled_wishes : (g : Game) (later : List Scope) (d : List Condition) (xs : List Seen) → is_settled later (list_after g later d) xs ≡ true → scope_wishes later g d ≡ []
+settled_wishes g [] d xs e = refl
+settled_wishes g (s ∷ later) d xs e = by s.kind s.condition e
+  where
+    asks_nothing : (dd : List Condition) → some_node (λ v. is_none_of dd && is_exact v) xs ≡ true → dd ≡ []
+    asks_nothing [] e = refl
+    asks_nothing (c ∷ dd) e = let f = some_never (λ v. is_none_of (c ∷ dd) && is_exact v) xs (λ v. refl) in cc
+
+    by : (k : Kind) (own : Option Condition) → some_node (λ v. of_kind k (is_none_of (demands_after g k own d) && is_exact v) (is_lost v)) xs ≡ true → kind_wishes k own g d ≡ []
+    by Exists own e = asks_nothing (demands_after g Exists own d) e
+    by Forall own e = refl
 
 pub not_unknown : (v : Verdict) → is_vague_verdict v ≡ false → is_unknown v ≡ false
 not_unknown lost e = refl

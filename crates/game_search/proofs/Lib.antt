@@ -13,3 +13,7 @@ pub mod Here
 pub mod Remains
 pub mod Solved
 pub mod Trees
+pub mod Marks
+pub mod Beating
+pub mod Ruling
+pub mod Losing

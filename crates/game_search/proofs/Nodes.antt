@@ -1,5 +1,5 @@
 -- What a node's record, and that of a part of its own tree, follows from: one lemma for each line.
-use Rattle.std.proofs.Common.{◌≡◌, ◌≤◌, Some, inl, ℕ, suc, Bool, true, false, not, ◌&&◌, List, [], ◌∷◌, refl, sym, ap, ◌∙◌, arith, Option, None, ◌++◌}
+use Rattle.std.proofs.Common.{◌≡◌, ◌≤◌, Some, inl, ℕ, suc, Bool, true, false, not, ◌&&◌, List, [], ◌∷◌, refl, sym, ap, subst, ◌∙◌, arith, Option, None, ◌++◌, ◌+◌, ◌*◌}
 use Rattle.std.specs.Prelude.{◌==◌, nat_le}
 use Rattle.std.proofs.lemmas.Bool.Decides.{nat_tests}
 use Rattle.qc_model.specs.declared.problem.Condition.{Condition}
@@ -8,15 +8,17 @@ use Rattle.qc_model.specs.declared.problem.VarId.{VarId}
 use Rattle.qc_model.specs.Content.{Game}
 use Rattle.qc_model.specs.Block.{constraints_in_force}
 use Rattle.qc_model.specs.Closed.{is_closed}
+use Rattle.qc_model.specs.Demands.{demands}
 use Rattle.qc_model.specs.Domains.{Box, values_left, is_single, has_empty}
 use Rattle.qc_model.specs.Game.{allows, is_of_scope}
-use Rattle.qc_model.specs.Verdict.{Verdict, Seen, seen_barred, seen_node, is_unknown}
+use Rattle.qc_model.specs.Verdict.{Verdict, lost, exact, at_most, unknown, Seen, seen_barred, seen_node, is_unknown, bounds}
 use Rattle.qc_model.specs.ForallVerdict.{goal_verdict}
 use Rattle.proof_tree.specs.Tree.{Tree, tree, goal, cases, Ending, barred, next, branch, Branches, Body, stuck, empty}
 use Rattle.proof_tree.specs.Counts.{turns_of, ending_turns, branch_turns}
 use Rattle.proof_tree.specs.Diligent.{SeesAhead}
 use Rattle.proof_tree.specs.Finding.{stuck_finding}
-use Rattle.proof_tree.specs.Place.{position, is_fixed, is_fixed_to, is_goal, next_scopes, list_after}
+use Rattle.proof_tree.specs.Incumbents.{has_no_worse}
+use Rattle.proof_tree.specs.Place.{position, is_fixed, is_fixed_to, is_goal, next_scopes, list_after, tracked_variable}
 use Rattle.proof_tree.specs.InPlace.{is_horizon, horizon_in_place, horizon_below}
 use Rattle.proof_tree.specs.Read.{read, leaves, marks}
 use Rattle.proof_tree.specs.Steps.{after_steps}
@@ -25,15 +27,17 @@ use Rattle.proof_tree.specs.Text.{is_place, horizon_fits}
 use Rattle.proof_tree.specs.declared.tree.Step.{Step}
 use Rattle.proof_tree.specs.declared.tree.Horizon.{Horizon}
 use Rattle.qc_joins.specs.Joins.{IsLong}
-use Rattle.qc_joins.specs.Sizes.{IsSized}
-use Rattle.qc_joins.specs.Verdicts.{scope_verdict}
+use Rattle.qc_joins.specs.Sizes.{EachHas, IsSized}
+use Rattle.qc_joins.specs.Verdicts.{scope_verdict, scope_wishes}
+use Rattle.game_search.specs.Beaten.{firsts, are_beaten}
 use Rattle.game_search.specs.Own.{IsOwnSized}
 use Rattle.game_search.specs.Settled.{is_settled, is_vague, is_vague_verdict}
 use Rattle.game_search.specs.Made.{NodeMade, EndingMade, PartMade, CasesMade}
 use Rattle.game_search.proofs.Bools.{two, not_false}
+use Rattle.game_search.proofs.Beating.{among_none, no_worse_among}
 use Rattle.game_search.proofs.Joining.{verdict_so, decided, settled_sure, or_none}
 use Rattle.game_search.proofs.Sizes.{sizes_of, sizes_none, sizes_barred, sizes_more}
-use Rattle.game_search.proofs.Stepping.{part_says, unmarked}
+use Rattle.game_search.proofs.Stepping.{part_says, part_long, part_beaten}
 
 -- where the horizon in force is here, it is at most whatever lies ahead
 sees_here : (g : Game) (later : List Scope) (i : ℕ) (box : Box) (h : Option ℕ) → is_horizon h i ≡ true → SeesAhead g later i box h
@@ -43,6 +47,13 @@ sees_here g (s ∷ later) i box (Some n) e = λ k from upto none. at_most n i k 
   where
     at_most : (n i k : ℕ) → (n == i) ≡ true → i ≤ k → nat_le n k ≡ true
     at_most n i k e h = grind (arith, nat_tests)
+
+-- a verdict that isn't vague is no bound
+no_bound : (v : Verdict) → is_vague_verdict v ≡ false → bounds (seen_node v ∷ []) ≡ []
+no_bound lost e = refl
+no_bound (exact v) e = refl
+no_bound (at_most p) e = cc
+no_bound unknown e = cc
 
 pub goal_made : (cuts : Bool) (g : Game) (i : ℕ) (d : List Condition) (box : Box) (h : Option ℕ) (had : ℕ) (v : Verdict) → is_horizon h i ≡ false → goal_verdict g (allows g i (position g i box)) d (position g i box) ≡ v →
     IsLong g i v → IsSized 1 v → NodeMade cuts g [] i d box h v had had (tree None goal)
@@ -61,6 +72,7 @@ goal_made cuts g i d box h had v f e long sized = record {
   long = long;
   sized = sized;
   own = tt;
+  keeps = refl;
   closed = refl;
   foreseen = (tt, tt);
 }
@@ -71,21 +83,21 @@ goal_made cuts g i d box h had v f e long sized = record {
 
 module _ (cuts : Bool) (g : Game) (later : List Scope) (i : ℕ) (d : List Condition) (h : Option ℕ) where
   -- a node of a scope, by its own tree, where no bound is among its steps
-  pub node_made : is_goal later ≡ false → is_horizon h i ≡ false → (box : Box) (seen : List Seen) (v : Verdict) (had left : ℕ) (steps : List Step) (e : Ending) → (p : PartMade cuts g later i d box h seen had left steps e) → p.first ≡ [] →
-      scope_verdict later g d (position g i box) seen ≡ v → IsLong g i v → IsSized (suc (ending_turns e)) v → IsOwnSized (suc (ending_turns e)) (read g (tree None (cases steps e)) later i d box).own →
+  pub node_made : is_goal later ≡ false → list_after g later d ≡ demands g (suc i) → is_horizon h i ≡ false → (box : Box) (seen : List Seen) (v : Verdict) (had left : ℕ) (steps : List Step) (e : Ending) → PartMade cuts g later i d box h [] [] seen had left steps e →
+      scope_verdict later g d (position g i box) seen ≡ v → IsLong g i v → IsSized (suc (2 * ending_turns e)) v → IsOwnSized (suc (2 * ending_turns e)) (read g (tree None (cases steps e)) later i d box).own →
       SeesAhead g later i box h → NodeMade cuts g later i d box h v had left (tree None (cases steps e))
-  node_made scope f box seen v had left steps e p none comes long sized own ahead =
+  node_made scope same f box seen v had left steps e p comes long sized own ahead =
       let m = p.ended in
       let lm = marks g later i d steps box in
       let ls = leaves g e later i d (after_steps steps box) in
       let a = position g i box in
       let shown : (read g (tree None (cases steps e)) later i d box).verdict ≡ scope_verdict later g d a seen =
-      verdict_so g later i d a (lm ++ ls) ∙ ap (scope_verdict later g d a) (sym (part_says cuts g later i d box h seen had left steps e p)) in
-      let all : p.last ≡ seen = unmarked cuts g later i d box h seen had left steps e p none in
+      verdict_so g later i d a (lm ++ ls) ∙ ap (scope_verdict later g d a) (sym (part_says cuts g later i d box h [] [] seen had left steps e p)) in
+      let each : EachHas (list_after g later d) seen = subst (λ dd. EachHas dd seen) (sym same) (part_long cuts g later i d box h [] [] seen had left steps e p) in
       record {
         placed = two _ _ (two _ _ (two _ _ (not_false (is_horizon h i) f) (not_false (is_goal later) scope)) p.stepped.legal) m.placed;
         verdict = shown ∙ comes;
-        settled = two _ _ (ap (λ u. not (skips e && is_unknown u)) shown ∙ by (skips e) (λ q. ap (is_settled later (list_after g later d)) (sym all) ∙ m.skips q)) m.settled;
+        settled = two _ _ (ap (λ u. not (skips e && is_unknown u)) shown ∙ by (skips e) (λ q. ap (is_settled later (list_after g later d)) p.both ∙ m.skips q)) m.settled;
         lasts = m.lasts;
         ones = m.ones;
         apart = m.apart;
@@ -93,10 +105,11 @@ module _ (cuts : Bool) (g : Game) (later : List Scope) (i : ℕ) (d : List Condi
         spent = m.spent;
         exact = m.exact;
         opens = m.opens;
-        gap = λ o. ap is_vague_verdict (sym comes) ∙ decided g later d a seen scope (λ q. ap is_vague (sym all) ∙ m.gap o (ap (is_settled later (list_after g later d)) all ∙ q));
+        gap = λ o. ap is_vague_verdict (sym comes) ∙ decided g later d a seen scope (λ q. ap is_vague p.both ∙ m.gap o (ap (is_settled later (list_after g later d)) (sym p.both) ∙ q)) each (part_beaten cuts g later i d box h [] [] seen had left steps e p o);
         long = long;
         sized = sized;
         own = own;
+        keeps = m.keeps [] (among_none (firsts []));
         closed = m.closed;
         foreseen = (ahead, m.foreseen);
       }
@@ -123,6 +136,7 @@ module _ (cuts : Bool) (g : Game) (later : List Scope) (i : ℕ) (d : List Condi
     long = m.long;
     sized = m.sized;
     own = m.own;
+    keeps = m.keeps;
     closed = m.closed;
     foreseen = m.foreseen;
   }
@@ -145,13 +159,14 @@ module _ (cuts : Bool) (g : Game) (later : List Scope) (i : ℕ) (d : List Condi
     long = long;
     sized = sized;
     own = own;
+    keeps = refl;
     closed = refl;
     foreseen = (sees_here g later i box h f, tt);
   }
 
   -- a domain is empty
-  pub empty_made : (box : Box) (had : ℕ) → has_empty box ≡ true → EndingMade cuts g later i d box h [] had had empty
-  empty_made box had f = record {
+  pub empty_made : (box : Box) (before : List Seen) (had : ℕ) → has_empty box ≡ true → EndingMade cuts g later i d box h before [] had had empty
+  empty_made box before had f = record {
     placed = f;
     says = refl;
     settled = refl;
@@ -164,6 +179,8 @@ module _ (cuts : Bool) (g : Game) (later : List Scope) (i : ℕ) (d : List Condi
     opens = inl refl;
     gap = λ o q. refl;
     skips = λ e. cc;
+    beaten = λ o. refl;
+    keeps = λ reached a. refl;
     long = tt;
     sizes = sizes_none 1;
     closed = refl;
@@ -171,9 +188,9 @@ module _ (cuts : Bool) (g : Game) (later : List Scope) (i : ℕ) (d : List Condi
   }
 
   -- a tuple that isn't allowed
-  pub barred_made : (box : Box) (had : ℕ) → has_empty box ≡ false → is_fixed g i box ≡ true → allows g i (position g (suc i) box) ≡ false →
-      EndingMade cuts g later i d box h (seen_barred ∷ []) had had barred
-  barred_made box had full fixed refused = record {
+  pub barred_made : (box : Box) (before : List Seen) (had : ℕ) → has_empty box ≡ false → is_fixed g i box ≡ true → allows g i (position g (suc i) box) ≡ false →
+      EndingMade cuts g later i d box h before (seen_barred ∷ []) had had barred
+  barred_made box before had full fixed refused = record {
     placed = two _ _ (two _ _ (not_false (has_empty box) full) fixed) (not_false (allows g i (position g (suc i) box)) refused);
     says = refl;
     settled = refl;
@@ -186,6 +203,8 @@ module _ (cuts : Bool) (g : Game) (later : List Scope) (i : ℕ) (d : List Condi
     opens = inl refl;
     gap = λ o q. refl;
     skips = λ e. cc;
+    beaten = λ o. refl;
+    keeps = λ reached a. refl;
     long = tt;
     sizes = sizes_barred 1;
     closed = refl;
@@ -193,10 +212,10 @@ module _ (cuts : Bool) (g : Game) (later : List Scope) (i : ℕ) (d : List Condi
   }
 
   -- a tuple that goes on to a node
-  pub next_made : (box : Box) (v : Verdict) (had left : ℕ) (t : Tree) → has_empty box ≡ false → is_fixed g i box ≡ true → allows g i (position g (suc i) box) ≡ true →
-      NodeMade cuts g (next_scopes later) (suc i) (list_after g later d) box h v had left t →
-      EndingMade cuts g later i d box h (seen_node v ∷ []) had left (next t)
-  next_made box v had left t full fixed passes m = record {
+  pub next_made : (box : Box) (before : List Seen) (v : Verdict) (had left : ℕ) (t : Tree) → has_empty box ≡ false → is_fixed g i box ≡ true → allows g i (position g (suc i) box) ≡ true →
+      has_no_worse (tracked_variable g later i (list_after g later d)) (firsts before) box ≡ true → NodeMade cuts g (next_scopes later) (suc i) (list_after g later d) box h v had left t →
+      EndingMade cuts g later i d box h before (seen_node v ∷ []) had left (next t)
+  next_made box before v had left t full fixed passes worse m = record {
     placed = two _ _ (two _ _ (two _ _ (not_false (has_empty box) full) fixed) passes) m.placed;
     says = ap (λ u. seen_node u ∷ []) (sym m.verdict);
     settled = m.settled;
@@ -209,17 +228,19 @@ module _ (cuts : Bool) (g : Game) (later : List Scope) (i : ℕ) (d : List Condi
     opens = m.opens;
     gap = λ o q. or_none (is_vague_verdict v) false (m.gap o) refl;
     skips = λ e. cc;
+    beaten = λ o. ap (are_beaten (scope_wishes later g d) (firsts (before ++ seen_node v ∷ []))) (no_bound v (m.gap o));
+    keeps = λ reached a. two _ _ (no_worse_among (tracked_variable g later i (list_after g later d)) (firsts before) reached box a worse) m.keeps;
     long = (m.long, tt);
-    sizes = sizes_of (suc (turns_of t)) v m.sized;
+    sizes = sizes_of (suc (2 * turns_of t)) v m.sized;
     closed = m.closed;
     foreseen = m.foreseen;
   }
 
   -- a branch, by its cases, where the box is closed and the variables of the scope before x have one value left
-  pub branch_made : (box : Box) (x : VarId) (seen : List Seen) (had left : ℕ) (bs : Branches) → has_empty box ≡ false → is_of_scope g i x.0 ≡ true → is_single (values_left box x.0) ≡ false → is_place 500 x.0 ≡ true →
+  pub branch_made : (box : Box) (x : VarId) (before seen : List Seen) (had left : ℕ) (bs : Branches) → has_empty box ≡ false → is_of_scope g i x.0 ≡ true → is_single (values_left box x.0) ≡ false → is_place 500 x.0 ≡ true →
       is_closed (constraints_in_force g later i) box ≡ true → is_fixed_to g i x.0 box ≡ true →
-      CasesMade cuts g later i d box h x.0 (values_left box x.0) false seen had left bs → EndingMade cuts g later i d box h seen had left (branch x bs)
-  branch_made box x seen had left bs full own many place closed earlier m = record {
+      has_no_worse (tracked_variable g later i (list_after g later d)) (firsts before) box ≡ true → CasesMade cuts g later i d box h x.0 (values_left box x.0) false before seen had left bs → EndingMade cuts g later i d box h before seen had left (branch x bs)
+  branch_made box x before seen had left bs full own many place closed earlier worse m = record {
     placed = two _ _ (two _ _ (two _ _ (not_false (has_empty box) full) own) (not_false (is_single (values_left box x.0)) many)) m.placed;
     says = m.says;
     settled = m.settled;
@@ -232,8 +253,10 @@ module _ (cuts : Bool) (g : Game) (later : List Scope) (i : ℕ) (d : List Condi
     opens = m.opens;
     gap = λ o q. m.gap o refl q;
     skips = λ q. m.skips q refl;
+    beaten = m.beaten;
+    keeps = λ reached a. two _ _ (no_worse_among (tracked_variable g later i (list_after g later d)) (firsts before) reached box a worse) (m.keeps reached a);
     long = m.long;
-    sizes = sizes_more (branch_turns bs) (suc (branch_turns bs)) seen (omega arith) m.sizes;
+    sizes = sizes_more (2 * branch_turns bs) (suc (2 * branch_turns bs)) seen (omega arith) m.sizes;
     closed = two _ _ (two _ _ closed earlier) m.closed;
     foreseen = m.foreseen;
   }

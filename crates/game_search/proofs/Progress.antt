@@ -1,5 +1,5 @@
 -- The cases of a branch, one after the other: what ends them from here on ends them whole.
-use Rattle.std.proofs.Common.{map, ◌≡◌, ◌<◌, ◌≤◌, ◌+◌, ◌-◌, ℕ, suc, true, false, List, [], ◌∷◌, ◌++◌, length, drop, refl, sym, ap, ◌∙◌, subst, arith, Option, None, Some, append_assoc, take, Bool}
+use Rattle.std.proofs.Common.{map, ◌≡◌, ◌<◌, ◌≤◌, ◌+◌, ◌*◌, ◌-◌, ℕ, suc, true, false, List, [], ◌∷◌, ◌++◌, length, drop, refl, sym, ap, ◌∙◌, subst, arith, Option, None, Some, append_assoc, take, Bool}
 use Rattle.std.proofs.lemmas.List.{append-nil}
 use Rattle.std.specs.Prelude.{ℤ}
 use Rattle.std.specs.List.{list_all}
@@ -18,6 +18,7 @@ use Rattle.proof_tree.specs.declared.line.Line.{Line}
 use Rattle.proof_tree.specs.declared.line.Line.TheVariants.{Skip, Open, Range}
 use Rattle.proof_tree.specs.declared.tree.Step.{Step}
 use Rattle.qc_joins.specs.Sizes.{HasSizes}
+use Rattle.game_search.specs.Beaten.{firsts, AreAmong}
 use Rattle.qc_joins.proofs.Sizing.{sizes_both}
 use Rattle.game_search.specs.Settled.{is_settled}
 use Rattle.game_search.specs.Uppers.{upto_all}
@@ -26,9 +27,11 @@ use Rattle.game_search.specs.Written.{CasesWritten, PartWritten}
 use Rattle.game_search.proofs.Branching.{none_made, go_made, skip_made, open_made, first_skipped, cut_more}
 use Rattle.game_search.proofs.Covers.{covers_all}
 use Rattle.game_search.proofs.Fitting.{upper_fits}
-use Rattle.game_search.proofs.Joining.{settled-append, settled_from, or_first}
+use Rattle.game_search.proofs.Beating.{among_self, among_more, among_as}
+use Rattle.game_search.proofs.Joining.{settled-append, settled_from, or_first, settled_wishes}
+use Rattle.game_search.proofs.Marks.{firsts-append}
 use Rattle.game_search.proofs.Sizes.{sizes_none, sizes_skipped}
-use Rattle.game_search.proofs.Stepping.{unmarked}
+use Rattle.game_search.proofs.Stepping.{part_sizes, part_after_less}
 
 skip_lines : (u : Option ℤ) → upto_lines u ++ Skip ∷ [] ≡ branches_lines (piece u skip no_more)
 skip_lines None = refl
@@ -62,31 +65,31 @@ regroup old None steps e bs = append_assoc old (Skip ∷ (map step_line steps ++
 regroup old (Some high) steps e bs = append_assoc old (Range high ∷ Skip ∷ (map step_line steps ++ ending_lines e)) (branches_lines bs)
 
 -- cases for the values here are owed; what was seen, the turns and the lines are at seen, left and now
-pub record Progress (cuts : Bool) (g : Game) (later : List Scope) (i : ℕ) (d : List Condition) (box : Box) (h : Option ℕ) (x : ℕ) (vs : Values) (had : ℕ) (old : List Line)
+pub record Progress (cuts : Bool) (g : Game) (later : List Scope) (i : ℕ) (d : List Condition) (box : Box) (h : Option ℕ) (x : ℕ) (vs : Values) (before : List Seen) (had : ℕ) (old : List Line)
     (here : Values) (seen : List Seen) (left : ℕ) (now : List Line) : Type 0 where
   -- the turns only fall, and what was seen is no larger than those used can make it
   pub used : ℕ
   pub fell : used + left ≤ had
-  pub sizes : HasSizes used seen
+  pub sizes : HasSizes (2 * used) seen
   -- the lines are those before and more
   pub written : List Line
   pub now_is : now ≡ old ++ written
-  pub ends : (bs : Branches) (rest : List Seen) (last : ℕ) (new : List Line) → CasesMade cuts g later i d box h x here (is_settled later (list_after g later d) seen) rest left last bs → new ≡ now ++ branches_lines bs →
-      CasesWritten cuts g later i d box h x vs (seen ++ rest) had last old new
+  pub ends : (bs : Branches) (rest : List Seen) (last : ℕ) (new : List Line) → CasesMade cuts g later i d box h x here (is_settled later (list_after g later d) seen) (before ++ seen) rest left last bs → new ≡ now ++ branches_lines bs →
+      CasesWritten cuts g later i d box h x vs before (seen ++ rest) had last old new
 
-module _ (cuts : Bool) (g : Game) (later : List Scope) (i : ℕ) (d : List Condition) (box : Box) (h : Option ℕ) (x : ℕ) (vs : Values) (had : ℕ) (old : List Line) where
+module _ (cuts : Bool) (g : Game) (later : List Scope) (i : ℕ) (d : List Condition) (box : Box) (h : Option ℕ) (x : ℕ) (vs : Values) (before : List Seen) (had : ℕ) (old : List Line) where
   abbrev At : Values → List Seen → ℕ → List Line → Type 0
-  At here seen left now = Progress cuts g later i d box h x vs had old here seen left now
+  At here seen left now = Progress cuts g later i d box h x vs before had old here seen left now
 
   abbrev Whole : List Seen → ℕ → List Line → Type 0
-  Whole seen last new = CasesWritten cuts g later i d box h x vs seen had last old new
+  Whole seen last new = CasesWritten cuts g later i d box h x vs before seen had last old new
 
   abbrev Settled : List Seen → Bool
   Settled seen = is_settled later (list_after g later d) seen
 
-  -- a part in a case of x that is gone into
-  abbrev Part : ℤ → List Seen → ℕ → ℕ → List Line → List Line → Type 0
-  Part v seen left last now new = PartWritten cuts g later i d (box_to box x (v ∷ [])) h seen left last now new
+  -- a part in a case of x that is gone into, after what was seen; it has the marks ms, and more is seen in it
+  abbrev Part : ℤ → List Seen → List ℤ → List Seen → ℕ → ℕ → List Line → List Line → Type 0
+  Part v seen ms more left last now new = PartWritten cuts g later i d (box_to box x (v ∷ [])) h (before ++ seen) ms more left last now new
 
   pub start : At vs [] had old
   start = record {
@@ -95,29 +98,35 @@ module _ (cuts : Bool) (g : Game) (later : List Scope) (i : ℕ) (d : List Condi
     sizes = sizes_none 0;
     written = [];
     now_is = sym (append-nil old);
-    ends = λ bs rest last new m e. record { cases = bs; lines = e; made = m };
+    ends = λ bs rest last new m e. record { cases = bs; lines = e; made = subst (λ xs. CasesMade cuts g later i d box h x vs false xs rest had last bs) (append-nil before) m };
   }
 
-  part_sizes : (v : ℤ) (seen : List Seen) (left last : ℕ) (now new : List Line) → (w : Part v seen left last now new) → w.made.first ≡ [] → HasSizes (suc (ending_turns w.ending)) seen
-  part_sizes v seen left last now new w none =
-      subst (HasSizes (suc (ending_turns w.ending))) (unmarked cuts g later i d (box_to box x (v ∷ [])) h seen left last w.steps w.ending w.made none) w.made.ended.sizes
+  sizes_in : (v : ℤ) (seen : List Seen) (ms : List ℤ) (more : List Seen) (left last : ℕ) (now new : List Line) → (w : Part v seen ms more left last now new) → HasSizes (2 * suc (ending_turns w.ending)) more
+  sizes_in v seen ms more left last now new w = part_sizes cuts g later i d (box_to box x (v ∷ [])) h (before ++ seen) ms more left last w.steps w.ending w.made
 
-  -- a case is gone into, without a bound
-  taken : (v : ℤ) (rest : Values) (seen more : List Seen) (left next_left : ℕ) (now next_now : List Line) → 1 < length (values_left box x) → Settled seen ≡ false →
-      At (v ∷ rest) seen (1 + left) now → (w : Part v more left next_left now next_now) → w.made.first ≡ [] → At rest (seen ++ more) next_left next_now
-  taken v rest seen more left next_left now next_now many not_yet p w none = record {
+  sizes_with : (m n : ℕ) (xs ys : List Seen) → HasSizes (2 * m) xs → HasSizes (2 * n) ys → HasSizes (2 * (m + n)) (xs ++ ys)
+  sizes_with m n xs ys a b = subst (λ k. HasSizes k (xs ++ ys)) (twice m n) (sizes_both (2 * m) (2 * n) xs ys a b)
+    where
+      twice : (m n : ℕ) → 2 * m + 2 * n ≡ 2 * (m + n)
+      twice m n = omega arith
+
+  -- a case is gone into
+  taken : (v : ℤ) (rest : Values) (seen : List Seen) (ms : List ℤ) (more : List Seen) (left next_left : ℕ) (now next_now : List Line) → 1 < length (values_left box x) → Settled seen ≡ false →
+      At (v ∷ rest) seen (1 + left) now → (w : Part v seen ms more left next_left now next_now) → At rest (seen ++ more) next_left next_now
+  taken v rest seen ms more left next_left now next_now many not_yet p w = record {
     used = p.used + suc (ending_turns w.ending);
     fell = omega (arith, p.fell, w.made.ended.spent);
-    sizes = sizes_both p.used (suc (ending_turns w.ending)) seen more p.sizes (part_sizes v more left next_left now next_now w none);
+    sizes = sizes_with p.used (suc (ending_turns w.ending)) seen more p.sizes (sizes_in v seen ms more left next_left now next_now w);
     written = p.written ++ (map step_line w.steps ++ ending_lines w.ending);
     now_is = w.lines ∙ (ap (λ ls. ls ++ (map step_line w.steps ++ ending_lines w.ending)) p.now_is ∙ append_assoc old p.written (map step_line w.steps ++ ending_lines w.ending));
     ends = λ bs others last new m e.
-        let after = subst (λ b. CasesMade cuts g later i d box h x rest b others next_left last bs) (settled_from later (list_after g later d) seen more not_yet) m in
-        let here = go_made cuts g later i d box h x v rest more others left next_left last w.steps w.ending bs many w.made none after in
+        let known = subst (λ xs. CasesMade cuts g later i d box h x rest (Settled (seen ++ more)) xs others next_left last bs) (sym (append_assoc before seen more)) m in
+        let after = subst (λ b. CasesMade cuts g later i d box h x rest b ((before ++ seen) ++ more) others next_left last bs) (settled_from later (list_after g later d) seen more not_yet) known in
+        let here = go_made cuts g later i d box h x v rest (before ++ seen) ms more others left next_left last w.steps w.ending bs many w.made after in
         let same : (seen ++ more) ++ others ≡ seen ++ (more ++ others) = append_assoc seen more others in
         subst (λ xs. Whole xs last new) (sym same)
         (p.ends (piece None (go w.steps w.ending) bs) (more ++ others) last new
-        (subst (λ b. CasesMade cuts g later i d box h x (v ∷ rest) b (more ++ others) (1 + left) last (piece None (go w.steps w.ending) bs)) (sym not_yet) here)
+        (subst (λ b. CasesMade cuts g later i d box h x (v ∷ rest) b (before ++ seen) (more ++ others) (1 + left) last (piece None (go w.steps w.ending) bs)) (sym not_yet) here)
         (e ∙ (ap (λ ls. ls ++ branches_lines bs) w.lines ∙ append_assoc now (map step_line w.steps ++ ending_lines w.ending) (branches_lines bs))));
   }
 
@@ -125,7 +134,7 @@ module _ (cuts : Bool) (g : Game) (later : List Scope) (i : ℕ) (d : List Condi
   pub none : (seen : List Seen) (left : ℕ) (now : List Line) → At [] seen left now → Whole seen left now
   none seen left now p =
       subst (λ xs. Whole xs left now) (append-nil seen)
-      (p.ends no_more [] left now (none_made cuts g later i d box h x (Settled seen) left) (sym (append-nil now)))
+      (p.ends no_more [] left now (none_made cuts g later i d box h x (Settled seen) (before ++ seen) left) (sym (append-nil now)))
 
   -- the scope is settled
   pub skipped : (here : Values) (seen : List Seen) (left : ℕ) (now new : List Line) → is_none_left here ≡ false → list_all is_number here ≡ true → Settled seen ≡ true → At here seen left now → new ≡ now ++ (upto_lines (upto_all here) ++ Skip ∷ []) →
@@ -134,8 +143,8 @@ module _ (cuts : Bool) (g : Game) (later : List Scope) (i : ℕ) (d : List Condi
   skipped (v ∷ rest) seen left now new some numbers e p q =
       let u = upto_all (v ∷ rest) in
       p.ends (piece u skip no_more) (seen_skipped ∷ []) left new
-      (subst (λ b. CasesMade cuts g later i d box h x (v ∷ rest) b (seen_skipped ∷ []) left left (piece u skip no_more)) (sym e)
-      (skip_made cuts g later i d box h x v rest left (upper_fits u (v ∷ rest) numbers (covers_all v rest).is_case)))
+      (subst (λ b. CasesMade cuts g later i d box h x (v ∷ rest) b (before ++ seen) (seen_skipped ∷ []) left left (piece u skip no_more)) (sym e)
+      (skip_made cuts g later i d box h x v rest (before ++ seen) left (upper_fits u (v ∷ rest) numbers (covers_all v rest).is_case)))
       (then_lines now new (upto_lines u ++ Skip ∷ []) (branches_lines (piece u skip no_more)) q (skip_lines u))
 
   -- no turn is left
@@ -144,43 +153,49 @@ module _ (cuts : Bool) (g : Game) (later : List Scope) (i : ℕ) (d : List Condi
   opened [] seen left now new some numbers e p q = cc
   opened (v ∷ rest) seen left now new some numbers e p q =
       let u = upto_all (v ∷ rest) in
-      p.ends (piece u left_open no_more) (seen_skipped ∷ []) left new (open_made cuts g later i d box h x (Settled seen) v rest left e (upper_fits u (v ∷ rest) numbers (covers_all v rest).is_case))
+      p.ends (piece u left_open no_more) (seen_skipped ∷ []) left new (open_made cuts g later i d box h x (Settled seen) v rest (before ++ seen) left e (upper_fits u (v ∷ rest) numbers (covers_all v rest).is_case))
       (then_lines now new (upto_lines u ++ Open ∷ []) (branches_lines (piece u left_open no_more)) q (open_lines u))
 
   -- a case is gone into with the turns that are left
-  pub taken_from : (here rest : Values) (v : ℤ) (seen more : List Seen) (left next_left : ℕ) (now next_now : List Line) → 1 < length (values_left box x) → here ≡ v ∷ rest → Settled seen ≡ false → ¬ (left ≡ 0) →
-      At here seen left now → (w : Part v more (left - 1) next_left now next_now) → w.made.first ≡ [] → At rest (seen ++ more) next_left next_now
-  taken_from here rest v seen more left next_left now next_now many e not_yet some p w none =
+  pub taken_from : (here rest : Values) (v : ℤ) (seen : List Seen) (ms : List ℤ) (more : List Seen) (left next_left : ℕ) (now next_now : List Line) → 1 < length (values_left box x) → here ≡ v ∷ rest → Settled seen ≡ false → ¬ (left ≡ 0) →
+      At here seen left now → Part v seen ms more (left - 1) next_left now next_now → At rest (seen ++ more) next_left next_now
+  taken_from here rest v seen ms more left next_left now next_now many e not_yet some p w =
       let one_more : left ≡ 1 + (left - 1) = positive left some in
-      taken v rest seen more (left - 1) next_left now next_now many not_yet (subst (λ m. At (v ∷ rest) seen m now) one_more (subst (λ us. At us seen left now) e p)) w none
+      taken v rest seen ms more (left - 1) next_left now next_now many not_yet (subst (λ m. At (v ∷ rest) seen m now) one_more (subst (λ us. At us seen left now) e p)) w
     where
       positive : (m : ℕ) → ¬ (m ≡ 0) → m ≡ 1 + (m - 1)
       positive m h = omega arith
 
   -- a case settles the scope, and those before it are cut, to which u is the upper value: written has the lines since the
   -- branch began
-  cut_here : cuts ≡ true → list_all is_number vs ≡ true → (u : Option ℤ) (rest : Values) (v : ℤ) (more : List Seen) (left next_left : ℕ) (now next_now new : List Line) → 1 < length (values_left box x) →
-      is_cover u vs ≡ true → uncovered u vs ≡ v ∷ rest → Settled more ≡ true → ¬ (left ≡ 0) → left ≤ had → (written : List Line) → now ≡ old ++ written → (w : Part v more (left - 1) next_left now next_now) → w.made.first ≡ [] →
+  cut_here : cuts ≡ true → list_all is_number vs ≡ true → (u : Option ℤ) (rest : Values) (v : ℤ) (seen : List Seen) (ms : List ℤ) (more : List Seen) (left next_left : ℕ) (now next_now new : List Line) → 1 < length (values_left box x) →
+      is_cover u vs ≡ true → uncovered u vs ≡ v ∷ rest → Settled more ≡ true → ¬ (left ≡ 0) → left ≤ had → (written : List Line) → now ≡ old ++ written → (w : Part v seen ms more (left - 1) next_left now next_now) →
       new ≡ take (length old) next_now ++ ((upto_lines u ++ Skip ∷ []) ++ drop (length now) next_now) → At rest (seen_skipped ∷ more) next_left new
-  cut_here cut numbers u rest v more left next_left now next_now new many case leaves settled some fell written now_is w none q =
+  cut_here cut numbers u rest v seen ms more left next_left now next_now new many case leaves settled some fell written now_is w q =
       let part = map step_line w.steps ++ ending_lines w.ending in
       let new_is : new ≡ old ++ ((upto_lines u ++ Skip ∷ []) ++ part) = cut_lines old now next_now new written part (upto_lines u ++ Skip ∷ []) now_is w.lines q in
       let one_less : 1 + (left - 1) ≤ had = less left had some fell in
+      let skipped = before ++ seen_skipped ∷ [] in
+      let nothing = settled_wishes g later d more settled in
+      let fewer = among_as (firsts skipped) (firsts before ++ firsts seen) (firsts (before ++ seen)) (sym (firsts-append before seen))
+      (subst (λ ns. AreAmong ns (firsts before ++ firsts seen)) (sym (firsts-append before (seen_skipped ∷ []) ∙ append-nil (firsts before))) (among_more (firsts before) (firsts before) (firsts seen) (among_self (firsts before)))) in
+      let made = part_after_less cuts g later i d (box_to box x (v ∷ [])) h (before ++ seen) skipped ms more (left - 1) next_left w.steps w.ending nothing fewer w.made in
       record {
         used = 0 + suc (ending_turns w.ending);
         fell = omega (arith, one_less, w.made.ended.spent);
-        sizes = sizes_both 0 (suc (ending_turns w.ending)) (seen_skipped ∷ []) more (sizes_skipped 0) (part_sizes v more (left - 1) next_left now next_now w none);
+        sizes = sizes_with 0 (suc (ending_turns w.ending)) (seen_skipped ∷ []) more (sizes_skipped 0) (sizes_in v seen ms more (left - 1) next_left now next_now w);
         written = (upto_lines u ++ Skip ∷ []) ++ part;
         now_is = new_is;
         ends = λ bs others last after_new m f.
             let cs = piece None (go w.steps w.ending) bs in
-            let gone = go_made cuts g later i d box h x v rest more others (left - 1) next_left last w.steps w.ending bs many w.made none m in
+            let known = subst (λ xs. CasesMade cuts g later i d box h x rest (Settled more) xs others next_left last bs) (sym (append_assoc before (seen_skipped ∷ []) more)) m in
+            let gone = go_made cuts g later i d box h x v rest skipped ms more others (left - 1) next_left last w.steps w.ending bs many made known in
             let all_settled : Settled (more ++ others) ≡ true = settled-append later (list_after g later d) more others ∙ or_first (Settled more) (Settled others) settled in
             record {
               cases = piece u skip cs;
               lines = f ∙ (ap (λ ls. ls ++ branches_lines bs) new_is ∙ regroup old u w.steps w.ending bs);
-              made = cut_more cuts g later i d box h x vs false (seen_skipped ∷ (more ++ others)) (1 + (left - 1)) had last (piece u skip cs) cut one_less
-                  (first_skipped cuts g later i d box h x u vs (v ∷ rest) (more ++ others) (1 + (left - 1)) last cs case leaves numbers all_settled refl gone);
+              made = cut_more cuts g later i d box h x vs false before (seen_skipped ∷ (more ++ others)) (1 + (left - 1)) had last (piece u skip cs) cut one_less
+                  (first_skipped cuts g later i d box h x u vs (v ∷ rest) before (more ++ others) (1 + (left - 1)) last cs case leaves numbers all_settled refl gone);
             };
       }
     where
@@ -188,18 +203,18 @@ module _ (cuts : Bool) (g : Game) (later : List Scope) (i : ℕ) (d : List Condi
       less m n h l = omega arith
 
   -- the same after the cases before
-  pub cut_after : cuts ≡ true → list_all is_number vs ≡ true → (u : Option ℤ) (here rest : Values) (v : ℤ) (seen more : List Seen) (left next_left : ℕ) (now next_now new : List Line) → 1 < length (values_left box x) →
-      is_cover u vs ≡ true → uncovered u vs ≡ v ∷ rest → Settled more ≡ true → ¬ (left ≡ 0) → At here seen left now → (w : Part v more (left - 1) next_left now next_now) → w.made.first ≡ [] →
+  pub cut_after : cuts ≡ true → list_all is_number vs ≡ true → (u : Option ℤ) (here rest : Values) (v : ℤ) (seen : List Seen) (ms : List ℤ) (more : List Seen) (left next_left : ℕ) (now next_now new : List Line) → 1 < length (values_left box x) →
+      is_cover u vs ≡ true → uncovered u vs ≡ v ∷ rest → Settled more ≡ true → ¬ (left ≡ 0) → At here seen left now → Part v seen ms more (left - 1) next_left now next_now →
       new ≡ take (length old) next_now ++ ((upto_lines u ++ Skip ∷ []) ++ drop (length now) next_now) → At rest (seen_skipped ∷ more) next_left new
-  cut_after cut numbers u here rest v seen more left next_left now next_now new many case leaves settled some p w none q =
-      cut_here cut numbers u rest v more left next_left now next_now new many case leaves settled some (omega (arith, p.fell)) p.written p.now_is w none q
+  cut_after cut numbers u here rest v seen ms more left next_left now next_now new many case leaves settled some p w q =
+      cut_here cut numbers u rest v seen ms more left next_left now next_now new many case leaves settled some (omega (arith, p.fell)) p.written p.now_is w q
 
   -- a case tried before all others settles the scope: those before it are cut, though none was gone into
-  pub jump_after : cuts ≡ true → list_all is_number vs ≡ true → (u : Option ℤ) (rest : Values) (v : ℤ) (more : List Seen) (next_left : ℕ) (next_now new : List Line) → 1 < length (values_left box x) →
-      is_cover u vs ≡ true → uncovered u vs ≡ v ∷ rest → Settled more ≡ true → ¬ (had ≡ 0) → (w : Part v more (had - 1) next_left old next_now) → w.made.first ≡ [] →
+  pub jump_after : cuts ≡ true → list_all is_number vs ≡ true → (u : Option ℤ) (rest : Values) (v : ℤ) (ms : List ℤ) (more : List Seen) (next_left : ℕ) (next_now new : List Line) → 1 < length (values_left box x) →
+      is_cover u vs ≡ true → uncovered u vs ≡ v ∷ rest → Settled more ≡ true → ¬ (had ≡ 0) → Part v [] ms more (had - 1) next_left old next_now →
       new ≡ take (length old) next_now ++ ((upto_lines u ++ Skip ∷ []) ++ drop (length old) next_now) → At rest (seen_skipped ∷ more) next_left new
-  jump_after cut numbers u rest v more next_left next_now new many case leaves settled some w none q =
-      cut_here cut numbers u rest v more had next_left old next_now new many case leaves settled some (omega arith) [] (sym (append-nil old)) w none q
+  jump_after cut numbers u rest v ms more next_left next_now new many case leaves settled some w q =
+      cut_here cut numbers u rest v [] ms more had next_left old next_now new many case leaves settled some (omega arith) [] (sym (append-nil old)) w q
 
   -- turns may be counted before their case is appended
   pub fewer_left : cuts ≡ true → (here : Values) (seen : List Seen) (left less : ℕ) (now : List Line) → less ≤ left → At here seen left now → At here seen less now
@@ -209,5 +224,5 @@ module _ (cuts : Bool) (g : Game) (later : List Scope) (i : ℕ) (d : List Condi
     sizes = p.sizes;
     written = p.written;
     now_is = p.now_is;
-    ends = λ bs rest last new m e. p.ends bs rest last new (cut_more cuts g later i d box h x here (Settled seen) rest less left last bs cut l m) e;
+    ends = λ bs rest last new m e. p.ends bs rest last new (cut_more cuts g later i d box h x here (Settled seen) (before ++ seen) rest less left last bs cut l m) e;
   }

@@ -182,6 +182,7 @@ module _ (cuts : Bool) (g : Game) (turns : ℕ) (some : 1 ≤ turns) (small : tu
     proves = shown;
     in_order = two _ _ (two _ _ (two _ _ m.lasts m.ones) m.apart) m.settled;
     diligent = record { closed = m.closed; foreseen = m.foreseen };
+    incumbents = m.keeps;
     few = omega (arith, m.spent);
     spent = spent;
     means = meanings outcome own t shown;
@@ -194,7 +195,7 @@ module _ (cuts : Bool) (g : Game) (turns : ℕ) (some : 1 ≤ turns) (small : tu
     tree = w.tree;
     is_lines = w.lines;
     fits = subst (λ ls. list_all line_fits ls ≡ true) (sym w.lines) (fitting Two w.tree w.made.fits);
-    solution = by v own surely w.made (subst (λ o. OwnSays (optimises_first g.scopes) v o) has_own (subst (λ u. OwnSays (optimises_first g.scopes) u f.own) w.made.verdict says)) (subst (IsOwnSized (suc (turns_of w.tree))) has_own w.made.own) has_own;
+    solution = by v own surely w.made (subst (λ o. OwnSays (optimises_first g.scopes) v o) has_own (subst (λ u. OwnSays (optimises_first g.scopes) u f.own) w.made.verdict says)) (subst (IsOwnSized (suc (2 * turns_of w.tree))) has_own w.made.own) has_own;
   }
     where
       f : Finding
@@ -211,7 +212,7 @@ module _ (cuts : Bool) (g : Game) (turns : ℕ) (some : 1 ≤ turns) (small : tu
       shown_true None e q r = two _ _ q (ap not (sym e))
       shown_true (Some o) e q r = two _ _ (two _ _ q (sym e)) (ap (is_value o) r ∙ same_value o)
 
-      fits_true : (own : Option ℤ) → IsOwnSized (suc (turns_of w.tree)) own → turns_of w.tree + left ≤ turns → outcome_fits True own ≡ true
+      fits_true : (own : Option ℤ) → IsOwnSized (suc (2 * turns_of w.tree)) own → turns_of w.tree + left ≤ turns → outcome_fits True own ≡ true
       fits_true None e q = refl
       fits_true (Some o) e q = at_least _ _ (omega (arith, e, q, small))
 
@@ -229,7 +230,7 @@ module _ (cuts : Bool) (g : Game) (turns : ℕ) (some : 1 ≤ turns) (small : tu
           (two _ _ (at_least 1 turns some) (at_least turns 10000000 small))
           (record { all = refl; taken = all; below = below_full (length g.variables * value_product g.variables) turns (cases_of w.tree) small (omega (arith, all, some_open, cases_more)) (few w.tree m.placed m.ones) }))
 
-      by : (v : Verdict) (own : Option ℤ) → (is_vague_verdict v ≡ true → cuts ≡ false) → NodeMade cuts g g.scopes 0 [] (declared_box g) None v turns left w.tree → OwnSays (optimises_first g.scopes) v own → IsOwnSized (suc (turns_of w.tree)) own → f.own ≡ own →
+      by : (v : Verdict) (own : Option ℤ) → (is_vague_verdict v ≡ true → cuts ≡ false) → NodeMade cuts g g.scopes 0 [] (declared_box g) None v turns left w.tree → OwnSays (optimises_first g.scopes) v own → IsOwnSized (suc (2 * turns_of w.tree)) own → f.own ≡ own →
           Solution g turns (outcome_by v turns) own w.tree
       by (exact u) own surely m o sized h = whole True (exact u) own left w.tree m (two _ _ m.placed (shown_true own (o.known refl) (ap is_exact m.verdict) h)) (fits_true own sized m.spent) tt
       by lost own surely m o sized h =

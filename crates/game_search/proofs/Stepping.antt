@@ -1,26 +1,38 @@
 -- Steps, one after the other.
-use Rattle.std.proofs.Common.{◌≡◌, true, ℕ, List, [], ◌∷◌, ◌++◌, map, refl, sym, ap, ◌∙◌, Option, None, Some, ℤ, Bool}
+use Rattle.std.proofs.Common.{◌≡◌, true, ℕ, suc, ◌+◌, ◌*◌, List, [], ◌∷◌, ◌++◌, map, refl, sym, ap, subst, ◌∙◌, Option, None, Some, ℤ, Bool, arith, append_assoc}
+use Rattle.std.specs.List.{list_all}
+use Rattle.std.proofs.lemmas.List.{append-nil}
 use Rattle.qc_model.specs.declared.problem.Condition.{Condition}
 use Rattle.qc_model.specs.declared.problem.Scope.{Scope}
 use Rattle.qc_model.specs.Content.{Game}
 use Rattle.qc_model.specs.Domains.{Box, values_left, values_within}
 use Rattle.qc_model.specs.Block.{force_stop}
-use Rattle.qc_model.specs.Verdict.{Seen}
+use Rattle.qc_model.specs.Demands.{demands}
+use Rattle.qc_model.specs.Verdict.{Seen, bounds}
 use Rattle.proof_tree.specs.declared.tree.Step.{Step}
 use Rattle.proof_tree.specs.declared.tree.Step.TheVariants.{Prune, Bound}
 use Rattle.proof_tree.specs.Place.{Tracked, tracked_variable, list_after}
 use Rattle.proof_tree.specs.Steps.{after_step, after_steps, is_legal, are_legal, step_marks, best_value}
 use Rattle.proof_tree.specs.Read.{marks, leaves}
-use Rattle.proof_tree.specs.Finding.{leaf_bound, seen_of}
+use Rattle.proof_tree.specs.Finding.{seen_of}
+use Rattle.proof_tree.specs.InPlace.{steps_in_place}
+use Rattle.proof_tree.specs.Counts.{ending_turns, ending_opens}
+use Rattle.proof_tree.specs.Order.{settles}
 use Rattle.proof_tree.specs.Lines.{step_line}
 use Rattle.proof_tree.specs.Tree.{Ending}
 use Rattle.proof_tree.specs.Text.{step_fits}
-use Rattle.proof_tree.specs.declared.line.Line.{Line}
+use Rattle.qc_joins.specs.Sizes.{AreLong, HasSizes}
+use Rattle.qc_joins.specs.Verdicts.{scope_wishes}
+use Rattle.qc_joins.proofs.Sizing.{sizes_both}
+use Rattle.search_box.proofs.Goings.{placed_both, marks_both}
 use Rattle.game_search.specs.Made.{StepsMade, EndingMade, PartMade}
-use Rattle.game_search.specs.Written.{EndingWritten, PartWritten}
+use Rattle.game_search.specs.Beaten.{firsts, seen_bounds, is_beaten, are_beaten, AreAmong}
+use Rattle.game_search.specs.Settled.{is_settled, is_vague}
 use Rattle.game_search.proofs.Bools.{two, both}
 use Rattle.game_search.proofs.Numbers.{all_push}
+use Rattle.game_search.proofs.Beating.{all_both, among_self, among_more, among_as, among_through, beaten_among, none_beaten}
 use Rattle.game_search.proofs.Joining.{seen-append}
+use Rattle.game_search.proofs.Marks.{seen_marks, firsts-append, firsts_marks, bounds_marks, vague_marks, some_marks, long_marks}
 
 pub after-steps-append : (ss ts : List Step) (box : Box) → after_steps (ss ++ ts) box ≡ after_steps ts (after_steps ss box)
 after-steps-append [] ts box = refl
@@ -40,52 +52,116 @@ marks_more None (Bound x low high ∷ ss) s box = marks_more None ss s (after_st
 marks_more (Some t) (Bound x low high ∷ ss) s box =
     ap (λ ms. best_value t.sense (values_within low high (values_left box x.0)) ∷ ms) (marks_more (Some t) ss s (after_step (Bound x low high) box))
 
-map-append : (xs ys : List ℤ) → map leaf_bound (xs ++ ys) ≡ map leaf_bound xs ++ map leaf_bound ys
-map-append [] ys = refl
-map-append (x ∷ xs) ys = ap (λ ls. leaf_bound x ∷ ls) (map-append xs ys)
-
 module _ (g : Game) (later : List Scope) (i : ℕ) (d : List Condition) (box : Box) where
   -- no step
   pub no_steps_made : StepsMade g later i d box [] []
-  no_steps_made = record { legal = refl; says = refl; fits = refl }
+  no_steps_made = record { legal = refl; marked = refl; fits = refl }
 
-  -- one step more, which is legal in the box that the others leave; its mark is seen
-  pub step_made : (seen : List Seen) (ss : List Step) (s : Step) → StepsMade g later i d box seen ss →
+  -- one step more, which is legal in the box that the others leave, and its mark
+  pub step_made : (ms : List ℤ) (ss : List Step) (s : Step) → StepsMade g later i d box ms ss →
       is_legal g i (force_stop later i) (tracked_variable g later i (list_after g later d)) s (after_steps ss box) ≡ true → step_fits s ≡ true →
-      StepsMade g later i d box (seen ++ map seen_of (marks g later i d (s ∷ []) (after_steps ss box))) (ss ++ s ∷ [])
-  step_made seen ss s m e f =
+      StepsMade g later i d box (ms ++ step_marks (tracked_variable g later i (list_after g later d)) (s ∷ []) (after_steps ss box)) (ss ++ s ∷ [])
+  step_made ms ss s m e f =
       let t = tracked_variable g later i (list_after g later d) in
-      let lm = marks g later i d ss box in
-      let ln = marks g later i d (s ∷ []) (after_steps ss box) in
-      let whole : marks g later i d (ss ++ s ∷ []) box ≡ lm ++ ln = ap (map leaf_bound) (marks_more t ss s box) ∙ map-append (step_marks t ss box) (step_marks t (s ∷ []) (after_steps ss box)) in
       record {
         legal = legal_more g i (force_stop later i) t ss s box m.legal e;
-        says = ap (λ xs. xs ++ map seen_of ln) m.says ∙ (sym (seen-append lm ln) ∙ ap (map seen_of) (sym whole));
+        marked = ap (λ ns. ns ++ step_marks t (s ∷ []) (after_steps ss box)) m.marked ∙ sym (marks_more t ss s box);
         fits = all_push step_fits ss s m.fits f;
       }
+
+  -- more steps after them, of which none has a mark
+  pub more_steps_made : (ms : List ℤ) (ss ts : List Step) → StepsMade g later i d box ms ss → steps_in_place g later i d ts (after_steps ss box) ≡ true → step_marks (tracked_variable g later i (list_after g later d)) ts (after_steps ss box) ≡ [] →
+      list_all step_fits ts ≡ true → StepsMade g later i d box ms (ss ++ ts)
+  more_steps_made ms ss ts m e q f =
+      let t = tracked_variable g later i (list_after g later d) in
+      record {
+        legal = placed_both g later i d ss ts box m.legal e;
+        marked = m.marked ∙ (sym (append-nil (step_marks t ss box)) ∙ (ap (λ ns. step_marks t ss box ++ ns) (sym q) ∙ sym (marks_both t ss ts box)));
+        fits = steps_fit ss ts m.fits f;
+      }
+    where
+      steps_fit : (ss ts : List Step) → list_all step_fits ss ≡ true → list_all step_fits ts ≡ true → list_all step_fits (ss ++ ts) ≡ true
+      steps_fit [] ts h k = k
+      steps_fit (s ∷ ss) ts h k = let r = both (step_fits s) (list_all step_fits ss) h in two (step_fits s) (list_all step_fits (ss ++ ts)) r.0 (steps_fit ss ts r.1 k)
 
 -- its line
 pub step-lines-append : (ss : List Step) (s : Step) → map step_line (ss ++ s ∷ []) ≡ map step_line ss ++ step_line s ∷ []
 step-lines-append [] s = refl
 step-lines-append (r ∷ ss) s = ap (λ ls. step_line r ∷ ls) (step-lines-append ss s)
 
--- what a part says, its marks first
-pub part_says : (cuts : Bool) (g : Game) (later : List Scope) (i : ℕ) (d : List Condition) (box : Box) (h : Option ℕ) (seen : List Seen) (had left : ℕ) (steps : List Step) (e : Ending) → PartMade cuts g later i d box h seen had left steps e →
-    seen ≡ map seen_of (marks g later i d steps box ++ leaves g e later i d (after_steps steps box))
-part_says cuts g later i d box h seen had left steps e p =
-    let lm = marks g later i d steps box in
-    let ls = leaves g e later i d (after_steps steps box) in
-    p.both ∙ (ap (λ xs. xs ++ p.last) p.stepped.says ∙ (ap (λ xs. map seen_of lm ++ xs) p.ended.says ∙ sym (seen-append lm ls)))
-
--- without marks
-pub unmarked : (cuts : Bool) (g : Game) (later : List Scope) (i : ℕ) (d : List Condition) (box : Box) (h : Option ℕ) (seen : List Seen) (had left : ℕ) (steps : List Step) (e : Ending) → (p : PartMade cuts g later i d box h seen had left steps e) → p.first ≡ [] →
-    p.last ≡ seen
-unmarked cuts g later i d box h seen had left steps e p f = sym (p.both ∙ ap (λ xs. xs ++ p.last) f)
-
--- a part without steps
 module _ (cuts : Bool) (g : Game) (later : List Scope) (i : ℕ) (d : List Condition) (box : Box) (h : Option ℕ) where
-  abbrev pub alone_made : (seen : List Seen) (had left : ℕ) (e : Ending) → EndingMade cuts g later i d box h seen had left e → PartMade cuts g later i d box h seen had left [] e
-  alone_made seen had left e m = record { first = []; last = seen; both = refl; stepped = no_steps_made g later i d box; ended = m }
+  -- what a part says, its marks first
+  pub part_says : (before : List Seen) (ms : List ℤ) (seen : List Seen) (had left : ℕ) (steps : List Step) (e : Ending) → PartMade cuts g later i d box h before ms seen had left steps e → seen ≡ map seen_of (marks g later i d steps box ++ leaves g e later i d (after_steps steps box))
+  part_says before ms seen had left steps e p =
+      let t = tracked_variable g later i (list_after g later d) in
+      let lm = marks g later i d steps box in
+      let ls = leaves g e later i d (after_steps steps box) in
+      let first : seen_bounds ms ≡ map seen_of lm = ap seen_bounds p.stepped.marked ∙ sym (seen_marks (step_marks t steps box)) in
+      p.both ∙ (ap (λ xs. xs ++ p.last) first ∙ (ap (λ xs. map seen_of lm ++ xs) p.ended.says ∙ sym (seen-append lm ls)))
 
-  abbrev pub alone_written : (seen : List Seen) (had left : ℕ) (old new : List Line) → EndingWritten cuts g later i d box h seen had left old new → PartWritten cuts g later i d box h seen had left old new
-  alone_written seen had left old new w = record { steps = []; ending = w.ending; lines = w.lines; made = alone_made seen had left w.ending w.made }
+  -- nothing is seen in its marks that could settle the scope
+  pub part_settled : (before : List Seen) (ms : List ℤ) (seen : List Seen) (had left : ℕ) (steps : List Step) (e : Ending) → (p : PartMade cuts g later i d box h before ms seen had left steps e) → is_settled later (list_after g later d) seen ≡ is_settled later (list_after g later d) p.last
+  part_settled before ms seen had left steps e p = ap (is_settled later (list_after g later d)) p.both ∙ some_marks (settles later (list_after g later d)) ms p.last
+
+  pub part_vague : (before : List Seen) (ms : List ℤ) (seen : List Seen) (had left : ℕ) (steps : List Step) (e : Ending) → (p : PartMade cuts g later i d box h before ms seen had left steps e) → is_vague seen ≡ is_vague p.last
+  part_vague before ms seen had left steps e p = ap is_vague p.both ∙ vague_marks ms p.last
+
+  -- all its bounds are beaten, where no case of it is open
+  pub part_beaten : (before : List Seen) (ms : List ℤ) (seen : List Seen) (had left : ℕ) (steps : List Step) (e : Ending) → PartMade cuts g later i d box h before ms seen had left steps e → ending_opens e ≡ 0 →
+      are_beaten (scope_wishes later g d) (firsts (before ++ seen)) (bounds seen) ≡ true
+  part_beaten before ms seen had left steps e p o =
+      let w = scope_wishes later g d in
+      let all : (before ++ seen_bounds ms) ++ p.last ≡ before ++ seen = append_assoc before (seen_bounds ms) p.last ∙ ap (λ xs. before ++ xs) (sym p.both) in
+      let last : are_beaten w (firsts (before ++ seen)) (bounds p.last) ≡ true = subst (λ xs. are_beaten w (firsts xs) (bounds p.last) ≡ true) all (p.ended.beaten o) in
+      let among = among_as (firsts before) (firsts before ++ firsts seen) (firsts (before ++ seen)) (sym (firsts-append before seen)) (among_more (firsts before) (firsts before) (firsts seen) (among_self (firsts before))) in
+      let first : are_beaten w (firsts (before ++ seen)) ms ≡ true = beaten_among w (firsts before) (firsts (before ++ seen)) ms among p.marks_beaten in
+      ap (are_beaten w (firsts (before ++ seen))) (ap bounds p.both ∙ bounds_marks ms p.last) ∙ all_both (is_beaten w (firsts (before ++ seen))) ms (bounds p.last) first last
+
+  pub part_sizes : (before : List Seen) (ms : List ℤ) (seen : List Seen) (had left : ℕ) (steps : List Step) (e : Ending) → PartMade cuts g later i d box h before ms seen had left steps e → HasSizes (2 * suc (ending_turns e)) seen
+  part_sizes before ms seen had left steps e p =
+      subst (λ n. HasSizes n seen) (regroup (ending_turns e)) (subst (HasSizes (1 + suc (2 * ending_turns e))) (sym p.both) (sizes_both 1 (suc (2 * ending_turns e)) (seen_bounds ms) p.last p.one p.ended.sizes))
+    where
+      regroup : (n : ℕ) → 1 + suc (2 * n) ≡ 2 * suc n
+      regroup n = omega arith
+
+  pub part_long : (before : List Seen) (ms : List ℤ) (seen : List Seen) (had left : ℕ) (steps : List Step) (e : Ending) → PartMade cuts g later i d box h before ms seen had left steps e → AreLong g i seen
+  part_long before ms seen had left steps e p = subst (AreLong g i) (sym p.both) (long_marks (demands g (suc i)) ms p.last p.ended.long)
+
+  -- where bounds speak of nothing, a part may stand after less
+  ending_after_less : (before less seen : List Seen) (had left : ℕ) (e : Ending) → scope_wishes later g d ≡ [] → AreAmong (firsts less) (firsts before) → EndingMade cuts g later i d box h before seen had left e → EndingMade cuts g later i d box h less seen had left e
+  ending_after_less before less seen had left e w a m = record {
+    placed = m.placed;
+    says = m.says;
+    settled = m.settled;
+    lasts = m.lasts;
+    ones = m.ones;
+    apart = m.apart;
+    fits = m.fits;
+    spent = m.spent;
+    exact = m.exact;
+    opens = m.opens;
+    gap = m.gap;
+    skips = m.skips;
+    beaten = λ o.
+        let none = subst (λ l. are_beaten l (firsts (before ++ seen)) (bounds seen) ≡ true) w (m.beaten o) in
+        subst (λ l. are_beaten l (firsts (less ++ seen)) (bounds seen) ≡ true) (sym w) (none_beaten (firsts (before ++ seen)) (firsts (less ++ seen)) (bounds seen) none);
+    keeps = λ reached k. m.keeps reached (among_through reached (firsts less) (firsts before) k a);
+    long = m.long;
+    sizes = m.sizes;
+    closed = m.closed;
+    foreseen = m.foreseen;
+  }
+
+-- so with its steps
+pub part_after_less : (cuts : Bool) (g : Game) (later : List Scope) (i : ℕ) (d : List Condition) (box : Box) (h : Option ℕ) (before less : List Seen) (ms : List ℤ) (seen : List Seen) (had left : ℕ) (steps : List Step) (e : Ending) → scope_wishes later g d ≡ [] → AreAmong (firsts less) (firsts before) →
+    PartMade cuts g later i d box h before ms seen had left steps e → PartMade cuts g later i d box h less ms seen had left steps e
+part_after_less cuts g later i d box h before less ms seen had left steps e w a p =
+    let among = among_as (firsts (less ++ seen_bounds ms)) (firsts before) (firsts (before ++ seen_bounds ms)) (sym (firsts_marks before ms)) (subst (λ ns. AreAmong ns (firsts before)) (sym (firsts_marks less ms)) a) in
+    record {
+      last = p.last;
+      both = p.both;
+      stepped = p.stepped;
+      marks_beaten = subst (λ l. are_beaten l (firsts less) ms ≡ true) (sym w) (none_beaten (firsts before) (firsts less) ms (subst (λ l. are_beaten l (firsts before) ms ≡ true) w p.marks_beaten));
+      one = p.one;
+      ended = ending_after_less cuts g later i d (after_steps steps box) h (before ++ seen_bounds ms) (less ++ seen_bounds ms) p.last had left e w among p.ended;
+    }

@@ -7,3 +7,7 @@ pub mod Written
 pub mod Told
 pub mod Attempted
 pub mod Solution
+pub mod Beaten
+pub mod Aims
+pub mod Props
+pub mod Narrowed

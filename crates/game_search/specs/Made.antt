@@ -1,19 +1,20 @@
 -- What a search has made: which tree its lines are isn't said, only what holds of it.
-use Rattle.std.specs.Prelude.{◌≡◌, ◌⊎◌, ◌≤◌, ◌+◌, ℕ, suc, true, false, Option, List, ◌++◌, map, IsTrue, Bool}
+use Rattle.std.specs.Prelude.{◌≡◌, ◌⊎◌, ◌≤◌, ◌+◌, ℕ, suc, true, false, Option, List, ◌++◌, map, IsTrue, Bool, ◌*◌, ℤ}
 use Rattle.qc_model.specs.declared.problem.Condition.{Condition}
 use Rattle.qc_model.specs.declared.problem.Scope.{Scope}
 use Rattle.qc_model.specs.Content.{Game}
 use Rattle.qc_model.specs.Domains.{Values, Box}
-use Rattle.qc_model.specs.Verdict.{Verdict, Seen}
+use Rattle.qc_model.specs.Verdict.{Verdict, Seen, bounds}
 use Rattle.proof_tree.specs.Tree.{Tree, Ending, Branches}
 use Rattle.proof_tree.specs.Pieces.{each_case, ending_each, branches_each, goes_at_one}
 use Rattle.proof_tree.specs.Counts.{turns_of, ending_turns, branch_turns, opens_of, ending_opens, branch_opens}
 use Rattle.proof_tree.specs.Diligent.{closes, ending_closes, branches_close, Foresees, EndingForesees, BranchesForesee}
 use Rattle.proof_tree.specs.Finding.{seen_of}
 use Rattle.proof_tree.specs.InPlace.{in_place, steps_in_place, ending_in_place, branches_in_place}
-use Rattle.proof_tree.specs.Place.{list_after}
-use Rattle.proof_tree.specs.Read.{read, marks, leaves, branch_leaves}
-use Rattle.proof_tree.specs.Steps.{after_steps}
+use Rattle.proof_tree.specs.Incumbents.{keeps, ending_keeps, branches_keep}
+use Rattle.proof_tree.specs.Place.{list_after, tracked_variable}
+use Rattle.proof_tree.specs.Read.{read, leaves, branch_leaves}
+use Rattle.proof_tree.specs.Steps.{after_steps, step_marks}
 use Rattle.proof_tree.specs.declared.tree.Step.{Step}
 use Rattle.proof_tree.specs.Order.{has_go, opens_last, is_joined, skips, branches_skip, settled_last, ending_settled_last, branches_settled_last}
 use Rattle.std.specs.List.{list_all}
@@ -21,6 +22,8 @@ use Rattle.proof_tree.specs.declared.tree.Version.TheVariants.{Two}
 use Rattle.proof_tree.specs.Text.{tree_fits, ending_fits, branches_fit, step_fits}
 use Rattle.qc_joins.specs.Joins.{IsLong}
 use Rattle.qc_joins.specs.Sizes.{AreLong, IsSized, HasSizes}
+use Rattle.qc_joins.specs.Verdicts.{scope_wishes}
+use Rattle.game_search.specs.Beaten.{firsts, seen_bounds, are_beaten, AreAmong}
 use Rattle.game_search.specs.Settled.{is_settled, is_vague, is_vague_verdict}
 use Rattle.game_search.specs.Own.{IsOwnSized}
 
@@ -42,16 +45,19 @@ pub record NodeMade (cuts : Bool) (g : Game) (later : List Scope) (i : ℕ) (d :
   pub opens : (opens_of t ≡ 0) ⊎ (left ≡ 0)
   -- something stays open only where a case is open
   pub gap : opens_of t ≡ 0 → is_vague_verdict v ≡ false
-  -- an exact vector has a value for each entry, and its numbers are at most 10^9 for each turn and one more
+  -- an exact vector has a value for each entry, and its numbers are at most 10^9 for each leaf and each bound, of which a
+  -- turn brings one more
   pub long : IsLong g i v
-  pub sized : IsSized (suc (turns_of t)) v
-  pub own : IsOwnSized (suc (turns_of t)) (read g t later i d box).own
+  pub sized : IsSized (suc (2 * turns_of t)) v
+  pub own : IsOwnSized (suc (2 * turns_of t)) (read g t later i d box).own
+  -- no value stays that is worse than the incumbent's
+  pub keeps : IsTrue (keeps g t later i d box)
   -- it closes its boxes before it branches, and sees a dead end ahead
   pub closed : IsTrue (closes g t later i box)
   pub foreseen : Foresees g t later i box h
 
--- a part of the own tree of scope i; seen is what its leaves and marks say
-pub record EndingMade (cuts : Bool) (g : Game) (later : List Scope) (i : ℕ) (d : List Condition) (box : Box) (h : Option ℕ) (seen : List Seen) (had left : ℕ) (e : Ending) : Type 0 where
+-- a part of the own tree of scope i, after what was seen before; seen is what its leaves and marks say
+pub record EndingMade (cuts : Bool) (g : Game) (later : List Scope) (i : ℕ) (d : List Condition) (box : Box) (h : Option ℕ) (before seen : List Seen) (had left : ℕ) (e : Ending) : Type 0 where
   pub placed : IsTrue (ending_in_place g e later i d box h)
   pub says : seen ≡ map seen_of (leaves g e later i d box)
   pub settled : IsTrue (ending_settled_last g e later i d box)
@@ -66,28 +72,34 @@ pub record EndingMade (cuts : Bool) (g : Game) (later : List Scope) (i : ℕ) (d
   pub gap : ending_opens e ≡ 0 → is_settled later (list_after g later d) seen ≡ false → is_vague seen ≡ false
   -- a case is skipped only where the scope is settled
   pub skips : skips e ≡ true → is_settled later (list_after g later d) seen ≡ true
+  -- each bound is beaten, where no case is open
+  pub beaten : ending_opens e ≡ 0 → IsTrue (are_beaten (scope_wishes later g d) (firsts (before ++ seen)) (bounds seen))
+  -- it keeps the incumbents among those before, and its own
+  pub keeps : (reached : List ℤ) → AreAmong reached (firsts before) → IsTrue (ending_keeps g e later i d box reached)
   pub long : AreLong g i seen
-  pub sizes : HasSizes (suc (ending_turns e)) seen
+  pub sizes : HasSizes (suc (2 * ending_turns e)) seen
   pub closed : IsTrue (ending_closes g e later i box)
   pub foreseen : EndingForesees g e later i box h
 
--- steps of the own tree of scope i: they are legal, and their marks say what was seen
-pub record StepsMade (g : Game) (later : List Scope) (i : ℕ) (d : List Condition) (box : Box) (seen : List Seen) (steps : List Step) : Type 0 where
+-- steps of the own tree of scope i: they are legal, and have these marks
+pub record StepsMade (g : Game) (later : List Scope) (i : ℕ) (d : List Condition) (box : Box) (ms : List ℤ) (steps : List Step) : Type 0 where
   pub legal : IsTrue (steps_in_place g later i d steps box)
-  pub says : seen ≡ map seen_of (marks g later i d steps box)
+  pub marked : ms ≡ step_marks (tracked_variable g later i (list_after g later d)) steps box
   pub fits : IsTrue (list_all step_fits steps)
 
--- steps and then a part of the scope's own tree, as at a node and at a case that is taken
-pub record PartMade (cuts : Bool) (g : Game) (later : List Scope) (i : ℕ) (d : List Condition) (box : Box) (h : Option ℕ) (seen : List Seen) (had left : ℕ) (steps : List Step) (e : Ending) : Type 0 where
-  pub first : List Seen
+-- steps with the marks ms and then a part of the scope's own tree, as at a node and at a case that is taken
+pub record PartMade (cuts : Bool) (g : Game) (later : List Scope) (i : ℕ) (d : List Condition) (box : Box) (h : Option ℕ) (before : List Seen) (ms : List ℤ) (seen : List Seen) (had left : ℕ) (steps : List Step) (e : Ending) : Type 0 where
   pub last : List Seen
-  pub both : seen ≡ first ++ last
-  pub stepped : StepsMade g later i d box first steps
-  pub ended : EndingMade cuts g later i d (after_steps steps box) h last had left e
+  pub both : seen ≡ seen_bounds ms ++ last
+  pub stepped : StepsMade g later i d box ms steps
+  -- what was seen before beats the marks, of which there is one at most
+  pub marks_beaten : IsTrue (are_beaten (scope_wishes later g d) (firsts before) ms)
+  pub one : HasSizes 1 (seen_bounds ms)
+  pub ended : EndingMade cuts g later i d (after_steps steps box) h (before ++ seen_bounds ms) last had left e
 
 -- the cases of a branch for the values vs of x, which no earlier case covers; was_settled says whether the scope was
 -- settled before them
-pub record CasesMade (cuts : Bool) (g : Game) (later : List Scope) (i : ℕ) (d : List Condition) (box : Box) (h : Option ℕ) (x : ℕ) (vs : Values) (was_settled : Bool) (seen : List Seen) (had left : ℕ) (bs : Branches) : Type 0 where
+pub record CasesMade (cuts : Bool) (g : Game) (later : List Scope) (i : ℕ) (d : List Condition) (box : Box) (h : Option ℕ) (x : ℕ) (vs : Values) (was_settled : Bool) (before seen : List Seen) (had left : ℕ) (bs : Branches) : Type 0 where
   pub placed : IsTrue (branches_in_place g bs x vs later i d box h)
   pub says : seen ≡ map seen_of (branch_leaves g bs x vs later i d box)
   pub settled : IsTrue (branches_settled_last g bs x vs later i d box)
@@ -102,7 +114,9 @@ pub record CasesMade (cuts : Bool) (g : Game) (later : List Scope) (i : ℕ) (d 
   pub skips : branches_skip bs ≡ true → was_settled ≡ false → is_settled later (list_after g later d) seen ≡ true
   -- where the scope was settled before, no case is taken
   pub rests : was_settled ≡ true → has_go bs ≡ false
+  pub beaten : branch_opens bs ≡ 0 → IsTrue (are_beaten (scope_wishes later g d) (firsts (before ++ seen)) (bounds seen))
+  pub keeps : (reached : List ℤ) → AreAmong reached (firsts before) → IsTrue (branches_keep g bs x vs later i d box reached)
   pub long : AreLong g i seen
-  pub sizes : HasSizes (branch_turns bs) seen
+  pub sizes : HasSizes (2 * branch_turns bs) seen
   pub closed : IsTrue (branches_close g bs x vs later i box)
   pub foreseen : BranchesForesee g bs x vs later i box h

@@ -16,10 +16,10 @@ is_vague_verdict (exact v) = false
 is_vague_verdict (at_most p) = true
 is_vague_verdict unknown = true
 
--- a leaf that is skipped or vague, or the mark of a bound
+-- a leaf that is skipped or vague. A bound isn't, where the scope's exact leaves beat it
 abbrev pub is_vague : List Seen → Bool
 is_vague [] = false
 is_vague (seen_barred ∷ xs) = is_vague xs
 is_vague (seen_skipped ∷ xs) = true
-is_vague (seen_bound m ∷ xs) = true
+is_vague (seen_bound m ∷ xs) = is_vague xs
 is_vague (seen_node v ∷ xs) = is_vague_verdict v || is_vague xs

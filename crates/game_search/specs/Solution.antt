@@ -10,6 +10,7 @@ use Rattle.proof_tree.specs.declared.tree.Version.TheVariants.{Two}
 use Rattle.proof_tree.specs.Tree.{Tree}
 use Rattle.proof_tree.specs.Counts.{turns_of}
 use Rattle.proof_tree.specs.Diligent.{IsDiligent}
+use Rattle.proof_tree.specs.Incumbents.{keeps_incumbents}
 use Rattle.proof_tree.specs.Lines.{tree_lines}
 use Rattle.proof_tree.specs.Meaning.{OutcomeMeans}
 use Rattle.proof_tree.specs.Order.{in_order}
@@ -34,6 +35,7 @@ pub record Solution (g : Game) (turns : ℕ) (outcome : Outcome) (optimum : Opti
   pub proves : IsTrue (proves g outcome optimum t)
   pub in_order : IsTrue (in_order g t)
   pub diligent : IsDiligent g t
+  pub incumbents : IsTrue (keeps_incumbents g t)
   pub few : turns_of t ≤ turns
   pub spent : OpenMeans outcome g turns t
   pub means : OutcomeMeans outcome optimum g t

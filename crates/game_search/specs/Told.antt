@@ -1,30 +1,35 @@
 -- What the calls of the search say: the lines that they wrote, and what the joins stand for afterwards.
-use Rattle.std.specs.Prelude.{◌≡◌, ◌≤◌, ◌<◌, ◌+◌, ◌⊎◌, ℕ, suc, Bool, true, false, None, Option, List, [], ◌++◌, length, drop, ℤ}
+use Rattle.std.specs.Prelude.{◌≡◌, ◌≤◌, ◌<◌, ◌+◌, ◌⊎◌, ℕ, suc, Bool, true, false, None, Option, List, [], ◌++◌, length, drop, ℤ, IsTrue}
 use Rattle.qc_model.specs.Content.{Game}
 use Rattle.qc_model.specs.Demands.{demands}
 use Rattle.qc_model.specs.Domains.{Values, Box}
 use Rattle.qc_model.specs.Verdict.{Verdict, Seen}
+use Rattle.proof_tree.specs.Incumbents.{has_no_worse}
 use Rattle.proof_tree.specs.Lines.{body_lines}
 use Rattle.proof_tree.specs.Read.{read, read_body}
 use Rattle.proof_tree.specs.Tree.{Body, tree}
+use Rattle.proof_tree.specs.Steps.{after_steps}
 use Rattle.proof_tree.specs.declared.line.Line.{Line}
-use Rattle.qc_joins.specs.Verdicts.{settled_at, own_at}
+use Rattle.proof_tree.specs.declared.tree.Step.{Step}
+use Rattle.qc_joins.specs.Verdicts.{settled_at, own_at, wishes_at}
 use Rattle.qc_joins.specs.Joins.{game_of, StandsAt}
 use Rattle.qc_joins.specs.Sizes.{HasSizes}
 use Rattle.qc_joins.specs.declared.joins.Joins.{Joins}
 use Rattle.game_search.specs.declared.walk.Walk.{Walk}
 use Rattle.search_box.specs.Boxed.{KeepsValues}
-use Rattle.game_search.specs.Made.{NodeMade}
+use Rattle.game_search.specs.Aims.{tracked_at}
+use Rattle.game_search.specs.Beaten.{firsts, seen_bounds, are_beaten}
+use Rattle.game_search.specs.Made.{NodeMade, StepsMade}
 use Rattle.game_search.specs.Written.{NodeWritten, EndingWritten, PartWritten, CasesWritten}
 
 -- before a part of scope i's own tree: its join stands for what was seen so far, which doesn't settle the scope, and no
--- number gets large with the turns that are left
-pub record IsReady (g : Game) (i : ℕ) (joins : Joins) (left : ℕ) (before : List Seen) : Type 0 where
+-- number gets large with so many more
+pub record IsReady (g : Game) (i : ℕ) (joins : Joins) (more : ℕ) (before : List Seen) : Type 0 where
   pub stands : StandsAt joins i before
   pub unsettled : settled_at g i before ≡ false
   pub size : ℕ
   pub sizes : HasSizes size before
-  pub room : size + suc left ≤ 4294967296
+  pub room : size + more ≤ 4294967296
 
 -- after it: the join stands for all that was seen, or both it and what was seen settle the scope
 pub record IsTold (g : Game) (i : ℕ) (joins : Joins) (seen : List Seen) : Type 0 where
@@ -46,20 +51,33 @@ pub record IsBack (g : Game) (i : ℕ) (old new : Walk) : Type 0 where
 -- the lines are those of an end of scope i's own tree in this box, below the horizon h, after what was seen before
 pub record EndingTold (cuts : Bool) (g : Game) (i : ℕ) (box : Box) (h : Option ℕ) (before : List Seen) (had left : ℕ) (old new : List Line) (joins : Joins) : Type 0 where
   pub seen : List Seen
-  pub written : EndingWritten cuts g (drop i g.scopes) i (demands g i) box h seen had left old new
+  pub written : EndingWritten cuts g (drop i g.scopes) i (demands g i) box h before seen had left old new
   pub told : IsTold g i joins (before ++ seen)
 
--- the lines are those of removals and an end
-pub record PartTold (cuts : Bool) (g : Game) (i : ℕ) (box : Box) (h : Option ℕ) (before : List Seen) (had left : ℕ) (old new : List Line) (joins : Joins) : Type 0 where
+-- steps from the box to what is left, with the marks ms: what was seen before beats these, of which there is one at most,
+-- and no worse value stays
+pub record StepsTold (g : Game) (i : ℕ) (box left : Box) (before : List Seen) (ms : List ℤ) (steps : List Step) : Type 0 where
+  pub reached : left ≡ after_steps steps box
+  pub stepped : StepsMade g (drop i g.scopes) i (demands g i) box ms steps
+  pub beaten : IsTrue (are_beaten (wishes_at g i) (firsts before) ms)
+  pub one : HasSizes 1 (seen_bounds ms)
+  pub worse : IsTrue (has_no_worse (tracked_at g i) (firsts before) left)
+
+-- the lines are those of steps with these marks and an end
+pub record PartTold (cuts : Bool) (g : Game) (i : ℕ) (box : Box) (h : Option ℕ) (before : List Seen) (ms : List ℤ) (had left : ℕ) (old new : List Line) (joins : Joins) : Type 0 where
   pub seen : List Seen
-  pub written : PartWritten cuts g (drop i g.scopes) i (demands g i) box h seen had left old new
-  pub unbounded : written.made.first ≡ []
+  pub written : PartWritten cuts g (drop i g.scopes) i (demands g i) box h before ms seen had left old new
   pub told : IsTold g i joins (before ++ seen)
+
+-- so in a case that is taken
+pub record CaseTold (cuts : Bool) (g : Game) (i : ℕ) (box : Box) (h : Option ℕ) (before : List Seen) (had left : ℕ) (old new : List Line) (joins : Joins) : Type 0 where
+  pub ms : List ℤ
+  pub part : PartTold cuts g i box h before ms had left old new joins
 
 -- the lines are those of the cases of a branch on x, for the values vs
 pub record CasesTold (cuts : Bool) (g : Game) (i : ℕ) (box : Box) (h : Option ℕ) (x : ℕ) (vs : Values) (before : List Seen) (had left : ℕ) (old new : List Line) (joins : Joins) : Type 0 where
   pub seen : List Seen
-  pub written : CasesWritten cuts g (drop i g.scopes) i (demands g i) box h x vs seen had left old new
+  pub written : CasesWritten cuts g (drop i g.scopes) i (demands g i) box h x vs before seen had left old new
   pub told : IsTold g i joins (before ++ seen)
 
 -- the join of scope i tells the value of the scope's own condition

@@ -1,5 +1,5 @@
 -- The lines that a search has written: those of something that it made.
-use Rattle.std.specs.Prelude.{Bool, false, ◌≡◌, ℕ, Option, List, ◌++◌, map}
+use Rattle.std.specs.Prelude.{Bool, false, ◌≡◌, ℕ, Option, List, ◌++◌, map, ℤ}
 use Rattle.qc_model.specs.declared.problem.Condition.{Condition}
 use Rattle.qc_model.specs.declared.problem.Scope.{Scope}
 use Rattle.qc_model.specs.Content.{Game}
@@ -16,18 +16,18 @@ pub record NodeWritten (cuts : Bool) (g : Game) (later : List Scope) (i : ℕ) (
   pub lines : new ≡ old ++ tree_lines tree
   pub made : NodeMade cuts g later i d box h v had left tree
 
-pub record EndingWritten (cuts : Bool) (g : Game) (later : List Scope) (i : ℕ) (d : List Condition) (box : Box) (h : Option ℕ) (seen : List Seen) (had left : ℕ) (old new : List Line) : Type 0 where
+pub record EndingWritten (cuts : Bool) (g : Game) (later : List Scope) (i : ℕ) (d : List Condition) (box : Box) (h : Option ℕ) (before seen : List Seen) (had left : ℕ) (old new : List Line) : Type 0 where
   pub ending : Ending
   pub lines : new ≡ old ++ ending_lines ending
-  pub made : EndingMade cuts g later i d box h seen had left ending
+  pub made : EndingMade cuts g later i d box h before seen had left ending
 
-pub record PartWritten (cuts : Bool) (g : Game) (later : List Scope) (i : ℕ) (d : List Condition) (box : Box) (h : Option ℕ) (seen : List Seen) (had left : ℕ) (old new : List Line) : Type 0 where
+pub record PartWritten (cuts : Bool) (g : Game) (later : List Scope) (i : ℕ) (d : List Condition) (box : Box) (h : Option ℕ) (before : List Seen) (ms : List ℤ) (seen : List Seen) (had left : ℕ) (old new : List Line) : Type 0 where
   pub steps : List Step
   pub ending : Ending
   pub lines : new ≡ old ++ (map step_line steps ++ ending_lines ending)
-  pub made : PartMade cuts g later i d box h seen had left steps ending
+  pub made : PartMade cuts g later i d box h before ms seen had left steps ending
 
-pub record CasesWritten (cuts : Bool) (g : Game) (later : List Scope) (i : ℕ) (d : List Condition) (box : Box) (h : Option ℕ) (x : ℕ) (vs : Values) (seen : List Seen) (had left : ℕ) (old new : List Line) : Type 0 where
+pub record CasesWritten (cuts : Bool) (g : Game) (later : List Scope) (i : ℕ) (d : List Condition) (box : Box) (h : Option ℕ) (x : ℕ) (vs : Values) (before seen : List Seen) (had left : ℕ) (old new : List Line) : Type 0 where
   pub cases : Branches
   pub lines : new ≡ old ++ branches_lines cases
-  pub made : CasesMade cuts g later i d box h x vs false seen had left cases
+  pub made : CasesMade cuts g later i d box h x vs false before seen had left cases

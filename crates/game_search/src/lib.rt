@@ -12,8 +12,10 @@
 //! goes over the cases in order, so that an open certificate has exactly the turns of the budget.
 #![tactic(auto)]
 
+mod aim;
 mod attempts;
 mod certify;
+mod narrowing;
 mod search;
 mod stage;
 #[cfg(test)]

@@ -7,25 +7,32 @@
 //! The walk's joins have what was seen in the node of each scope on the way: a scope's join is cleared where its node
 //! begins, told each leaf, and asked at the end what the node comes to.
 //!
+//! Where a scope of the player optimises a variable first, each value of it that is worse than the incumbent's is given up
+//! by a bound where a case is gone into. So what the bounds leave out is beaten by what was found.
+//!
 //! Where a leaf settles its scope, so that no other leaf changes what the node comes to, the cases after it are left
 //! out, and the join isn't told of them. Where no turn is left the cases that remain are left open.
-ghost use Rattle.std.specs.Prelude.{◌≡◌, ◌≤◌, ◌<◌, ◌∷◌, Bool, Option, ℕ, [], List, length, drop, true, false, IfOk, IfSome, OnOk, IsTrue};
+ghost use Rattle.std.specs.Prelude.{◌≡◌, ◌≤◌, ◌<◌, ◌∷◌, ◌++◌, ◌+◌, ◌*◌, ℤ, suc, Bool, Option, ℕ, [], List, length, drop, true, false, IfOk, IfSome, OnOk, IsTrue};
 ghost use Rattle.qc_model.specs.Domains.{Box, has_value, is_single, values_left};
 ghost use Rattle.qc_model.specs.Game.{is_of_scope};
 ghost use Rattle.qc_model.specs.Verdict.{Seen, lost};
 ghost use Rattle.proof_tree.specs.Cover.{box_to};
 ghost use Rattle.proof_tree.specs.Diligent.{SeesAhead};
+ghost use Rattle.proof_tree.specs.Incumbents.{has_no_worse};
 ghost use Rattle.proof_tree.specs.InPlace.{is_horizon};
 ghost use Rattle.proof_tree.specs.Place.{position};
 ghost use Rattle.qc_levels.specs.Seen.{verdict_of};
 ghost use Rattle.qc_joins.specs.Joins.{game_of, out_of, StandsAt, KeepsAll};
 ghost use Rattle.qc_joins.specs.Verdicts.{verdict_at};
-ghost use Rattle.search_box.specs.Closes.{IsPruned};
 ghost use Rattle.search_box.specs.Entered.{IsEntered};
 ghost use Rattle.search_box.specs.Looking.{scope_number};
+ghost use Rattle.game_search.specs.Aims.{tracked_at};
+ghost use Rattle.game_search.specs.Beaten.{firsts, seen_bounds};
 ghost use Rattle.game_search.specs.Going.{IsGoing, GoesOn};
-ghost use Rattle.game_search.specs.Told.{IsReady, IsBack, EndingTold, PartTold, CasesTold, BodyTold, NodeTold};
+ghost use Rattle.game_search.specs.Told.{IsReady, IsBack, EndingTold, StepsTold, PartTold, CaseTold, CasesTold, BodyTold, NodeTold};
 
+use crate::aim::aim_of;
+use crate::narrowing::narrow;
 use crate::stage::Stage;
 use crate::walk::Walk;
 use crate::writing::{drop_before, last_to_drop, leave_out, put_horizon, put_steps};
@@ -50,7 +57,7 @@ pub(crate) fn node(
     requires horizon { IfSome horizon (λ h. h.0 ≤ length levels.now.problem.now.scopes) }
     requires here { IsEntered levels.now.problem.now number walk.old.remains }
     requires joins { game_of walk.old.joins ≡ levels.now.problem.now }
-    ensures told { IfOk result (λ found. walk.old.left < 4294967296 → NodeTold cuts levels.now.problem.now number walk.old.remains.store.box (scope_number horizon) (verdict_of found (out_of walk.new.joins)) walk.old.left walk.new.left walk.old.lines walk.new.lines walk.new.joins) }
+    ensures told { IfOk result (λ found. walk.old.left < 2147483648 → NodeTold cuts levels.now.problem.now number walk.old.remains.store.box (scope_number horizon) (verdict_of found (out_of walk.new.joins)) walk.old.left walk.new.left walk.old.lines walk.new.lines walk.new.joins) }
     ensures back { OnOk result (IsBack levels.now.problem.now number walk.old walk.new) }
 {
     levels.problem.known();
@@ -68,6 +75,7 @@ pub(crate) fn node(
         level,
         horizon: below,
         cuts,
+        aim: aim_of(levels.problem, &walk.joins, ScopeId(number)),
     };
     own_tree(&stage, walk)
 }
@@ -129,7 +137,7 @@ fn stuck(level: &Level, walk: &mut Walk) -> Result<Found, AllocError>
 fn own_tree(stage: &Stage, walk: &mut Walk) -> Result<Found, AllocError>
     requires here { IsEntered stage.now.level.now.problem.now stage.now.level.now.number walk.old.remains }
     requires joins { game_of walk.old.joins ≡ stage.now.level.now.problem.now }
-    ensures told { IfOk result (λ found. walk.old.left < 4294967296 → SeesAhead stage.now.level.now.problem.now (drop stage.now.level.now.number stage.now.level.now.problem.now.scopes) stage.now.level.now.number walk.old.remains.store.box (scope_number stage.now.horizon) → BodyTold stage.now.cuts stage.now.level.now.problem.now stage.now.level.now.number walk.old.remains.store.box (scope_number stage.now.horizon) (verdict_of found (out_of walk.new.joins)) walk.old.left walk.new.left walk.old.lines walk.new.lines walk.new.joins) }
+    ensures told { IfOk result (λ found. walk.old.left < 2147483648 → SeesAhead stage.now.level.now.problem.now (drop stage.now.level.now.number stage.now.level.now.problem.now.scopes) stage.now.level.now.number walk.old.remains.store.box (scope_number stage.now.horizon) → BodyTold stage.now.cuts stage.now.level.now.problem.now stage.now.level.now.number walk.old.remains.store.box (scope_number stage.now.horizon) (verdict_of found (out_of walk.new.joins)) walk.old.left walk.new.left walk.old.lines walk.new.lines walk.new.joins) }
     ensures back { OnOk result (IsBack stage.now.level.now.problem.now stage.now.level.now.number walk.old walk.new) }
 {
     let level = stage.level;
@@ -159,7 +167,7 @@ fn verdict(level: &Level, walk: &mut Walk) -> Found
     walk.joins.finish(ScopeId(level.number), values)
 }
 
-/// Removals, and what follows them: the box that they leave is closed, where the variables of the scope before x have
+/// Steps, and what follows them: the box that they leave is closed, where the variables of the scope before x have
 /// their values, or a domain is empty.
 #[cycle(search)]
 fn part(
@@ -171,7 +179,7 @@ fn part(
 ) -> Result<(), AllocError>
     requires goes { GoesOn closed stage.now.level.now.problem.now stage.now.level.now.number x walk.old.remains }
     requires joins { game_of walk.old.joins ≡ stage.now.level.now.problem.now }
-    ensures told { OnOk result ((box : Box) → IsPruned stage.now.level.now.problem.now stage.now.level.now.number box walk.old.remains.store.box [] steps.now → (before : List Seen) → IsReady stage.now.level.now.problem.now stage.now.level.now.number walk.old.joins walk.old.left before → PartTold stage.now.cuts stage.now.level.now.problem.now stage.now.level.now.number box (scope_number stage.now.horizon) before walk.old.left walk.new.left walk.old.lines walk.new.lines walk.new.joins) }
+    ensures told { OnOk result ((box : Box) (before : List Seen) (ms : List ℤ) → StepsTold stage.now.level.now.problem.now stage.now.level.now.number box walk.old.remains.store.box before ms steps.now → IsReady stage.now.level.now.problem.now stage.now.level.now.number walk.old.joins (suc (2 * walk.old.left)) (before ++ seen_bounds ms) → PartTold stage.now.cuts stage.now.level.now.problem.now stage.now.level.now.number box (scope_number stage.now.horizon) before ms walk.old.left walk.new.left walk.old.lines walk.new.lines walk.new.joins) }
     ensures back { OnOk result (IsBack stage.now.level.now.problem.now stage.now.level.now.number walk.old walk.new) }
 {
     put_steps(&mut walk.lines, steps)?;
@@ -187,7 +195,7 @@ fn part(
 fn within(stage: &Stage, x: usize, walk: &mut Walk) -> Result<(), AllocError>
     requires going { IsGoing stage.now.level.now.problem.now stage.now.level.now.number x walk.old.remains }
     requires joins { game_of walk.old.joins ≡ stage.now.level.now.problem.now }
-    ensures told { OnOk result ((before : List Seen) → IsReady stage.now.level.now.problem.now stage.now.level.now.number walk.old.joins walk.old.left before → EndingTold stage.now.cuts stage.now.level.now.problem.now stage.now.level.now.number walk.old.remains.store.box (scope_number stage.now.horizon) before walk.old.left walk.new.left walk.old.lines walk.new.lines walk.new.joins) }
+    ensures told { OnOk result ((before : List Seen) → IsReady stage.now.level.now.problem.now stage.now.level.now.number walk.old.joins (suc (2 * walk.old.left)) before → IsTrue (has_no_worse (tracked_at stage.now.level.now.problem.now stage.now.level.now.number) (firsts before) walk.old.remains.store.box) → EndingTold stage.now.cuts stage.now.level.now.problem.now stage.now.level.now.number walk.old.remains.store.box (scope_number stage.now.horizon) before walk.old.left walk.new.left walk.old.lines walk.new.lines walk.new.joins) }
     ensures back { OnOk result (IsBack stage.now.level.now.problem.now stage.now.level.now.number walk.old walk.new) }
 {
     stage.level.problem.known();
@@ -203,7 +211,7 @@ fn within(stage: &Stage, x: usize, walk: &mut Walk) -> Result<(), AllocError>
 fn after_tuple(stage: &Stage, walk: &mut Walk) -> Result<(), AllocError>
     requires going { IsGoing stage.now.level.now.problem.now stage.now.level.now.number stage.now.level.now.stop walk.old.remains }
     requires joins { game_of walk.old.joins ≡ stage.now.level.now.problem.now }
-    ensures told { OnOk result ((before : List Seen) → IsReady stage.now.level.now.problem.now stage.now.level.now.number walk.old.joins walk.old.left before → EndingTold stage.now.cuts stage.now.level.now.problem.now stage.now.level.now.number walk.old.remains.store.box (scope_number stage.now.horizon) before walk.old.left walk.new.left walk.old.lines walk.new.lines walk.new.joins) }
+    ensures told { OnOk result ((before : List Seen) → IsReady stage.now.level.now.problem.now stage.now.level.now.number walk.old.joins (suc (2 * walk.old.left)) before → IsTrue (has_no_worse (tracked_at stage.now.level.now.problem.now stage.now.level.now.number) (firsts before) walk.old.remains.store.box) → EndingTold stage.now.cuts stage.now.level.now.problem.now stage.now.level.now.number walk.old.remains.store.box (scope_number stage.now.horizon) before walk.old.left walk.new.left walk.old.lines walk.new.lines walk.new.joins) }
     ensures back { OnOk result (IsBack stage.now.level.now.problem.now stage.now.level.now.number walk.old walk.new) }
 {
     stage.level.problem.known();
@@ -233,7 +241,7 @@ fn over_values(stage: &Stage, x: VarId, walk: &mut Walk) -> Result<(), AllocErro
     requires own { IsTrue (is_of_scope stage.now.level.now.problem.now stage.now.level.now.number x.0) }
     requires free { is_single (values_left walk.old.remains.store.box x.0) ≡ false }
     requires joins { game_of walk.old.joins ≡ stage.now.level.now.problem.now }
-    ensures told { OnOk result ((before : List Seen) → IsReady stage.now.level.now.problem.now stage.now.level.now.number walk.old.joins walk.old.left before → EndingTold stage.now.cuts stage.now.level.now.problem.now stage.now.level.now.number walk.old.remains.store.box (scope_number stage.now.horizon) before walk.old.left walk.new.left walk.old.lines walk.new.lines walk.new.joins) }
+    ensures told { OnOk result ((before : List Seen) → IsReady stage.now.level.now.problem.now stage.now.level.now.number walk.old.joins (suc (2 * walk.old.left)) before → IsTrue (has_no_worse (tracked_at stage.now.level.now.problem.now stage.now.level.now.number) (firsts before) walk.old.remains.store.box) → EndingTold stage.now.cuts stage.now.level.now.problem.now stage.now.level.now.number walk.old.remains.store.box (scope_number stage.now.horizon) before walk.old.left walk.new.left walk.old.lines walk.new.lines walk.new.joins) }
     ensures back { OnOk result (IsBack stage.now.level.now.problem.now stage.now.level.now.number walk.old walk.new) }
 {
     stage.level.problem.known();
@@ -249,7 +257,7 @@ fn cases(stage: &Stage, x: VarId, walk: &mut Walk) -> Result<(), AllocError>
     requires going { IsGoing stage.now.level.now.problem.now stage.now.level.now.number x.0 walk.old.remains }
     requires free { is_single (values_left walk.old.remains.store.box x.0) ≡ false }
     requires joins { game_of walk.old.joins ≡ stage.now.level.now.problem.now }
-    ensures told { OnOk result ((before : List Seen) → IsReady stage.now.level.now.problem.now stage.now.level.now.number walk.old.joins walk.old.left before → CasesTold stage.now.cuts stage.now.level.now.problem.now stage.now.level.now.number walk.old.remains.store.box (scope_number stage.now.horizon) x.0 (values_left walk.old.remains.store.box x.0) before walk.old.left walk.new.left walk.old.lines walk.new.lines walk.new.joins) }
+    ensures told { OnOk result ((before : List Seen) → IsReady stage.now.level.now.problem.now stage.now.level.now.number walk.old.joins (suc (2 * walk.old.left)) before → CasesTold stage.now.cuts stage.now.level.now.problem.now stage.now.level.now.number walk.old.remains.store.box (scope_number stage.now.horizon) x.0 (values_left walk.old.remains.store.box x.0) before walk.old.left walk.new.left walk.old.lines walk.new.lines walk.new.joins) }
     ensures back { OnOk result (IsBack stage.now.level.now.problem.now stage.now.level.now.number walk.old walk.new) }
 {
     stage.level.problem.known();
@@ -288,15 +296,12 @@ fn with_value(stage: &Stage, x: VarId, value: i64, walk: &mut Walk) -> Result<()
     requires going { IsGoing stage.now.level.now.problem.now stage.now.level.now.number x.0 walk.old.remains }
     requires value { IsTrue (has_value (values_left walk.old.remains.store.box x.0) value) }
     requires joins { game_of walk.old.joins ≡ stage.now.level.now.problem.now }
-    ensures told { OnOk result ((before : List Seen) → IsReady stage.now.level.now.problem.now stage.now.level.now.number walk.old.joins walk.old.left before → PartTold stage.now.cuts stage.now.level.now.problem.now stage.now.level.now.number (box_to walk.old.remains.store.box x.0 (value ∷ [])) (scope_number stage.now.horizon) before walk.old.left walk.new.left walk.old.lines walk.new.lines walk.new.joins) }
+    ensures told { OnOk result ((before : List Seen) → IsReady stage.now.level.now.problem.now stage.now.level.now.number walk.old.joins (2 + 2 * walk.old.left) before → CaseTold stage.now.cuts stage.now.level.now.problem.now stage.now.level.now.number (box_to walk.old.remains.store.box x.0 (value ∷ [])) (scope_number stage.now.horizon) before walk.old.left walk.new.left walk.old.lines walk.new.lines walk.new.joins) }
     ensures back { OnOk result (IsBack stage.now.level.now.problem.now stage.now.level.now.number walk.old walk.new) }
 {
-    stage.level.problem.known();
-    walk.remains.known();
     let mark = walk.remains.mark();
-    walk.remains.take(x, value)?;
     let mut steps = StepList::new(walk.alloc);
-    let closed = walk.remains.close_after(stage.level, &[x], &mut steps)?;
+    let closed = narrow(stage, x, value, &mut steps, walk)?;
     part(stage, x.0 as usize + 1, closed, steps.items(), walk)?;
     walk.remains.undo_to(mark);
     Ok(())

@@ -3,7 +3,10 @@ ghost use Rattle.std.specs.Prelude.{◌≡◌, ◌≤◌, false, length, IfSome}
 ghost use Rattle.std.proofs.Props.{props};
 ghost use Rattle.proof_tree.specs.InPlace.{is_horizon};
 ghost use Rattle.search_box.specs.Looking.{scope_number};
+ghost use Rattle.game_search.specs.Aims.{IsAimed};
+ghost use Rattle.game_search.specs.Props.{aimed_prop};
 
+use crate::aim::Aim;
 use qc_model::ScopeId;
 use qc_rules::{Level, Levels};
 
@@ -15,7 +18,10 @@ pub(crate) struct Stage<'a, 'p> {
     pub(crate) level: &'a Level<'p>,
     pub(crate) horizon: Option<ScopeId>,
     pub(crate) cuts: bool,
+    /// What the scope's own tree is bounded by.
+    pub(crate) aim: Option<Aim>,
     ghost same: { level.now.problem.now ≡ levels.now.problem.now },
     ghost within: { IfSome horizon (λ h. h.0 ≤ length levels.now.problem.now.scopes) } by { Prim.hlevel props },
     ghost ahead: { is_horizon (scope_number horizon) level.now.number ≡ false },
+    ghost aimed: { IsAimed level.now.problem.now level.now.number aim } by { aimed_prop level.now.problem.now level.now.number aim },
 }

@@ -8,18 +8,19 @@ use Rattle.qc_model.specs.declared.problem.Condition.{Condition}
 use Rattle.qc_model.specs.declared.problem.Scope.{Scope}
 use Rattle.qc_model.specs.Content.{Game}
 use Rattle.qc_model.specs.Demands.{demands, with_condition}
-use Rattle.qc_model.specs.Verdict.{Verdict, lost, Seen, seen_node}
+use Rattle.qc_model.specs.Verdict.{Verdict, lost, Seen, seen_node, exact_vectors}
 use Rattle.qc_model.specs.ForallVerdict.{stuck_verdict}
 use Rattle.qc_levels.specs.declared.forall_join.ForallJoin.{ForallJoin}
 use Rattle.qc_levels.specs.declared.leaves.Found.{Found}
 use Rattle.qc_levels.specs.Seen.{verdict_of}
-use Rattle.qc_levels.specs.Bests.{own_list}
+use Rattle.qc_levels.specs.Bests.{AllLong, own_list}
 use Rattle.qc_levels.specs.Columns.{source_of}
 use Rattle.qc_levels.specs.ForallJoin.{JoinsScope as JoinsForall}
 use Rattle.qc_levels.proofs.DemandSteps.{demands_short}
+use Rattle.qc_joins.specs.declared.joins.Joins.{Joins}
 use Rattle.qc_joins.specs.declared.scope_join.ScopeJoin.{ScopeJoin}
 use Rattle.qc_joins.specs.declared.scope_join.ScopeJoin.TheVariants.{Exists, Forall}
-use Rattle.qc_joins.specs.Verdicts.{kind_verdict, scope_verdict, verdict_at, stuck_of, kind_own, scope_own, own_at, kind_settled, scope_settled, settled_at}
+use Rattle.qc_joins.specs.Verdicts.{kind_verdict, scope_verdict, verdict_at, stuck_of, kind_own, scope_own, own_at, kind_settled, scope_settled, settled_at, kind_wishes, scope_wishes, wishes_at, kind_incumbent, scope_incumbent, incumbent_at}
 use Rattle.qc_joins.specs.ScopeJoins.{StandsFor, StandsIn, JoinsScope, IsTaken, HasRoom, HasEach, AreJoins}
 use Rattle.qc_joins.specs.Joins.{LeafFits}
 use Rattle.qc_joins.proofs.Placed.{scope_read, stands_read, stands_here}
@@ -43,6 +44,12 @@ own_is g i s xs e = let l = scopes_from g.scopes i s e in ap (λ (ss : List Scop
 
 settled_is : (g : Game) (i : ℕ) (s : Scope) (xs : List Seen) → slice_get g.scopes i ≡ Some s → kind_settled s.kind s.condition g (demands g i) xs ≡ settled_at g i xs
 settled_is g i s xs e = let l = scopes_from g.scopes i s e in ap (λ (ss : List Scope). scope_settled ss g (demands g i) xs) (sym l.1)
+
+wishes_is : (g : Game) (i : ℕ) (s : Scope) → slice_get g.scopes i ≡ Some s → kind_wishes s.kind s.condition g (demands g i) ≡ wishes_at g i
+wishes_is g i s e = let l = scopes_from g.scopes i s e in ap (λ (ss : List Scope). scope_wishes ss g (demands g i)) (sym l.1)
+
+incumbent_is : (g : Game) (i : ℕ) (s : Scope) (xs : List Seen) → slice_get g.scopes i ≡ Some s → kind_incumbent s.kind s.condition g (demands g i) xs ≡ incumbent_at g i xs
+incumbent_is g i s xs e = let l = scopes_from g.scopes i s e in ap (λ (ss : List Scope). scope_incumbent ss g (demands g i) xs) (sym l.1)
 
 stuck_is : (g : Game) (i : ℕ) (s : Scope) (d : List Condition) (a : List ℤ) → slice_get g.scopes i ≡ Some s → stuck_verdict g s.kind d a ≡ stuck_of (drop i g.scopes) g d a
 stuck_is g i s d a e = let l = scopes_from g.scopes i s e in ap (λ (ss : List Scope). stuck_of ss g d a) (sym l.1)
@@ -103,6 +110,39 @@ pub settled_read : (g : Game) (js : List ScopeJoin) (i : ℕ) (x : ScopeJoin) (x
 settled_read g js i x xs b p h e f t =
     let s = some_scope g.scopes i h in
     f g i s.0 xs (scope_read g js i x s.0 p h e s.1) (stands_read g js i x xs p h e t) ∙ settled_is g i s.0 xs s.1
+
+pub incumbent_read : (g : Game) (js : List ScopeJoin) (i : ℕ) (x : ScopeJoin) (xs : List Seen) (o : Option ℤ) → AreJoins g js → i < length g.scopes → x ≡ get_or js i x →
+    ((h : Game) (k : ℕ) (s : Scope) (ys : List Seen) → JoinsScope h k s x → StandsFor x ys → o ≡ kind_incumbent s.kind s.condition h (demands h k) ys) →
+    StandsIn (slice_get js i) xs → o ≡ incumbent_at g i xs
+incumbent_read g js i x xs o p h e f t =
+    let s = some_scope g.scopes i h in
+    f g i s.0 xs (scope_read g js i x s.0 p h e s.1) (stands_read g js i x xs p h e t) ∙ incumbent_is g i s.0 xs s.1
+
+pub wishes_read : (g : Game) (js : List ScopeJoin) (i : ℕ) (x : ScopeJoin) (d : List Condition) → AreJoins g js → i < length g.scopes → x ≡ get_or js i x →
+    ((h : Game) (k : ℕ) (s : Scope) → JoinsScope h k s x → d ≡ kind_wishes s.kind s.condition h (demands h k)) → d ≡ wishes_at g i
+wishes_read g js i x d p h e f =
+    let s = some_scope g.scopes i h in
+    f g i s.0 (scope_read g js i x s.0 p h e s.1) ∙ wishes_is g i s.0 s.1
+
+-- the vectors of the leaves are as long as the list after the scope
+pub stands_long : (joins : Joins) (i : ℕ) (xs : List Seen) (c : Condition) (d : List Condition) → i < length joins.problem.now.scopes → StandsIn (slice_get joins.joins.items i) xs → wishes_at joins.problem.now i ≡ c ∷ d → AllLong (c ∷ d) (exact_vectors xs)
+stands_long joins i xs c d h t e =
+    let g = joins.problem.now in
+    let s = some_scope g.scopes i h in
+    by s.0 s.1 (slice_get joins.joins.items i) refl t
+  where
+    by : (s : Scope) → slice_get joins.problem.now.scopes i ≡ Some s → (o : Option ScopeJoin) → slice_get joins.joins.items i ≡ o → StandsIn o xs → AllLong (c ∷ d) (exact_vectors xs)
+    by s q None r t = absurd t
+    by s q (Some (Exists j)) r t =
+        let g = joins.problem.now in
+        let m = joins.joined.each i s (Exists j) q r in
+        let list : j.list.items ≡ c ∷ d = m.after ∙ (ap (λ (k : Kind). kind_wishes k s.condition g (demands g i)) (sym m.kind) ∙ (wishes_is g i s q ∙ e)) in
+        subst (λ (l : List Condition). AllLong l (exact_vectors xs)) list t.long
+    by s q (Some (Forall j)) r t =
+        let g = joins.problem.now in
+        let m = joins.joined.each i s (Forall j) q r in
+        let none : [] ≡ c ∷ d = ap (λ (k : Kind). kind_wishes k s.condition g (demands g i)) (sym m.0) ∙ (wishes_is g i s q ∙ e) in
+        absurd cc
 
 -- ---- what a node came to
 taken : (g : Game) (i : ℕ) (s : Scope) (x : ScopeJoin) (xs : List Seen) (v : Verdict) → JoinsScope g i s x → LeafFits g i xs v → IsTaken x xs v

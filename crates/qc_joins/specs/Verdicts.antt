@@ -6,9 +6,10 @@ use Rattle.qc_model.specs.declared.problem.Condition.{Condition}
 use Rattle.qc_model.specs.declared.problem.Scope.{Scope}
 use Rattle.qc_model.specs.Content.{Game}
 use Rattle.qc_model.specs.Demands.{demands, demands_after}
-use Rattle.qc_model.specs.Verdict.{Verdict, lost, unknown, Seen, is_lost, is_exact, some_node, is_none_of}
-use Rattle.qc_model.specs.ExistsVerdict.{exists_verdict, exists_own}
+use Rattle.qc_model.specs.Verdict.{Verdict, lost, unknown, Seen, is_lost, is_exact, some_node, is_none_of, exact_vectors}
+use Rattle.qc_model.specs.ExistsVerdict.{exists_verdict, exists_own, best_vector}
 use Rattle.qc_model.specs.ForallVerdict.{forall_verdict, stuck_verdict}
+use Rattle.qc_levels.specs.Bests.{incumbent_by}
 
 -- what a scope comes to, by what was seen in its own tree
 abbrev pub kind_verdict : Kind → Option Condition → Game → List Condition → List ℤ → List Seen → Verdict
@@ -52,3 +53,27 @@ scope_settled (s ∷ later) g d xs = kind_settled s.kind s.condition g d xs
 
 abbrev pub settled_at : Game → ℕ → List Seen → Bool
 settled_at g i xs = scope_settled (drop i g.scopes) g (demands g i) xs
+
+-- what the bounds of a scope's own tree speak of: the list after the scope, where it is the player's
+abbrev pub kind_wishes : Kind → Option Condition → Game → List Condition → List Condition
+kind_wishes Exists own g d = demands_after g Exists own d
+kind_wishes Forall own g d = []
+
+abbrev pub scope_wishes : List Scope → Game → List Condition → List Condition
+scope_wishes [] g d = []
+scope_wishes (s ∷ later) g d = kind_wishes s.kind s.condition g d
+
+abbrev pub wishes_at : Game → ℕ → List Condition
+wishes_at g i = scope_wishes (drop i g.scopes) g (demands g i)
+
+-- the incumbent of a scope of the player: the first value of the best vector so far
+abbrev pub kind_incumbent : Kind → Option Condition → Game → List Condition → List Seen → Option ℤ
+kind_incumbent Exists own g d xs = incumbent_by (some_node is_exact xs) (best_vector (demands_after g Exists own d) (exact_vectors xs))
+kind_incumbent Forall own g d xs = None
+
+abbrev pub scope_incumbent : List Scope → Game → List Condition → List Seen → Option ℤ
+scope_incumbent [] g d xs = None
+scope_incumbent (s ∷ later) g d xs = kind_incumbent s.kind s.condition g d xs
+
+abbrev pub incumbent_at : Game → ℕ → List Seen → Option ℤ
+incumbent_at g i xs = scope_incumbent (drop i g.scopes) g (demands g i) xs

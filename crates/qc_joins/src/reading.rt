@@ -1,10 +1,10 @@
 //! What is known of a scope before all its leaves are.
 ghost use Rattle.std.specs.Prelude.{◌≡◌, ◌<◌, List, length};
 ghost use Rattle.qc_model.specs.Verdict.{Seen};
-ghost use Rattle.qc_joins.specs.Verdicts.{own_at, settled_at};
+ghost use Rattle.qc_joins.specs.Verdicts.{own_at, settled_at, wishes_at, incumbent_at};
 
 use crate::joins::Joins;
-use qc_model::ScopeId;
+use qc_model::{Condition, ScopeId};
 
 impl Joins<'_> {
     ghost use Rattle.qc_joins.specs.Joins.{game_of, StandsAt};
@@ -16,6 +16,23 @@ impl Joins<'_> {
         ensures { (xs : List Seen) → StandsAt self.now i.0 xs → result ≡ own_at (game_of self.now) i.0 xs }
     {
         self.joins[i.0 as usize].own()
+    }
+
+    /// What is demanded after scope i, a scope of the player; nothing, where it is one of the opponent.
+    pub fn wishes(&self, i: ScopeId) -> &[Condition]
+        requires { i.0 < length (game_of self.now).scopes }
+        ensures { result.now ≡ wishes_at (game_of self.now) i.0 }
+    {
+        self.joins[i.0 as usize].wishes()
+    }
+
+    /// The incumbent of scope i, a scope of the player: the first value of the best vector so far. None comes exactly
+    /// where no leaf is exact, or the scope is one of the opponent.
+    pub fn incumbent(&self, i: ScopeId) -> Option<i64>
+        requires { i.0 < length (game_of self.now).scopes }
+        ensures { (xs : List Seen) → StandsAt self.now i.0 xs → result ≡ incumbent_at (game_of self.now) i.0 xs }
+    {
+        self.joins[i.0 as usize].incumbent()
     }
 
     /// Whether no further leaf changes what scope i comes to: in a scope of the player some leaf is exact

@@ -8,9 +8,10 @@ ghost use Rattle.qc_model.specs.Verdict.{Seen, seen_barred, seen_skipped, seen_b
 ghost use Rattle.qc_levels.specs.Seen.{verdict_of, seen_of, IsAsLong};
 ghost use Rattle.qc_levels.specs.Columns.{IsSmall, StaySmall};
 ghost use Rattle.qc_joins.specs.ScopeJoins.{HasEach};
-ghost use Rattle.qc_joins.specs.Verdicts.{kind_verdict, kind_own, kind_settled};
+ghost use Rattle.qc_joins.specs.Verdicts.{kind_verdict, kind_own, kind_settled, kind_wishes, kind_incumbent};
 
 use qc_levels::{ExistsJoin, ForallJoin, Found, Leaf, Value};
+use qc_model::Condition as Wish;
 
 /// The join of a scope of the player, or of the opponent.
 #[derive(Drop)]
@@ -109,6 +110,26 @@ impl ScopeJoin {
     {
         match self {
             ScopeJoin::Exists(join) => join.own(),
+            ScopeJoin::Forall(_join) => None,
+        }
+    }
+
+    /// What is demanded after a scope of the player; nothing after one of the opponent.
+    pub(crate) fn wishes(&self) -> &[Wish]
+        ensures { (g : Game) (i : ℕ) (s : OneScope) → JoinsScope g i s self.now → result.now ≡ kind_wishes s.kind s.condition g (demands_of g i) }
+    {
+        match self {
+            ScopeJoin::Exists(join) => join.wishes(),
+            ScopeJoin::Forall(_join) => &[],
+        }
+    }
+
+    /// The first value of the best vector so far, of a scope of the player.
+    pub(crate) fn incumbent(&self) -> Option<i64>
+        ensures { (g : Game) (i : ℕ) (s : OneScope) (xs : List Seen) → JoinsScope g i s self.now → StandsFor self.now xs → result ≡ kind_incumbent s.kind s.condition g (demands_of g i) xs }
+    {
+        match self {
+            ScopeJoin::Exists(join) => join.incumbent(),
             ScopeJoin::Forall(_join) => None,
         }
     }

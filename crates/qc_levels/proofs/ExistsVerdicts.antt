@@ -114,7 +114,7 @@ first_of_two c d [] w l k = absurd (omega (arith, l))
 first_of_two c d (x ∷ u) [] l k = absurd (omega (arith, k))
 first_of_two c d (x ∷ u) (y ∷ w) l k = first_choice (is_better c.sense y x) (int_eq y x) (is_better_vector d w u) x y u w (λ e. (Decides-int_eq y x).0 e)
 
-first_of_best : (c : Condition) (d : List Condition) (u : List ℤ) (vs : List (List ℤ)) → length u ≡ length (c ∷ d) → AllLong (c ∷ d) vs → first_value (best_from (c ∷ d) u vs) ≡ best_number_from c.sense (first_value u) (map first_value vs)
+pub first_of_best : (c : Condition) (d : List Condition) (u : List ℤ) (vs : List (List ℤ)) → length u ≡ length (c ∷ d) → AllLong (c ∷ d) vs → first_value (best_from (c ∷ d) u vs) ≡ best_number_from c.sense (first_value u) (map first_value vs)
 first_of_best c d u [] l ls = refl
 first_of_best c d u (w ∷ vs) l ls =
     first_of_best c d (cond (is_better_vector (c ∷ d) w u) w u) vs (choice_long (c ∷ d) (is_better_vector (c ∷ d) w u) u w l ls.0) ls.1

@@ -71,6 +71,10 @@ abbrev pub own_by : Option Condition → Bool → List ℤ → Option ℤ
 own_by None is_settled v = None
 own_by (Some c) is_settled v = cond is_settled (Some (first_value v)) None
 
+-- the first value of the best vector, where some leaf is exact: no further leaf counts whose first value is worse
+abbrev pub incumbent_by : Bool → List ℤ → Option ℤ
+incumbent_by has_exact v = cond has_exact (Some (first_value v)) None
+
 -- the scope's own list, by the list after it
 abbrev pub own_list : Option Condition → List Condition → List Condition
 own_list None d = d

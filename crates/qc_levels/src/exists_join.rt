@@ -2,10 +2,10 @@
 ghost use Rattle.std.specs.Prelude.{◌≡◌, ◌≤◌, ◌<◌, IfOk, [], ◌∷◌, ◌++◌, ◌&&◌, length, List, ℤ, IsFalse};
 ghost use Rattle.qc_model.specs.Optimal.{is_better as is_better_number};
 ghost use Rattle.qc_model.specs.Demands.{is_better_vector as is_better_vector_of};
-ghost use Rattle.qc_model.specs.Verdict.{Seen, seen_bound, seen_skipped, seen_node, exact, at_most, unknown, is_exact, is_none_of, some_node};
-ghost use Rattle.qc_model.specs.ExistsVerdict.{exists_verdict, exists_own, without_own as without_own_value};
+ghost use Rattle.qc_model.specs.Verdict.{Seen, seen_bound, seen_skipped, seen_node, exact, at_most, unknown, is_exact, is_none_of, some_node, exact_vectors};
+ghost use Rattle.qc_model.specs.ExistsVerdict.{exists_verdict, exists_own, best_vector, without_own as without_own_value};
 ghost use Rattle.qc_levels.specs.Seen.{seen_of, verdict_of, is_exact_answer, IsAsLong};
-ghost use Rattle.qc_levels.specs.Bests.{better_of as better_of_two, bound_with as bound_with_of, bound_in as bound_in_of, beats_bound, best_known as best_known_of, is_settled as is_settled_by, bounded as bounded_by, unsettled as unsettled_by, own_list, kept_vector};
+ghost use Rattle.qc_levels.specs.Bests.{better_of as better_of_two, bound_with as bound_with_of, bound_in as bound_in_of, beats_bound, best_known as best_known_of, is_settled as is_settled_by, bounded as bounded_by, unsettled as unsettled_by, own_list, kept_vector, incumbent_by};
 
 use crate::demands::Demands;
 use crate::leaves::{Found, Leaf};
@@ -233,6 +233,24 @@ impl ExistsJoin {
         self.has_exact = false;
         self.best.set(&[]);
         self.bound = None;
+    }
+
+    /// What is demanded after the scope.
+    pub fn wishes(&self) -> &[Condition]
+        ensures { result.now ≡ self.now.list.items }
+    {
+        self.list.as_slice()
+    }
+
+    /// The incumbent: the first value of the best vector so far. None comes exactly where no leaf is exact.
+    pub fn incumbent(&self) -> Option<i64>
+        ensures { (xs : List Seen) → StandsFor self.now xs → result ≡ incumbent_by (some_node is_exact xs) (best_vector self.now.list.items (exact_vectors xs)) }
+    {
+        if self.has_exact {
+            Some(first_value(self.best.items()))
+        } else {
+            None
+        }
     }
 
     /// Whether some leaf is exact and nothing is demanded after the scope. Then no further leaf changes

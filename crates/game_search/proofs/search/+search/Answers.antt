@@ -1,6 +1,8 @@
-use Rattle.std.proofs.Common.{◌≡◌, ◌∙◌, sym, ap, refl, subst, ◌<◌, ◌+◌, ◌-◌, suc, length, drop, w64, to_z, of_z, arith, true, [], ◌∷◌, ◌++◌}
+use Rattle.std.proofs.Common.{◌≡◌, ◌∙◌, sym, ap, refl, subst, ◌<◌, ◌+◌, ◌-◌, ◌*◌, rules, suc, length, drop, w64, to_z, of_z, arith, true, [], ◌∷◌, ◌++◌}
 use Rattle.std.specs.List.{list_all}
+use Rattle.std.proofs.lemmas.Int.{to_z-of_z}
 use Rattle.std.proofs.lemmas.Result.{on_ok_weaker, IfOk-weaker}
+use mir.Val.{SFits}
 use Rattle.qc_model.specs.Content.{Game}
 use Rattle.qc_model.specs.Domains.{Box, declared_box, has_empty, has_value, is_ascending, values_left}
 use Rattle.qc_model.specs.Game.{before}
@@ -12,6 +14,7 @@ use Rattle.fd_store.specs.Held.{Held, values_from}
 use Rattle.prop_engine.specs.declared.answer.Closed.{Closed}
 use Rattle.proof_tree.specs.Cover.{box_to}
 use Rattle.proof_tree.specs.Diligent.{SeesAhead}
+use Rattle.proof_tree.specs.Incumbents.{has_no_worse}
 use Rattle.proof_tree.specs.InPlace.{is_horizon}
 use Rattle.proof_tree.specs.Lines.{upto_lines}
 use Rattle.proof_tree.specs.declared.line.Line.TheVariants.{Skip, Open}
@@ -24,11 +27,16 @@ use Rattle.search_box.specs.Rests.{IsFirst, IsAfter}
 use Rattle.search_box.proofs.Goings.{follows_on}
 use Rattle.search_box.proofs.Places.{read_numbers}
 use Rattle.game_search.specs.Going.{GoesOn}
-use Rattle.game_search.specs.Told.{PartTold, BodyTold, NodeTold}
+use Rattle.game_search.specs.Aims.{tracked_at}
+use Rattle.game_search.specs.Beaten.{seen_bounds}
+use Rattle.game_search.specs.Narrowed.{NarrowTold}
+use Rattle.game_search.specs.Told.{IsReady, StepsTold, PartTold, CaseTold, BodyTold, NodeTold}
 use Rattle.game_search.specs.Uppers.{upto_between, without_before}
 use Rattle.game_search.proofs.Covers.{covers_after, many_of, rest_of}
 use Rattle.game_search.proofs.Fitting.{number_among, place_fits}
-use Rattle.game_search.proofs.Here.{Passing, asked_here, started, ready_again, case_done, rest_skipped, rest_opened, rest_none, empty_told, barred_told, few_turns, next_told, part_told, branch_told, node_ended, whole_node}
+use Rattle.game_search.proofs.Here.{Passing, asked_here, started, ready_again, case_done, rest_skipped, rest_opened, rest_none, empty_told, barred_told, few_turns, next_told, pruned_told, part_told, branch_told, node_ended, whole_node}
+use Rattle.game_search.proofs.Losing.{ready_after}
+use Rattle.game_search.proofs.Marks.{firsts_marks}
 use Rattle.game_search.proofs.Remains.{goes_next, back_after, back_below, back_more, case_back, longer}
 use Rattle.game_search.proofs.search.+search.Goals as goal
 
@@ -39,7 +47,7 @@ after_tuple-returns-then-not-tuple_allowed-clause-told t c =
     let b = c.args.walk.now.remains in
     let w = c.requires.going.within in
     let fixed = subst (λ n. is_fixed_to g l.number n b.store.box ≡ true) l.has_stop w.fixed in
-    λ xs ready. barred_told c.args.stage.now.cuts g l.number b.store.box (scope_number c.args.stage.now.horizon) xs c.args.walk.now.left c.args.walk.now.lines c.args.walk.now.joins ready c.put.new.self c.add_barred.new.self w.here.full fixed
+    λ xs ready worse. barred_told c.args.stage.now.cuts g l.number b.store.box (scope_number c.args.stage.now.horizon) xs c.args.walk.now.left c.args.walk.now.lines c.args.walk.now.joins ready c.put.new.self c.add_barred.new.self w.here.full fixed
     (sym c.tuple_allowed.ensures.allowed ∙ c.if-not-tuple_allowed.true) c.add_barred.ensures.stands c.in_ok-put.ensures.put
 
 pub after_tuple-returns-clause-told : goal.after_tuple-returns-clause-told
@@ -51,12 +59,12 @@ after_tuple-returns-clause-told t c =
     let w = c.requires.going.within in
     let fixed = subst (λ n. is_fixed_to g l.number n b.store.box ≡ true) l.has_stop w.fixed in
     let v = verdict_of c.in_ok-below.below (out_of c.node.new.walk.joins) in
-    λ xs ready.
+    λ xs ready worse.
     let few = few_turns c.args.stage.now.cuts g l.number b.store.box h xs c.args.walk.now.left c.args.walk.now.lines c.args.walk.now.joins ready in
     let below = subst (λ (f : Game). NodeTold c.args.stage.now.cuts f (l.number + 1) b.store.box h v c.args.walk.now.left c.node.new.walk.left c.put-2.new.self c.node.new.walk.lines c.node.new.walk.joins) (sym c.args.stage.now.same)
     (subst (λ (s : Held). NodeTold c.args.stage.now.cuts c.args.stage.now.levels.now.problem.now (l.number + 1) s.box h v c.args.walk.now.left c.node.new.walk.left c.put-2.new.self c.node.new.walk.lines c.node.new.walk.joins) c.tuple_allowed.ensures.store (c.in_ok-below.ensures.told few)) in
     next_told c.args.stage.now.cuts g l.number b.store.box h xs c.args.walk.now.left c.args.walk.now.lines c.args.walk.now.joins ready l.is_scope v c.node.new.walk.left c.put-2.new.self c.node.new.walk.lines c.node.new.walk.joins c.add_node.new.self w.here.full fixed
-    (sym c.tuple_allowed.ensures.allowed ∙ c.if-not-tuple_allowed.false) c.in_ok-put-2.ensures.put below (c.in_ok-below.ensures.back.joins l.number xs (omega arith))
+    (sym c.tuple_allowed.ensures.allowed ∙ c.if-not-tuple_allowed.false) worse c.in_ok-put-2.ensures.put below (c.in_ok-below.ensures.back.joins l.number xs (omega arith))
     (λ ys s fits. c.add_node.ensures.stands ys s (subst (λ (f : Game). LeafFits f l.number ys v) (sym (c.in_ok-below.ensures.back.game ∙ c.requires.joins)) fits))
 
 pub after_tuple-returns-clause-back : goal.after_tuple-returns-clause-back
@@ -170,7 +178,7 @@ cases-returns-in_default-clause-told t c =
     λ xs ready.
     let p = c.values.invariant.goes xs ready in
     let again = ready_again c.args.stage.now.cuts g l.number b.store.box h x vs xs c.args.walk.now.left c.args.walk.now.lines c.args.walk.now.joins ready (values_from v vs) c.values.walk.left c.values.walk.lines c.values.walk.joins c.is_settled.result asked c.if-is_settled.false c.if-walk-eq0.false p in
-    let part = subst (λ (d : Box). PartTold c.args.stage.now.cuts g l.number (box_to d x (v ∷ [])) h (xs ++ p.seen) (c.values.walk.left - 1) c.with_value.new.walk.left c.values.walk.lines c.with_value.new.walk.lines c.with_value.new.walk.joins) back.box
+    let part = subst (λ (d : Box). CaseTold c.args.stage.now.cuts g l.number (box_to d x (v ∷ [])) h (xs ++ p.seen) (c.values.walk.left - 1) c.with_value.new.walk.left c.values.walk.lines c.with_value.new.walk.lines c.with_value.new.walk.joins) back.box
     (c.in_ok-with_value.ensures.told (xs ++ p.seen) again) in
     rest_none c.args.stage.now.cuts g l.number b.store.box h x vs xs c.args.walk.now.left c.args.walk.now.lines c.args.walk.now.joins ready c.with_value.new.walk.left c.drop_before.new.lines c.with_value.new.walk.joins
     (case_done c.args.stage.now.cuts g l.number b.store.box h x vs xs c.args.walk.now.left c.args.walk.now.lines c.args.walk.now.joins ready numbers low c.values.before c.last_to_drop-dropped.result (values_from v vs) [] v c.values.walk.left c.with_value.new.walk.left
@@ -218,7 +226,7 @@ cases-values-preserved t c =
       goes = λ xs ready.
           let p = c.values.invariant.goes xs ready in
           let again = ready_again c.args.stage.now.cuts g l.number b.store.box h x vs xs c.args.walk.now.left c.args.walk.now.lines c.args.walk.now.joins ready (values_from v vs) c.values.walk.left c.values.walk.lines c.values.walk.joins c.is_settled.result asked c.if-is_settled.false c.if-walk-eq0.false p in
-          let part = subst (λ (d : Box). PartTold c.args.stage.now.cuts g l.number (box_to d x (v ∷ [])) h (xs ++ p.seen) (c.values.walk.left - 1) c.with_value.new.walk.left c.values.walk.lines c.with_value.new.walk.lines c.with_value.new.walk.joins) back.box
+          let part = subst (λ (d : Box). CaseTold c.args.stage.now.cuts g l.number (box_to d x (v ∷ [])) h (xs ++ p.seen) (c.values.walk.left - 1) c.with_value.new.walk.left c.values.walk.lines c.with_value.new.walk.lines c.with_value.new.walk.joins) back.box
           (c.in_ok-with_value.ensures.told (xs ++ p.seen) again) in
           (case_done c.args.stage.now.cuts g l.number b.store.box h x vs xs c.args.walk.now.left c.args.walk.now.lines c.args.walk.now.joins ready numbers low c.values.before c.last_to_drop-dropped.result (values_from v vs) (values_from next vs) v c.values.walk.left c.with_value.new.walk.left
           c.values.walk.lines c.with_value.new.walk.lines c.drop_before.new.lines c.values.walk.joins c.with_value.new.walk.joins c.is_settled.result c.is_settled-in-values.result many at covers asked c.if-is_settled.false c.if-walk-eq0.false asked_then c.last_to_drop-dropped.ensures p part (c.in_ok-drop_before.ensures ∙ there));
@@ -287,9 +295,9 @@ over_values-returns-clause-told t c =
     let b = c.args.walk.now.remains in
     let x = c.args.x in
     on_ok_weaker c.put-2.result
-    (λ q xs ready.
+    (λ q xs ready worse.
     branch_told c.args.stage.now.cuts g l.number b.store.box (scope_number c.args.stage.now.horizon) xs c.args.walk.now.left c.cases.new.walk.left c.args.walk.now.lines c.put.new.self c.cases.new.walk.lines c.put-2.new.self c.cases.new.walk.joins x c.requires.going.within.here.full c.requires.own c.requires.free
-    (place_fits x.0 l.stop (length g.variables) c.requires.var l.stop_within c.known.ensures.few_variables) c.requires.going.closed c.requires.going.within.fixed c.in_ok-put.ensures.put q (c.in_ok-cases.ensures.told xs ready))
+    (place_fits x.0 l.stop (length g.variables) c.requires.var l.stop_within c.known.ensures.few_variables) c.requires.going.closed c.requires.going.within.fixed worse c.in_ok-put.ensures.put q (c.in_ok-cases.ensures.told xs ready))
     c.put-2.ensures.put
 
 pub own_tree-returns-clause-told : goal.own_tree-returns-clause-told
@@ -306,7 +314,7 @@ own_tree-returns-clause-told t c =
     let pruned = subst (λ ss. IsPruned g i b.store.box c.close.new.self.store.box [] ss) (sym c.items.ensures) (subst (λ ss. IsPruned g i b.store.box c.close.new.self.store.box ss c.close.new.steps) c.new-steps.ensures c.close.ensures.pruned) in
     λ few sees.
     node_ended c.args.stage.now.cuts g i (scope_number c.args.stage.now.horizon) c.known.ensures l.is_scope b.store.box c.undo_to.new.self.store.box same numbers c.args.stage.now.ahead sees c.args.walk.now.left c.part.new.walk.left c.verdict.new.walk.left c.args.walk.now.lines c.part.new.walk.lines c.verdict.new.walk.lines
-    c.clear.new.self c.part.new.walk.joins c.verdict.new.walk.joins _ c.clear.ensures.stands few (c.in_ok-part.ensures.told b.store.box pruned) c.verdict.ensures.verdict c.verdict.ensures.joins c.verdict.ensures.lines c.verdict.ensures.left
+    c.clear.new.self c.part.new.walk.joins c.verdict.new.walk.joins _ c.clear.ensures.stands few (λ ready. c.in_ok-part.ensures.told b.store.box [] [] (pruned_told g i b.store.box c.close.new.self.store.box c.items.result.now pruned) ready) c.verdict.ensures.verdict c.verdict.ensures.joins c.verdict.ensures.lines c.verdict.ensures.left
 
 pub part-returns-in-Empty-clause-told : goal.part-returns-in-Empty-clause-told
 part-returns-in-Empty-clause-told t c =
@@ -316,9 +324,9 @@ part-returns-in-Empty-clause-told t c =
     let left_box = c.args.walk.now.remains.store.box in
     let none_left : has_empty left_box ≡ true = subst (λ (a : Closed). GoesOn a g l.number c.args.x c.args.walk.now.remains) c.in-Empty.is c.requires.goes in
     on_ok_weaker c.put.result
-    (λ q box pruned xs ready.
-    part_told c.args.stage.now.cuts g l.number box left_box h xs c.args.walk.now.left c.args.walk.now.left c.args.walk.now.lines c.put_steps.new.lines c.put.new.self c.args.walk.now.joins c.args.steps.now pruned c.in_ok-put_steps.ensures
-    (empty_told c.args.stage.now.cuts g l.number left_box h xs c.args.walk.now.left c.put_steps.new.lines c.args.walk.now.joins ready c.put.new.self none_left q))
+    (λ q box before ms stepped ready.
+    part_told c.args.stage.now.cuts g l.number box left_box h before ms c.args.walk.now.left c.args.walk.now.left c.args.walk.now.lines c.put_steps.new.lines c.put.new.self c.args.walk.now.joins c.args.steps.now stepped c.in_ok-put_steps.ensures
+    (empty_told c.args.stage.now.cuts g l.number left_box h (before ++ seen_bounds ms) c.args.walk.now.left c.put_steps.new.lines c.args.walk.now.joins ready c.put.new.self none_left q))
     c.put.ensures.put
 
 pub part-returns-in-Open-clause-told : goal.part-returns-in-Open-clause-told
@@ -328,19 +336,33 @@ part-returns-in-Open-clause-told t c =
     let h = scope_number c.args.stage.now.horizon in
     let left_box = c.args.walk.now.remains.store.box in
     on_ok_weaker c.within.result
-    (λ told box pruned xs ready.
-    part_told c.args.stage.now.cuts g l.number box left_box h xs c.args.walk.now.left c.within.new.walk.left c.args.walk.now.lines c.put_steps.new.lines c.within.new.walk.lines c.within.new.walk.joins c.args.steps.now pruned c.in_ok-put_steps.ensures (told xs ready))
+    (λ told box before ms stepped ready.
+    let worse = subst (λ ns. has_no_worse (tracked_at g l.number) ns left_box ≡ true) (sym (firsts_marks before ms)) stepped.worse in
+    part_told c.args.stage.now.cuts g l.number box left_box h before ms c.args.walk.now.left c.within.new.walk.left c.args.walk.now.lines c.put_steps.new.lines c.within.new.walk.lines c.within.new.walk.joins c.args.steps.now stepped c.in_ok-put_steps.ensures
+    (told (before ++ seen_bounds ms) ready worse))
     c.within.ensures.told
 
 pub with_value-part-requires : goal.with_value-part-requires
 with_value-part-requires t c =
+    let l = c.args.stage.now.level.now in (
+      omega (arith, c.requires.var, l.stop_within),
+      (c.in_ok-closed.ensures.goes, c.narrow.ensures.game ∙ c.requires.joins),
+    )
+
+pub with_value-returns-clause-told : goal.with_value-returns-clause-told
+with_value-returns-clause-told t c =
     let l = c.args.stage.now.level.now in
     let g = l.problem.now in
-    let b = c.args.walk.now.remains in
-    let w = c.requires.going.within in
-    let size = c.known-2.ensures.size ∙ ap (λ (f : Game). length f.variables) w.here.game in
-    let below : c.args.x.0 < before g (suc l.number) = subst (λ n. c.args.x.0 < n) l.has_stop c.requires.var in
-    let inside : c.args.x.0 < length b.store.box = omega (arith, c.requires.var, l.stop_within, size) in (
-      omega (arith, c.requires.var, l.stop_within),
-      (goes_next c.in_ok-closed.closed g l.number c.args.x.0 _ b c.take.new.self c.close_after.new.self w below inside c.in_ok-take.ensures.content (c.take.ensures.here g l.number w.here) c.close_after.ensures.on c.in_ok-closed.ensures.answer c.close_after.ensures.here, c.requires.joins),
-    )
+    let box = box_to c.args.walk.now.remains.store.box c.args.x.0 (c.args.value ∷ []) in
+    let h = scope_number c.args.stage.now.horizon in
+    let joins = c.narrow.new.walk.joins in
+    let fits : SFits w64 c.args.value = search rules in
+    λ before ready.
+    let told = c.in_ok-closed.ensures.told before ready.stands in
+    let n : NarrowTold g l.number box c.narrow.new.walk.remains.store.box before joins c.narrow.new.steps = simp to_z-of_z at told in
+    let stepped = subst (λ ss. StepsTold g l.number box c.narrow.new.walk.remains.store.box before n.ms ss) (sym c.items.ensures) n.stepped in
+    let left = subst (λ m. IsReady g l.number c.args.walk.now.joins (2 + 2 * m) before) (sym c.narrow.ensures.left) ready in
+    let again = ready_after g l.number box c.narrow.new.walk.remains.store.box c.args.walk.now.joins joins c.narrow.new.walk.left before c.narrow.new.steps n left in
+    let part = c.in_ok-part.ensures.told box before n.ms stepped again in
+    let turns = subst (λ m. PartTold c.args.stage.now.cuts g l.number box h before n.ms m c.part.new.walk.left c.narrow.new.walk.lines c.part.new.walk.lines c.part.new.walk.joins) c.narrow.ensures.left part in
+    record { ms = n.ms; part = subst (λ ls. PartTold c.args.stage.now.cuts g l.number box h before n.ms c.args.walk.now.left c.part.new.walk.left ls c.part.new.walk.lines c.part.new.walk.joins) c.narrow.ensures.lines turns }

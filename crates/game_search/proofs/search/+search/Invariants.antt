@@ -1,4 +1,4 @@
-use Rattle.std.proofs.Common.{◌≡◌, ◌+◌, ◌-◌, ◌*◌, length, true, List}
+use Rattle.std.proofs.Common.{◌≡◌, ◌+◌, ◌-◌, ◌*◌, suc, length, true, List}
 use Rattle.qc_model.specs.Domains.{has_value, values_left}
 use Rattle.qc_model.specs.Game.{before}
 use Rattle.qc_model.specs.Verdict.{Seen}
@@ -39,7 +39,7 @@ invariant-cases-values l = record {
   back : IsBack l.stage.level.now.problem.now l.stage.level.now.number l.fn.walk l.walk;
   left : has_value (values_left l.fn.walk.remains.store.box l.x.0) l.value ≡ true;
   after : ComesAfter (values_left l.fn.walk.remains.store.box l.x.0) l.before l.value;
-  goes : (xs : List Seen) → IsReady l.stage.level.now.problem.now l.stage.level.now.number l.fn.walk.joins l.fn.walk.left xs →
+  goes : (xs : List Seen) → IsReady l.stage.level.now.problem.now l.stage.level.now.number l.fn.walk.joins (suc (2 * l.fn.walk.left)) xs →
       Passing l.stage.cuts l.stage.level.now.problem.now l.stage.level.now.number l.fn.walk.remains.store.box (scope_number l.stage.horizon) l.x.0 (values_left l.fn.walk.remains.store.box l.x.0) xs l.fn.walk.left l.fn.walk.lines
       (values_from l.value (values_left l.fn.walk.remains.store.box l.x.0)) l.walk.left l.walk.lines l.walk.joins;
 }

@@ -1,0 +1,294 @@
+-- What a case that is taken does to the box: a bound, and closing after it.
+use Rattle.std.proofs.Common.{◌≡◌, ◌∙◌, ◌≤◌, ◌<◌, ◌+◌, ◌*◌, ℕ, zero, suc, refl, sym, ap, subst, arith, Bool, true, false, not, ◌&&◌, ◌||◌, List, [], ◌∷◌, ◌++◌, map, length, drop, filter, ℤ, Option, None, Some, Result, Ok, Err, OnOk}
+use Rattle.std.specs.Prelude.{unsigned_abs, cond, int_lt, set}
+use Rattle.std.specs.declared.alloc.AllocError.{AllocError}
+use Rattle.std.specs.List.{list_all, list_any}
+use Rattle.std.specs.Ordering.{int_eq}
+use Rattle.std.proofs.lemmas.Bool.Decides.{Decides-int_eq, nat_tests}
+use Rattle.std.proofs.lemmas.List.{append-nil}
+use Rattle.qc_model.specs.declared.problem.Sense.{Sense}
+use Rattle.qc_model.specs.declared.problem.Sense.TheVariants.{Min, Max}
+use Rattle.qc_model.specs.declared.problem.VarId.{VarId}
+use Rattle.qc_model.specs.declared.problem.Condition.{Condition}
+use Rattle.qc_model.specs.declared.problem.Scope.{Scope}
+use Rattle.qc_model.specs.Content.{Game}
+use Rattle.qc_model.specs.Demands.{demands}
+use Rattle.qc_model.specs.Domains.{Box, Values, values_left, values_within, values_outside, is_within, is_none_left, is_sub_box, has_value, is_ascending, least_from, greatest_from, has_empty, box_without}
+use Rattle.qc_model.specs.Optimal.{is_better}
+use Rattle.qc_model.specs.Valid.{is_number}
+use Rattle.qc_model.specs.Verdict.{Seen, seen_bound}
+use Rattle.qc_arguments.specs.Asked.{is_box_of}
+use Rattle.proof_tree.specs.declared.tree.Step.{Step}
+use Rattle.proof_tree.specs.declared.tree.Step.TheVariants.{Bound}
+use Rattle.proof_tree.specs.Incumbents.{has_no_worse}
+use Rattle.proof_tree.specs.InPlace.{steps_in_place}
+use Rattle.proof_tree.specs.Order.{settles}
+use Rattle.proof_tree.specs.Place.{Tracked, tracked_variable, list_after}
+use Rattle.proof_tree.specs.Steps.{after_step, after_steps, best_value, step_marks}
+use Rattle.qc_joins.specs.Joins.{StandsAt}
+use Rattle.qc_joins.specs.Sizes.{HasSizes}
+use Rattle.qc_joins.specs.Verdicts.{wishes_at, settled_at}
+use Rattle.qc_joins.specs.declared.joins.Joins.{Joins}
+use Rattle.prop_engine.specs.declared.answer.Closed.{Closed}
+use Rattle.search_box.specs.Bounds.{IsBounded, IsUnbounded, BoundAnswers}
+use Rattle.search_box.specs.Closes.{IsPruned}
+use Rattle.search_box.specs.declared.bounding.Bounded.{Bounded}
+use Rattle.search_box.proofs.Goings.{steps_reach}
+use Rattle.game_search.specs.Aims.{tracked_at, IsNoWorse, IsWorse, NoneWorse}
+use Rattle.game_search.specs.Beaten.{firsts, seen_bounds, is_beaten, are_beaten}
+use Rattle.game_search.specs.Made.{StepsMade}
+use Rattle.game_search.specs.Narrowed.{NarrowTold}
+use Rattle.game_search.specs.Settled.{is_settled}
+use Rattle.game_search.specs.Told.{IsReady, StepsTold}
+use Rattle.game_search.specs.declared.aim.Worse.{Worse}
+use Rattle.game_search.proofs.Bools.{two, both}
+use Rattle.game_search.proofs.Here.{settled_here}
+use Rattle.game_search.proofs.Joining.{settled-append, or_none}
+use Rattle.game_search.proofs.Marks.{some_marks}
+use Rattle.game_search.proofs.Sizes.{sizes_none}
+use Rattle.game_search.proofs.Stepping.{more_steps_made}
+use Rattle.qc_joins.proofs.Sizing.{sizes_both, sizes_bound}
+
+-- ---- values of a variable
+-- each of the values is no worse than what is reached
+all_no_worse : (joins : Joins) (i : ℕ) (s : Sense) (before : List Seen) (vs : Values) → StandsAt joins i before → ((v : ℤ) → has_value vs v ≡ true → IsNoWorse joins i s v) → list_all (λ v. list_all (λ n. not (is_better s n v)) (firsts before)) vs ≡ true
+all_no_worse joins i s before [] stands h = refl
+all_no_worse joins i s before (v ∷ vs) stands h =
+    two _ _ (h v (ap (λ b. b || has_value vs v) ((Decides-int_eq v v).1 refl)) before stands) (all_no_worse joins i s before vs stands (λ u e. h u (later (int_eq u v) (has_value vs u) e)))
+  where
+    later : (a b : Bool) → b ≡ true → (a || b) ≡ true
+    later true b e = refl
+    later false b e = e
+
+-- a test that holds of all values holds of one of them
+one_of : (p : ℤ → Bool) (vs : Values) (v : ℤ) → list_all p vs ≡ true → has_value vs v ≡ true → p v ≡ true
+one_of p [] v h e = cc
+one_of p (u ∷ vs) v h e =
+    let r = both (p u) (list_all p vs) h in
+    by (int_eq v u) refl e r.0 (one_of p vs v r.1)
+  where
+    by : (b : Bool) → int_eq v u ≡ b → (b || has_value vs v) ≡ true → p u ≡ true → (has_value vs v ≡ true → p v ≡ true) → p v ≡ true
+    by true q e here rest = subst (λ w. p w ≡ true) (sym ((Decides-int_eq v u).0 q)) here
+    by false q e here rest = rest e
+
+-- where none of them is from low to high, one of them isn't
+not_within : (low high : ℤ) (vs : Values) (v : ℤ) → is_none_left (values_within low high vs) ≡ true → has_value vs v ≡ true → is_within low high v ≡ false
+not_within low high [] v h e = cc
+not_within low high (u ∷ vs) v h e = by (is_within low high u) refl (int_eq v u) refl h e (not_within low high vs v)
+  where
+    by : (b : Bool) → is_within low high u ≡ b → (c : Bool) → int_eq v u ≡ c → is_none_left (cond b (u ∷ values_within low high vs) (values_within low high vs)) ≡ true → (c || has_value vs v) ≡ true →
+        (is_none_left (values_within low high vs) ≡ true → has_value vs v ≡ true → is_within low high v ≡ false) → is_within low high v ≡ false
+    by true p c q h e rest = cc
+    by false p true q h e rest = ap (is_within low high) ((Decides-int_eq v u).0 q) ∙ p
+    by false p false q h e rest = rest h e
+
+-- what is kept outside is outside, and one of the values
+outside_is : (low high : ℤ) (vs : Values) (v : ℤ) → has_value (values_outside low high vs) v ≡ true → (is_within low high v ≡ false) × (has_value vs v ≡ true)
+outside_is low high [] v e = cc
+outside_is low high (u ∷ vs) v e = by (is_within low high u) refl (int_eq v u) refl e (outside_is low high vs v)
+  where
+    by : (b : Bool) → is_within low high u ≡ b → (c : Bool) → int_eq v u ≡ c → has_value (cond (not b) (u ∷ values_outside low high vs) (values_outside low high vs)) v ≡ true →
+        (has_value (values_outside low high vs) v ≡ true → (is_within low high v ≡ false) × (has_value vs v ≡ true)) → (is_within low high v ≡ false) × ((c || has_value vs v) ≡ true)
+    by true p true q e rest = let r = rest e in (r.0, refl)
+    by true p false q e rest = rest e
+    by false p true q e rest = (ap (is_within low high) ((Decides-int_eq v u).0 q) ∙ p, refl)
+    by false p false q e rest = rest (sym (ap (λ b. b || has_value (values_outside low high vs) v) q) ∙ e)
+
+-- the best of the values from low to high is one of these
+least_is : (p : ℤ → Bool) (v : ℤ) (vs : Values) → p v ≡ true → list_all p vs ≡ true → p (least_from v vs) ≡ true
+least_is p v [] h k = h
+least_is p v (u ∷ vs) h k = let r = both (p u) (list_all p vs) k in least_is p (cond (int_lt u v) u v) vs (by (int_lt u v) r.0) r.1
+  where
+    by : (b : Bool) → p u ≡ true → p (cond b u v) ≡ true
+    by true q = q
+    by false q = h
+
+greatest_is : (p : ℤ → Bool) (v : ℤ) (vs : Values) → p v ≡ true → list_all p vs ≡ true → p (greatest_from v vs) ≡ true
+greatest_is p v [] h k = h
+greatest_is p v (u ∷ vs) h k = let r = both (p u) (list_all p vs) k in greatest_is p (cond (int_lt v u) u v) vs (by (int_lt v u) r.0) r.1
+  where
+    by : (b : Bool) → p u ≡ true → p (cond b u v) ≡ true
+    by true q = q
+    by false q = h
+
+best_is : (p : ℤ → Bool) (s : Sense) (vs : Values) → is_none_left vs ≡ false → list_all p vs ≡ true → p (best_value s vs) ≡ true
+best_is p s [] h k = cc
+best_is p Min (v ∷ vs) h k = let r = both (p v) (list_all p vs) k in least_is p v vs r.0 r.1
+best_is p Max (v ∷ vs) h k = let r = both (p v) (list_all p vs) k in greatest_is p v vs r.0 r.1
+
+-- a test of the values holds of those of them that pass another
+all_filter : (p q : ℤ → Bool) (vs : Values) → list_all p vs ≡ true → list_all (λ v. p v && q v) (filter q vs) ≡ true
+all_filter p q [] h = refl
+all_filter p q (v ∷ vs) h = let r = both (p v) (list_all p vs) h in by (q v) refl r.0 (all_filter p q vs r.1)
+  where
+    by : (b : Bool) → q v ≡ b → p v ≡ true → list_all (λ v. p v && q v) (filter q vs) ≡ true → list_all (λ v. p v && q v) (cond b (v ∷ filter q vs) (filter q vs)) ≡ true
+    by true e h rest = two (p v && q v) _ (two (p v) (q v) h e) rest
+    by false e h rest = rest
+
+-- ---- a smaller box keeps no worse values
+smaller_values : (p : ℤ → Bool) (small box : Box) (x : ℕ) → is_sub_box small box ≡ true → list_all p (values_left box x) ≡ true → list_all p (values_left small x) ≡ true
+smaller_values p [] [] x e h = h
+smaller_values p [] (d ∷ box) x e h = cc
+smaller_values p (c ∷ small) [] x e h = cc
+smaller_values p (c ∷ small) (d ∷ box) zero e h =
+    let r = both (is_ascending c && list_all (has_value d) c) (is_sub_box small box) e in
+    let q = both (is_ascending c) (list_all (has_value d) c) r.0 in
+    each c q.1
+  where
+    each : (vs : Values) → list_all (has_value d) vs ≡ true → list_all p vs ≡ true
+    each [] k = refl
+    each (v ∷ vs) k = let r = both (has_value d v) (list_all (has_value d) vs) k in two (p v) (list_all p vs) (one_of p d v h r.0) (each vs r.1)
+smaller_values p (c ∷ small) (d ∷ box) (suc x) e h =
+    let r = both (is_ascending c && list_all (has_value d) c) (is_sub_box small box) e in
+    smaller_values p small box x r.1 h
+
+smaller_no_worse : (t : Option Tracked) (ns : List ℤ) (small box : Box) → is_sub_box small box ≡ true → has_no_worse t ns box ≡ true → has_no_worse t ns small ≡ true
+smaller_no_worse None ns small box e h = refl
+smaller_no_worse (Some t) ns small box e h = smaller_values (λ v. list_all (λ n. not (is_better t.sense n v)) ns) small box t.variable e h
+
+read_set : (box : Box) (x : ℕ) (vs : Values) → x < length box → values_left (set box x vs) x ≡ vs
+read_set [] x vs h = absurd (omega arith)
+read_set (d ∷ box) zero vs h = refl
+read_set (d ∷ box) (suc x) vs h = read_set box x vs (omega arith)
+
+-- ---- what is given up
+module _ (g : Game) (i : ℕ) (box : Box) (joins : Joins) (before : List Seen) (numbers : (x : ℕ) → list_all is_number (values_left box x) ≡ true) (stands : StandsAt joins i before) where
+  -- nothing, since nothing is worse
+  pub nothing_lost : NoneWorse g i joins → (steps : List Step) → steps ≡ [] → NarrowTold g i box box before joins steps
+  nothing_lost none steps e = record {
+    ms = [];
+    stepped = record {
+      reached = ap (λ ss. after_steps ss box) (sym e);
+      stepped = subst (λ (ss : List Step). StepsMade g (drop i g.scopes) i (demands g i) box [] ss) (sym e) (record { legal = refl; marked = refl; fits = refl });
+      beaten = refl;
+      one = sizes_none 1;
+      worse = by (tracked_at g i) refl;
+    };
+    stands = subst (StandsAt joins i) (sym (append-nil before)) stands;
+  }
+    where
+      by : (t : Option Tracked) → tracked_at g i ≡ t → has_no_worse t (firsts before) box ≡ true
+      by None e = refl
+      by (Some t) e = all_no_worse joins i t.sense before (values_left box t.variable) stands (λ v h. none t e v (one_of is_number (values_left box t.variable) v (numbers t.variable) h))
+
+  module _ (w : Worse) (m : IsWorse g i joins w) where
+    -- nothing, since no worse value is left
+    pub none_lost : (left : Box) (steps : List Step) → IsUnbounded w.variable w.lo w.hi box left [] steps → NarrowTold g i box left before joins steps
+    none_lost left steps u =
+        let vs = values_left box w.variable.0 in
+        let each = all_no_worse joins i w.sense before vs stands (λ v h. m.stays v (one_of is_number vs v (numbers w.variable.0) h) (not_within w.lo w.hi vs v u.none h)) in
+        let worse : has_no_worse (tracked_at g i) (firsts before) box ≡ true = ap (λ (t : Option Tracked). has_no_worse t (firsts before) box) m.tracked ∙ each in
+        record {
+          ms = [];
+          stepped = record {
+            reached = u.reached ∙ ap (λ ss. after_steps ss box) (sym u.appended);
+            stepped = subst (λ (ss : List Step). StepsMade g (drop i g.scopes) i (demands g i) box [] ss) (sym u.appended) (record { legal = refl; marked = refl; fits = refl });
+            beaten = refl;
+            one = sizes_none 1;
+            worse = subst (λ (b : Box). has_no_worse (tracked_at g i) (firsts before) b ≡ true) (sym u.reached) worse;
+          };
+          stands = subst (StandsAt joins i) (sym (append-nil before)) stands;
+        }
+
+    some_within : (left : Box) (steps : List Step) (b : Bounded) → IsBounded w.sense w.variable w.lo w.hi box left [] steps b → is_none_left (values_within w.lo w.hi (values_left box w.variable.0)) ≡ false
+    some_within left steps b u = unnot _ (both _ _ (both _ _ (both _ _ (u.placed g (drop i g.scopes) i (demands g i) m.tracked)).0).0).1
+      where
+        unnot : (b : Bool) → not b ≡ true → b ≡ false
+        unnot true e = cc
+        unnot false e = refl
+
+    -- the mark is one of the values that went
+    pub mark_is : (left : Box) (steps : List Step) (b : Bounded) → IsBounded w.sense w.variable w.lo w.hi box left [] steps b → (is_number b.best ≡ true) × (is_within w.lo w.hi b.best ≡ true)
+    mark_is left steps b u =
+        let vs = values_left box w.variable.0 in
+        let p : (ℤ → Bool) = λ v. is_number v && is_within w.lo w.hi v in
+        both _ _ (ap p u.best ∙ best_is p w.sense (values_within w.lo w.hi vs) (some_within left steps b u) (all_filter is_number (is_within w.lo w.hi) vs (numbers w.variable.0)))
+
+    -- the values from lo to hi
+    pub some_lost : (left : Box) (steps : List Step) (b : Bounded) (told : Joins) (mark : ℤ) → w.variable.0 < length box → IsBounded w.sense w.variable w.lo w.hi box left [] steps b → mark ≡ b.best → StandsAt told i (before ++ seen_bound mark ∷ []) → NarrowTold g i box left before told steps
+    some_lost left steps b told mark inside u same added =
+        let vs = values_left box w.variable.0 in
+        let bound = Bound w.variable w.lo w.hi in
+        let k = mark_is left steps b u in
+        let one : steps ≡ bound ∷ [] = u.appended in
+        let reached : left ≡ after_steps steps box = u.reached ∙ ap (λ ss. after_steps ss box) (sym one) in
+        let kept : values_left left w.variable.0 ≡ values_outside w.lo w.hi vs = ap (λ (d : Box). values_left d w.variable.0) u.reached ∙ read_set box w.variable.0 (values_outside w.lo w.hi vs) inside in
+        let each = all_no_worse joins i w.sense before (values_left left w.variable.0) stands
+        (λ v h. let o = outside_is w.lo w.hi vs v (subst (λ us. has_value us v ≡ true) kept h) in m.stays v (one_of is_number vs v (numbers w.variable.0) o.1) o.0) in
+        record {
+          ms = b.best ∷ [];
+          stepped = record {
+            reached = reached;
+            stepped = subst (λ (ss : List Step). StepsMade g (drop i g.scopes) i (demands g i) box (b.best ∷ []) ss) (sym one) (record {
+              legal = u.placed g (drop i g.scopes) i (demands g i) m.tracked;
+              marked = sym (ap (λ (t : Option Tracked). step_marks t (bound ∷ []) box) m.tracked ∙ u.marked);
+              fits = two _ _ u.fits refl;
+            });
+            beaten = two _ _ (m.goes b.best before k.0 k.1 stands) refl;
+            one = sizes_bound 0 [] b.best (sizes_none 0) (small b.best k.0);
+            worse = ap (λ (t : Option Tracked). has_no_worse t (firsts before) left) m.tracked ∙ each;
+          };
+          stands = subst (λ n. StandsAt told i (before ++ seen_bound n ∷ [])) same added;
+        }
+      where
+        small : (v : ℤ) → is_number v ≡ true → unsigned_abs v ≤ 1000000000
+        small v e = grind (arith, nat_tests)
+
+-- ---- closing after it
+pub closed_told : (g : Game) (i : ℕ) (box mid left : Box) (before : List Seen) (joins : Joins) (given steps : List Step) → NarrowTold g i box mid before joins given → IsPruned g i mid left given steps → is_sub_box left mid ≡ true → NarrowTold g i box left before joins steps
+closed_told g i box mid left before joins given steps n p fewer =
+    let later = drop i g.scopes in
+    let d = demands g i in
+    let s = n.stepped in
+    let legal = subst (λ (b : Box). steps_in_place g later i d p.more b ≡ true) s.reached (p.placed d) in
+    let unmarked = subst (λ (b : Box). step_marks (tracked_variable g later i (list_after g later d)) p.more b ≡ []) s.reached (p.unmarked (tracked_variable g later i (list_after g later d))) in
+    record {
+      ms = n.ms;
+      stepped = record {
+        reached = p.reached ∙ (ap (after_steps p.more) s.reached ∙ (sym (steps_reach given p.more box) ∙ ap (λ ss. after_steps ss box) (sym p.appended)));
+        stepped = subst (λ (ss : List Step). StepsMade g later i d box n.ms ss) (sym p.appended) (more_steps_made g later i d box n.ms given p.more s.stepped legal unmarked p.fits);
+        beaten = s.beaten;
+        one = s.one;
+        worse = smaller_no_worse (tracked_at g i) (firsts before) left mid fewer s.worse;
+      };
+      stands = n.stands;
+    }
+
+-- ---- the part that follows may begin
+pub ready_after : (g : Game) (i : ℕ) (box left_box : Box) (first joins : Joins) (left : ℕ) (before : List Seen) (steps : List Step) → (n : NarrowTold g i box left_box before joins steps) → IsReady g i first (2 + 2 * left) before → IsReady g i joins (suc (2 * left)) (before ++ seen_bounds n.ms)
+ready_after g i box left_box first joins left before steps n r = record {
+  stands = n.stands;
+  unsettled = settled_here g i (before ++ seen_bounds n.ms) ∙ (settled-append later list before (seen_bounds n.ms) ∙ or_none _ _ (sym (settled_here g i before) ∙ r.unsettled) none);
+  size = r.size + 1;
+  sizes = sizes_both r.size 1 before (seen_bounds n.ms) r.sizes n.stepped.one;
+  room = omega (arith, r.room);
+}
+  where
+    later : List Scope
+    later = drop i g.scopes
+
+    list : List Condition
+    list = list_after g later (demands g i)
+
+    none : is_settled later list (seen_bounds n.ms) ≡ false
+    none = ap (is_settled later list) (sym (append-nil (seen_bounds n.ms))) ∙ some_marks (settles later list) n.ms []
+
+-- ---- what bounding answers
+module _ (g : Game) (i : ℕ) (box left : Box) (joins : Joins) (before : List Seen) (numbers : (x : ℕ) → list_all is_number (values_left box x) ≡ true) (stands : StandsAt joins i before) (w : Worse) (m : IsWorse g i joins w) (low high : ℤ) (l : low ≡ w.lo) (h : high ≡ w.hi) (old new : List Step) (o : old ≡ []) where
+  at_ends : (r : Option Bounded) → BoundAnswers w.sense w.variable low high box left old new r → BoundAnswers w.sense w.variable w.lo w.hi box left [] new r
+  at_ends r a =
+      subst (λ (ss : List Step). BoundAnswers w.sense w.variable w.lo w.hi box left ss new r) o
+      (subst (λ n. BoundAnswers w.sense w.variable w.lo n box left old new r) h (subst (λ n. BoundAnswers w.sense w.variable n high box left old new r) l a))
+
+  pub bound_none : (r : Option Bounded) → r ≡ None → BoundAnswers w.sense w.variable low high box left old new r → NarrowTold g i box left before joins new
+  bound_none r e a = none_lost g i box joins before numbers stands w m left new (subst (BoundAnswers w.sense w.variable w.lo w.hi box left [] new) e (at_ends r a))
+
+  pub bound_some : (r : Option Bounded) (b : Bounded) (told : Joins) (mark : ℤ) → r ≡ Some b → BoundAnswers w.sense w.variable low high box left old new r → w.variable.0 < length box → (is_number b.best ≡ true → mark ≡ b.best) → StandsAt told i (before ++ seen_bound mark ∷ []) →
+      NarrowTold g i box left before told new
+  bound_some r b told mark e a inside same added =
+      let u = subst (BoundAnswers w.sense w.variable w.lo w.hi box left [] new) e (at_ends r a) in
+      some_lost g i box joins before numbers stands w m left new b told mark inside u (same (mark_is g i box joins before numbers stands w m left new b u).0) added
+
+pub on_ok : {P : Type 0} (r : Result Closed AllocError) → P → OnOk r P
+on_ok (Ok a) p = p
+on_ok (Err e) p = tt

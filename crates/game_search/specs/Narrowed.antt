@@ -1,0 +1,30 @@
+-- What a case that is taken does to the box, before its own part begins.
+use Rattle.std.specs.Prelude.{◌≡◌, ℕ, List, ◌++◌, ℤ, IsTrue, IsFalse}
+use Rattle.qc_model.specs.Content.{Game}
+use Rattle.qc_model.specs.Domains.{Values, Box, has_empty}
+use Rattle.qc_model.specs.Verdict.{Seen}
+use Rattle.proof_tree.specs.Cover.{box_to}
+use Rattle.proof_tree.specs.declared.tree.Step.{Step}
+use Rattle.qc_joins.specs.Joins.{StandsAt}
+use Rattle.qc_joins.specs.declared.joins.Joins.{Joins}
+use Rattle.game_search.specs.Beaten.{seen_bounds}
+use Rattle.game_search.specs.Told.{StepsTold}
+use Rattle.game_search.specs.declared.narrowing.GivenUp.{GivenUp}
+use Rattle.game_search.specs.declared.narrowing.GivenUp.TheVariants.{Nothing, Values as SomeValues, All}
+
+-- the steps lead from the box to what is left, and the join was told of their marks
+pub record NarrowTold (g : Game) (i : ℕ) (box left : Box) (before : List Seen) (joins : Joins) (steps : List Step) : Type 0 where
+  pub ms : List ℤ
+  pub stepped : StepsTold g i box left before ms steps
+  pub stands : StandsAt joins i (before ++ seen_bounds ms)
+
+-- some values of the variable went, and no domain is empty
+pub record HasLost (x : ℕ) (old new : Box) : Type 0 where
+  pub kept : Values
+  pub is_new : new ≡ box_to old x kept
+  pub full : IsFalse (has_empty new)
+
+abbrev pub IsGivenUp : GivenUp → Box → Box → Type 0
+IsGivenUp Nothing old new = new ≡ old
+IsGivenUp (SomeValues x) old new = HasLost x.0 old new
+IsGivenUp All old new = IsTrue (has_empty new)

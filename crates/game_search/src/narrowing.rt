@@ -1,0 +1,92 @@
+//! A case that is taken: its variable takes the value, what the incumbent rules out is given up, and the box is closed.
+ghost use Rattle.std.specs.Prelude.{◌≡◌, ◌<◌, ◌+◌, ◌∷◌, [], List, length, IfOk, OnOk, IsTrue};
+ghost use Rattle.qc_model.specs.Domains.{has_value, values_left};
+ghost use Rattle.qc_model.specs.Verdict.{Seen};
+ghost use Rattle.proof_tree.specs.Cover.{box_to};
+ghost use Rattle.qc_joins.specs.Joins.{game_of, StandsAt, KeepsOthers};
+ghost use Rattle.search_box.specs.Boxed.{LeadsOn};
+ghost use Rattle.search_box.specs.Entered.{IsEntered};
+ghost use Rattle.game_search.specs.Going.{IsGoing, GoesOn};
+ghost use Rattle.game_search.specs.Narrowed.{NarrowTold, IsGivenUp};
+
+use crate::aim::worse_values;
+use crate::stage::Stage;
+use crate::walk::Walk;
+use proof_tree::StepList;
+use prop_engine::Closed;
+use qc_model::{ScopeId, VarId};
+use std::alloc::AllocError;
+
+/// Which values were given up.
+#[derive(Clone, Copy)]
+pub(crate) enum GivenUp {
+    Nothing,
+    /// Some of this variable's values.
+    Values(VarId),
+    /// All values that a variable had left.
+    All,
+}
+
+/// Gives up the values that the incumbent of the scope's own tree rules out, where there are such: a bound, of whose mark the
+/// scope's join is told.
+fn give_up(stage: &Stage, steps: &mut StepList, walk: &mut Walk) -> Result<GivenUp, AllocError>
+    requires here { IsEntered stage.now.level.now.problem.now stage.now.level.now.number walk.old.remains }
+    requires joins { game_of walk.old.joins ≡ stage.now.level.now.problem.now }
+    requires none { steps.old ≡ [] }
+    ensures lost { IfOk result (λ given. IsGivenUp given walk.old.remains.store.box walk.new.remains.store.box) }
+    ensures told { OnOk result ((before : List Seen) → StandsAt walk.old.joins stage.now.level.now.number before → NarrowTold stage.now.level.now.problem.now stage.now.level.now.number walk.old.remains.store.box walk.new.remains.store.box before walk.new.joins steps.new) }
+    ensures on { LeadsOn walk.old.remains walk.new.remains }
+    ensures game { game_of walk.new.joins ≡ game_of walk.old.joins }
+    ensures others { KeepsOthers stage.now.level.now.number walk.old.joins walk.new.joins }
+    ensures lines { walk.new.lines ≡ walk.old.lines }
+    ensures left { walk.new.left ≡ walk.old.left }
+{
+    stage.level.problem.known();
+    walk.remains.known();
+    let number = ScopeId(stage.level.number);
+    let Some(worse) = worse_values(stage.aim, &walk.joins, number) else {
+        return Ok(GivenUp::Nothing);
+    };
+    let bound = walk
+        .remains
+        .bound(worse.sense, worse.variable, worse.lo, worse.hi, steps)?;
+    let Some(bound) = bound else {
+        return Ok(GivenUp::Nothing);
+    };
+    walk.joins.add_bound(number, bound.best);
+    if bound.is_empty {
+        return Ok(GivenUp::All);
+    }
+    Ok(GivenUp::Values(worse.variable))
+}
+
+/// The next variable x takes the value, what is worse than the incumbent's is given up, and the box is closed.
+pub(crate) fn narrow(
+    stage: &Stage,
+    x: VarId,
+    value: i64,
+    steps: &mut StepList,
+    walk: &mut Walk,
+) -> Result<Closed, AllocError>
+    requires var { x.0 < stage.now.level.now.stop }
+    requires going { IsGoing stage.now.level.now.problem.now stage.now.level.now.number x.0 walk.old.remains }
+    requires value { IsTrue (has_value (values_left walk.old.remains.store.box x.0) value) }
+    requires joins { game_of walk.old.joins ≡ stage.now.level.now.problem.now }
+    requires none { steps.old ≡ [] }
+    ensures goes { IfOk result (λ closed. GoesOn closed stage.now.level.now.problem.now stage.now.level.now.number (x.0 + 1) walk.new.remains) }
+    ensures told { OnOk result ((before : List Seen) → StandsAt walk.old.joins stage.now.level.now.number before → NarrowTold stage.now.level.now.problem.now stage.now.level.now.number (box_to walk.old.remains.store.box x.0 (value ∷ [])) walk.new.remains.store.box before walk.new.joins steps.new) }
+    ensures on { LeadsOn walk.old.remains walk.new.remains }
+    ensures game { game_of walk.new.joins ≡ game_of walk.old.joins }
+    ensures others { KeepsOthers stage.now.level.now.number walk.old.joins walk.new.joins }
+    ensures lines { walk.new.lines ≡ walk.old.lines }
+    ensures left { walk.new.left ≡ walk.old.left }
+{
+    stage.level.problem.known();
+    walk.remains.known();
+    walk.remains.take(x, value)?;
+    match give_up(stage, steps, walk)? {
+        GivenUp::All => Ok(Closed::Empty),
+        GivenUp::Nothing => walk.remains.close_after(stage.level, &[x], steps),
+        GivenUp::Values(y) => walk.remains.close_after(stage.level, &[y, x], steps),
+    }
+}
