@@ -28,9 +28,10 @@ expected. The script's status is 1 where something is WRONG or UNCHECKED.
 --model    runs another solver with the same words for its file and its turns beside the program: once with switches for
            an ascending search without advice, once without switches; the factors are the program's time by its own
 
-Less memory than this script's own, some 15 MB, can't be told.
+Less memory than this script's own, some 20 MB, can't be told.
 """
 import argparse
+import multiprocessing
 import os
 import random
 import re
@@ -197,7 +198,8 @@ def changes(result, earlier):
 
 def beside_model(result):
     pairs = (("plain", result.plain), ("all", result.model))
-    return [f"{shown('{:.1f}', factor(result.solve, seconds))} times the model ({which})" for which, seconds in pairs]
+    at_least = "" if result.is_settled() else "over "
+    return [f"{at_least}{shown('{:.1f}', factor(result.solve, seconds))} times the model ({which})" for which, seconds in pairs]
 
 
 LINE = "{:24} {:9} {:9} {:>8} s {:>8} s {:>9} turns {:>10} lines {:>11} bytes {:>5} MB {:>4} MB  {}"
@@ -210,11 +212,18 @@ def line_of(result, notes):
 
 
 def rungs(options):
-    """The problems of the families that are asked for. Each family has its own source of chance."""
-    for family, problems in FAMILIES.items():
+    """The problems of the families that are asked for. Each family has its own source of chance, and is made in a process
+    of its own, so that this one stays small."""
+    for family in FAMILIES:
         if options.only in (None, family):
-            for name, text, known, *hard in problems(random.Random(f"{options.seed} {family}")):
+            with multiprocessing.Pool(1) as pool:
+                problems = pool.apply(problems_of, (family, options.seed))
+            for name, text, known, *hard in problems:
                 yield family, name, text, known, bool(hard)
+
+
+def problems_of(family, seed):
+    return list(FAMILIES[family](random.Random(f"{seed} {family}")))
 
 
 def climb(options, folder):
@@ -251,7 +260,7 @@ def main():
     parser.add_argument("--only", choices=FAMILIES, metavar="FAMILY")
     parser.add_argument("--seed", type=int, default=1)
     parser.add_argument("--program", default=PROGRAM)
-    parser.add_argument("--seconds", type=int, default=30)
+    parser.add_argument("--seconds", type=int, default=20)
     parser.add_argument("--texts", metavar="FOLDER")
     parser.add_argument("--save", metavar="FILE")
     parser.add_argument("--compare", metavar="FILE")

@@ -9,7 +9,7 @@ from functools import cache
 from itertools import combinations, permutations, product
 
 HARD = True
-GOLOMB = {4: 6, 5: 11, 6: 17, 7: 25, 8: 34}  # the least length of a Golomb ruler with so many marks
+GOLOMB = {4: 6, 5: 11, 6: 17, 7: 25, 8: 34, 9: 44}  # the least length of a Golomb ruler with so many marks
 
 
 # ---- How texts are written.
@@ -52,7 +52,7 @@ def true_where(holds):
 
 
 def pricing(pick):
-    for tolls, most, customers in (2, 20, 4), (3, 10, 3), (3, 15, 5), (4, 8, 6), (4, 10, 10):
+    for tolls, most, customers in (3, 10, 3), (3, 15, 5), (3, 25, 6), (4, 8, 6), (4, 10, 10):
         base = [[*(pick.randint(1, 9) for _ in range(tolls)), pick.randint(7, 14)] for _ in range(customers)]
         cars = [pick.randint(1, 3) for _ in range(customers)]
         known = f"true {best_income(base, cars, most)}"
@@ -93,7 +93,7 @@ def pricing_text(base, cars, most):
 
 
 def interdiction(pick):
-    for layers, height, cuts, *hard in (3, 4, 2), (4, 4, 2), (4, 4, 3, HARD):
+    for layers, height, cuts, *hard in (3, 4, 2), (4, 4, 2), (4, 5, 3, HARD):
         net = Layers(pick, layers, height)
         known = max(way for way in net.shortest_ways(cuts) if way is not None)
         yield f"shortest way {layers}-{height}-{cuts}", net.way_text(cuts), f"true {known}", *hard
@@ -101,7 +101,7 @@ def interdiction(pick):
     longest = max(net.shortest_ways(2))
     yield "all ways long 4-4-2", net.every_way_text(2, longest), "true"
     yield "all ways longer 4-4-2", net.every_way_text(2, longest + 1), "false"
-    for first, second, cuts in (3, 3, 2), (3, 4, 2):
+    for first, second, cuts in (3, 4, 2), (4, 4, 2):
         links = [(1, 2 + j) for j in range(first)] + [(2 + j, 2 + first + k) for j in range(first) for k in range(second)]
         links += [(2 + first + k, 2 + first + second) for k in range(second)]
         room = [pick.randint(1, 4) for _ in links]
@@ -204,7 +204,7 @@ def flow_text(links, room, cuts):
 
 
 def shop(pick):
-    for jobs, delays, *hard in (4, 2), (5, 1), (5, 3), (6, 2), (7, 3, HARD):
+    for jobs, delays, *hard in (5, 3), (6, 1), (6, 2), (7, 1), (8, 2, HARD):
         first, second = ([pick.randint(1, 6) for _ in range(jobs)] for _ in range(2))
         late = pick.randint(2, 4)
         orders = permutations(range(jobs))
@@ -248,7 +248,7 @@ def shop_text(first, second, late, delays):
 
 
 def knapsack(pick):
-    for items, gone, *hard in (10, 2), (12, 2), (14, 2), (16, 3, HARD):
+    for items, gone, *hard in (12, 2), (14, 2), (16, 2), (16, 3, HARD):
         weights, values = ([pick.randint(3, 15) for _ in range(items)] for _ in range(2))
         room = sum(weights) // 2
         filled = lambda forbidden: fullest([k for k in range(items) if k not in forbidden], weights, values, room)
@@ -295,12 +295,12 @@ def robbed_text(weights, values, room, gone):
 
 
 def nim(pick):
-    for heaps, *hard in ((3, 4, 5),), ((3, 5, 6),), ((5, 6, 7),):
+    for heaps in (3, 5, 6), (5, 6, 7):
         xor = 0
         for heap in heaps:
             xor ^= heap
-        yield "nim " + "-".join(map(str, heaps)), nim_text(heaps), true_where(xor), *hard
-    for counters, *hard in (25,), (28,), (34, HARD):
+        yield "nim " + "-".join(map(str, heaps)), nim_text(heaps), true_where(xor)
+    for counters, *hard in (25,), (28,), (40, HARD):
         yield f"Fibonacci nim {counters}", fibonacci_text(counters), true_where(counters not in fibonacci(counters)), *hard
 
 
@@ -346,21 +346,22 @@ def fibonacci_text(counters):
 
 
 def boards(pick):
-    for rows, columns, *hard in (4, 4), (4, 5, HARD):
+    for rows, columns in (4, 4), (4, 5):
         places = dominoes(rows, columns)
         both = (places[True] + places[False],) * 2
-        yield f"cram {rows}x{columns}", dominoes_text(rows * columns, both), true_where(moves_on(both)), *hard
+        yield f"cram {rows}x{columns}", dominoes_text(rows * columns, both), true_where(moves_on(both))
         sides = places[True], places[False]
         yield f"domineering {rows}x{columns}", dominoes_text(rows * columns, sides), true_where(moves_on(sides))
-    for nodes in (18,):
+    for nodes in 18, 20:
         near = [{k} | {j for j in range(nodes) if (j - k) % nodes in (1, nodes - 1)} for k in range(nodes)]
         for _ in range(2):
             a, b = pick.sample(range(nodes), 2)
             near[a].add(b)
             near[b].add(a)
         yield f"kayles {nodes}", kayles_text(near), true_where(kayles_won(near))
-    for moves in (4,):
-        yield f"three in a row {moves}", row_text(moves), true_where(row_won(moves))
+    for side, moves in (4, 3), (4, 4):
+        rows = rows_of_three(side)
+        yield f"three in a row {side}x{side} {moves}", row_text(side, rows, moves), true_where(row_won(side, rows, moves))
 
 
 def dominoes(rows, columns):
@@ -412,17 +413,22 @@ def kayles_text(near):
     return game(*scopes, LOST)
 
 
-ROWS = [(1, 2, 3), (4, 5, 6), (7, 8, 9), (1, 4, 7), (2, 5, 8), (3, 6, 9), (1, 5, 9), (3, 5, 7)]
+def rows_of_three(side):
+    """Three cells beside one another: across, down, and in both slants."""
+    inside = lambda r, c: 0 <= r < side and 0 <= c < side
+    rows = ([(r + k * down, c + k * right) for k in range(3)] for r, c in product(range(side), repeat=2)
+            for down, right in ((0, 1), (1, 0), (1, 1), (1, -1)))  # fmt: skip
+    return [tuple(r * side + c + 1 for r, c in row) for row in rows if all(inside(*cell) for cell in row)]
 
 
-def row_won(moves):
-    """Whether who begins has three in a row on nine cells after so many own moves, whatever the other takes."""
+def row_won(side, rows, moves):
+    """Whether who begins has a row after so many own moves, whatever the other takes in between."""
 
     @cache
     def won(mine, yours):
         if len(mine) == moves:
-            return any(set(row) <= mine for row in ROWS)
-        free = set(range(1, 10)) - mine - yours
+            return any(set(row) <= mine for row in rows)
+        free = set(range(1, side * side + 1)) - mine - yours
         if len(mine) > len(yours):
             return all(won(mine, yours | {cell}) for cell in free)
         return any(won(mine | {cell}, yours) for cell in free)
@@ -430,16 +436,17 @@ def row_won(moves):
     return won(frozenset(), frozenset())
 
 
-def row_text(moves):
+def row_text(side, rows, moves):
+    """In the end a row is shown, and which move took each part of it."""
     taken = names("cell", 2 * moves - 1)
-    scopes = []
+    scopes, cells = [], f"1..{side * side}"
     for k, cell in enumerate(taken, 1):
-        scopes.append([owner(k), declared("1..9", cell), rules(f"all_different_int({listed(taken[:k])})")])
+        scopes.append([owner(k), declared(cells, cell), rules(f"all_different_int({listed(taken[:k])})")])
     kept = []
     for end in range(3):
-        kept.append(f"array_int_element(row,{listed(row[end] for row in ROWS)},part{end})")
+        kept.append(f"array_int_element(row,{listed(row[end] for row in rows)},part{end})")
         kept.append(f"array_var_int_element(move{end},{listed(taken[::2])},part{end})")
-    parts = declared("1..8", "row") + declared("1..9", "part0", "part1", "part2")
+    parts = declared(f"1..{len(rows)}", "row") + declared(cells, "part0", "part1", "part2")
     parts += declared(f"1..{moves}", "move0", "move1", "move2")
     return game(*scopes, ["exists", parts, rules(*kept)], ["goal"])
 
@@ -448,13 +455,14 @@ def row_text(moves):
 
 
 def formulas(pick):
-    for sizes, clauses in (
-        ((14, 8), 12),
+    for sizes, clauses, *hard in (
         ((16, 6), 8),
-        ((18, 4), 8),
-        ((14, 3, 5), 60),
-        ((10, 5, 7), 55),
-        ((6, 6, 6, 4), 24),
+        ((20, 4), 8),
+        ((22, 3), 6, HARD),
+        ((16, 3, 5), 60),
+        ((12, 7, 5), 55),
+        ((8, 6, 8, 2), 12),
+        ((5, 7, 5, 6, 2), 16),
     ):
         blocks, last = [], 0
         for k, size in enumerate(sizes):
@@ -463,7 +471,7 @@ def formulas(pick):
             last += size
         chosen = [random_clause(pick, blocks) for _ in range(clauses)]
         known = true_where(is_true(blocks, chosen))
-        yield "formula " + "-".join(map(str, sizes)), formula_text(blocks, chosen), known
+        yield "formula " + "-".join(map(str, sizes)), formula_text(blocks, chosen), known, *hard
 
 
 def random_clause(pick, blocks):
@@ -509,11 +517,11 @@ def formula_text(blocks, clauses):
 
 
 def puzzles(pick):
-    for queens, *hard in (18,), (20,), (24, HARD):
+    for queens, *hard in (18,), (20,), (24,), (30, HARD):
         yield f"queens {queens}", queens_text(queens), true_where(queens > 3), *hard
-    for marks, most, *hard in (6, 30), (7, 35), (8, 45, HARD):
+    for marks, most, *hard in (6, 30), (7, 35), (8, 45), (9, 60, HARD):
         yield f"Golomb ruler {marks}", golomb_text(marks, most), f"true {GOLOMB[marks]}", *hard
-    for items, bins in (15, 4), (18, 4):
+    for items, bins in (15, 4), (16, 5), (18, 6):
         sizes = [pick.randint(5, 25) for _ in range(items)]
         while sum(sizes) % bins:
             sizes[-1] += 1
