@@ -199,7 +199,8 @@ def changes(result, earlier):
 def beside_model(result):
     pairs = (("plain", result.plain), ("all", result.model))
     at_least = "" if result.is_settled() else "over "
-    return [f"{at_least}{shown('{:.1f}', factor(result.solve, seconds))} times the model ({which})" for which, seconds in pairs]
+    factors = ((which, factor(result.solve, seconds)) for which, seconds in pairs)
+    return [f"{at_least}{by:.1f} times the model ({which})" if by else f"no model ({which})" for which, by in factors]
 
 
 LINE = "{:24} {:9} {:9} {:>8} s {:>8} s {:>9} turns {:>10} lines {:>11} bytes {:>5} MB {:>4} MB  {}"
@@ -250,7 +251,8 @@ def climb(options, folder):
 
 def save(path, results, seed):
     with open(path, "w", encoding="utf-8") as file:
-        file.write(f"# seed {seed}, {TURNS} turns; seconds are the processor's, memory is in MB\n# " + "\t".join(Result.head()) + "\n")
+        file.write(f"# seed {seed}, {TURNS} turns; seconds are the processor's, memory is in MB\n")
+        file.write("# " + "\t".join(Result.head()) + "\n")
         file.writelines("\t".join(result.cells()) + "\n" for result in results)
 
 

@@ -36,6 +36,11 @@ TOLLS = "examples/tolls.qc"
 KIT_TURNS = "2000"
 
 
+def write(path, content):
+    with open(path, "wb") as file:
+        file.write(content)
+
+
 class Built:
     """Runs of the built program under the refusing library."""
 
@@ -86,12 +91,10 @@ def tried(options, built, words):
 
 def try_built(options, folder):
     small, certificate = os.path.join(folder, "small.qc"), os.path.join(folder, "tolls.cert")
-    with open(small, "w", encoding="utf-8") as file:
-        file.write(SMALL)
+    write(small, SMALL.encode())
     built = Built(options.program, folder, options.on)
     solved, wrong = tried(options, built, ["solve", TOLLS])
-    with open(certificate, "wb") as file:
-        file.write(solved)
+    write(certificate, solved)
     for words in ["check", TOLLS, certificate], ["print", small]:
         wrong += tried(options, built, words)[1]
     return wrong
@@ -108,16 +111,15 @@ def kit_answer(words, files, number):
 def try_kit(options, folder):
     """The same commands, each with the given numbers only."""
     certificate, small = os.path.join(folder, "tolls.cert"), os.path.join(folder, "small.qc")
-    with open(small, "w", encoding="utf-8") as file:
-        file.write(SMALL)
-    solve = ["solve", "tolls.qc", "--turns", KIT_TURNS]
-    files = {"tolls.qc": os.path.abspath(TOLLS), "small.qc": small}
-    wrong, usual = 0, kit_answer(solve, files, 0)
-    with open(certificate, "wb") as file:
-        file.write(usual[1])
-    files["tolls.cert"] = certificate
-    for words in solve, ["check", "tolls.qc", "tolls.cert"], ["print", "small.qc"]:
+    write(small, SMALL.encode())
+    write(certificate, b"")
+    files = {"tolls.qc": os.path.abspath(TOLLS), "small.qc": small, "tolls.cert": certificate}
+    wrong = 0
+    for words in ["solve", "tolls.qc", "--turns", KIT_TURNS], ["check", "tolls.qc", "tolls.cert"], ["print", "small.qc"]:
         usual = kit_answer(words, files, 0)
+        print(f"{words[0]:6} with none refused: status {usual[0]}, {len(usual[1])} bytes", flush=True)
+        if words[0] == "solve":
+            write(certificate, usual[1])
         for number in map(int, options.kit.split(",")):
             answer = kit_answer(words, files, number)
             if answer not in (usual, (REFUSED, b"")):

@@ -118,6 +118,12 @@ def without(items, gone):
     return [0 if k in gone else item for k, item in enumerate(items)]
 
 
+def shortest(reached, links):
+    """The least length over these links from nodes so far away; None stands for what isn't there."""
+    pairs = zip(reached, links)
+    return min((far + length for far, length in pairs if far is not None and length is not None), default=None)
+
+
 class Layers:
     """A source, layers of nodes with a link from each node to each of the next layer, and a sink."""
 
@@ -130,10 +136,11 @@ class Layers:
         """The length of the shortest way for each choice of links to remove; None where no way is left."""
         lengths = sum(self.lengths, [])
         for gone in some(self.count, cuts):
+            left = [None if k in gone else length for k, length in enumerate(lengths)]
             reached, first = [0], 0
             for a, b in zip(self.sizes, self.sizes[1:]):
-                step = lambda m, n: None if reached[m] is None or first + m * b + n in gone else reached[m] + lengths[first + m * b + n]
-                reached = [min((s for s in (step(m, n) for m in range(a)) if s is not None), default=None) for n in range(b)]
+                links = left[first : first + a * b]
+                reached = [shortest(reached, links[n::b]) for n in range(b)]
                 first += a * b
             yield reached[0]
 
@@ -352,13 +359,13 @@ def boards(pick):
         yield f"cram {rows}x{columns}", dominoes_text(rows * columns, both), true_where(moves_on(both))
         sides = places[True], places[False]
         yield f"domineering {rows}x{columns}", dominoes_text(rows * columns, sides), true_where(moves_on(sides))
-    for nodes in 18, 20:
+    for nodes, *hard in (18,), (20, HARD):
         near = [{k} | {j for j in range(nodes) if (j - k) % nodes in (1, nodes - 1)} for k in range(nodes)]
         for _ in range(2):
             a, b = pick.sample(range(nodes), 2)
             near[a].add(b)
             near[b].add(a)
-        yield f"kayles {nodes}", kayles_text(near), true_where(kayles_won(near))
+        yield f"kayles {nodes}", kayles_text(near), true_where(kayles_won(near)), *hard
     for side, moves in (4, 3), (4, 4):
         rows = rows_of_three(side)
         yield f"three in a row {side}x{side} {moves}", row_text(side, rows, moves), true_where(row_won(side, rows, moves))
