@@ -349,7 +349,7 @@ def fibonacci_text(counters):
     return game(*scopes, LOST)
 
 
-# ---- Boards: dominoes, kayles on a graph, three in a row against one who only hinders. Known by going over all positions.
+# ---- Boards: dominoes, kayles on a graph, three in line against one who only hinders. Known by going over all positions.
 
 
 def boards(pick):
@@ -368,7 +368,7 @@ def boards(pick):
         yield f"kayles {nodes}", kayles_text(near), true_where(kayles_won(near)), *hard
     for side, moves in (4, 3), (4, 4):
         rows = rows_of_three(side)
-        yield f"three in a row {side}x{side} {moves}", row_text(side, rows, moves), true_where(row_won(side, rows, moves))
+        yield f"three in line {side}x{side}-{moves}", row_text(side, rows, moves), true_where(row_won(side, rows, moves))
 
 
 def dominoes(rows, columns):
