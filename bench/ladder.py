@@ -1,5 +1,5 @@
 #!/usr/bin/env python3
-"""Measures the program on the ladder: some forty problems in eight families, each with its known answer (rungs.py).
+"""Measures the program on the ladder: 54 problems in eight families, each with its known answer (rungs.py).
 
     python3 bench/ladder.py [--list] [--only FAMILY] [--seed S] [--program PATH] [--seconds N] [--texts FOLDER]
                             [--save FILE] [--compare FILE] [--model PATH]
@@ -24,7 +24,7 @@ expected. The script's status is 1 where something is WRONG or UNCHECKED.
 --texts    keeps the problem texts there
 --save     writes the results, a line for each problem
 --compare  shows by which factor time and bytes have changed since the results of that file were saved, and marks with
-           `slower`, `faster`, `longer` and `shorter` what changed by more than a quarter, and each other outcome
+           SLOWER, FASTER, LONGER and SHORTER what changed by more than a quarter, and WAS where the outcome was another
 --model    runs another solver with the same words for its file and its turns beside the program: once with switches for
            an ascending search without advice, once without switches; the factors are the program's time by its own
 
