@@ -179,14 +179,14 @@ def factor(now, then):
 
 
 def changes(result, earlier):
-    """By which factors time and bytes have changed since an earlier result, and what of it is more than a quarter."""
+    """By which factors time and bytes of a settled problem have changed, and what of it is more than a quarter."""
     if earlier is None:
         return ["new"]
     told = []
     for key, more, less in ("solve", "slower", "faster"), ("check", "slower", "faster"), ("bytes", "longer", "shorter"):
         now, then = getattr(result, key), getattr(earlier, key)
         by = factor(now, then)
-        if by is None:
+        if by is None or not (result.is_settled() and earlier.is_settled()):
             continue
         big = key == "bytes" or max(now, then) > NOISE
         mark = (more if by > CHANGED else less if by < 1 / CHANGED else "") if big else ""
