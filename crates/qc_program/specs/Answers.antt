@@ -11,11 +11,13 @@ use Rattle.qc_syntax.specs.Reads.{Reads}
 use Rattle.qc_check.specs.Checking.{IsProof, IsNoProof}
 use Rattle.qc_program.specs.declared.status.Status.{Status}
 use Rattle.qc_program.specs.declared.status.Status.TheVariants.{Done, NotProved, Open, Usage, BadProblem, BadCertificate, Memory}
-use Rattle.qc_program.specs.Words.{Asked, solves, checks, prints, decides, rewrites}
+use Rattle.qc_program.specs.Words.{Asked, solves, checks, prints, decides, rewrites, makes, shows}
 use Rattle.qc_program.specs.Refusals.{IsRefused}
 use Rattle.qc_program.specs.Certifies.{Certifies}
 use Rattle.qc_program.specs.Files.{IsFile, TurnsFileDown}
 use Rattle.qc_program.specs.Formulas.{AnswersFormula, DecidesFormula, RewritesFormula}
+use Rattle.qc_program.specs.Summaries.{SummarisesProblem}
+use Rattle.qc_generated.specs.Pricing.{generated_game}
 
 -- what `solve` answers for a problem, and so many turns
 abbrev pub SolvesProblem : ℕ → Game → Status → List ℕ → Type 0
@@ -90,6 +92,8 @@ AnswersAsked (checks problem certificate) told gave status text =
     AnswersProblem (ChecksFile certificate (told certificate) gave) problem (told problem) gave status text
 AnswersAsked (decides name turns) told gave status text = AnswersFormula (DecidesFormula turns) name (told name) gave status text
 AnswersAsked (rewrites name) told gave status text = AnswersFormula RewritesFormula name (told name) gave status text
+AnswersAsked (makes n) told gave status text = SummarisesProblem (generated_game n) status text
+AnswersAsked (shows n) told gave status text = PrintsProblem (generated_game n) status text
 
 -- what is answered for the words; told gives the bytes of the names that are told
 abbrev pub Answers : Option Asked → (List ℕ → Option (List ℕ)) → (ℕ → Type 0) → Status → List ℕ → Type 0

@@ -6,5 +6,6 @@ pub mod Files
 pub mod Fed
 pub mod Formulas
 pub mod Refusals
+pub mod Summaries
 pub mod View
 pub mod Words

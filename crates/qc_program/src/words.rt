@@ -1,16 +1,20 @@
 //! The words of a command.
 ghost use Rattle.std.specs.Prelude.{◌≡◌, ◌≤◌, ◌<◌, length, map, Some, IfSome};
 ghost use Rattle.std.specs.Option.{option_map};
-ghost use Rattle.qc_program.specs.Words.{is_name as is_name_of, digits_after, is_short_numeral as is_short_numeral_of, solves_within, decides_within, turns_asked, asked_by_two, asked_by_three, asked_by_four, asked_of};
-ghost use Rattle.qc_program.specs.View.{asked, HasBudget};
+ghost use Rattle.qc_program.specs.Words.{is_name as is_name_of, digits_after, is_short_numeral as is_short_numeral_of, solves_within, decides_within, makes_from, shows_from, number_asked, turns_asked, made_from as made_from_word, asked_by_two, asked_by_three, asked_by_four, asked_of};
+ghost use Rattle.qc_program.specs.View.{asked, IsWithin};
 
 /// The most turns that a search may be given.
 const MOST_TURNS: u64 = 10_000_000;
 
 /// The turns that a search is given where the words name none.
-const USUAL_TURNS: u64 = 1_000_000;
+pub(crate) const USUAL_TURNS: u64 = 1_000_000;
 
-/// What the words ask for: names of files, and how many turns a search may take, 1 to 10,000,000.
+/// The greatest number that a problem is made from.
+const MOST_MADE: u64 = 1_000_000;
+
+/// What the words ask for: names of files, how many turns a search may take, 1 to 10,000,000, and the number that a
+/// problem is made from, 0 to 1,000,000.
 #[derive(Clone, Copy)]
 pub(crate) enum Command<'a> {
     Solve {
@@ -31,16 +35,22 @@ pub(crate) enum Command<'a> {
     Rewrite {
         formula: &'a str,
     },
+    Make {
+        number: u32,
+    },
+    Show {
+        number: u32,
+    },
 }
 
 /// What the words ask for, where they match the table.
 pub(crate) fn command_of<'a>(words: &[&'a str]) -> Option<Command<'a>>
     ensures asked { option_map asked result ≡ asked_of (map (λ w. w.now) words.now) }
-    ensures budget { IfSome result HasBudget }
+    ensures within { IfSome result IsWithin }
 {
     match words {
         [word, problem] => by_two(word, problem),
-        [word, problem, certificate] => by_three(word, problem, certificate),
+        [word, first, second] => by_three(word, first, second),
         [word, problem, flag, number] => by_four(word, problem, flag, number),
         _ => None,
     }
@@ -48,7 +58,7 @@ pub(crate) fn command_of<'a>(words: &[&'a str]) -> Option<Command<'a>>
 
 fn by_two<'a>(word: &str, problem: &'a str) -> Option<Command<'a>>
     ensures asked { option_map asked result ≡ asked_by_two word.now problem.now }
-    ensures budget { IfSome result HasBudget }
+    ensures within { IfSome result IsWithin }
 {
     if word == "solve" && is_name(problem) {
         return Some(Command::Solve {
@@ -65,28 +75,34 @@ fn by_two<'a>(word: &str, problem: &'a str) -> Option<Command<'a>>
             turns: USUAL_TURNS,
         });
     }
+    if word == "generate" {
+        return make_from(made_from(problem));
+    }
     None
 }
 
-fn by_three<'a>(word: &str, problem: &'a str, certificate: &'a str) -> Option<Command<'a>>
-    ensures asked { option_map asked result ≡ asked_by_three word.now problem.now certificate.now }
-    ensures budget { IfSome result HasBudget }
+fn by_three<'a>(word: &str, first: &'a str, second: &'a str) -> Option<Command<'a>>
+    ensures asked { option_map asked result ≡ asked_by_three word.now first.now second.now }
+    ensures within { IfSome result IsWithin }
 {
-    if word == "check" && is_name(problem) && is_name(certificate) {
+    if word == "check" && is_name(first) && is_name(second) {
         return Some(Command::Check {
-            problem,
-            certificate,
+            problem: first,
+            certificate: second,
         });
     }
-    if word == "qbf" && is_name(problem) && certificate == "--text" {
-        return Some(Command::Rewrite { formula: problem });
+    if word == "qbf" && is_name(first) && second == "--text" {
+        return Some(Command::Rewrite { formula: first });
+    }
+    if word == "generate" && second == "--text" {
+        return show_from(made_from(first));
     }
     None
 }
 
 fn by_four<'a>(word: &str, problem: &'a str, flag: &str, number: &str) -> Option<Command<'a>>
     ensures asked { option_map asked result ≡ asked_by_four word.now problem.now flag.now number.now }
-    ensures budget { IfSome result HasBudget }
+    ensures within { IfSome result IsWithin }
 {
     if word == "solve" && is_name(problem) && flag == "--turns" {
         return solve_within(problem, turns_in(number));
@@ -100,7 +116,7 @@ fn by_four<'a>(word: &str, problem: &'a str, flag: &str, number: &str) -> Option
 fn solve_within(problem: &str, turns: Option<u64>) -> Option<Command<'_>>
     requires { IfSome turns (λ n. (1 ≤ n) × (n ≤ 10000000)) }
     ensures asked { option_map asked result ≡ solves_within problem.now turns }
-    ensures budget { IfSome result HasBudget }
+    ensures within { IfSome result IsWithin }
 {
     match turns {
         Some(turns) => Some(Command::Solve { problem, turns }),
@@ -111,10 +127,32 @@ fn solve_within(problem: &str, turns: Option<u64>) -> Option<Command<'_>>
 fn decide_within(formula: &str, turns: Option<u64>) -> Option<Command<'_>>
     requires { IfSome turns (λ n. (1 ≤ n) × (n ≤ 10000000)) }
     ensures asked { option_map asked result ≡ decides_within formula.now turns }
-    ensures budget { IfSome result HasBudget }
+    ensures within { IfSome result IsWithin }
 {
     match turns {
         Some(turns) => Some(Command::Decide { formula, turns }),
+        None => None,
+    }
+}
+
+fn make_from<'a>(number: Option<u32>) -> Option<Command<'a>>
+    requires { IfSome number (λ n. n ≤ 1000000) }
+    ensures asked { option_map asked result ≡ makes_from number }
+    ensures within { IfSome result IsWithin }
+{
+    match number {
+        Some(number) => Some(Command::Make { number }),
+        None => None,
+    }
+}
+
+fn show_from<'a>(number: Option<u32>) -> Option<Command<'a>>
+    requires { IfSome number (λ n. n ≤ 1000000) }
+    ensures asked { option_map asked result ≡ shows_from number }
+    ensures within { IfSome result IsWithin }
+{
+    match number {
+        Some(number) => Some(Command::Show { number }),
         None => None,
     }
 }
@@ -134,12 +172,34 @@ fn turns_in(word: &str) -> Option<u64>
     ensures asked { result ≡ turns_asked word.now }
     ensures budget { IfSome result (λ n. (1 ≤ n) × (n ≤ 10000000)) }
 {
+    number_within(word, 1, MOST_TURNS)
+}
+
+// The number that a problem is to be made from.
+fn made_from(word: &str) -> Option<u32>
+    ensures asked { result ≡ made_from_word word.now }
+    ensures bound { IfSome result (λ n. n ≤ 1000000) }
+{
+    if word == "0" {
+        return Some(0);
+    }
+    match number_within(word, 1, MOST_MADE) {
+        Some(number) => Some(number as u32),
+        None => None,
+    }
+}
+
+// The number from low to high that a word writes.
+fn number_within(word: &str, low: u64, high: u64) -> Option<u64>
+    ensures asked { result ≡ number_asked low high word.now }
+    ensures bound { IfSome result (λ n. (low ≤ n) × (n ≤ high)) }
+{
     let digits = word.as_bytes();
     if !is_short_numeral(digits) {
         return None;
     }
     match number_in(digits) {
-        Some(turns) if 1 <= turns && turns <= MOST_TURNS => Some(turns),
+        Some(number) if low <= number && number <= high => Some(number),
         _ => None,
     }
 }

@@ -14,3 +14,9 @@ returns-in-Some-Decide-clause-wrote g c = rw (← c.in-Some-Decide.ensures.asked
 
 pub returns-in-Some-Rewrite-clause-wrote : goal.returns-in-Some-Rewrite-clause-wrote
 returns-in-Some-Rewrite-clause-wrote g c = rw (← c.in-Some-Rewrite.ensures.asked, c.in-Some-Rewrite.field-0-is) c.rewrite_file.ensures.wrote
+
+pub returns-in-Some-Make-clause-wrote : goal.returns-in-Some-Make-clause-wrote
+returns-in-Some-Make-clause-wrote g c = rw (← c.in-Some-Make.ensures.asked, c.in-Some-Make.field-0-is) c.solve_made.ensures.wrote
+
+pub returns-in-Some-Show-clause-wrote : goal.returns-in-Some-Show-clause-wrote
+returns-in-Some-Show-clause-wrote g c = rw (← c.in-Some-Show.ensures.asked, c.in-Some-Show.field-0-is) c.show_made.ensures.wrote
