@@ -5,8 +5,8 @@ ghost use Rattle.qc_generated.specs.Links.{gap as gap_in_spec, demand as demand_
 use qc_model::Numbers;
 use std::alloc::{AllocError, Global};
 
-/// How many customers there are.
-const CUSTOMERS: u32 = 12;
+// The customers are the numbers from 1 to 12; this is one past the last.
+const CUSTOMERS_END: u32 = 13;
 
 fn gap(n: u32, link: u32) -> u32
     requires n { n ≤ 1000000 }
@@ -63,7 +63,7 @@ pub(crate) fn bases(alloc: Global, n: u32) -> Result<Numbers, AllocError>
     ensures { IfOk result (λ numbers. numbers ≡ all_bases n) }
 {
     let mut numbers = Numbers::new(alloc);
-    for customer in 1..CUSTOMERS + 1 {
+    for customer in 1..CUSTOMERS_END {
         push_bases(&mut numbers, n, customer)?;
     }
     Ok(numbers)
@@ -75,7 +75,7 @@ pub(crate) fn demands(alloc: Global, n: u32) -> Result<Numbers, AllocError>
     ensures { IfOk result (λ numbers. numbers ≡ all_demands n) }
 {
     let mut numbers = Numbers::new(alloc);
-    for customer in 1..CUSTOMERS + 1 {
+    for customer in 1..CUSTOMERS_END {
         numbers.push(i64::from(demand(n, customer)))?;
     }
     Ok(numbers)
