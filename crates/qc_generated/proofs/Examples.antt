@@ -1,7 +1,7 @@
 -- The numbers of two made games, computed.
-use Rattle.std.proofs.Common.{◌≡◌, refl, ℕ, List, [], ◌∷◌}
+use Rattle.std.proofs.Common.{◌≡◌, refl, [], ◌∷◌}
 use Rattle.std.specs.Prelude.{pos, map}
-use Rattle.qc_generated.specs.Links.{gap, demand, link_of, bases_of, demands}
+use Rattle.qc_generated.specs.Links.{gap, link_of, bases_of, demands}
 
 gaps_of_0 : map (gap 0) (1 ∷ 2 ∷ 3 ∷ []) ≡ 4 ∷ 6 ∷ 8 ∷ []
 gaps_of_0 = refl

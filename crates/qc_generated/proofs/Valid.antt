@@ -1,6 +1,6 @@
 -- Each made game is valid.
-use Rattle.std.proofs.Common.{◌≡◌, refl, ℕ, ◌≤◌, ◌+◌, ◌-◌, ◌*◌, ◌%◌, ◌==◌, Bool, true, false, ◌&&◌, cond, List, [], ◌∷◌, length, lit≤, le-leb, arith}
-use Rattle.std.specs.Prelude.{IsTrue, nat_le, map, flat_map, ℤ, pos}
+use Rattle.std.proofs.Common.{◌≡◌, refl, ℕ, ◌≤◌, ◌-◌, ◌==◌, Bool, true, false, ◌&&◌, cond, List, [], ◌∷◌, length, lit≤, le-leb, arith}
+use Rattle.std.specs.Prelude.{nat_le, map, flat_map, ℤ, pos}
 use Rattle.std.specs.List.{list_all}
 use Rattle.qc_model.specs.Valid.{IsValid, is_number, is_constraint}
 use Rattle.qc_generated.specs.Links.{gap, demand, link_of, base, bases_of, bases, demands, customers}

@@ -12,15 +12,25 @@ use std::alloc::{AllocError, Global};
 
 // The variables, by their places.
 const TOLL_OF_FIRST: Arg = Arg::Var(VarId(0));
+
 const TOLL_OF_SECOND: Arg = Arg::Var(VarId(1));
+
 const TOLL_OF_THIRD: Arg = Arg::Var(VarId(2));
+
 const CUSTOMER: Arg = Arg::Var(VarId(3));
+
 const WAY: Arg = Arg::Var(VarId(4));
+
 const PLACE: Arg = Arg::Var(VarId(5));
+
 const BASE: Arg = Arg::Var(VarId(6));
+
 const TOLL: Arg = Arg::Var(VarId(7));
+
 const COST: Arg = Arg::Var(VarId(8));
+
 const DEMAND: Arg = Arg::Var(VarId(9));
+
 const INCOME: Arg = Arg::Var(VarId(10));
 
 // The scope in which a customer chooses.
@@ -159,12 +169,7 @@ fn toll(alloc: Global) -> Result<Constraint, AllocError>
 }
 
 // The number of the list at the place of a variable is another variable.
-fn element(
-    alloc: Global,
-    index: Arg,
-    numbers: Numbers,
-    item: Arg,
-) -> Result<Constraint, AllocError>
+fn element(alloc: Global, index: Arg, numbers: Numbers, item: Arg) -> Result<Constraint, AllocError>
     ensures { IfOk result (λ rule. rule ≡ rule_of Pred.ArrayIntElement (Argument.One index) (Argument.Numbers numbers) (Argument.One item)) }
 {
     constraint(
