@@ -18,6 +18,7 @@ use crate::status::Status;
 use crate::words::USUAL_TURNS;
 use crate::writing::finish;
 use game_search::{Flat, solve_flat};
+use itoa::Buffer;
 use proof_tree::Outcome;
 use qc_generated::generated;
 use qc_io::{Sink, WriteFault, write_all};
@@ -81,10 +82,12 @@ fn summary(
 {
     let variables = problem.variables();
     let constraints = problem.constraints();
+    let mut buffer = Buffer::new();
     match outcome {
         Outcome::True => match optimum {
             Some(value) => {
-                format!(in alloc; "variables {variables}\nconstraints {constraints}\noutcome true {value}\n")
+                let digits = buffer.format(value);
+                format!(in alloc; "variables {variables}\nconstraints {constraints}\noutcome true {digits}\n")
             }
             None => {
                 format!(in alloc; "variables {variables}\nconstraints {constraints}\noutcome true\n")
