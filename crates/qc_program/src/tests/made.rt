@@ -42,6 +42,7 @@ const ROWS: [(&[&str], &[u8]); 3] = [
     (&["generate", "7", "--text"], TEXT),
 ];
 
+// A fifth of a second a problem, as the gate builds it; a build that checks itself takes more than a minute.
 #[test]
 fn made_problems_are_answered(rt: HostRuntime) -> Result<(), Fail> {
     let alloc = rt.alloc();
