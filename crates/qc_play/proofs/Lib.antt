@@ -1,0 +1,5 @@
+pub mod Endings
+pub mod Telling
+pub mod Going
+pub mod Ranges
+mod Plays

@@ -1,0 +1,132 @@
+-- Which numbers a domain has, and that the values of a tuple are numbers.
+use Rattle.std.proofs.Common.{◌≡◌, ◌⊎◌, inl, inr, ℕ, zero, suc, ◌+◌, ◌<◌, ◌≤◌, Bool, true, false, not, ◌&&◌, ◌||◌, cond, List, [], ◌∷◌, ◌++◌, length, map, take, drop, refl, sym, ap, ◌∙◌, subst, arith, ℤ, pos, ◌+ℤ◌, ◌-ℤ◌, ◌≤ℤ◌, ◌<ℤ◌}
+use Rattle.std.specs.Prelude.{int_le, int_lt, nat_abs}
+use Rattle.std.specs.Ordering.{int_eq}
+use Rattle.std.specs.List.{list_all}
+use Rattle.std.proofs.lemmas.Int.{ints}
+use Rattle.std.proofs.lemmas.Bool.Decides.{Decides-int_eq}
+use Rattle.qc_model.specs.declared.problem.Domain.TheVariants.{Range}
+use Rattle.qc_model.specs.declared.problem.Variable.{Variable}
+use Rattle.qc_model.specs.Content.{Game}
+use Rattle.qc_model.specs.Lists.{Among, LiesIn, numbers_from}
+use Rattle.qc_model.specs.Domains.{Values, Box, domain_values, declared_box, has_value}
+use Rattle.qc_model.specs.Game.{IsMove, before, scope_domains}
+use Rattle.qc_model.specs.Valid.{IsValid, is_number, is_domain}
+use Rattle.qc_model.proofs.DomainValues.{range_values, ends_of, domain_fits}
+
+both : (a b : Bool) → (a && b) ≡ true → (a ≡ true) × (b ≡ true)
+both true b e = (refl, e)
+both false b e = cc
+
+two : (a b : Bool) → a ≡ true → b ≡ true → (a && b) ≡ true
+two a b e f = ap (λ c. c && b) e ∙ f
+
+same_test : (a b : Bool) → (a ≡ true → b ≡ true) → (b ≡ true → a ≡ true) → a ≡ b
+same_test true b f g = sym (f refl)
+same_test false true f g = g refl
+same_test false false f g = refl
+
+-- a number of a row of numbers
+abbrev in_row : ℤ → ℕ → ℤ → Bool
+in_row low n v = int_le low v && int_lt v (low +ℤ pos n)
+
+none_in : (low v : ℤ) → in_row low 0 v ≡ false
+none_in low v = by (int_le low v) refl (int_lt v (low +ℤ pos 0)) refl
+  where
+    by : (a : Bool) → int_le low v ≡ a → (b : Bool) → int_lt v (low +ℤ pos 0) ≡ b → (a && b) ≡ false
+    by false e b f = refl
+    by true e false f = refl
+    by true e true f = absurd (clash low v e f)
+      where
+        clash : (low v : ℤ) → int_le low v ≡ true → int_lt v (low +ℤ pos 0) ≡ true → ⊥
+        clash low v e f = grind (arith, ints)
+
+first_in : (low v : ℤ) (n : ℕ) → v ≡ low → in_row low (suc n) v ≡ true
+first_in low v n e = two (int_le low v) (int_lt v (low +ℤ pos (suc n))) (above low v e) (below low v n e)
+  where
+    above : (low v : ℤ) → v ≡ low → int_le low v ≡ true
+    above low v e = grind (arith, ints)
+
+    below : (low v : ℤ) (n : ℕ) → v ≡ low → int_lt v (low +ℤ pos (suc n)) ≡ true
+    below low v n e = grind (arith, ints)
+
+other_in : (low v : ℤ) (n : ℕ) → ¬ (v ≡ low) → in_row (low +ℤ pos 1) n v ≡ in_row low (suc n) v
+other_in low v n e = ap (λ b. b && int_lt v ((low +ℤ pos 1) +ℤ pos n)) (above low v e) ∙ ap (λ z. int_le low v && int_lt v z) (next low n)
+  where
+    next : (low : ℤ) (n : ℕ) → (low +ℤ pos 1) +ℤ pos n ≡ low +ℤ pos (suc n)
+    next low n = omega (arith, ints)
+
+    up : (low v : ℤ) → ¬ (v ≡ low) → int_le (low +ℤ pos 1) v ≡ true → int_le low v ≡ true
+    up low v e h = grind (arith, ints)
+
+    down : (low v : ℤ) → ¬ (v ≡ low) → int_le low v ≡ true → int_le (low +ℤ pos 1) v ≡ true
+    down low v e h = grind (arith, ints)
+
+    above : (low v : ℤ) → ¬ (v ≡ low) → int_le (low +ℤ pos 1) v ≡ int_le low v
+    above low v e = same_test (int_le (low +ℤ pos 1) v) (int_le low v) (up low v e) (down low v e)
+
+has_numbers : (low : ℤ) (n : ℕ) (v : ℤ) → has_value (numbers_from low n) v ≡ in_row low n v
+has_numbers low zero v = sym (none_in low v)
+has_numbers low (suc n) v = by (int_eq v low) refl
+  where
+    rest : has_value (numbers_from (low +ℤ pos 1) n) v ≡ in_row (low +ℤ pos 1) n v
+    rest = has_numbers (low +ℤ pos 1) n v
+
+    by : (b : Bool) → int_eq v low ≡ b → (b || has_value (numbers_from (low +ℤ pos 1) n) v) ≡ in_row low (suc n) v
+    by true e = sym (first_in low v n ((Decides-int_eq v low).0 e))
+    by false e = rest ∙ other_in low v n (λ q. absurd (differ (sym e ∙ (Decides-int_eq v low).1 q)))
+      where
+        differ : false ≡ true → ⊥
+        differ k = cc
+
+-- a range has the numbers from its least to its greatest
+pub range_has : (low high v : ℤ) → is_domain (Range low high) ≡ true → has_value (domain_values (Range low high)) v ≡ (int_le low v && int_le v high)
+range_has low high v e =
+    ap (λ vs. has_value vs v) (range_values low high e)
+    ∙ (has_numbers low (nat_abs (high -ℤ low) + 1) v ∙ ap (λ b. int_le low v && b) (last low high v (ends_of low high e).rises))
+  where
+    width : (low high : ℤ) → low ≤ℤ high → low +ℤ pos (nat_abs (high -ℤ low) + 1) ≡ high +ℤ pos 1
+    width low high h = grind (arith, ints)
+
+    up : (v high : ℤ) → int_lt v (high +ℤ pos 1) ≡ true → int_le v high ≡ true
+    up v high h = grind (arith, ints)
+
+    down : (v high : ℤ) → int_le v high ≡ true → int_lt v (high +ℤ pos 1) ≡ true
+    down v high h = grind (arith, ints)
+
+    last : (low high v : ℤ) → low ≤ℤ high → int_lt v (low +ℤ pos (nat_abs (high -ℤ low) + 1)) ≡ int_le v high
+    last low high v h = ap (int_lt v) (width low high h) ∙ same_test (int_lt v (high +ℤ pos 1)) (int_le v high) (up v high) (down v high)
+
+-- the values of a move are numbers
+among_number : (v : ℤ) (d : Values) → list_all is_number d ≡ true → Among v d → is_number v ≡ true
+among_number v [] h m = absurd m
+among_number v (w ∷ d) h m = let p = both (is_number w) (list_all is_number d) h in elim m [ inl e ↦ ap is_number e ∙ p.0 | inr n ↦ among_number v d p.1 n ]
+
+lies_numbers : (t : List ℤ) (ds : Box) → list_all (list_all is_number) ds ≡ true → LiesIn t ds → list_all is_number t ≡ true
+lies_numbers [] ds h l = refl
+lies_numbers (v ∷ t) [] h l = absurd l
+lies_numbers (v ∷ t) (d ∷ ds) h l = let p = both (list_all is_number d) (list_all (list_all is_number) ds) h in two (is_number v) (list_all is_number t) (among_number v d p.0 l.0) (lies_numbers t ds p.1 l.1)
+
+all_take : {X : Type 0} (p : X → Bool) (n : ℕ) (xs : List X) → list_all p xs ≡ true → list_all p (take n xs) ≡ true
+all_take p zero xs h = refl
+all_take p (suc n) [] h = refl
+all_take p (suc n) (x ∷ xs) h = let r = both (p x) (list_all p xs) h in two (p x) (list_all p (take n xs)) r.0 (all_take p n xs r.1)
+
+all_drop : {X : Type 0} (p : X → Bool) (n : ℕ) (xs : List X) → list_all p xs ≡ true → list_all p (drop n xs) ≡ true
+all_drop p zero xs h = h
+all_drop p (suc n) [] h = refl
+all_drop p (suc n) (x ∷ xs) h = all_drop p n xs (both (p x) (list_all p xs) h).1
+
+declared_numbers : (xs : List Variable) → list_all (λ x. is_domain x.domain) xs ≡ true → list_all (list_all is_number) (map (λ x. domain_values x.domain) xs) ≡ true
+declared_numbers [] h = refl
+declared_numbers (x ∷ xs) h = let p = both (is_domain x.domain) (list_all (λ y. is_domain y.domain) xs) h in two (list_all is_number (domain_values x.domain)) (list_all (list_all is_number) (map (λ y. domain_values y.domain) xs)) (domain_fits x.domain p.0) (declared_numbers xs p.1)
+
+pub move_numbers : (g : Game) (i : ℕ) (a t : List ℤ) → IsValid g → IsMove g i a t → list_all is_number t ≡ true
+move_numbers g i a t valid m =
+    lies_numbers t (scope_domains g i)
+    (all_drop (list_all is_number) (before g i) (take (before g (suc i)) (declared_box g)) (all_take (list_all is_number) (before g (suc i)) (declared_box g) (declared_numbers g.variables valid.domains)))
+    m.is_tuple
+
+pub numbers_both : (a t : List ℤ) → list_all is_number a ≡ true → list_all is_number t ≡ true → list_all is_number (a ++ t) ≡ true
+numbers_both [] t h k = k
+numbers_both (v ∷ a) t h k = let p = both (is_number v) (list_all is_number a) h in two (is_number v) (list_all is_number (a ++ t)) p.0 (numbers_both a t p.1 k)
