@@ -1,5 +1,5 @@
 -- A play by a sound tree ends as it has to.
-use Rattle.std.proofs.Common.{◌≡◌, ◌⊎◌, inl, inr, ℕ, zero, suc, ◌+◌, Bool, true, false, not, ◌&&◌, cond, List, [], ◌∷◌, ◌++◌, length, take, drop, refl, sym, ap, ◌∙◌, subst, Option, Some, None, ℤ, arith}
+use Rattle.std.proofs.Common.{◌≡◌, ◌⊎◌, inl, inr, ℕ, zero, suc, ◌+◌, Bool, true, false, not, ◌&&◌, ◌||◌, cond, List, [], ◌∷◌, ◌++◌, length, take, drop, refl, sym, ap, ◌∙◌, subst, Option, Some, None, ℤ, arith}
 use Rattle.std.specs.Prelude.{nat_lt, slice_get, ⊤, IsTrue}
 use Rattle.std.specs.Option.{option_map}
 use Rattle.std.specs.Ordering.{int_eq}
@@ -30,11 +30,11 @@ differ e = cc
 -- tests and what they test
 some_value : (d : Values) (v : ℤ) → has_value d v ≡ true → Among v d
 some_value [] v e = cc
-some_value (w ∷ d) v e = by (int_eq v w) refl e
+some_value (w ∷ d) v e = by (int_eq v w) refl e (some_value d v)
   where
-    by : (b : Bool) → int_eq v w ≡ b → has_value (w ∷ d) v ≡ true → Among v (w ∷ d)
-    by true q e = inl ((Decides-int_eq v w).0 q)
-    by false q e = inr (some_value d v (sym (ap (λ c. cond c true (has_value d v)) q) ∙ e))
+    by : (b : Bool) → int_eq v w ≡ b → (b || has_value d v) ≡ true → (has_value d v ≡ true → Among v d) → Among v (w ∷ d)
+    by true q e f = inl ((Decides-int_eq v w).0 q)
+    by false q e f = inr (f e)
 
 pub lies_true : (t : List ℤ) (ds : List Values) → lies_in t ds ≡ true → LiesIn t ds
 lies_true [] [] e = tt
@@ -48,51 +48,51 @@ move_true g i a t e = let p = both (lies_in t (scope_domains g i)) (allows g i (
 -- the entry that is found
 pub found_entry : (R : List ℤ → Plan → Type 0) (t : List ℤ) (s : Plan) (l : Entries) → EachEntry R l → reply_to t l ≡ Some s → R t s
 found_entry R t s no_entries h e = cc
-found_entry R t s (entry u r rest) h e = by (same_values u t) refl e
+found_entry R t s (entry u r rest) h e = by (same_values u t) refl e (found_entry R t s rest h.1)
   where
-    by : (b : Bool) → same_values u t ≡ b → cond b (Some r) (reply_to t rest) ≡ Some s → R t s
-    by true q k = let w : r ≡ s = cc in subst (R t) w (subst (λ z. R z r) (same_true u t q) h.0)
-    by false q k = found_entry R t s rest h.1 k
+    by : (b : Bool) → same_values u t ≡ b → cond b (Some r) (reply_to t rest) ≡ Some s → (reply_to t rest ≡ Some s → R t s) → R t s
+    by true q k f = let w : r ≡ s = cc in subst (R t) w (subst (λ z. R z r) (same_true u t q) h.0)
+    by false q k f = f k
 
 none_found : (t : List ℤ) (l : Entries) → reply_to t l ≡ None → ¬ Among t (entry_tuples l)
 none_found t no_entries e m = m
-none_found t (entry u r rest) e m = by (same_values u t) refl e m
+none_found t (entry u r rest) e m = by (same_values u t) refl e m (none_found t rest)
   where
-    by : (b : Bool) → same_values u t ≡ b → cond b (Some r) (reply_to t rest) ≡ None → ¬ Among t (u ∷ entry_tuples rest)
-    by true q k m = cc
-    by false q k m = elim m [ inl w ↦ differ (sym (same_self t) ∙ (ap (λ z. same_values z t) w ∙ q)) | inr n ↦ none_found t rest k n ]
+    by : (b : Bool) → same_values u t ≡ b → cond b (Some r) (reply_to t rest) ≡ None → (t ≡ u) ⊎ Among t (entry_tuples rest) → (reply_to t rest ≡ None → ¬ Among t (entry_tuples rest)) → ⊥
+    by true q k m f = cc
+    by false q k m f = elim m [ inl w ↦ differ (sym (same_self t) ∙ (ap (λ z. same_values z t) w ∙ q)) | inr n ↦ f k n ]
+
+absent : (R : List ℤ → Plan → Type 0) (a t : List ℤ) (l : Entries) → ¬ Among t (entry_tuples l) → ¬ HasEntry R a t l
+absent R a t no_entries n h = h
+absent R a t (entry v w more) n h = elim h [ inl p ↦ n (inl (sym p.0)) | inr k ↦ absent R a t more (λ m. n (inr m)) k ]
 
 -- of different tuples the entry that is found is the one with R
 pub once_found : (R : List ℤ → Plan → Type 0) (a t : List ℤ) (s : Plan) (l : Entries) → Distinct (entry_tuples l) → HasEntry R a t l → reply_to t l ≡ Some s → R (a ++ t) s
 once_found R a t s no_entries d h e = absurd h
-once_found R a t s (entry u r rest) d h e = by (same_values u t) refl e h
+once_found R a t s (entry u r rest) d h e = by (same_values u t) refl e h (once_found R a t s rest d.1)
   where
-    absent : (rest : Entries) → ¬ Among t (entry_tuples rest) → ¬ HasEntry R a t rest
-    absent no_entries n h = h
-    absent (entry v w more) n h = elim h [ inl p ↦ n (inl (sym p.0)) | inr k ↦ absent more (λ m. n (inr m)) k ]
-
-    by : (b : Bool) → same_values u t ≡ b → cond b (Some r) (reply_to t rest) ≡ Some s → ((u ≡ t) × R (a ++ t) r) ⊎ HasEntry R a t rest → R (a ++ t) s
-    by true q k h =
+    by : (b : Bool) → same_values u t ≡ b → cond b (Some r) (reply_to t rest) ≡ Some s → ((u ≡ t) × R (a ++ t) r) ⊎ HasEntry R a t rest → (HasEntry R a t rest → reply_to t rest ≡ Some s → R (a ++ t) s) → R (a ++ t) s
+    by true q k h f =
         let w : r ≡ s = cc in
-        elim h [ inl p ↦ subst (R (a ++ t)) w p.1 | inr m ↦ absurd (absent rest (subst (λ z. ¬ Among z (entry_tuples rest)) (same_true u t q) d.0) m) ]
-    by false q k h =
-        elim h [ inl p ↦ absurd (differ (sym (same_self t) ∙ (ap (λ z. same_values z t) (sym p.0) ∙ q))) | inr m ↦ once_found R a t s rest d.1 m k ]
+        elim h [ inl p ↦ subst (R (a ++ t)) w p.1 | inr m ↦ absurd (absent R a t rest (subst (λ z. ¬ Among z (entry_tuples rest)) (same_true u t q) d.0) m) ]
+    by false q k h f =
+        elim h [ inl p ↦ absurd (differ (sym (same_self t) ∙ (ap (λ z. same_values z t) (sym p.0) ∙ q))) | inr m ↦ f m k ]
 
 entry_there : (R : List ℤ → Plan → Type 0) (a t : List ℤ) (l : Entries) → HasEntry R a t l → ¬ (reply_to t l ≡ None)
 entry_there R a t no_entries h e = h
-entry_there R a t (entry u r rest) h e = by (same_values u t) refl h e
+entry_there R a t (entry u r rest) h e = by (same_values u t) refl h e (entry_there R a t rest)
   where
-    by : (b : Bool) → same_values u t ≡ b → ((u ≡ t) × R (a ++ t) r) ⊎ HasEntry R a t rest → ¬ (cond b (Some r) (reply_to t rest) ≡ None)
-    by true q h k = cc
-    by false q h k = elim h [ inl p ↦ differ (sym (same_self t) ∙ (ap (λ z. same_values z t) (sym p.0) ∙ q)) | inr m ↦ entry_there R a t rest m k ]
+    by : (b : Bool) → same_values u t ≡ b → ((u ≡ t) × R (a ++ t) r) ⊎ HasEntry R a t rest → cond b (Some r) (reply_to t rest) ≡ None → (HasEntry R a t rest → reply_to t rest ≡ None → ⊥) → ⊥
+    by true q h k f = cc
+    by false q h k f = elim h [ inl p ↦ differ (sym (same_self t) ∙ (ap (λ z. same_values z t) (sym p.0) ∙ q)) | inr m ↦ f m k ]
 
 pub once_reply : (t : List ℤ) (s : Plan) (l : Entries) → EachAnswersOnce l → reply_to t l ≡ Some s → AnswersOnce s
 once_reply t s no_entries h e = cc
-once_reply t s (entry u r rest) h e = by (same_values u t) refl e
+once_reply t s (entry u r rest) h e = by (same_values u t) refl e (once_reply t s rest h.1)
   where
-    by : (b : Bool) → same_values u t ≡ b → cond b (Some r) (reply_to t rest) ≡ Some s → AnswersOnce s
-    by true q k = let w : r ≡ s = cc in subst AnswersOnce w h.0
-    by false q k = once_reply t s rest h.1 k
+    by : (b : Bool) → same_values u t ≡ b → cond b (Some r) (reply_to t rest) ≡ Some s → (reply_to t rest ≡ Some s → AnswersOnce s) → AnswersOnce s
+    by true q k f = let w : r ≡ s = cc in subst AnswersOnce w h.0
+    by false q k f = f k
 
 -- a scope of the game where it stands
 abbrev pub IsTail : Game → List Scope → ℕ → Type 0

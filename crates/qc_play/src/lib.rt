@@ -11,18 +11,18 @@
 //! (`Ends`), and what is made of a certificate (`Made`).
 #![tactic(auto)]
 
+mod board;
 mod counter;
 mod fault;
 mod lines;
 mod make;
 mod plan;
-mod play;
 mod side;
 mod tuple;
 
+pub use board::play;
 pub use counter::{Counter, CounterEntry, CounterList};
 pub use fault::PlayFault;
 pub use make::{make_counter, make_plan};
 pub use plan::{Plan, PlanEntry, PlanList};
-pub use play::play;
 pub use side::Side;

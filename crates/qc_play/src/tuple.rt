@@ -1,5 +1,5 @@
 //! Whether values are an allowed tuple of a scope.
-ghost use Rattle.std.specs.Prelude.{◌≡◌, ◌<◌, ◌++◌, true, length, map, drop, IfOk, IsTrue};
+ghost use Rattle.std.specs.Prelude.{◌≡◌, ◌<◌, ◌++◌, ◌&&◌, int_le, true, length, map, drop, IfOk, IsTrue};
 ghost use Rattle.std.specs.List.{list_all};
 ghost use Rattle.qc_model.specs.Domains.{domain_values, has_value as is_value_of};
 ghost use Rattle.qc_model.specs.Game.{scope_domains};
@@ -10,6 +10,12 @@ use qc_model::{Domain, Problem, Variable};
 use qc_rules::all_hold;
 use std::alloc::AllocError;
 
+fn is_between(low: i64, value: i64, high: i64) -> bool
+    ensures { result ≡ (int_le low value && int_le value high) }
+{
+    low <= value && value <= high
+}
+
 /// Whether the domain has the value.
 fn has_value(domain: &Domain, value: i64) -> bool
     requires { IsTrue (is_domain domain.now) }
@@ -17,7 +23,7 @@ fn has_value(domain: &Domain, value: i64) -> bool
 {
     match domain {
         Domain::Bits => value == 0 || value == 1,
-        Domain::Range(low, high) => *low <= value && value <= *high,
+        Domain::Range(low, high) => is_between(*low, value, *high),
         Domain::Listed(numbers) => numbers.items().iter().any(|n| *n == value),
     }
 }
@@ -43,10 +49,7 @@ fn variables_of(problem: &Problem, i: usize) -> &[Variable]
     ensures values { map (λ x. domain_values x.domain) result.now ≡ scope_domains problem.now i }
 {
     problem.known();
-    let from = problem.variables_before(i);
-    let stop = problem.variables_before(i + 1);
-    let all = problem.all_variables();
-    &all[from..stop]
+    problem.variables_of(i)
 }
 
 /// How many variables scope i has.

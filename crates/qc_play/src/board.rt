@@ -1,12 +1,11 @@
 //! A play.
-ghost use Rattle.std.specs.Prelude.{◌≡◌, ◌≤◌, ◌<◌, ◌++◌, [], true, false, Some, length, drop, MatchResult, OnOk, IfErr, IsTrue};
+ghost use Rattle.std.specs.Prelude.{◌≡◌, ◌≤◌, ◌<◌, ◌++◌, [], true, false, Some, length, drop, MatchResult, IsTrue};
 ghost use Rattle.std.specs.List.{list_all};
-ghost use Rattle.qc_model.specs.Counter.{opposite};
 ghost use Rattle.qc_model.specs.Game.{allows};
 ghost use Rattle.qc_model.specs.Valid.{is_number};
 ghost use Rattle.qc_play.specs.Sides.{kind_of, choices_of, is_same};
 ghost use Rattle.qc_play.specs.Play.{play_of, play_from, at_goal};
-ghost use Rattle.qc_play.specs.PlayText.{turn_line, ending_line, unused_line};
+ghost use Rattle.qc_play.specs.PlayText.{ending_line, unused_line};
 ghost use Rattle.qc_play.specs.Playing.{IsTextOf, IsFaultOf, IsToldAfter, IsWant};
 ghost use Rattle.qc_play.specs.Ends.{IsSound, MayGoOn, EndsWell, kind_at};
 
@@ -55,19 +54,6 @@ impl<'p> Board<'p> {
         Ok(())
     }
 
-    /// The tree chooses this tuple in scope i.
-    fn take_own(&mut self, i: usize, owner: Kind, tuple: &[i64]) -> Result<(), PlayFault>
-        requires { i ≤ 64 }
-        ensures values { OnOk result (self.new.values.items ≡ self.old.values.items ++ tuple.now) }
-        ensures text { OnOk result (self.new.text.items ≡ self.old.text.items ++ turn_line i owner tuple.now) }
-        ensures same { self.new.problem.now ≡ self.old.problem.now }
-        ensures err { IfErr result IsWant }
-    {
-        self.values.extend_from_slice(tuple)?;
-        put_turn(&mut self.text, i, owner, tuple)?;
-        Ok(())
-    }
-
     /// Scope i is the side's.
     #[cycle(turns)]
     fn own_turn(
@@ -91,7 +77,9 @@ impl<'p> Board<'p> {
             put_stuck(&mut self.text, i, moves.len())?;
             return Ok(());
         };
-        self.take_own(i, owner, choice.tuple.items())?;
+        let tuple = choice.tuple.items();
+        self.values.extend_from_slice(tuple)?;
+        put_turn(&mut self.text, i, owner, tuple)?;
         self.go_on(i + 1, choice.after, moves)
     }
 
