@@ -1,6 +1,6 @@
 -- A play by a sound tree ends as it has to.
-use Rattle.std.proofs.Common.{◌≡◌, ◌⊎◌, inl, inr, ℕ, zero, suc, ◌+◌, Bool, true, false, not, ◌&&◌, ◌||◌, cond, List, [], ◌∷◌, ◌++◌, length, take, drop, refl, sym, ap, ◌∙◌, subst, Option, Some, None, ℤ, arith}
-use Rattle.std.specs.Prelude.{nat_lt, slice_get, ⊤, IsTrue}
+use Rattle.std.proofs.Common.{◌≡◌, ◌⊎◌, inl, inr, ℕ, zero, suc, Bool, true, false, ◌&&◌, ◌||◌, cond, List, [], ◌∷◌, ◌++◌, length, take, drop, refl, sym, ap, ◌∙◌, subst, Option, Some, None, ℤ}
+use Rattle.std.specs.Prelude.{nat_lt, slice_get}
 use Rattle.std.specs.Option.{option_map}
 use Rattle.std.specs.Ordering.{int_eq}
 use Rattle.std.proofs.lemmas.Bool.Decides.{Decides-int_eq}
@@ -11,14 +11,14 @@ use Rattle.qc_model.specs.declared.problem.Scope.{Scope}
 use Rattle.qc_model.specs.Content.{Game}
 use Rattle.qc_model.specs.Lists.{Among, LiesIn, Distinct, same_values}
 use Rattle.qc_model.specs.Domains.{Values, has_value}
-use Rattle.qc_model.specs.Game.{IsMove, moves, allows, scope_domains}
-use Rattle.qc_model.specs.Plan.{Plan, finish, choose, answer, Entries, no_entries, entry, entry_tuples, EachEntry, SomeEntry, Turn, Covers, Chooses}
+use Rattle.qc_model.specs.Game.{IsMove, allows, scope_domains}
+use Rattle.qc_model.specs.Plan.{Plan, finish, choose, answer, Entries, no_entries, entry, entry_tuples, EachEntry, Turn, Covers, Chooses}
 use Rattle.qc_model.specs.Counter.{opposite, PassScope, CanPassBlock, HasEntry, RepliesTo, CounterWins, AnswersOnce, EachAnswersOnce}
 use Rattle.qc_model.specs.Optimal.{ChoosesBest, Optimal}
 use Rattle.qc_model.proofs.Moves.{moves_from}
 use Rattle.qc_meaning.proofs.LeafWords.{same_true, same_self}
-use Rattle.qc_play.specs.Play.{Ending, at_goal, stuck_at, hopeless_at, missing_at, not_allowed_at, Turn as Played, Play, ends, after_turn, lies_in, is_move, reply_to, Rest, own_turn, replied, moved, answered, answers_of, turn, play_from, play_of}
-use Rattle.qc_play.specs.Ends.{IsWinning, IsSound, MayGoOn, values_after, kind_at, IsHopeless, HasNoMove, HasNoHope, TookHopeless, EndsFor, EndsWell}
+use Rattle.qc_play.specs.Play.{missing_at, not_allowed_at, Play, ends, lies_in, is_move, reply_to, Rest, own_turn, replied, moved, answered, answers_of, turn, play_from, play_of}
+use Rattle.qc_play.specs.Ends.{IsSound, MayGoOn, values_after, kind_at, IsHopeless, EndsFor, EndsWell}
 
 both : (a b : Bool) → (a && b) ≡ true → (a ≡ true) × (b ≡ true)
 both true b e = (refl, e)

@@ -1,18 +1,18 @@
 -- After each turn the side may go on.
-use Rattle.std.proofs.Common.{◌≡◌, ◌⊎◌, inl, inr, ℕ, suc, Bool, true, false, List, [], ◌∷◌, ◌++◌, drop, refl, sym, ap, ◌∙◌, subst, Option, Some, None, ℤ}
-use Rattle.std.specs.Prelude.{slice_get, ⊤}
+use Rattle.std.proofs.Common.{◌≡◌, ◌⊎◌, inl, inr, ℕ, suc, true, false, List, ◌∷◌, ◌++◌, drop, sym, ◌∙◌, subst, Option, Some, ℤ}
+use Rattle.std.specs.Prelude.{slice_get}
 use Rattle.qc_model.specs.declared.problem.Kind.{Kind}
 use Rattle.qc_model.specs.declared.problem.Kind.TheVariants.{Exists, Forall}
 use Rattle.qc_model.specs.declared.problem.Condition.{Condition}
 use Rattle.qc_model.specs.declared.problem.Scope.{Scope}
 use Rattle.qc_model.specs.Content.{Game}
 use Rattle.qc_model.specs.Game.{IsMove}
-use Rattle.qc_model.specs.Plan.{Plan, finish, choose, answer, Entries, no_entries, entry, entry_tuples, EachEntry, Turn, Covers, Chooses}
-use Rattle.qc_model.specs.Counter.{opposite, PassScope, CanPassBlock, HasEntry, RepliesTo, CounterWins, AnswersOnce}
+use Rattle.qc_model.specs.Plan.{Plan, finish, choose, answer, Turn, Covers, Chooses}
+use Rattle.qc_model.specs.Counter.{opposite, PassScope, CanPassBlock, RepliesTo, CounterWins, AnswersOnce}
 use Rattle.qc_model.specs.Optimal.{ChoosesBest, Optimal}
 use Rattle.qc_play.specs.Play.{reply_to, answers_of}
 use Rattle.qc_play.specs.Sides.{is_same}
-use Rattle.qc_play.specs.Ends.{IsWinning, MayGoOn, kind_at}
+use Rattle.qc_play.specs.Ends.{MayGoOn, kind_at}
 use Rattle.qc_play.proofs.Endings.{found_entry, once_found, once_reply}
 use Rattle.qc_play.proofs.Telling.{drop_here, kind_there, same_kind, other_kind}
 

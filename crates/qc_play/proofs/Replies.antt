@@ -1,5 +1,5 @@
 -- Looking for a tuple among entries, one after the other.
-use Rattle.std.proofs.Common.{◌≡◌, ℕ, zero, suc, ◌+◌, ◌<◌, true, false, cond, List, [], ◌∷◌, length, drop, get_or, refl, sym, ap, ◌∙◌, Some, ℤ, arith, add-one}
+use Rattle.std.proofs.Common.{◌≡◌, ℕ, zero, suc, ◌+◌, ◌<◌, true, false, cond, List, [], ◌∷◌, length, drop, get_or, sym, ap, ◌∙◌, Some, ℤ, arith, add-one}
 use Rattle.qc_model.specs.Lists.{same_values}
 use Rattle.qc_play.specs.declared.plan.PlanEntry.{PlanEntry}
 use Rattle.qc_play.specs.declared.counter.CounterEntry.{CounterEntry}

@@ -1,24 +1,21 @@
 -- How a play goes, step by step, and what is told of it.
-use Rattle.std.proofs.Common.{◌≡◌, ◌⊎◌, inl, inr, ℕ, zero, suc, ◌+◌, ◌<◌, ◌≤◌, Bool, true, false, not, ◌&&◌, cond, List, [], ◌∷◌, ◌++◌, length, take, drop, refl, sym, ap, ◌∙◌, subst, Option, Some, None, ℤ, arith, append_assoc}
-use Rattle.std.specs.Prelude.{nat_lt, slice_get, ⊤, IsTrue}
+use Rattle.std.proofs.Common.{◌≡◌, ℕ, zero, suc, Bool, true, false, cond, List, [], ◌∷◌, ◌++◌, length, take, drop, refl, sym, ap, ◌∙◌, subst, Option, Some, None, ℤ, append_assoc}
+use Rattle.std.specs.Prelude.{nat_lt, slice_get}
 use Rattle.std.specs.Option.{option_map}
-use Rattle.std.specs.List.{list_all}
 use Rattle.qc_model.specs.declared.problem.Kind.{Kind}
 use Rattle.qc_model.specs.declared.problem.Kind.TheVariants.{Exists, Forall}
-use Rattle.qc_model.specs.declared.problem.Condition.{Condition}
 use Rattle.qc_model.specs.declared.problem.Scope.{Scope}
 use Rattle.qc_model.specs.Content.{Game}
-use Rattle.qc_model.specs.Game.{IsMove, allows, scope_domains}
-use Rattle.qc_model.specs.Plan.{Plan, finish, choose, answer, Entries, no_entries, entry, Turn, Covers, Chooses}
-use Rattle.qc_model.specs.Counter.{opposite, PassScope, CanPassBlock, RepliesTo, CounterWins, AnswersOnce}
-use Rattle.qc_model.specs.Optimal.{ChoosesBest, Optimal}
+use Rattle.qc_model.specs.Game.{allows, scope_domains}
+use Rattle.qc_model.specs.Plan.{Plan, finish, choose, answer, Entries, no_entries, entry}
+use Rattle.qc_model.specs.Counter.{opposite}
 use Rattle.qc_play.specs.declared.fault.PlayFault.{PlayFault}
 use Rattle.qc_play.specs.declared.fault.PlayFault.TheVariants.{Missing, NotAllowed, Memory}
-use Rattle.qc_play.specs.Play.{Ending, at_goal, stuck_at, hopeless_at, missing_at, not_allowed_at, Turn as Played, Play, ends, after_turn, is_move, reply_to, Rest, own_turn, replied, moved, answered, answers_of, turn, play_from}
+use Rattle.qc_play.specs.Play.{Ending, at_goal, stuck_at, hopeless_at, missing_at, not_allowed_at, Play, ends, after_turn, is_move, reply_to, Rest, own_turn, replied, moved, answered, answers_of, turn, play_from}
 use Rattle.qc_play.specs.PlayText.{turn_line, ending_line, unused_line, text_from}
 use Rattle.qc_play.specs.Playing.{is_played, IsFaultOf, IsToldAfter, IsWant}
 use Rattle.qc_play.specs.Sides.{HasNoChoice, has_entries, is_same}
-use Rattle.qc_play.specs.Ends.{IsWinning, MayGoOn, kind_at}
+use Rattle.qc_play.specs.Ends.{kind_at}
 
 -- the scopes from i on
 pub drop_here : (ss : List Scope) (i : ℕ) (s : Scope) → slice_get ss i ≡ Some s → drop i ss ≡ s ∷ drop (suc i) ss

@@ -1,15 +1,15 @@
 -- One turn, and the play after it.
-use Rattle.std.proofs.Common.{◌≡◌, ℕ, suc, ◌+◌, ◌<◌, ◌≤◌, Bool, true, false, List, [], ◌∷◌, ◌++◌, length, take, drop, refl, sym, ap, ◌∙◌, subst, Option, Some, None, ℤ}
+use Rattle.std.proofs.Common.{◌≡◌, ℕ, suc, ◌<◌, ◌≤◌, true, false, List, ◌++◌, length, take, drop, sym, subst, Some, ℤ}
 use Rattle.std.specs.Prelude.{Result, Ok, Err, MatchResult, nat_lt}
 use Rattle.std.specs.List.{list_all}
 use Rattle.std.proofs.lemmas.Bool.Decides.{nat_tests}
 use Rattle.qc_model.specs.declared.problem.Kind.{Kind}
 use Rattle.qc_model.specs.Content.{Game}
-use Rattle.qc_model.specs.Game.{IsMove, scope_domains}
+use Rattle.qc_model.specs.Game.{scope_domains}
 use Rattle.qc_model.specs.Plan.{Plan, choose}
 use Rattle.qc_model.specs.Valid.{IsValid, is_number}
 use Rattle.qc_play.specs.declared.fault.PlayFault.{PlayFault}
-use Rattle.qc_play.specs.Play.{Play, after_turn, is_move, reply_to, answers_of, play_from}
+use Rattle.qc_play.specs.Play.{Play, after_turn, is_move, reply_to, answers_of}
 use Rattle.qc_play.specs.PlayText.{turn_line}
 use Rattle.qc_play.specs.Playing.{IsFaultOf, IsToldAfter}
 use Rattle.qc_play.specs.Sides.{is_same, has_entries}

@@ -1,5 +1,5 @@
 -- What a play ends with.
-use Rattle.std.specs.Prelude.{◌≡◌, ◌⊎◌, ℕ, suc, Bool, true, false, Option, Some, List, [], ◌∷◌, ◌++◌, drop, slice_get, ⊤, ℤ}
+use Rattle.std.specs.Prelude.{◌≡◌, ◌⊎◌, ℕ, suc, true, false, Option, Some, List, [], ◌∷◌, ◌++◌, drop, slice_get, ⊤, ℤ}
 use Rattle.std.specs.Option.{option_map}
 use Rattle.qc_model.specs.declared.problem.Kind.{Kind}
 use Rattle.qc_model.specs.declared.problem.Kind.TheVariants.{Exists, Forall}

@@ -1,5 +1,5 @@
 -- What is made of a certificate.
-use Rattle.std.specs.Prelude.{◌≡◌, Option, Some, None, List, [], IsTrue, ℤ}
+use Rattle.std.specs.Prelude.{◌≡◌, Option, Some, None, [], IsTrue, ℤ}
 use Rattle.qc_model.specs.Content.{Game}
 use Rattle.qc_model.specs.Optimal.{Optimal}
 use Rattle.proof_tree.specs.declared.tree.Outcome.{Outcome}

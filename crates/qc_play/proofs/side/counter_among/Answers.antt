@@ -1,4 +1,4 @@
-use Rattle.std.proofs.Common.{◌≡◌, ◌∙◌, ap, sym, length}
+use Rattle.std.proofs.Common.{◌∙◌, sym}
 use Rattle.qc_play.proofs.Replies.{counter_here, counter_beyond}
 use Rattle.qc_play.proofs.side.counter_among.Goals as goal
 

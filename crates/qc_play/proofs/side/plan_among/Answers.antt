@@ -1,4 +1,4 @@
-use Rattle.std.proofs.Common.{◌≡◌, ◌∙◌, ap, sym, length}
+use Rattle.std.proofs.Common.{◌∙◌, sym}
 use Rattle.qc_play.proofs.Replies.{plan_here, plan_beyond}
 use Rattle.qc_play.proofs.side.plan_among.Goals as goal
 

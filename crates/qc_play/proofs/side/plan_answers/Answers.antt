@@ -1,4 +1,4 @@
-use Rattle.std.proofs.Common.{◌≡◌, sym, ap, ◌∙◌}
+use Rattle.std.proofs.Common.{sym, ap, ◌∙◌}
 use Rattle.qc_play.specs.Shape.{plan_of, all_entries}
 use Rattle.qc_play.specs.Play.{answers_of}
 use Rattle.qc_play.specs.Sides.{has_entries}

@@ -1,9 +1,7 @@
-use Rattle.std.proofs.Common.{◌≡◌, ◌∙◌, ◌<◌, ap, sym, length, refl, subst, true, arith, Some, get_or, drop, map, ◌+◌, w64, rules, SFits, pos}
-use Rattle.std.specs.Prelude.{slice_get, ◌&&◌}
+use Rattle.std.proofs.Common.{◌∙◌, ◌<◌, ap, sym, length, refl, arith, get_or, w64, rules, SFits, pos}
 use Rattle.std.proofs.lemmas.Int.{to_z-of_z}
 use Rattle.qc_model.specs.Domains.{domain_values, has_value}
 use Rattle.qc_model.specs.Valid.{is_domain}
-use Rattle.qc_play.specs.Play.{lies_in}
 use Rattle.qc_play.proofs.Ranges.{lies_step, one_of}
 use Rattle.qc_play.proofs.tuple.lie_in.Goals as goal
 

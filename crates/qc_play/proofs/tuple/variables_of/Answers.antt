@@ -1,4 +1,4 @@
-use Rattle.std.proofs.Common.{◌≡◌, sym, ap, ◌∙◌, subst, map, true}
+use Rattle.std.proofs.Common.{ap, ◌∙◌, map}
 use Rattle.std.specs.List.{list_all}
 use Rattle.qc_model.specs.Domains.{domain_values}
 use Rattle.qc_model.specs.Valid.{is_domain}

@@ -1,8 +1,7 @@
-use Rattle.std.proofs.Common.{◌≡◌, ℕ, ◌+◌, ◌++◌, ◌<◌, ◌≤◌, true, false, refl, sym, ap, ◌∙◌, subst, arith, length, take, drop, add-one}
-use Rattle.std.specs.Prelude.{nat_lt, Some, None}
-use Rattle.qc_model.specs.Game.{scope_domains}
-use Rattle.qc_play.specs.Play.{is_move, reply_to, answers_of, stuck_at, missing_at, not_allowed_at, hopeless_at}
-use Rattle.qc_play.specs.Sides.{kind_of, choices_of, has_entries}
+use Rattle.std.proofs.Common.{◌+◌, ◌++◌, refl, sym, ap, ◌∙◌, subst, arith, length, take, drop, add-one}
+use Rattle.std.specs.Prelude.{nat_lt}
+use Rattle.qc_play.specs.Play.{is_move, reply_to, answers_of, stuck_at, hopeless_at}
+use Rattle.qc_play.specs.Sides.{kind_of, choices_of}
 use Rattle.qc_play.proofs.Telling.{play_at, own_stuck, other_stuck, other_missing, other_wrong, other_hopeless, told_end, told_hopeless}
 use Rattle.qc_play.specs.PlayText.{turn_line, ending_line, unused_line}
 use Rattle.qc_play.proofs.Turns.{Goes, own_stands, own_told, other_stands, other_told, are_left, are_missing}

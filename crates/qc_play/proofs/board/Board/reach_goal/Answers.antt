@@ -1,8 +1,8 @@
 use Rattle.std.proofs.Common.{◌≡◌, ◌∙◌, ap, sym, subst, true, ◌++◌, length}
 use Rattle.std.specs.List.{list_all}
-use Rattle.qc_model.specs.Game.{restriction, allows}
+use Rattle.qc_model.specs.Game.{restriction}
 use Rattle.qc_model.specs.Holds.{holds_on}
-use Rattle.qc_model.specs.Valid.{is_constraint, is_number}
+use Rattle.qc_model.specs.Valid.{is_constraint}
 use Rattle.qc_play.specs.Play.{at_goal}
 use Rattle.qc_play.specs.PlayText.{ending_line, unused_line}
 use Rattle.line_check.proofs.Readings.{rules_valid}
