@@ -48,14 +48,13 @@ held : (f : ℕ → ℕ) (m n : ℕ) → ((k : ℕ) → (f k == m) ≡ (k == n))
     list_all (λ c. holds_on c vs) (filter (λ (c : Rule). c.owner.0 == m) (map (move_rule f) cs)) ≡ list_all (λ c. holds_on c vs) (filter (λ (c : Rule). c.owner.0 == n) cs)
 held f m n e vs [] = refl
 held f m n e vs (c ∷ cs) =
-    ap (λ t. list_all (λ c. holds_on c vs) (cond t (move_rule f c ∷ later) later)) (e c.owner.0) ∙ here (c.owner.0 == n)
+    ap (λ t. list_all (λ c. holds_on c vs) (cond t (move_rule f c ∷ filter (λ (c : Rule). c.owner.0 == m) (map (move_rule f) cs)) (filter (λ (c : Rule). c.owner.0 == m) (map (move_rule f) cs)))) (e c.owner.0) ∙ here (c.owner.0 == n) (held f m n e vs cs)
   where
-    later : List Rule
-    later = filter (λ (c : Rule). c.owner.0 == m) (map (move_rule f) cs)
-
-    here : (t : Bool) → list_all (λ c. holds_on c vs) (cond t (move_rule f c ∷ later) later) ≡ list_all (λ c. holds_on c vs) (cond t (c ∷ filter (λ (c : Rule). c.owner.0 == n) cs) (filter (λ (c : Rule). c.owner.0 == n) cs))
-    here true = ap (λ t. holds_on c vs && t) (held f m n e vs cs)
-    here false = held f m n e vs cs
+    here : (t : Bool) → list_all (λ c. holds_on c vs) (filter (λ (c : Rule). c.owner.0 == m) (map (move_rule f) cs)) ≡ list_all (λ c. holds_on c vs) (filter (λ (c : Rule). c.owner.0 == n) cs) →
+        list_all (λ c. holds_on c vs) (cond t (move_rule f c ∷ filter (λ (c : Rule). c.owner.0 == m) (map (move_rule f) cs)) (filter (λ (c : Rule). c.owner.0 == m) (map (move_rule f) cs)))
+        ≡ list_all (λ c. holds_on c vs) (cond t (c ∷ filter (λ (c : Rule). c.owner.0 == n) cs) (filter (λ (c : Rule). c.owner.0 == n) cs))
+    here true h = ap (λ t. holds_on c vs && t) h
+    here false h = h
 
 -- no rule has this owner
 unowned : (f : ℕ → ℕ) (m : ℕ) → ((k : ℕ) → (f k == m) ≡ false) → (cs : List Rule) → filter (λ (c : Rule). c.owner.0 == m) (map (move_rule f) cs) ≡ []
@@ -117,7 +116,7 @@ module _ (q : ℕ → Bool) (g : Game) where
   }
 
 -- scopes that belong together have the same allowed tuples
-move_to : (g h : Game) (i j : ℕ) → SameScope g h i j → (a t : List ℤ) → IsMove g i a t → IsMove h j a t
+pub move_to : (g h : Game) (i j : ℕ) → SameScope g h i j → (a t : List ℤ) → IsMove g i a t → IsMove h j a t
 move_to g h i j e a t m = record { is_tuple = subst (LiesIn t) (sym e.domains) m.is_tuple; is_allowed = e.allowed (a ++ t) ∙ m.is_allowed }
 
 pub move_from : (g h : Game) (i j : ℕ) → SameScope g h i j → (a t : List ℤ) → IsMove h j a t → IsMove g i a t

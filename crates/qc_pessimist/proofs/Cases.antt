@@ -8,12 +8,12 @@ use Rattle.qc_model.specs.Value.{value}
 use Rattle.qc_model.specs.Optimal.{is_better, Optimal}
 use Rattle.qc_model.proofs.Plans.{optimal_wins}
 use Rattle.qc_laws.specs.Strategies.{optimal_strategies}
-use Rattle.qc_laws.proofs.Listed.{optimal_exact}
+use Rattle.qc_laws.proofs.Listed.{Lists, optimal_exact}
 use Rattle.qc_laws.proofs.Computed.{IsOptimum, only_strategy}
 use Rattle.qc_laws.proofs.CaseGames.{variable, of_variable, minimise, maximise, exists, indifferent, opposed as contrary}
 use Rattle.qc_pessimist.specs.Worst.{IsWorst, OptimalAtWorst, IsPessimisticOptimum}
 use Rattle.qc_pessimist.specs.Opposed.{opposed_game, with_opposing, moved}
-use Rattle.qc_pessimist.proofs.Reads.{reads_at_worst}
+use Rattle.qc_pessimist.proofs.AtWorst.{reads_at_worst}
 
 -- the leader meets the worst ties
 abbrev leader : ℕ → Bool
@@ -50,6 +50,7 @@ after_zero = pos 0 ∷ []
 dear_is_worst : IsWorst (minimise (of_variable 2)) indifferent (pos 0 ∷ []) (Optimal indifferent (drop 1 indifferent.scopes) 1 (pos 0 ∷ [])) dear
 dear_is_worst = record { follows = exact.to dear (inr (inl refl)); none_worse = λ r o. at r (exact.from r o) }
   where
+    exact : Lists (Optimal indifferent (drop 1 indifferent.scopes) 1 (pos 0 ∷ [])) (optimal_strategies indifferent (drop 1 indifferent.scopes) 1 (pos 0 ∷ []))
     exact = optimal_exact indifferent (drop 1 indifferent.scopes) 1 (pos 0 ∷ [])
 
     at : (r : Plan) → Among r (cheap ∷ dear ∷ []) → IsFalse (is_better (minimise (of_variable 2)).sense (value indifferent dear (of_variable 2) (pos 0 ∷ [])) (value indifferent r (of_variable 2) (pos 0 ∷ [])))

@@ -1,6 +1,9 @@
 pub mod Numbers
 pub mod Agree
 pub mod Follows
-pub mod Reads
+pub mod AtWorst
 pub mod NoBetter
+pub mod Tables
+pub mod Steps
+pub mod Owed
 mod Cases

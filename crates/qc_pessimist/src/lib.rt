@@ -9,9 +9,9 @@
 #![tactic(auto)]
 
 mod copies;
+mod made;
 mod opposed;
-mod pessimistic;
 mod reading;
 
-pub use pessimistic::pessimistic;
+pub use made::pessimistic;
 pub use reading::{NoReading, Places};

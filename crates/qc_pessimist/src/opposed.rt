@@ -47,6 +47,17 @@ fn opposed(condition: Condition) -> Condition
     }
 }
 
+/// How many scopes are added for the wish.
+fn added_for(wish: Option<Condition>) -> u8
+    ensures counts { result ≡ length (added wish) }
+    ensures few { result ≤ 1 }
+{
+    match wish {
+        Some(_) => 1,
+        None => 0,
+    }
+}
+
 fn push_opposing(scopes: &mut Vec<Scope>, wish: Option<Condition>) -> Result<(), AllocError>
     ensures { OnOk result (scopes.new.items ≡ scopes.old.items ++ added wish) }
 {
@@ -91,7 +102,7 @@ pub(crate) fn new_places(
     for i in 0..problem.scopes() {
         table.push(place)?;
         let scope = problem.scope(ScopeId(i as u8));
-        place += 1 + u8::from(chosen_wish(places, i as u8, scope).is_some());
+        place += 1 + added_for(chosen_wish(places, i as u8, scope));
     }
     table.push(place)?;
     Ok(table)
