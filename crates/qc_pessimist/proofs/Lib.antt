@@ -5,5 +5,6 @@ pub mod AtWorst
 pub mod NoBetter
 pub mod Tables
 pub mod Steps
+pub mod Valid
 pub mod Owed
 mod Cases

@@ -22,15 +22,12 @@ pub scopes_step : (q : ℕ → Bool) (xs : List Scope) (i : ℕ) (s : Scope) (w 
     had ++ with_opposing q i (drop i xs) ≡ all → mid ≡ had ++ s ∷ [] → w ≡ chosen_wish (q i) s.kind s.condition → now ≡ mid ++ added w →
     now ++ with_opposing q (i + 1) (drop (i + 1) xs) ≡ all
 scopes_step q xs i s w had mid now all at before first wish second =
-    ap (λ ys. ys ++ rest) (second ∙ ap (λ ys. ys ++ added w) first ∙ ap (λ v. (had ++ s ∷ []) ++ added v) wish)
-    ∙ append_assoc (had ++ s ∷ []) (added_after q i s) rest
-    ∙ append_assoc had (s ∷ []) (added_after q i s ++ rest)
+    ap (λ ys. ys ++ with_opposing q (i + 1) (drop (i + 1) xs)) (second ∙ ap (λ ys. ys ++ added w) first ∙ ap (λ v. (had ++ s ∷ []) ++ added v) wish)
+    ∙ append_assoc (had ++ s ∷ []) (added_after q i s) (with_opposing q (i + 1) (drop (i + 1) xs))
+    ∙ append_assoc had (s ∷ []) (added_after q i s ++ with_opposing q (i + 1) (drop (i + 1) xs))
     ∙ ap (λ n. had ++ s ∷ (added_after q i s ++ with_opposing q n (drop (i + 1) xs))) (sym (next i))
     ∙ ap (λ ys. had ++ with_opposing q i ys) (sym (drop_here xs i s at))
     ∙ before
-  where
-    abbrev rest : List Scope
-    rest = with_opposing q (i + 1) (drop (i + 1) xs)
 
 pub places_step : (q : ℕ → Bool) (xs : List Scope) (i : ℕ) (s : Scope) (w : Option Condition) (n m : ℕ) (had now all : List ℕ) → slice_get xs i ≡ Some s →
     had ++ places_from q i (drop i xs) n ≡ all → now ≡ had ++ n ∷ [] → w ≡ chosen_wish (q i) s.kind s.condition → m ≡ length (added w) →
