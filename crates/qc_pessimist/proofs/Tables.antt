@@ -27,7 +27,7 @@ place_at q scopes k h = place_is q 0 scopes 0 k (omega arith) ∙ none (moved q 
     none : (n : ℕ) → 0 + n ≡ n
     none n = omega arith
 
-first_below : (n i : ℕ) (is : List ℕ) → is_in_order n (i ∷ is) ≡ true → i < n
+pub first_below : (n i : ℕ) (is : List ℕ) → is_in_order n (i ∷ is) ≡ true → i < n
 first_below n i [] h = grind (arith, nat_tests)
 first_below n i (j ∷ is) h =
     let p = both (nat_le i j) (is_in_order n (j ∷ is)) h in
@@ -35,7 +35,7 @@ first_below n i (j ∷ is) h =
     let up : nat_le i j ≡ true = p.0 in
     grind (arith, nat_tests)
 
-rest_in_order : (n i : ℕ) (is : List ℕ) → is_in_order n (i ∷ is) ≡ true → is_in_order n is ≡ true
+pub rest_in_order : (n i : ℕ) (is : List ℕ) → is_in_order n (i ∷ is) ≡ true → is_in_order n is ≡ true
 rest_in_order n i [] h = refl
 rest_in_order n i (j ∷ is) h = (both (nat_le i j) (is_in_order n (j ∷ is)) h).1
 
