@@ -15,3 +15,6 @@ mod reading;
 
 pub use made::pessimistic;
 pub use reading::{NoReading, Places};
+
+#[cfg(test)]
+mod tests;
