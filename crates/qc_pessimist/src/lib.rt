@@ -9,10 +9,12 @@
 #![tactic(auto)]
 
 mod copies;
+mod laws;
 mod made;
 mod opposed;
 mod reading;
 
+pub use laws::opposing_scopes_tell_the_worst;
 pub use made::pessimistic;
 pub use reading::{NoReading, Places};
 
