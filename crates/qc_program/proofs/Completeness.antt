@@ -1,5 +1,5 @@
 -- A run in which nothing failed answers what was asked.
-use Rattle.std.proofs.Common.{◌≡◌, ◌⊎◌, ◌≤◌, ◌<◌, ℕ, List, length, Option, Some, None, IfSome, inl, inr, refl, sym, subst, arith, ◌∙◌, ℤ, IsTrue}
+use Rattle.std.proofs.Common.{◌≡◌, ◌⊎◌, ◌≤◌, ◌<◌, ℕ, true, false, List, length, Option, Some, None, IfSome, inl, inr, refl, sym, subst, arith, ◌∙◌, ℤ, IsTrue}
 use Rattle.qc_io.specs.Counts.{Rose, NoneRose}
 use Rattle.qc_model.specs.Content.{Game}
 use Rattle.qc_model.specs.Turns.{full_turns_of}
@@ -21,15 +21,20 @@ use Rattle.qdimacs.specs.Content.{game_of}
 use Rattle.qdimacs.specs.Refusals.{IsRefused as IsRefusedFormula, formula_of}
 use Rattle.qdimacs.specs.Laws.{OneFile, NeverBoth as NeverRefusedFormula}
 use Rattle.qc_program.specs.declared.status.Status.{Status}
-use Rattle.qc_program.specs.declared.status.Status.TheVariants.{Done, NotProved, Open, Usage, BadProblem, BadCertificate, TooLong, ReadFault, WriteFault, Memory, BadQdimacs}
-use Rattle.qc_program.specs.Words.{Asked, solves, checks, prints, decides, rewrites, makes, shows}
+use Rattle.qc_program.specs.declared.status.Status.TheVariants.{Done, NotProved, Open, Usage, BadProblem, BadCertificate, TooLong, ReadFault, WriteFault, Memory, BadQdimacs, NoReading}
+use Rattle.qc_program.specs.Words.{Asked, solves, checks, prints, decides, rewrites, makes, shows, opposes, restates}
 use Rattle.qc_program.specs.Answers.{Denies, FaultLine, IsProblemOf, IsNoProblem, TurnsProblemDown, AnswersProblem, SolvesProblem, PrintsProblem, ChecksBytes, ChecksFile, Answers}
 use Rattle.qc_program.specs.Certifies.{status_of}
 use Rattle.qc_program.specs.Files.{IsLong, IsFile, TurnsFileDown, Wrote}
 use Rattle.qc_program.specs.Summaries.{SummarisesProblem}
 use Rattle.qc_generated.specs.Pricing.{generated_game}
+use Rattle.qc_pessimist.specs.declared.reading.Places.{Places}
+use Rattle.qc_pessimist.specs.declared.reading.NoReading.{NoReading as Fault}
+use Rattle.qc_pessimist.specs.declared.reading.NoReading.TheVariants.{NoCondition, TooManyScopes, Memory as WantReading}
+use Rattle.qc_pessimist.specs.Refusals.{names_a_wish, Refuses}
+use Rattle.qc_program.specs.Readings.{worst_game, ReadingLine, TurnsReadingDown, AnswersReading}
 use Rattle.qc_program.specs.Formulas.{IsFormulaOf, HasNoFormula, TurnsFormulaDown, AnswersFormula, DecidesFormula, RewritesFormula}
-use Rattle.qc_program.specs.Complete.{TellsProblem, TellsProof, TellsFormula, IsComplete}
+use Rattle.qc_program.specs.Complete.{TellsProblem, TellsProof, TellsFormula, TellsReading, IsComplete}
 
 -- the laws of the texts
 pub record Laws : Type 0 where
@@ -187,6 +192,27 @@ rewrites_done φ Done t c m = refl
 rewrites_done φ Memory t c m = absurd (m refl)
 rewrites_done φ s t c m = absurd c
 
+no_reason : (places : Places) (g : Game) (why : Fault) (t : List ℕ) → IsTrue (names_a_wish places g) → length (worst_game places g).scopes ≤ 64 →
+    Refuses why places g → ReadingLine why t → ⊥
+no_reason places g NoCondition t named few refuses line = let e : names_a_wish places g ≡ true = named in let f : names_a_wish places g ≡ false = refuses in cc
+no_reason places g TooManyScopes t named few refuses line = let more : 64 < length (worst_game places g).scopes = refuses.1 in omega arith
+no_reason places g (WantReading e) t named few refuses line = line
+
+never_unreadable : (told : Option (List ℕ)) (places : Places) (g : Game) → TellsReading told places g →
+    (s : Status) (t : List ℕ) → TurnsReadingDown places g s t → ¬ (s ≡ Memory) → ⊥
+never_unreadable told places g tells NoReading t d m = no_reason places g d.why t tells.named tells.few d.refuses d.line
+never_unreadable told places g tells Memory t d m = m refl
+never_unreadable told places g tells s t d m = d
+
+for_reading : Laws → (places : Places) (P : Game → Status → List ℕ → Type 0) (name : List ℕ) (told : Option (List ℕ)) (gave : ℕ → Type 0) (g : Game) →
+    TellsReading told places g → (s : Status) (t : List ℕ) → AnswersProblem (AnswersReading places P) name told gave s t → ¬ (s ≡ Memory) → ¬ (s ≡ ReadFault) →
+    P (worst_game places g) s t
+for_reading l places P name told gave g tells s t h m r =
+    elim (for_problem l (AnswersReading places P) name told gave g tells.problem s t h m r) [
+      | inl d ↦ absurd (never_unreadable told places g tells s t d m)
+      | inr (reading, k) ↦ k
+    ]
+
 asked_done : Laws → (asked : Option Asked) (told : List ℕ → Option (List ℕ)) (gave : ℕ → Type 0) (s : Status) (t : List ℕ) →
     Answers asked told gave s t → ¬ (s ≡ Memory) → ¬ (s ≡ ReadFault) → IsComplete asked told s
 asked_done l None told gave s t h m r = words s h where
@@ -205,6 +231,10 @@ asked_done l (Some (rewrites name)) told gave s t h m r =
     λ f tells. rewrites_done (formula_of f) s t (for_formula l RewritesFormula name (told name) gave f tells s t h m r) m
 asked_done l (Some (makes n)) told gave s t h m r = summarises_done (generated_game n) s t h m
 asked_done l (Some (shows n)) told gave s t h m r = prints_done (generated_game n) s t h m
+asked_done l (Some (opposes name places turns)) told gave s t h m r =
+    λ g tells f. solves_done turns (worst_game places g) s t (for_reading l places (SolvesProblem turns) name (told name) gave g tells s t h m r) m f
+asked_done l (Some (restates name places)) told gave s t h m r =
+    λ g tells. prints_done (worst_game places g) s t (for_reading l places PrintsProblem name (told name) gave g tells s t h m r) m
 
 no_fault : (before now : ℕ) → Rose before now → NoneRose before now → ⊥
 no_fault before now rose (same, below) = omega arith

@@ -10,6 +10,11 @@ use Rattle.qdimacs.specs.declared.fault.QdimacsFault.TheVariants.{Refused as Ref
 use Rattle.qdimacs.specs.Refusals.{Explains as ExplainsFormula}
 use Rattle.qc_program.specs.declared.status.Status.{Status}
 use Rattle.qc_program.specs.declared.status.Status.TheVariants.{BadProblem, TooLong, Memory, BadQdimacs}
+use Rattle.qc_pessimist.specs.declared.reading.Places.{Places}
+use Rattle.qc_pessimist.specs.declared.reading.NoReading.{NoReading as NoFault}
+use Rattle.qc_pessimist.specs.declared.reading.NoReading.TheVariants.{NoCondition, TooManyScopes, Memory as WantReading}
+use Rattle.qc_pessimist.specs.Refusals.{Refuses}
+use Rattle.qc_program.specs.Readings.{TurnsFaultDown, TurnsReadingDown}
 use Rattle.qc_program.specs.Refusals.{TurnsDown, TurnsTextDown}
 use Rattle.qc_program.specs.Formulas.{TurnsFormulaDown, TurnsFormulaTextDown, TurnsQdimacsDown}
 use Rattle.qc_program.specs.Answers.{TurnsProblemDown, ChecksFile}
@@ -52,6 +57,12 @@ no_formula_file name told gave s t h = h
 pub qdimacs_down : (bytes : List ℕ) (f : QdimacsFault) (s : Status) (t : List ℕ) → ExplainsFormula bytes f → TurnsQdimacsDown f s t → TurnsFormulaTextDown bytes s t
 qdimacs_down bytes (RefusedFormula kind at) s t why is = rw is.0 (record { kind = kind; at = at; refuses = why; line = is.1 })
 qdimacs_down bytes (WantFormula e) s t why is = rw is.0 is.1
+
+-- a game that isn't made
+pub reading_down : (places : Places) (g : Game) (f : NoFault) (s : Status) (t : List ℕ) → Refuses f places g → TurnsFaultDown f s t → TurnsReadingDown places g s t
+reading_down places g NoCondition s t why is = rw is.0 (record { why = NoCondition; refuses = why; line = is.1 })
+reading_down places g TooManyScopes s t why is = rw is.0 (record { why = TooManyScopes; refuses = why; line = is.1 })
+reading_down places g (WantReading e) s t why is = rw is.0 is.1
 
 long_before : (limit : ℕ) (name : List ℕ) (told : Option (List ℕ)) (gave gave' : ℕ → Type 0) (t : List ℕ) → ((n : ℕ) → gave n → gave' n) →
     IsLong limit name told gave t → IsLong limit name told gave' t

@@ -19,6 +19,7 @@ mod run;
 mod solve;
 mod status;
 mod words;
+mod worst;
 mod writing;
 
 use qc_io::{FolderShelf, OutSink};

@@ -1,8 +1,11 @@
 //! The words of a command.
 ghost use Rattle.std.specs.Prelude.{◌≡◌, ◌≤◌, ◌<◌, length, map, Some, IfSome};
 ghost use Rattle.std.specs.Option.{option_map};
-ghost use Rattle.qc_program.specs.Words.{is_name as is_name_of, digits_after, is_short_numeral as is_short_numeral_of, solves_within, decides_within, makes_from, shows_from, number_asked, turns_asked, made_from as made_from_word, asked_by_two, asked_by_three, asked_by_four, asked_of};
+ghost use Rattle.qc_program.specs.Words.{is_name as is_name_of, digits_after, is_short_numeral as is_short_numeral_of, solves_within, decides_within, makes_from, shows_from, number_asked, turns_asked, made_from as made_from_word, scope_place, places_asked as places_asked_by, opposes_within, restates_at, asked_by_two, asked_by_three, asked_by_four, asked_by_five, asked_of};
 ghost use Rattle.qc_program.specs.View.{asked, IsWithin};
+
+use qc_model::ScopeId;
+use qc_pessimist::Places;
 
 /// The most turns that a search may be given.
 const MOST_TURNS: u64 = 10_000_000;
@@ -12,6 +15,9 @@ pub(crate) const USUAL_TURNS: u64 = 1_000_000;
 
 /// The greatest number that a problem is made from.
 const MOST_MADE: u64 = 1_000_000;
+
+/// The most scopes of a problem.
+const MOST_SCOPES: u64 = 64;
 
 /// What the words ask for: names of files, how many turns a search may take, 1 to 10,000,000, and the number that a
 /// problem is made from, 0 to 1,000,000.
@@ -41,6 +47,15 @@ pub(crate) enum Command<'a> {
     Show {
         number: u32,
     },
+    Oppose {
+        problem: &'a str,
+        places: Places,
+        turns: u64,
+    },
+    Restate {
+        problem: &'a str,
+        places: Places,
+    },
 }
 
 /// What the words ask for, where they match the table.
@@ -49,9 +64,10 @@ pub(crate) fn command_of<'a>(words: &[&'a str]) -> Option<Command<'a>>
     ensures within { IfSome result IsWithin }
 {
     match words {
-        [word, problem] => by_two(word, problem),
+        [word, first] => by_two(word, first),
         [word, first, second] => by_three(word, first, second),
-        [word, problem, flag, number] => by_four(word, problem, flag, number),
+        [word, first, second, third] => by_four(word, first, second, third),
+        [word, first, second, third, fourth] => by_five(word, first, second, third, fourth),
         _ => None,
     }
 }
@@ -97,18 +113,45 @@ fn by_three<'a>(word: &str, first: &'a str, second: &'a str) -> Option<Command<'
     if word == "generate" && second == "--text" {
         return show_from(made_from(first));
     }
+    if word == "worst" && is_name(first) {
+        return oppose_within(first, places_in(second), Some(USUAL_TURNS));
+    }
     None
 }
 
-fn by_four<'a>(word: &str, problem: &'a str, flag: &str, number: &str) -> Option<Command<'a>>
-    ensures asked { option_map asked result ≡ asked_by_four word.now problem.now flag.now number.now }
+fn by_four<'a>(
+    word: &str,
+    first: &'a str,
+    second: &'a str,
+    third: &str,
+) -> Option<Command<'a>>
+    ensures asked { option_map asked result ≡ asked_by_four word.now first.now second.now third.now }
     ensures within { IfSome result IsWithin }
 {
-    if word == "solve" && is_name(problem) && flag == "--turns" {
-        return solve_within(problem, turns_in(number));
+    if word == "solve" && is_name(first) && second == "--turns" {
+        return solve_within(first, turns_in(third));
     }
-    if word == "qbf" && is_name(problem) && flag == "--turns" {
-        return decide_within(problem, turns_in(number));
+    if word == "qbf" && is_name(first) && second == "--turns" {
+        return decide_within(first, turns_in(third));
+    }
+    if word == "worst" && is_name(first) && third == "--text" {
+        return restate_at(first, places_in(second));
+    }
+    None
+}
+
+fn by_five<'a>(
+    word: &str,
+    first: &'a str,
+    second: &str,
+    third: &str,
+    fourth: &str,
+) -> Option<Command<'a>>
+    ensures asked { option_map asked result ≡ asked_by_five word.now first.now second.now third.now fourth.now }
+    ensures within { IfSome result IsWithin }
+{
+    if word == "worst" && is_name(first) && third == "--turns" {
+        return oppose_within(first, places_in(second), turns_in(fourth));
     }
     None
 }
@@ -157,6 +200,38 @@ fn show_from<'a>(number: Option<u32>) -> Option<Command<'a>>
     }
 }
 
+fn oppose_within(
+    problem: &str,
+    places: Option<Places>,
+    turns: Option<u64>,
+) -> Option<Command<'_>>
+    requires { IfSome turns (λ n. (1 ≤ n) × (n ≤ 10000000)) }
+    ensures asked { option_map asked result ≡ opposes_within problem.now places turns }
+    ensures within { IfSome result IsWithin }
+{
+    match places {
+        Some(places) => match turns {
+            Some(turns) => Some(Command::Oppose {
+                problem,
+                places,
+                turns,
+            }),
+            None => None,
+        },
+        None => None,
+    }
+}
+
+fn restate_at(problem: &str, places: Option<Places>) -> Option<Command<'_>>
+    ensures asked { option_map asked result ≡ restates_at problem.now places }
+    ensures within { IfSome result IsWithin }
+{
+    match places {
+        Some(places) => Some(Command::Restate { problem, places }),
+        None => None,
+    }
+}
+
 // A word that names a file: it isn't empty and doesn't begin with a dash.
 fn is_name(word: &str) -> bool
     ensures { result ≡ is_name_of word.now }
@@ -185,6 +260,27 @@ fn made_from(word: &str) -> Option<u32>
     }
     match number_within(word, 1, MOST_MADE) {
         Some(number) => Some(number as u32),
+        None => None,
+    }
+}
+
+// The owners that are to meet the worst ties.
+fn places_in(word: &str) -> Option<Places>
+    ensures { result ≡ places_asked_by word.now }
+{
+    if word == "all" {
+        return Some(Places::All);
+    }
+    scope_in(number_within(word, 1, MOST_SCOPES))
+}
+
+// The scope of a number that counts from 1.
+fn scope_in(number: Option<u64>) -> Option<Places>
+    requires { IfSome number (λ k. (1 ≤ k) × (k ≤ 64)) }
+    ensures { result ≡ scope_place number }
+{
+    match number {
+        Some(number) => Some(Places::One(ScopeId((number - 1) as u8))),
         None => None,
     }
 }

@@ -20,3 +20,9 @@ returns-in-Some-Make-clause-wrote g c = rw (← c.in-Some-Make.ensures.asked, c.
 
 pub returns-in-Some-Show-clause-wrote : goal.returns-in-Some-Show-clause-wrote
 returns-in-Some-Show-clause-wrote g c = rw (← c.in-Some-Show.ensures.asked, c.in-Some-Show.field-0-is) c.show_made.ensures.wrote
+
+pub returns-in-Some-Oppose-clause-wrote : goal.returns-in-Some-Oppose-clause-wrote
+returns-in-Some-Oppose-clause-wrote g c = rw (← c.in-Some-Oppose.ensures.asked, c.in-Some-Oppose.field-0-is) c.oppose_file.ensures.wrote
+
+pub returns-in-Some-Restate-clause-wrote : goal.returns-in-Some-Restate-clause-wrote
+returns-in-Some-Restate-clause-wrote g c = rw (← c.in-Some-Restate.ensures.asked, c.in-Some-Restate.field-0-is) c.restate_file.ensures.wrote
