@@ -87,17 +87,23 @@ fn summary(
         Outcome::True => match optimum {
             Some(value) => {
                 let digits = buffer.format(value);
-                format!(in alloc; "variables {variables}\nconstraints {constraints}\noutcome true {digits}\n")
+                format!(in alloc;
+                    "variables {variables}\nconstraints {constraints}\noutcome true {digits}\n"
+                )
             }
             None => {
-                format!(in alloc; "variables {variables}\nconstraints {constraints}\noutcome true\n")
+                format!(in alloc;
+                    "variables {variables}\nconstraints {constraints}\noutcome true\n"
+                )
             }
         },
         Outcome::False => {
             format!(in alloc; "variables {variables}\nconstraints {constraints}\noutcome false\n")
         }
         Outcome::Open(turns) => {
-            format!(in alloc; "variables {variables}\nconstraints {constraints}\noutcome open {turns}\n")
+            format!(in alloc;
+                "variables {variables}\nconstraints {constraints}\noutcome open {turns}\n"
+            )
         }
     }
 }

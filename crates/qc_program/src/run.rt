@@ -77,7 +77,9 @@ fn answer<S: Shelf, K: Sink>(alloc: Global, words: &[&str], shelf: &mut S, out: 
                 turns,
             },
         ) => oppose_file(alloc, problem, places, turns, shelf, out),
-        Some(Command::Restate { problem, places }) => restate_file(alloc, problem, places, shelf, out),
+        Some(Command::Restate { problem, places }) => restate_file(
+            alloc, problem, places, shelf, out,
+        ),
         None => finish(out, USAGE, Status::Usage),
     }
 }

@@ -119,12 +119,7 @@ fn by_three<'a>(word: &str, first: &'a str, second: &'a str) -> Option<Command<'
     None
 }
 
-fn by_four<'a>(
-    word: &str,
-    first: &'a str,
-    second: &'a str,
-    third: &str,
-) -> Option<Command<'a>>
+fn by_four<'a>(word: &str, first: &'a str, second: &'a str, third: &str) -> Option<Command<'a>>
     ensures asked { option_map asked result ≡ asked_by_four word.now first.now second.now third.now }
     ensures within { IfSome result IsWithin }
 {
@@ -200,11 +195,7 @@ fn show_from<'a>(number: Option<u32>) -> Option<Command<'a>>
     }
 }
 
-fn oppose_within(
-    problem: &str,
-    places: Option<Places>,
-    turns: Option<u64>,
-) -> Option<Command<'_>>
+fn oppose_within(problem: &str, places: Option<Places>, turns: Option<u64>) -> Option<Command<'_>>
     requires { IfSome turns (λ n. (1 ≤ n) × (n ≤ 10000000)) }
     ensures asked { option_map asked result ≡ opposes_within problem.now places turns }
     ensures within { IfSome result IsWithin }

@@ -74,12 +74,7 @@ fn oppose_problem<K: Sink>(
     }
 }
 
-fn restate_problem<K: Sink>(
-    alloc: Global,
-    problem: &Problem,
-    places: Places,
-    out: &mut K,
-) -> Status
+fn restate_problem<K: Sink>(alloc: Global, problem: &Problem, places: Places, out: &mut K) -> Status
     ensures wrote { Wrote (K.written out.old) (K.written out.new) (K.faults out.old) (K.faults out.new) result (AnswersReading places PrintsProblem problem.now) }
     ensures rows { (result ≢ Status.Usage) × (result ≢ Status.ReadFault) }
 {

@@ -1,4 +1,4 @@
-use Rattle.std.proofs.Common.{◌≡◌, ◌∙◌, sym, append-nil}
+use Rattle.std.proofs.Common.{◌∙◌, sym, append-nil}
 use Rattle.qc_program.proofs.Written.{Wrote-weaker}
 use Rattle.qc_program.proofs.generate.write_summary.Goals as goal
 

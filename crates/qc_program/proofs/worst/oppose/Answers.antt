@@ -1,5 +1,3 @@
-use Rattle.std.proofs.Common.{◌≤◌, length, rules}
-use Rattle.qc_program.specs.Readings.{worst_game}
 use Rattle.qc_program.proofs.Written.{Wrote-weaker}
 use Rattle.qc_program.proofs.Down.{reading_down}
 use Rattle.qc_program.proofs.worst.oppose.Goals as goal
