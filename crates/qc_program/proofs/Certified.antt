@@ -1,4 +1,4 @@
--- The lines of a solution, written, are what `solve` answers.
+-- The lines of a solution, written, are what `solve` answers, and a summary of them what `generate` does.
 use Rattle.std.proofs.Common.{◌≡◌, ◌∙◌, ℕ, List, Option, ℤ, ap, sym, subst}
 use Rattle.qc_model.specs.Content.{Game}
 use Rattle.proof_tree.specs.declared.line.Line.{Line}
@@ -10,7 +10,7 @@ use Rattle.qc_program.specs.declared.status.Status.{Status}
 use Rattle.qc_program.specs.Answers.{SolvesProblem}
 use Rattle.qc_program.specs.Certifies.{status_of, Certifies}
 
-certified : (g : Game) (turns : ℕ) (o : Outcome) (v : Option ℤ) (lines : List Line) (s : Status) (t : List ℕ) →
+abbrev pub certified : (g : Game) (turns : ℕ) (o : Outcome) (v : Option ℤ) (lines : List Line) (s : Status) (t : List ℕ) →
     SolutionLines g turns o v lines → s ≡ status_of o → t ≡ text_of_lines o v lines → Certifies g turns s t
 certified g turns o v lines s t h ends text = record {
   outcome = o;
@@ -19,6 +19,7 @@ certified g turns o v lines s t h ends text = record {
   proved = h.solution.proves;
   ordered = h.solution.in_order;
   diligent = h.solution.diligent;
+  incumbents = h.solution.incumbents;
   few = h.solution.few;
   spent = h.solution.spent;
   spellable = h.solution.has_text;

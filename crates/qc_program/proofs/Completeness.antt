@@ -1,5 +1,5 @@
 -- A run in which nothing failed answers what was asked.
-use Rattle.std.proofs.Common.{◌≡◌, ◌≤◌, ◌<◌, ℕ, List, length, Option, Some, None, IfSome, inl, inr, refl, sym, subst, arith, ◌∙◌, ℤ, IsTrue}
+use Rattle.std.proofs.Common.{◌≡◌, ◌⊎◌, ◌≤◌, ◌<◌, ℕ, true, false, List, length, Option, Some, None, IfSome, inl, inr, refl, sym, subst, arith, ◌∙◌, ℤ, IsTrue}
 use Rattle.qc_io.specs.Counts.{Rose, NoneRose}
 use Rattle.qc_model.specs.Content.{Game}
 use Rattle.qc_model.specs.Turns.{full_turns_of}
@@ -16,17 +16,25 @@ use Rattle.proof_text.specs.Laws.{NeverBoth, IsOneCertificate}
 use Rattle.game_search.specs.Solution.{OpenMeans}
 use Rattle.qdimacs.specs.Grammar.{File, IsFile as IsFormulaFile}
 use Rattle.qdimacs.specs.Tokens.{tokens_of}
+use Rattle.qdimacs.specs.Formula.{Formula}
 use Rattle.qdimacs.specs.Content.{game_of}
 use Rattle.qdimacs.specs.Refusals.{IsRefused as IsRefusedFormula, formula_of}
 use Rattle.qdimacs.specs.Laws.{OneFile, NeverBoth as NeverRefusedFormula}
 use Rattle.qc_program.specs.declared.status.Status.{Status}
-use Rattle.qc_program.specs.declared.status.Status.TheVariants.{Done, NotProved, Open, Usage, BadProblem, BadCertificate, TooLong, ReadFault, WriteFault, Memory, BadQdimacs}
-use Rattle.qc_program.specs.Words.{Asked, solves, checks, prints, decides, rewrites}
-use Rattle.qc_program.specs.Answers.{Denies, FaultLine, IsProblemOf, IsNoProblem, AnswersProblem, SolvesProblem, PrintsProblem, ChecksFile, Answers}
+use Rattle.qc_program.specs.declared.status.Status.TheVariants.{Done, NotProved, Open, Usage, BadProblem, BadCertificate, TooLong, ReadFault, WriteFault, Memory, BadQdimacs, NoReading}
+use Rattle.qc_program.specs.Words.{Asked, solves, checks, prints, decides, rewrites, makes, shows, opposes, restates}
+use Rattle.qc_program.specs.Answers.{Denies, FaultLine, IsProblemOf, IsNoProblem, TurnsProblemDown, AnswersProblem, SolvesProblem, PrintsProblem, ChecksBytes, ChecksFile, Answers}
 use Rattle.qc_program.specs.Certifies.{status_of}
-use Rattle.qc_program.specs.Files.{IsLong, IsFile, Wrote}
-use Rattle.qc_program.specs.Formulas.{IsFormulaOf, HasNoFormula, AnswersFormula, DecidesFormula, RewritesFormula}
-use Rattle.qc_program.specs.Complete.{TellsProblem, TellsProof, TellsFormula, IsComplete}
+use Rattle.qc_program.specs.Files.{IsLong, IsFile, TurnsFileDown, Wrote}
+use Rattle.qc_program.specs.Summaries.{SummarisesProblem}
+use Rattle.qc_generated.specs.Pricing.{generated_game}
+use Rattle.qc_pessimist.specs.declared.reading.Places.{Places}
+use Rattle.qc_pessimist.specs.declared.reading.NoReading.{NoReading as Fault}
+use Rattle.qc_pessimist.specs.declared.reading.NoReading.TheVariants.{NoCondition, TooManyScopes, Memory as WantReading}
+use Rattle.qc_pessimist.specs.Refusals.{names_a_wish, Refuses}
+use Rattle.qc_program.specs.Readings.{worst_game, ReadingLine, TurnsReadingDown, AnswersReading}
+use Rattle.qc_program.specs.Formulas.{IsFormulaOf, HasNoFormula, TurnsFormulaDown, AnswersFormula, DecidesFormula, RewritesFormula}
+use Rattle.qc_program.specs.Complete.{TellsProblem, TellsProof, TellsFormula, TellsReading, IsComplete}
 
 -- the laws of the texts
 pub record Laws : Type 0 where
@@ -56,38 +64,45 @@ never_long : (limit : ℕ) (name : List ℕ) (told : Option (List ℕ)) (gave : 
 never_long limit name told gave t b e le long =
     let lt : limit < length b = subst (λ o. IfSome o (λ file. limit < length file)) e long.longer in omega arith
 
+-- so nothing tells that there is no problem
+never_turned_down : Laws → (name : List ℕ) (told : Option (List ℕ)) (gave : ℕ → Type 0) (g : Game) → TellsProblem told g →
+    (s : Status) (t : List ℕ) → TurnsProblemDown name told gave s t → ¬ (s ≡ Memory) → ¬ (s ≡ ReadFault) → ⊥
+never_turned_down l name told gave g tells BadProblem t d m r = never_refused l.either told g t tells d
+never_turned_down l name told gave g tells TooLong t d m r = never_long 4194304 name told gave t tells.bytes tells.told_is tells.within d
+never_turned_down l name told gave g tells Memory t d m r = m refl
+never_turned_down l name told gave g tells ReadFault t d m r = r refl
+never_turned_down l name told gave g tells s t d m r = d
+
+-- what is answered is answered for the file's problem
+for_problem : Laws → (P : Game → Status → List ℕ → Type 0) (name : List ℕ) (told : Option (List ℕ)) (gave : ℕ → Type 0) (g : Game) → TellsProblem told g →
+    (s : Status) (t : List ℕ) → AnswersProblem P name told gave s t → ¬ (s ≡ Memory) → ¬ (s ≡ ReadFault) → P g s t
+for_problem l P name told gave g tells s t h m r =
+    elim h [
+      | inl d ↦ absurd (never_turned_down l name told gave g tells s t d m r)
+      | inr (h0, of, k) ↦ subst (λ q. P q s t) (same_game l.one told g h0 tells of) k
+    ]
+
 open_below : (o : Outcome) (g : Game) (turns : ℕ) (root : Tree) → Open ≡ status_of o → OpenMeans o g turns root → full_turns_of g ≤ turns → ⊥
 open_below True g turns root e m f = let k : Open ≡ Done = e in cc
 open_below False g turns root e m f = let k : Open ≡ Done = e in cc
 open_below (OpenOutcome n) g turns root e m f = let all : n ≡ turns = m.all in let below : n < full_turns_of g = m.below in omega arith
 
-solves_done : Laws → (name : List ℕ) (turns : ℕ) (told : Option (List ℕ)) (gave : ℕ → Type 0) (s : Status) (t : List ℕ) →
-    AnswersProblem (SolvesProblem turns) name told gave s t → ¬ (s ≡ Memory) → ¬ (s ≡ ReadFault) → (g : Game) → TellsProblem told g → full_turns_of g ≤ turns → s ≡ Done
-solves_done l name turns told gave Done t h m r g tells f = refl
-solves_done l name turns told gave NotProved t h m r g tells f = elim h [ inl d ↦ absurd d | inr (h0, of, k) ↦ absurd k ]
-solves_done l name turns told gave Open t h m r g tells f = elim h [ inl d ↦ absurd d | inr (h0, of, c) ↦ absurd (open_below c.outcome h0 turns c.root c.ends c.spent (subst (λ q. full_turns_of q ≤ turns) (sym (same_game l.one told g h0 tells of)) f)) ]
-solves_done l name turns told gave Usage t h m r g tells f = elim h [ inl d ↦ absurd d | inr (h0, of, k) ↦ absurd k ]
-solves_done l name turns told gave BadProblem t h m r g tells f = elim h [ inl d ↦ absurd (never_refused l.either told g t tells d) | inr (h0, of, k) ↦ absurd k ]
-solves_done l name turns told gave BadCertificate t h m r g tells f = elim h [ inl d ↦ absurd d | inr (h0, of, k) ↦ absurd k ]
-solves_done l name turns told gave TooLong t h m r g tells f = elim h [ inl d ↦ absurd (never_long 4194304 name told gave t tells.bytes tells.told_is tells.within d) | inr (h0, of, k) ↦ absurd k ]
-solves_done l name turns told gave ReadFault t h m r g tells f = absurd (r refl)
-solves_done l name turns told gave WriteFault t h m r g tells f = elim h [ inl d ↦ absurd d | inr (h0, of, k) ↦ absurd k ]
-solves_done l name turns told gave Memory t h m r g tells f = absurd (m refl)
-solves_done l name turns told gave BadQdimacs t h m r g tells f = elim h [ inl d ↦ absurd d | inr (h0, of, k) ↦ absurd k ]
+solves_done : (turns : ℕ) (g : Game) (s : Status) (t : List ℕ) → SolvesProblem turns g s t → ¬ (s ≡ Memory) → full_turns_of g ≤ turns → s ≡ Done
+solves_done turns g Done t c m f = refl
+solves_done turns g Open t c m f = absurd (open_below c.outcome g turns c.root c.ends c.spent f)
+solves_done turns g Memory t c m f = absurd (m refl)
+solves_done turns g s t c m f = absurd c
 
-prints_done : Laws → (name : List ℕ) (told : Option (List ℕ)) (gave : ℕ → Type 0) (s : Status) (t : List ℕ) →
-    AnswersProblem PrintsProblem name told gave s t → ¬ (s ≡ Memory) → ¬ (s ≡ ReadFault) → (g : Game) → TellsProblem told g → s ≡ Done
-prints_done l name told gave Done t h m r g tells = refl
-prints_done l name told gave NotProved t h m r g tells = elim h [ inl d ↦ absurd d | inr (h0, of, k) ↦ absurd k ]
-prints_done l name told gave Open t h m r g tells = elim h [ inl d ↦ absurd d | inr (h0, of, k) ↦ absurd k ]
-prints_done l name told gave Usage t h m r g tells = elim h [ inl d ↦ absurd d | inr (h0, of, k) ↦ absurd k ]
-prints_done l name told gave BadProblem t h m r g tells = elim h [ inl d ↦ absurd (never_refused l.either told g t tells d) | inr (h0, of, k) ↦ absurd k ]
-prints_done l name told gave BadCertificate t h m r g tells = elim h [ inl d ↦ absurd d | inr (h0, of, k) ↦ absurd k ]
-prints_done l name told gave TooLong t h m r g tells = elim h [ inl d ↦ absurd (never_long 4194304 name told gave t tells.bytes tells.told_is tells.within d) | inr (h0, of, k) ↦ absurd k ]
-prints_done l name told gave ReadFault t h m r g tells = absurd (r refl)
-prints_done l name told gave WriteFault t h m r g tells = elim h [ inl d ↦ absurd d | inr (h0, of, k) ↦ absurd k ]
-prints_done l name told gave Memory t h m r g tells = absurd (m refl)
-prints_done l name told gave BadQdimacs t h m r g tells = elim h [ inl d ↦ absurd d | inr (h0, of, k) ↦ absurd k ]
+prints_done : (g : Game) (s : Status) (t : List ℕ) → PrintsProblem g s t → ¬ (s ≡ Memory) → s ≡ Done
+prints_done g Done t c m = refl
+prints_done g Memory t c m = absurd (m refl)
+prints_done g s t c m = absurd c
+
+summarises_done : (g : Game) (s : Status) (t : List ℕ) → SummarisesProblem g s t → ¬ (s ≡ Memory) → (s ≡ Done) ⊎ (s ≡ Open)
+summarises_done g Done t c m = inl refl
+summarises_done g Open t c m = inr refl
+summarises_done g Memory t c m = absurd (m refl)
+summarises_done g s t c m = absurd c
 
 moved : (g : Game) (o p : Outcome) (v w : Option ℤ) (r s : Tree) → o ≡ p → v ≡ w → r ≡ s → IsTrue (proves g o v r) → IsTrue (proves g p w s)
 moved g o p v w r s a b c h = rw (← a, ← b, ← c) h
@@ -116,19 +131,28 @@ never_faulty never told g bytes t fault proof file is line =
     never proof.bytes fault (proof.version, proof.outcome, proof.optimum, proof.root, proof.read.spellable, proof.read.shallow, proof.read.spelled)
     (subst (IsFault fault) e is, no_want fault t line)
 
-checks_done : Laws → (name certificate : List ℕ) (told proof : Option (List ℕ)) (gave : ℕ → Type 0) (s : Status) (t : List ℕ) →
-    AnswersProblem (ChecksFile certificate proof gave) name told gave s t → ¬ (s ≡ Memory) → ¬ (s ≡ ReadFault) → (g : Game) → TellsProblem told g → TellsProof proof g → s ≡ Done
-checks_done l name certificate told proof gave Done t h m r g tells proves = refl
-checks_done l name certificate told proof gave NotProved t h m r g tells proves = elim h [ inl d ↦ absurd d | inr (h0, of, x) ↦ elim x [ inl d ↦ absurd d | inr (bytes, file, y) ↦ absurd (never_denied l.certificate proof g bytes t proves file (subst (λ q. Denies q bytes t) (same_game l.one told g h0 tells of) y)) ] ]
-checks_done l name certificate told proof gave Open t h m r g tells proves = elim h [ inl d ↦ absurd d | inr (h0, of, x) ↦ elim x [ inl d ↦ absurd d | inr (bytes, file, y) ↦ absurd y ] ]
-checks_done l name certificate told proof gave Usage t h m r g tells proves = elim h [ inl d ↦ absurd d | inr (h0, of, x) ↦ elim x [ inl d ↦ absurd d | inr (bytes, file, y) ↦ absurd y ] ]
-checks_done l name certificate told proof gave BadProblem t h m r g tells proves = elim h [ inl d ↦ absurd (never_refused l.either told g t tells d) | inr (h0, of, x) ↦ elim x [ inl d ↦ absurd d | inr (bytes, file, y) ↦ absurd y ] ]
-checks_done l name certificate told proof gave BadCertificate t h m r g tells proves = elim h [ inl d ↦ absurd d | inr (h0, of, x) ↦ elim x [ inl d ↦ absurd d | inr (bytes, file, (fault, is, line)) ↦ absurd (never_faulty l.never proof g bytes t fault proves file is line) ] ]
-checks_done l name certificate told proof gave TooLong t h m r g tells proves = elim h [ inl d ↦ absurd (never_long 4194304 name told gave t tells.bytes tells.told_is tells.within d) | inr (h0, of, x) ↦ elim x [ inl d ↦ absurd (never_long 1073741824 certificate proof gave t proves.bytes proves.told_is proves.within d) | inr (bytes, file, y) ↦ absurd y ] ]
-checks_done l name certificate told proof gave ReadFault t h m r g tells proves = absurd (r refl)
-checks_done l name certificate told proof gave WriteFault t h m r g tells proves = elim h [ inl d ↦ absurd d | inr (h0, of, x) ↦ elim x [ inl d ↦ absurd d | inr (bytes, file, y) ↦ absurd y ] ]
-checks_done l name certificate told proof gave Memory t h m r g tells proves = absurd (m refl)
-checks_done l name certificate told proof gave BadQdimacs t h m r g tells proves = elim h [ inl d ↦ absurd d | inr (h0, of, x) ↦ elim x [ inl d ↦ absurd d | inr (bytes, file, y) ↦ absurd y ] ]
+-- no certificate's file is turned down that isn't too long
+never_unread : (limit : ℕ) (name : List ℕ) (told : Option (List ℕ)) (gave : ℕ → Type 0) (bytes : List ℕ) → told ≡ Some bytes → length bytes ≤ limit →
+    (s : Status) (t : List ℕ) → TurnsFileDown limit name told gave s t → ¬ (s ≡ Memory) → ¬ (s ≡ ReadFault) → ⊥
+never_unread limit name told gave bytes e le TooLong t d m r = never_long limit name told gave t bytes e le d
+never_unread limit name told gave bytes e le Memory t d m r = m refl
+never_unread limit name told gave bytes e le ReadFault t d m r = r refl
+never_unread limit name told gave bytes e le s t d m r = d
+
+confirms_done : Laws → (told : Option (List ℕ)) (g : Game) (bytes : List ℕ) → TellsProof told g → IsFile 1073741824 told bytes →
+    (s : Status) (t : List ℕ) → ChecksBytes g bytes s t → s ≡ Done
+confirms_done l told g bytes proof file Done t c = refl
+confirms_done l told g bytes proof file NotProved t c = absurd (never_denied l.certificate told g bytes t proof file c)
+confirms_done l told g bytes proof file BadCertificate t (fault, is, line) = absurd (never_faulty l.never told g bytes t fault proof file is line)
+confirms_done l told g bytes proof file s t c = absurd c
+
+checks_done : Laws → (name : List ℕ) (told : Option (List ℕ)) (gave : ℕ → Type 0) (g : Game) → TellsProof told g →
+    (s : Status) (t : List ℕ) → ChecksFile name told gave g s t → ¬ (s ≡ Memory) → ¬ (s ≡ ReadFault) → s ≡ Done
+checks_done l name told gave g proof s t h m r =
+    elim h [
+      | inl d ↦ absurd (never_unread 1073741824 name told gave proof.bytes proof.told_is proof.within s t d m r)
+      | inr (bytes, file, c) ↦ confirms_done l told g bytes proof file s t c
+    ]
 
 same_file : OneFile → (told : Option (List ℕ)) (f h : File) → TellsFormula told f → IsFormulaOf told h → h ≡ f
 same_file one told f h tells of =
@@ -141,61 +165,76 @@ never_no_formula never told f t tells down =
     let e : down.bytes ≡ tells.bytes = told_bytes told tells.bytes down.bytes tells.told_is down.file.same in
     never tells.bytes f down.refused.kind down.refused.at tells.states (subst (λ b. IsRefusedFormula b down.refused.kind down.refused.at) e down.refused.refuses)
 
-decides_done : Laws → (name : List ℕ) (turns : ℕ) (told : Option (List ℕ)) (gave : ℕ → Type 0) (s : Status) (t : List ℕ) →
-    AnswersFormula (DecidesFormula turns) name told gave s t → ¬ (s ≡ Memory) → ¬ (s ≡ ReadFault) →
-    (f : File) → TellsFormula told f → full_turns_of (game_of (formula_of f)) ≤ turns → s ≡ Done
-decides_done l name turns told gave Done t h m r f tells full = refl
-decides_done l name turns told gave NotProved t h m r f tells full = elim h [ inl d ↦ absurd d | inr (h0, of, k) ↦ absurd k ]
-decides_done l name turns told gave Open t h m r f tells full =
-    elim h [
-      | inl d ↦ absurd d
-      | inr (h0, of, k) ↦ absurd (open_below k.certifies.outcome (game_of (formula_of h0)) turns k.certifies.root k.certifies.ends k.certifies.spent
-          (subst (λ q. full_turns_of (game_of (formula_of q)) ≤ turns) (sym (same_file l.formula told f h0 tells of)) full))
-    ]
-decides_done l name turns told gave Usage t h m r f tells full = elim h [ inl d ↦ absurd d | inr (h0, of, k) ↦ absurd k ]
-decides_done l name turns told gave BadProblem t h m r f tells full = elim h [ inl d ↦ absurd d | inr (h0, of, k) ↦ absurd k ]
-decides_done l name turns told gave BadCertificate t h m r f tells full = elim h [ inl d ↦ absurd d | inr (h0, of, k) ↦ absurd k ]
-decides_done l name turns told gave TooLong t h m r f tells full = elim h [ inl d ↦ absurd (never_long 4194304 name told gave t tells.bytes tells.told_is tells.within d) | inr (h0, of, k) ↦ absurd k ]
-decides_done l name turns told gave ReadFault t h m r f tells full = absurd (r refl)
-decides_done l name turns told gave WriteFault t h m r f tells full = elim h [ inl d ↦ absurd d | inr (h0, of, k) ↦ absurd k ]
-decides_done l name turns told gave Memory t h m r f tells full = absurd (m refl)
-decides_done l name turns told gave BadQdimacs t h m r f tells full = elim h [ inl d ↦ absurd (never_no_formula l.formula_never told f t tells d) | inr (h0, of, k) ↦ absurd k ]
+never_turned_away : Laws → (name : List ℕ) (told : Option (List ℕ)) (gave : ℕ → Type 0) (f : File) → TellsFormula told f →
+    (s : Status) (t : List ℕ) → TurnsFormulaDown name told gave s t → ¬ (s ≡ Memory) → ¬ (s ≡ ReadFault) → ⊥
+never_turned_away l name told gave f tells BadQdimacs t d m r = never_no_formula l.formula_never told f t tells d
+never_turned_away l name told gave f tells TooLong t d m r = never_long 4194304 name told gave t tells.bytes tells.told_is tells.within d
+never_turned_away l name told gave f tells Memory t d m r = m refl
+never_turned_away l name told gave f tells ReadFault t d m r = r refl
+never_turned_away l name told gave f tells s t d m r = d
 
-rewrites_done : Laws → (name : List ℕ) (told : Option (List ℕ)) (gave : ℕ → Type 0) (s : Status) (t : List ℕ) →
-    AnswersFormula RewritesFormula name told gave s t → ¬ (s ≡ Memory) → ¬ (s ≡ ReadFault) → (f : File) → TellsFormula told f → s ≡ Done
-rewrites_done l name told gave Done t h m r f tells = refl
-rewrites_done l name told gave NotProved t h m r f tells = elim h [ inl d ↦ absurd d | inr (h0, of, k) ↦ absurd k ]
-rewrites_done l name told gave Open t h m r f tells = elim h [ inl d ↦ absurd d | inr (h0, of, k) ↦ absurd k ]
-rewrites_done l name told gave Usage t h m r f tells = elim h [ inl d ↦ absurd d | inr (h0, of, k) ↦ absurd k ]
-rewrites_done l name told gave BadProblem t h m r f tells = elim h [ inl d ↦ absurd d | inr (h0, of, k) ↦ absurd k ]
-rewrites_done l name told gave BadCertificate t h m r f tells = elim h [ inl d ↦ absurd d | inr (h0, of, k) ↦ absurd k ]
-rewrites_done l name told gave TooLong t h m r f tells = elim h [ inl d ↦ absurd (never_long 4194304 name told gave t tells.bytes tells.told_is tells.within d) | inr (h0, of, k) ↦ absurd k ]
-rewrites_done l name told gave ReadFault t h m r f tells = absurd (r refl)
-rewrites_done l name told gave WriteFault t h m r f tells = elim h [ inl d ↦ absurd d | inr (h0, of, k) ↦ absurd k ]
-rewrites_done l name told gave Memory t h m r f tells = absurd (m refl)
-rewrites_done l name told gave BadQdimacs t h m r f tells = elim h [ inl d ↦ absurd (never_no_formula l.formula_never told f t tells d) | inr (h0, of, k) ↦ absurd k ]
+for_formula : Laws → (P : Formula → Status → List ℕ → Type 0) (name : List ℕ) (told : Option (List ℕ)) (gave : ℕ → Type 0) (f : File) → TellsFormula told f →
+    (s : Status) (t : List ℕ) → AnswersFormula P name told gave s t → ¬ (s ≡ Memory) → ¬ (s ≡ ReadFault) → P (formula_of f) s t
+for_formula l P name told gave f tells s t h m r =
+    elim h [
+      | inl d ↦ absurd (never_turned_away l name told gave f tells s t d m r)
+      | inr (h0, of, k) ↦ subst (λ q. P (formula_of q) s t) (same_file l.formula told f h0 tells of) k
+    ]
+
+decides_done : (turns : ℕ) (φ : Formula) (s : Status) (t : List ℕ) → DecidesFormula turns φ s t → ¬ (s ≡ Memory) → full_turns_of (game_of φ) ≤ turns → s ≡ Done
+decides_done turns φ Done t c m f = refl
+decides_done turns φ Open t c m f = absurd (open_below c.certifies.outcome (game_of φ) turns c.certifies.root c.certifies.ends c.certifies.spent f)
+decides_done turns φ Memory t c m f = absurd (m refl)
+decides_done turns φ s t c m f = absurd c
+
+rewrites_done : (φ : Formula) (s : Status) (t : List ℕ) → RewritesFormula φ s t → ¬ (s ≡ Memory) → s ≡ Done
+rewrites_done φ Done t c m = refl
+rewrites_done φ Memory t c m = absurd (m refl)
+rewrites_done φ s t c m = absurd c
+
+no_reason : (places : Places) (g : Game) (why : Fault) (t : List ℕ) → IsTrue (names_a_wish places g) → length (worst_game places g).scopes ≤ 64 →
+    Refuses why places g → ReadingLine why t → ⊥
+no_reason places g NoCondition t named few refuses line = let e : names_a_wish places g ≡ true = named in let f : names_a_wish places g ≡ false = refuses in cc
+no_reason places g TooManyScopes t named few refuses line = let more : 64 < length (worst_game places g).scopes = refuses.1 in omega arith
+no_reason places g (WantReading e) t named few refuses line = line
+
+never_unreadable : (told : Option (List ℕ)) (places : Places) (g : Game) → TellsReading told places g →
+    (s : Status) (t : List ℕ) → TurnsReadingDown places g s t → ¬ (s ≡ Memory) → ⊥
+never_unreadable told places g tells NoReading t d m = no_reason places g d.why t tells.named tells.few d.refuses d.line
+never_unreadable told places g tells Memory t d m = m refl
+never_unreadable told places g tells s t d m = d
+
+for_reading : Laws → (places : Places) (P : Game → Status → List ℕ → Type 0) (name : List ℕ) (told : Option (List ℕ)) (gave : ℕ → Type 0) (g : Game) →
+    TellsReading told places g → (s : Status) (t : List ℕ) → AnswersProblem (AnswersReading places P) name told gave s t → ¬ (s ≡ Memory) → ¬ (s ≡ ReadFault) →
+    P (worst_game places g) s t
+for_reading l places P name told gave g tells s t h m r =
+    elim (for_problem l (AnswersReading places P) name told gave g tells.problem s t h m r) [
+      | inl d ↦ absurd (never_unreadable told places g tells s t d m)
+      | inr (reading, k) ↦ k
+    ]
 
 asked_done : Laws → (asked : Option Asked) (told : List ℕ → Option (List ℕ)) (gave : ℕ → Type 0) (s : Status) (t : List ℕ) →
     Answers asked told gave s t → ¬ (s ≡ Memory) → ¬ (s ≡ ReadFault) → IsComplete asked told s
 asked_done l None told gave s t h m r = words s h where
   words : (s : Status) → Answers None told gave s t → s ≡ Usage
   words Usage h = refl
-  words Done h = absurd h
-  words NotProved h = absurd h
-  words Open h = absurd h
-  words BadProblem h = absurd h
-  words BadCertificate h = absurd h
-  words TooLong h = absurd h
-  words ReadFault h = absurd h
-  words WriteFault h = absurd h
-  words Memory h = absurd h
-  words BadQdimacs h = absurd h
-asked_done l (Some (solves name turns)) told gave s t h m r = λ g tells f. solves_done l name turns (told name) gave s t h m r g tells f
-asked_done l (Some (prints name)) told gave s t h m r = λ g tells. prints_done l name (told name) gave s t h m r g tells
+  words s h = absurd h
+asked_done l (Some (solves name turns)) told gave s t h m r =
+    λ g tells f. solves_done turns g s t (for_problem l (SolvesProblem turns) name (told name) gave g tells s t h m r) m f
+asked_done l (Some (prints name)) told gave s t h m r = λ g tells. prints_done g s t (for_problem l PrintsProblem name (told name) gave g tells s t h m r) m
 asked_done l (Some (checks name certificate)) told gave s t h m r =
-    λ g tells proof. checks_done l name certificate (told name) (told certificate) gave s t h m r g tells proof
-asked_done l (Some (decides name turns)) told gave s t h m r = λ f tells full. decides_done l name turns (told name) gave s t h m r f tells full
-asked_done l (Some (rewrites name)) told gave s t h m r = λ f tells. rewrites_done l name (told name) gave s t h m r f tells
+    λ g tells proof. checks_done l certificate (told certificate) gave g proof s t
+    (for_problem l (ChecksFile certificate (told certificate) gave) name (told name) gave g tells s t h m r) m r
+asked_done l (Some (decides name turns)) told gave s t h m r =
+    λ f tells full. decides_done turns (formula_of f) s t (for_formula l (DecidesFormula turns) name (told name) gave f tells s t h m r) m full
+asked_done l (Some (rewrites name)) told gave s t h m r =
+    λ f tells. rewrites_done (formula_of f) s t (for_formula l RewritesFormula name (told name) gave f tells s t h m r) m
+asked_done l (Some (makes n)) told gave s t h m r = summarises_done (generated_game n) s t h m
+asked_done l (Some (shows n)) told gave s t h m r = prints_done (generated_game n) s t h m
+asked_done l (Some (opposes name places turns)) told gave s t h m r =
+    λ g tells f. solves_done turns (worst_game places g) s t (for_reading l places (SolvesProblem turns) name (told name) gave g tells s t h m r) m f
+asked_done l (Some (restates name places)) told gave s t h m r =
+    λ g tells. prints_done (worst_game places g) s t (for_reading l places PrintsProblem name (told name) gave g tells s t h m r) m
 
 no_fault : (before now : ℕ) → Rose before now → NoneRose before now → ⊥
 no_fault before now rose (same, below) = omega arith
@@ -204,14 +243,6 @@ no_fault before now rose (same, below) = omega arith
 pub run_done : Laws → (asked : Option Asked) (told : List ℕ → Option (List ℕ)) (gave : ℕ → Type 0) (old new : Option (List ℕ)) (before now missed misses : ℕ) (s : Status) →
     Wrote old new before now s (Answers asked told gave) → (s ≡ ReadFault → Rose missed misses) →
     NoneRose missed misses → NoneRose before now → ¬ (s ≡ Memory) → IsComplete asked told s
-run_done l asked told gave old new before now missed misses Done wrote fault files output m = asked_done l asked told gave Done wrote.1.0 wrote.1.1 m (λ e. no_fault missed misses (fault e) files)
-run_done l asked told gave old new before now missed misses NotProved wrote fault files output m = asked_done l asked told gave NotProved wrote.1.0 wrote.1.1 m (λ e. no_fault missed misses (fault e) files)
-run_done l asked told gave old new before now missed misses Open wrote fault files output m = asked_done l asked told gave Open wrote.1.0 wrote.1.1 m (λ e. no_fault missed misses (fault e) files)
-run_done l asked told gave old new before now missed misses Usage wrote fault files output m = asked_done l asked told gave Usage wrote.1.0 wrote.1.1 m (λ e. no_fault missed misses (fault e) files)
-run_done l asked told gave old new before now missed misses BadProblem wrote fault files output m = asked_done l asked told gave BadProblem wrote.1.0 wrote.1.1 m (λ e. no_fault missed misses (fault e) files)
-run_done l asked told gave old new before now missed misses BadCertificate wrote fault files output m = asked_done l asked told gave BadCertificate wrote.1.0 wrote.1.1 m (λ e. no_fault missed misses (fault e) files)
-run_done l asked told gave old new before now missed misses TooLong wrote fault files output m = asked_done l asked told gave TooLong wrote.1.0 wrote.1.1 m (λ e. no_fault missed misses (fault e) files)
-run_done l asked told gave old new before now missed misses ReadFault wrote fault files output m = asked_done l asked told gave ReadFault wrote.1.0 wrote.1.1 m (λ e. no_fault missed misses (fault e) files)
 run_done l asked told gave old new before now missed misses WriteFault wrote fault files output m = absurd (no_fault before now wrote.0 output)
-run_done l asked told gave old new before now missed misses Memory wrote fault files output m = asked_done l asked told gave Memory wrote.1.0 wrote.1.1 m (λ e. no_fault missed misses (fault e) files)
-run_done l asked told gave old new before now missed misses BadQdimacs wrote fault files output m = asked_done l asked told gave BadQdimacs wrote.1.0 wrote.1.1 m (λ e. no_fault missed misses (fault e) files)
+run_done l asked told gave old new before now missed misses s wrote fault files output m =
+    asked_done l asked told gave s wrote.1.0 wrote.1.1 m (λ e. no_fault missed misses (fault e) files)

@@ -1,5 +1,5 @@
 -- A file that was handed to a checker piece by piece.
-use Rattle.std.proofs.Common.{◌≡◌, ◌+◌, ◌≤◌, ◌<◌, ◌∙◌, ℕ, List, [], ◌++◌, length, take, Option, None, Some, IfSome, Ok, refl, sym, ap, subst, arith, length-append, length-take-le}
+use Rattle.std.proofs.Common.{◌≡◌, ◌+◌, ◌≤◌, ◌<◌, ◌∙◌, ℕ, List, [], ◌++◌, length, take, Option, None, Some, IfSome, Ok, refl, sym, subst, arith, length-append, length-take-le}
 use Rattle.std.proofs.Math.Seq.{take_all}
 use Rattle.qc_io.specs.Shelf.{Gives, IsFront, EndsBy}
 use Rattle.qc_io.specs.declared.shelf.Failed.{Failed}
@@ -7,7 +7,6 @@ use Rattle.qc_io.proofs.Front.{front_more}
 use Rattle.qc_check.specs.declared.progress.Checker.{Checker}
 use Rattle.qc_check.specs.Checking.{IsChecking}
 use Rattle.qc_program.specs.Fed.{FedTo, IsFed}
-use Rattle.qc_program.specs.Files.{IsFile}
 
 front_of_none : (told : Option (List ℕ)) → IsFront told []
 front_of_none None = tt

@@ -11,7 +11,7 @@ use Rattle.qdimacs.specs.Content.{game_of}
 use Rattle.qdimacs.specs.Refusals.{formula_of}
 use Rattle.qdimacs.specs.Read.{IsProblemOf as IsGameOf}
 use Rattle.qc_program.specs.declared.status.Status.{Status}
-use Rattle.qc_program.specs.declared.status.Status.TheVariants.{Done, NotProved, Open, Usage, BadProblem, BadCertificate, TooLong, ReadFault, WriteFault, Memory, BadQdimacs}
+use Rattle.qc_program.specs.declared.status.Status.TheVariants.{Done, Open}
 use Rattle.qc_program.specs.Answers.{SolvesProblem, PrintsProblem}
 use Rattle.qc_program.specs.Certifies.{Certifies}
 use Rattle.qc_program.specs.Formulas.{Tells, Decides, DecidesFormula, RewritesFormula}
@@ -31,16 +31,8 @@ decides φ turns s t won c = record { certifies = c; tells = tells φ c.outcome 
 
 decides_by : (φ : Formula) (turns : ℕ) (s : Status) (t : List ℕ) → (IsWon (game_of φ) ↔ IsTrue (is_true φ)) → SolvesProblem turns (game_of φ) s t → DecidesFormula turns φ s t
 decides_by φ turns Done t won h = decides φ turns Done t won h
-decides_by φ turns NotProved t won h = h
 decides_by φ turns Open t won h = decides φ turns Open t won h
-decides_by φ turns Usage t won h = h
-decides_by φ turns BadProblem t won h = h
-decides_by φ turns BadCertificate t won h = h
-decides_by φ turns TooLong t won h = h
-decides_by φ turns ReadFault t won h = h
-decides_by φ turns WriteFault t won h = h
-decides_by φ turns Memory t won h = h
-decides_by φ turns BadQdimacs t won h = h
+decides_by φ turns s t won h = h
 
 -- a formula's game that was solved
 pub decided : (bytes : List ℕ) (g : Game) (turns : ℕ) (h : IsGameOf bytes g) (s : Status) (t : List ℕ) → SolvesProblem turns g s t → DecidesFormula turns (formula_of h.file) s t
@@ -50,16 +42,7 @@ decided bytes g turns h s t x =
 
 rewrites_by : (φ : Formula) (s : Status) (t : List ℕ) → PrintsProblem (game_of φ) s t → RewritesFormula φ s t
 rewrites_by φ Done t h = h
-rewrites_by φ NotProved t h = h
-rewrites_by φ Open t h = h
-rewrites_by φ Usage t h = h
-rewrites_by φ BadProblem t h = h
-rewrites_by φ BadCertificate t h = h
-rewrites_by φ TooLong t h = h
-rewrites_by φ ReadFault t h = h
-rewrites_by φ WriteFault t h = h
-rewrites_by φ Memory t h = h
-rewrites_by φ BadQdimacs t h = h
+rewrites_by φ s t h = h
 
 -- and one that was printed
 pub rewritten : (bytes : List ℕ) (g : Game) (h : IsGameOf bytes g) (s : Status) (t : List ℕ) → PrintsProblem g s t → RewritesFormula (formula_of h.file) s t

@@ -6,3 +6,4 @@ mod Feeding
 mod FormulaGames
 mod Numerals
 mod Parts
+mod Summarised

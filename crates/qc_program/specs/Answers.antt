@@ -11,11 +11,14 @@ use Rattle.qc_syntax.specs.Reads.{Reads}
 use Rattle.qc_check.specs.Checking.{IsProof, IsNoProof}
 use Rattle.qc_program.specs.declared.status.Status.{Status}
 use Rattle.qc_program.specs.declared.status.Status.TheVariants.{Done, NotProved, Open, Usage, BadProblem, BadCertificate, Memory}
-use Rattle.qc_program.specs.Words.{Asked, solves, checks, prints, decides, rewrites}
+use Rattle.qc_program.specs.Words.{Asked, solves, checks, prints, decides, rewrites, makes, shows, opposes, restates}
 use Rattle.qc_program.specs.Refusals.{IsRefused}
 use Rattle.qc_program.specs.Certifies.{Certifies}
 use Rattle.qc_program.specs.Files.{IsFile, TurnsFileDown}
 use Rattle.qc_program.specs.Formulas.{AnswersFormula, DecidesFormula, RewritesFormula}
+use Rattle.qc_program.specs.Summaries.{SummarisesProblem}
+use Rattle.qc_generated.specs.Pricing.{generated_game}
+use Rattle.qc_program.specs.Readings.{AnswersReading}
 
 -- what `solve` answers for a problem, and so many turns
 abbrev pub SolvesProblem : ℕ → Game → Status → List ℕ → Type 0
@@ -90,9 +93,13 @@ AnswersAsked (checks problem certificate) told gave status text =
     AnswersProblem (ChecksFile certificate (told certificate) gave) problem (told problem) gave status text
 AnswersAsked (decides name turns) told gave status text = AnswersFormula (DecidesFormula turns) name (told name) gave status text
 AnswersAsked (rewrites name) told gave status text = AnswersFormula RewritesFormula name (told name) gave status text
+AnswersAsked (makes n) told gave status text = SummarisesProblem (generated_game n) status text
+AnswersAsked (shows n) told gave status text = PrintsProblem (generated_game n) status text
+AnswersAsked (opposes name places turns) told gave status text = AnswersProblem (AnswersReading places (SolvesProblem turns)) name (told name) gave status text
+AnswersAsked (restates name places) told gave status text = AnswersProblem (AnswersReading places PrintsProblem) name (told name) gave status text
 
 -- what is answered for the words; told gives the bytes of the names that are told
 abbrev pub Answers : Option Asked → (List ℕ → Option (List ℕ)) → (ℕ → Type 0) → Status → List ℕ → Type 0
-Answers None told gave Usage text = text ≡ codes "usage: qecode solve PROBLEM [--turns N] | check PROBLEM CERTIFICATE | print PROBLEM | generate N [--text] | qbf FILE [--turns N | --text]\n"
+Answers None told gave Usage text = text ≡ codes "usage: qecode solve PROBLEM [--turns N] | check PROBLEM CERTIFICATE | print PROBLEM | generate N [--text] | qbf FILE [--turns N | --text] | worst PROBLEM SCOPE [--turns N | --text]\n"
 Answers None told gave status text = ⊥
 Answers (Some asked) told gave status text = AnswersAsked asked told gave status text

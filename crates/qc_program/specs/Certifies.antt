@@ -8,6 +8,7 @@ use Rattle.proof_tree.specs.Tree.{Tree}
 use Rattle.proof_tree.specs.Proves.{proves}
 use Rattle.proof_tree.specs.Order.{in_order}
 use Rattle.proof_tree.specs.Diligent.{IsDiligent}
+use Rattle.proof_tree.specs.Incumbents.{keeps_incumbents}
 use Rattle.proof_tree.specs.Meaning.{OutcomeMeans}
 use Rattle.proof_tree.specs.Text.{certificate_text, has_text}
 use Rattle.proof_tree.specs.Counts.{turns_of}
@@ -21,8 +22,8 @@ status_of True = Done
 status_of False = Done
 status_of (OpenOutcome n) = Open
 
--- The text is that of a certificate of the second version that proves what it states, is in order and diligent, and takes at
--- most as many turns as were given. Open is stated only after exactly these turns, and the whole game can take more. What it
+-- The text is that of a certificate of the second version that proves what it states, is in order, diligent and keeps its
+-- incumbents, and takes at most as many turns as were given. Open is stated only after exactly these turns, and the whole game can take more. What it
 -- states is so: with true the game is won, and the strategy read from the tree is optimal, with the first scope's best value
 -- where it optimises; with false the game isn't won, and the counterstrategy read from the tree wins.
 pub record Certifies (g : Game) (turns : ℕ) (status : Status) (text : List ℕ) : Type 0 where
@@ -32,6 +33,7 @@ pub record Certifies (g : Game) (turns : ℕ) (status : Status) (text : List ℕ
   pub proved : IsTrue (proves g outcome optimum root)
   pub ordered : IsTrue (in_order g root)
   pub diligent : IsDiligent g root
+  pub incumbents : IsTrue (keeps_incumbents g root)
   pub few : turns_of root ≤ turns
   pub spent : OpenMeans outcome g turns root
   pub spellable : IsTrue (has_text Two outcome optimum root)

@@ -1,5 +1,5 @@
 -- What a run answers in which nothing failed, and where memory sufficed.
-use Rattle.std.specs.Prelude.{◌≡◌, ◌≤◌, ◌+◌, ⊤, ℕ, List, length, Option, Some, None, IfSome, ℤ, IsTrue}
+use Rattle.std.specs.Prelude.{◌≡◌, ◌⊎◌, ◌≤◌, ◌+◌, ⊤, ℕ, List, length, Option, Some, None, IfSome, ℤ, IsTrue}
 use Rattle.qc_model.specs.Content.{Game}
 use Rattle.qc_model.specs.Turns.{full_turns_of}
 use Rattle.qc_syntax.specs.Reads.{Reads}
@@ -10,10 +10,13 @@ use Rattle.proof_tree.specs.declared.tree.Version.{Version}
 use Rattle.proof_tree.specs.declared.tree.Outcome.{Outcome}
 use Rattle.proof_tree.specs.Tree.{Tree}
 use Rattle.qc_program.specs.declared.status.Status.{Status}
-use Rattle.qc_program.specs.declared.status.Status.TheVariants.{Done, Usage}
-use Rattle.qc_program.specs.Words.{Asked, solves, checks, prints, decides, rewrites}
+use Rattle.qc_program.specs.declared.status.Status.TheVariants.{Done, Open, Usage}
+use Rattle.qc_program.specs.Words.{Asked, solves, checks, prints, decides, rewrites, makes, shows, opposes, restates}
 use Rattle.proof_tree.specs.Proves.{proves}
 use Rattle.qc_check.specs.Checking.{IsCertificate}
+use Rattle.qc_pessimist.specs.declared.reading.Places.{Places}
+use Rattle.qc_pessimist.specs.Refusals.{names_a_wish}
+use Rattle.qc_program.specs.Readings.{worst_game}
 
 -- the file is told, and has the text of this problem
 pub record TellsProblem (told : Option (List ℕ)) (g : Game) : Type 0 where
@@ -41,8 +44,15 @@ pub record TellsFormula (told : Option (List ℕ)) (f : File) : Type 0 where
   pub within : length bytes ≤ 4194304
   pub states : States bytes f
 
+-- the file is told, and has the text of this problem, for which nothing speaks against the worst ties of these owners
+pub record TellsReading (told : Option (List ℕ)) (places : Places) (g : Game) : Type 0 where
+  pub problem : TellsProblem told g
+  pub named : IsTrue (names_a_wish places g)
+  pub few : length (worst_game places g).scopes ≤ 64
+
 -- A problem is solved where the turns are as many as the whole game can take; a certificate that proves what it states is
--- confirmed; a problem is printed. A formula is decided where the turns are as many as its game can take, or its game is printed.
+-- confirmed; a problem is printed. A formula is decided where the turns are as many as its game can take, or its game is printed. A made problem is settled or left open, or its text is
+-- written. A game at the worst ties is solved within as many turns as it can take, or printed.
 abbrev pub Completes : Asked → (List ℕ → Option (List ℕ)) → Status → Type 0
 Completes (solves name turns) told status = (g : Game) → TellsProblem (told name) g → full_turns_of g ≤ turns → status ≡ Done
 Completes (prints name) told status = (g : Game) → TellsProblem (told name) g → status ≡ Done
@@ -50,6 +60,10 @@ Completes (checks problem certificate) told status =
     (g : Game) → TellsProblem (told problem) g → TellsProof (told certificate) g → status ≡ Done
 Completes (decides name turns) told status = (f : File) → TellsFormula (told name) f → full_turns_of (game_of (formula_of f)) ≤ turns → status ≡ Done
 Completes (rewrites name) told status = (f : File) → TellsFormula (told name) f → status ≡ Done
+Completes (makes n) told status = (status ≡ Done) ⊎ (status ≡ Open)
+Completes (shows n) told status = status ≡ Done
+Completes (opposes name places turns) told status = (g : Game) → TellsReading (told name) places g → full_turns_of (worst_game places g) ≤ turns → status ≡ Done
+Completes (restates name places) told status = (g : Game) → TellsReading (told name) places g → status ≡ Done
 
 abbrev pub IsComplete : Option Asked → (List ℕ → Option (List ℕ)) → Status → Type 0
 IsComplete None told status = status ≡ Usage
@@ -64,3 +78,7 @@ MayRunOut (Some (prints name)) told before now = ⊤
 MayRunOut (Some (checks problem certificate)) told before now = IfSome (told problem) (λ bytes. now ≤ before + length bytes)
 MayRunOut (Some (decides name turns)) told before now = ⊤
 MayRunOut (Some (rewrites name)) told before now = ⊤
+MayRunOut (Some (makes n)) told before now = ⊤
+MayRunOut (Some (shows n)) told before now = ⊤
+MayRunOut (Some (opposes name places turns)) told before now = ⊤
+MayRunOut (Some (restates name places)) told before now = ⊤

@@ -5,6 +5,8 @@ pub mod Edge
 pub mod Files
 pub mod Fed
 pub mod Formulas
+pub mod Readings
 pub mod Refusals
+pub mod Summaries
 pub mod View
 pub mod Words

@@ -1,8 +1,8 @@
 -- A command of the program, seen as what it asks for.
 use Rattle.std.specs.Prelude.{◌≤◌, ⊤}
 use Rattle.qc_program.specs.declared.words.Command.{Command}
-use Rattle.qc_program.specs.declared.words.Command.TheVariants.{Solve, Check, Print, Decide, Rewrite}
-use Rattle.qc_program.specs.Words.{Asked, solves, checks, prints, decides, rewrites}
+use Rattle.qc_program.specs.declared.words.Command.TheVariants.{Solve, Check, Print, Decide, Rewrite, Make, Show, Oppose, Restate}
+use Rattle.qc_program.specs.Words.{Asked, solves, checks, prints, decides, rewrites, makes, shows, opposes, restates}
 
 abbrev pub asked : Command → Asked
 asked (Solve problem turns) = solves problem.now turns
@@ -10,11 +10,19 @@ asked (Check problem certificate) = checks problem.now certificate.now
 asked (Print problem) = prints problem.now
 asked (Decide formula turns) = decides formula.now turns
 asked (Rewrite formula) = rewrites formula.now
+asked (Make n) = makes n
+asked (Show n) = shows n
+asked (Oppose problem places turns) = opposes problem.now places turns
+asked (Restate problem places) = restates problem.now places
 
--- the turns are a budget
-abbrev pub HasBudget : Command → Type 0
-HasBudget (Solve problem turns) = (1 ≤ turns) × (turns ≤ 10000000)
-HasBudget (Check problem certificate) = ⊤
-HasBudget (Print problem) = ⊤
-HasBudget (Decide formula turns) = (1 ≤ turns) × (turns ≤ 10000000)
-HasBudget (Rewrite formula) = ⊤
+-- the turns are a budget, and a number is one that a problem is made from
+abbrev pub IsWithin : Command → Type 0
+IsWithin (Solve problem turns) = (1 ≤ turns) × (turns ≤ 10000000)
+IsWithin (Check problem certificate) = ⊤
+IsWithin (Print problem) = ⊤
+IsWithin (Decide formula turns) = (1 ≤ turns) × (turns ≤ 10000000)
+IsWithin (Rewrite formula) = ⊤
+IsWithin (Make n) = n ≤ 1000000
+IsWithin (Show n) = n ≤ 1000000
+IsWithin (Oppose problem places turns) = (1 ≤ turns) × (turns ≤ 10000000)
+IsWithin (Restate problem places) = ⊤

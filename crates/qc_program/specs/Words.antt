@@ -1,14 +1,21 @@
 -- The words of a command.
 use Rattle.std.specs.Prelude.{◌==◌, ◌+◌, ◌-◌, ◌*◌, ℕ, nat_le, length, Bool, false, not, ◌&&◌, List, [], ◌∷◌, codes, Option, Some, None, if◌then◌else◌}
 use Rattle.std.specs.Str.{bytes_eq}
+use Rattle.qc_pessimist.specs.declared.reading.Places.{Places}
+use Rattle.qc_pessimist.specs.declared.reading.Places.TheVariants.{One, All}
 
--- what the words ask for: files by their names, and a budget of turns; a formula is decided, or rewritten as a problem
+-- what the words ask for: files by their names, and a budget of turns; a formula is decided, or rewritten as a problem; the
+-- problem made from a number is solved, or shown; where chosen owners meet the worst ties a problem is solved, or rewritten
 pub data Asked : Type 0 where
   solves : List ℕ → ℕ → Asked
   checks : List ℕ → List ℕ → Asked
   prints : List ℕ → Asked
   decides : List ℕ → ℕ → Asked
   rewrites : List ℕ → Asked
+  makes : ℕ → Asked
+  shows : ℕ → Asked
+  opposes : List ℕ → Places → ℕ → Asked
+  restates : List ℕ → Places → Asked
 
 -- a word that names a file: it isn't empty and doesn't begin with a dash
 abbrev pub is_name : List ℕ → Bool
@@ -28,14 +35,31 @@ abbrev pub is_short_numeral : List ℕ → Bool
 is_short_numeral [] = false
 is_short_numeral (b ∷ bs) = nat_le 49 b && nat_le (length (b ∷ bs)) 8
 
--- a budget is from 1 to 10,000,000
-abbrev pub in_budget : Option ℕ → Option ℕ
-in_budget None = None
-in_budget (Some n) = if nat_le 1 n && nat_le n 10000000 then Some n else None
+-- the number, where it is from low to high
+abbrev pub within : ℕ → ℕ → Option ℕ → Option ℕ
+within low high None = None
+within low high (Some n) = if nat_le low n && nat_le n high then Some n else None
 
--- the turns that a word asks for: in digits, without a sign and without a leading zero
+-- the number from low to high that a word writes: in digits, without a sign and without a leading zero
+abbrev pub number_asked : ℕ → ℕ → List ℕ → Option ℕ
+number_asked low high word = if is_short_numeral word then within low high (digits_after 0 word) else None
+
+-- a budget is from 1 to 10,000,000
 abbrev pub turns_asked : List ℕ → Option ℕ
-turns_asked word = if is_short_numeral word then in_budget (digits_after 0 word) else None
+turns_asked word = number_asked 1 10000000 word
+
+-- a problem is made from a number from 0 to 1,000,000
+abbrev pub made_from : List ℕ → Option ℕ
+made_from word = if bytes_eq word (codes "0") then Some 0 else number_asked 1 1000000 word
+
+-- the scope of that number, counted from 1
+abbrev pub scope_place : Option ℕ → Option Places
+scope_place None = None
+scope_place (Some k) = Some (One (record { 0 = k - 1 }))
+
+-- the owners that meet the worst ties: that of one scope, or all
+abbrev pub places_asked : List ℕ → Option Places
+places_asked word = if bytes_eq word (codes "all") then Some All else scope_place (number_asked 1 64 word)
 
 abbrev pub solves_within : List ℕ → Option ℕ → Option Asked
 solves_within name None = None
@@ -45,29 +69,56 @@ abbrev pub decides_within : List ℕ → Option ℕ → Option Asked
 decides_within name None = None
 decides_within name (Some turns) = Some (decides name turns)
 
+abbrev pub makes_from : Option ℕ → Option Asked
+makes_from None = None
+makes_from (Some n) = Some (makes n)
+
+abbrev pub shows_from : Option ℕ → Option Asked
+shows_from None = None
+shows_from (Some n) = Some (shows n)
+
+abbrev pub opposes_within : List ℕ → Option Places → Option ℕ → Option Asked
+opposes_within name None turns = None
+opposes_within name (Some places) None = None
+opposes_within name (Some places) (Some turns) = Some (opposes name places turns)
+
+abbrev pub restates_at : List ℕ → Option Places → Option Asked
+restates_at name None = None
+restates_at name (Some places) = Some (restates name places)
+
 -- the turns where the words name none
 abbrev pub usual_turns : ℕ
 usual_turns = 1000000
 
+-- the table of words, by how many there are
 abbrev pub asked_by_two : List ℕ → List ℕ → Option Asked
 asked_by_two word name =
     if bytes_eq word (codes "solve") && is_name name then Some (solves name usual_turns)
     else if bytes_eq word (codes "print") && is_name name then Some (prints name)
-    else if bytes_eq word (codes "qbf") && is_name name then Some (decides name usual_turns) else None
+    else if bytes_eq word (codes "qbf") && is_name name then Some (decides name usual_turns)
+    else if bytes_eq word (codes "generate") then makes_from (made_from name) else None
 
 abbrev pub asked_by_three : List ℕ → List ℕ → List ℕ → Option Asked
-asked_by_three word problem certificate =
-    if bytes_eq word (codes "check") && is_name problem && is_name certificate then Some (checks problem certificate)
-    else if bytes_eq word (codes "qbf") && is_name problem && bytes_eq certificate (codes "--text") then Some (rewrites problem) else None
+asked_by_three word first second =
+    if bytes_eq word (codes "check") && is_name first && is_name second then Some (checks first second)
+    else if bytes_eq word (codes "qbf") && is_name first && bytes_eq second (codes "--text") then Some (rewrites first)
+    else if bytes_eq word (codes "generate") && bytes_eq second (codes "--text") then shows_from (made_from first)
+    else if bytes_eq word (codes "worst") && is_name first then opposes_within first (places_asked second) (Some usual_turns) else None
 
 abbrev pub asked_by_four : List ℕ → List ℕ → List ℕ → List ℕ → Option Asked
-asked_by_four word name flag number =
-    if bytes_eq word (codes "solve") && is_name name && bytes_eq flag (codes "--turns") then solves_within name (turns_asked number)
-    else if bytes_eq word (codes "qbf") && is_name name && bytes_eq flag (codes "--turns") then decides_within name (turns_asked number) else None
+asked_by_four word first second third =
+    if bytes_eq word (codes "solve") && is_name first && bytes_eq second (codes "--turns") then solves_within first (turns_asked third)
+    else if bytes_eq word (codes "qbf") && is_name first && bytes_eq second (codes "--turns") then decides_within first (turns_asked third)
+    else if bytes_eq word (codes "worst") && is_name first && bytes_eq third (codes "--text") then restates_at first (places_asked second) else None
 
--- the table of words
+abbrev pub asked_by_five : List ℕ → List ℕ → List ℕ → List ℕ → List ℕ → Option Asked
+asked_by_five word first second third fourth =
+    if bytes_eq word (codes "worst") && is_name first && bytes_eq third (codes "--turns")
+    then opposes_within first (places_asked second) (turns_asked fourth) else None
+
 abbrev pub asked_of : List (List ℕ) → Option Asked
-asked_of (word ∷ name ∷ []) = asked_by_two word name
-asked_of (word ∷ problem ∷ certificate ∷ []) = asked_by_three word problem certificate
-asked_of (word ∷ name ∷ flag ∷ number ∷ []) = asked_by_four word name flag number
+asked_of (word ∷ first ∷ []) = asked_by_two word first
+asked_of (word ∷ first ∷ second ∷ []) = asked_by_three word first second
+asked_of (word ∷ first ∷ second ∷ third ∷ []) = asked_by_four word first second third
+asked_of (word ∷ first ∷ second ∷ third ∷ fourth ∷ []) = asked_by_five word first second third fourth
 asked_of words = None

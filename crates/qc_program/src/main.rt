@@ -11,6 +11,7 @@ mod check;
 mod file;
 mod formula;
 mod formula_file;
+mod generate;
 mod print;
 mod problem_file;
 mod refuse;
@@ -18,6 +19,7 @@ mod run;
 mod solve;
 mod status;
 mod words;
+mod worst;
 mod writing;
 
 use qc_io::{FolderShelf, OutSink};

@@ -25,4 +25,6 @@ pub enum Status {
     Memory,
     /// The text isn't a formula.
     BadQdimacs = 11,
+    /// No reading at the worst ties is given for the scopes named.
+    NoReading = 12,
 }

@@ -1,9 +1,11 @@
 //! Worked runs over a shelf and a sink in memory.
 mod examples;
 mod formulas;
+mod made;
 mod optima;
 mod refusals;
 mod table;
+mod worst;
 
 use crate::run::run;
 use crate::status::Status;
@@ -183,7 +185,7 @@ fn faults_are_answered(rt: HostRuntime) -> Result<(), Fail> {
 #[test]
 fn other_words_give_the_usage_line(rt: HostRuntime) -> Result<(), Fail> {
     let alloc = rt.alloc();
-    let rows: [&[&str]; 15] = [
+    let rows: [&[&str]; 25] = [
         &[],
         &["solve"],
         &["solve", "--turns"],
@@ -199,6 +201,16 @@ fn other_words_give_the_usage_line(rt: HostRuntime) -> Result<(), Fail> {
         &["qbf"],
         &["qbf", "p", "--turns"],
         &["qbf", "--text", "p"],
+        &["generate"],
+        &["generate", "00"],
+        &["generate", "-1"],
+        &["generate", "1000001"],
+        &["generate", "--text", "0"],
+        &["generate", "0", "--turns"],
+        &["worst", "p"],
+        &["worst", "p", "0"],
+        &["worst", "p", "65"],
+        &["worst", "p", "1", "--turns", "0"],
     ];
     for words in rows {
         let mut shelf = MemoryShelf::new(alloc);

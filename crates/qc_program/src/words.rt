@@ -1,16 +1,26 @@
 //! The words of a command.
 ghost use Rattle.std.specs.Prelude.{◌≡◌, ◌≤◌, ◌<◌, length, map, Some, IfSome};
 ghost use Rattle.std.specs.Option.{option_map};
-ghost use Rattle.qc_program.specs.Words.{is_name as is_name_of, digits_after, is_short_numeral as is_short_numeral_of, solves_within, decides_within, turns_asked, asked_by_two, asked_by_three, asked_by_four, asked_of};
-ghost use Rattle.qc_program.specs.View.{asked, HasBudget};
+ghost use Rattle.qc_program.specs.Words.{is_name as is_name_of, digits_after, is_short_numeral as is_short_numeral_of, solves_within, decides_within, makes_from, shows_from, number_asked, turns_asked, made_from as made_from_word, scope_place, places_asked as places_asked_by, opposes_within, restates_at, asked_by_two, asked_by_three, asked_by_four, asked_by_five, asked_of};
+ghost use Rattle.qc_program.specs.View.{asked, IsWithin};
+
+use qc_model::ScopeId;
+use qc_pessimist::Places;
 
 /// The most turns that a search may be given.
 const MOST_TURNS: u64 = 10_000_000;
 
 /// The turns that a search is given where the words name none.
-const USUAL_TURNS: u64 = 1_000_000;
+pub(crate) const USUAL_TURNS: u64 = 1_000_000;
 
-/// What the words ask for: names of files, and how many turns a search may take, 1 to 10,000,000.
+/// The greatest number that a problem is made from.
+const MOST_MADE: u64 = 1_000_000;
+
+/// The most scopes of a problem.
+const MOST_SCOPES: u64 = 64;
+
+/// What the words ask for: names of files, how many turns a search may take, 1 to 10,000,000, and the number that a
+/// problem is made from, 0 to 1,000,000.
 #[derive(Clone, Copy)]
 pub(crate) enum Command<'a> {
     Solve {
@@ -31,24 +41,40 @@ pub(crate) enum Command<'a> {
     Rewrite {
         formula: &'a str,
     },
+    Make {
+        number: u32,
+    },
+    Show {
+        number: u32,
+    },
+    Oppose {
+        problem: &'a str,
+        places: Places,
+        turns: u64,
+    },
+    Restate {
+        problem: &'a str,
+        places: Places,
+    },
 }
 
 /// What the words ask for, where they match the table.
 pub(crate) fn command_of<'a>(words: &[&'a str]) -> Option<Command<'a>>
     ensures asked { option_map asked result ≡ asked_of (map (λ w. w.now) words.now) }
-    ensures budget { IfSome result HasBudget }
+    ensures within { IfSome result IsWithin }
 {
     match words {
-        [word, problem] => by_two(word, problem),
-        [word, problem, certificate] => by_three(word, problem, certificate),
-        [word, problem, flag, number] => by_four(word, problem, flag, number),
+        [word, first] => by_two(word, first),
+        [word, first, second] => by_three(word, first, second),
+        [word, first, second, third] => by_four(word, first, second, third),
+        [word, first, second, third, fourth] => by_five(word, first, second, third, fourth),
         _ => None,
     }
 }
 
 fn by_two<'a>(word: &str, problem: &'a str) -> Option<Command<'a>>
     ensures asked { option_map asked result ≡ asked_by_two word.now problem.now }
-    ensures budget { IfSome result HasBudget }
+    ensures within { IfSome result IsWithin }
 {
     if word == "solve" && is_name(problem) {
         return Some(Command::Solve {
@@ -65,34 +91,62 @@ fn by_two<'a>(word: &str, problem: &'a str) -> Option<Command<'a>>
             turns: USUAL_TURNS,
         });
     }
+    if word == "generate" {
+        return make_from(made_from(problem));
+    }
     None
 }
 
-fn by_three<'a>(word: &str, problem: &'a str, certificate: &'a str) -> Option<Command<'a>>
-    ensures asked { option_map asked result ≡ asked_by_three word.now problem.now certificate.now }
-    ensures budget { IfSome result HasBudget }
+fn by_three<'a>(word: &str, first: &'a str, second: &'a str) -> Option<Command<'a>>
+    ensures asked { option_map asked result ≡ asked_by_three word.now first.now second.now }
+    ensures within { IfSome result IsWithin }
 {
-    if word == "check" && is_name(problem) && is_name(certificate) {
+    if word == "check" && is_name(first) && is_name(second) {
         return Some(Command::Check {
-            problem,
-            certificate,
+            problem: first,
+            certificate: second,
         });
     }
-    if word == "qbf" && is_name(problem) && certificate == "--text" {
-        return Some(Command::Rewrite { formula: problem });
+    if word == "qbf" && is_name(first) && second == "--text" {
+        return Some(Command::Rewrite { formula: first });
+    }
+    if word == "generate" && second == "--text" {
+        return show_from(made_from(first));
+    }
+    if word == "worst" && is_name(first) {
+        return oppose_within(first, places_in(second), Some(USUAL_TURNS));
     }
     None
 }
 
-fn by_four<'a>(word: &str, problem: &'a str, flag: &str, number: &str) -> Option<Command<'a>>
-    ensures asked { option_map asked result ≡ asked_by_four word.now problem.now flag.now number.now }
-    ensures budget { IfSome result HasBudget }
+fn by_four<'a>(word: &str, first: &'a str, second: &'a str, third: &str) -> Option<Command<'a>>
+    ensures asked { option_map asked result ≡ asked_by_four word.now first.now second.now third.now }
+    ensures within { IfSome result IsWithin }
 {
-    if word == "solve" && is_name(problem) && flag == "--turns" {
-        return solve_within(problem, turns_in(number));
+    if word == "solve" && is_name(first) && second == "--turns" {
+        return solve_within(first, turns_in(third));
     }
-    if word == "qbf" && is_name(problem) && flag == "--turns" {
-        return decide_within(problem, turns_in(number));
+    if word == "qbf" && is_name(first) && second == "--turns" {
+        return decide_within(first, turns_in(third));
+    }
+    if word == "worst" && is_name(first) && third == "--text" {
+        return restate_at(first, places_in(second));
+    }
+    None
+}
+
+fn by_five<'a>(
+    word: &str,
+    first: &'a str,
+    second: &str,
+    third: &str,
+    fourth: &str,
+) -> Option<Command<'a>>
+    ensures asked { option_map asked result ≡ asked_by_five word.now first.now second.now third.now fourth.now }
+    ensures within { IfSome result IsWithin }
+{
+    if word == "worst" && is_name(first) && third == "--turns" {
+        return oppose_within(first, places_in(second), turns_in(fourth));
     }
     None
 }
@@ -100,7 +154,7 @@ fn by_four<'a>(word: &str, problem: &'a str, flag: &str, number: &str) -> Option
 fn solve_within(problem: &str, turns: Option<u64>) -> Option<Command<'_>>
     requires { IfSome turns (λ n. (1 ≤ n) × (n ≤ 10000000)) }
     ensures asked { option_map asked result ≡ solves_within problem.now turns }
-    ensures budget { IfSome result HasBudget }
+    ensures within { IfSome result IsWithin }
 {
     match turns {
         Some(turns) => Some(Command::Solve { problem, turns }),
@@ -111,10 +165,60 @@ fn solve_within(problem: &str, turns: Option<u64>) -> Option<Command<'_>>
 fn decide_within(formula: &str, turns: Option<u64>) -> Option<Command<'_>>
     requires { IfSome turns (λ n. (1 ≤ n) × (n ≤ 10000000)) }
     ensures asked { option_map asked result ≡ decides_within formula.now turns }
-    ensures budget { IfSome result HasBudget }
+    ensures within { IfSome result IsWithin }
 {
     match turns {
         Some(turns) => Some(Command::Decide { formula, turns }),
+        None => None,
+    }
+}
+
+fn make_from<'a>(number: Option<u32>) -> Option<Command<'a>>
+    requires { IfSome number (λ n. n ≤ 1000000) }
+    ensures asked { option_map asked result ≡ makes_from number }
+    ensures within { IfSome result IsWithin }
+{
+    match number {
+        Some(number) => Some(Command::Make { number }),
+        None => None,
+    }
+}
+
+fn show_from<'a>(number: Option<u32>) -> Option<Command<'a>>
+    requires { IfSome number (λ n. n ≤ 1000000) }
+    ensures asked { option_map asked result ≡ shows_from number }
+    ensures within { IfSome result IsWithin }
+{
+    match number {
+        Some(number) => Some(Command::Show { number }),
+        None => None,
+    }
+}
+
+fn oppose_within(problem: &str, places: Option<Places>, turns: Option<u64>) -> Option<Command<'_>>
+    requires { IfSome turns (λ n. (1 ≤ n) × (n ≤ 10000000)) }
+    ensures asked { option_map asked result ≡ opposes_within problem.now places turns }
+    ensures within { IfSome result IsWithin }
+{
+    match places {
+        Some(places) => match turns {
+            Some(turns) => Some(Command::Oppose {
+                problem,
+                places,
+                turns,
+            }),
+            None => None,
+        },
+        None => None,
+    }
+}
+
+fn restate_at(problem: &str, places: Option<Places>) -> Option<Command<'_>>
+    ensures asked { option_map asked result ≡ restates_at problem.now places }
+    ensures within { IfSome result IsWithin }
+{
+    match places {
+        Some(places) => Some(Command::Restate { problem, places }),
         None => None,
     }
 }
@@ -134,12 +238,55 @@ fn turns_in(word: &str) -> Option<u64>
     ensures asked { result ≡ turns_asked word.now }
     ensures budget { IfSome result (λ n. (1 ≤ n) × (n ≤ 10000000)) }
 {
+    number_within(word, 1, MOST_TURNS)
+}
+
+// The number that a problem is to be made from.
+fn made_from(word: &str) -> Option<u32>
+    ensures asked { result ≡ made_from_word word.now }
+    ensures bound { IfSome result (λ n. n ≤ 1000000) }
+{
+    if word == "0" {
+        return Some(0);
+    }
+    match number_within(word, 1, MOST_MADE) {
+        Some(number) => Some(number as u32),
+        None => None,
+    }
+}
+
+// The owners that are to meet the worst ties.
+fn places_in(word: &str) -> Option<Places>
+    ensures { result ≡ places_asked_by word.now }
+{
+    if word == "all" {
+        return Some(Places::All);
+    }
+    scope_in(number_within(word, 1, MOST_SCOPES))
+}
+
+// The scope of a number that counts from 1.
+fn scope_in(number: Option<u64>) -> Option<Places>
+    requires { IfSome number (λ k. (1 ≤ k) × (k ≤ 64)) }
+    ensures { result ≡ scope_place number }
+{
+    match number {
+        Some(number) => Some(Places::One(ScopeId((number - 1) as u8))),
+        None => None,
+    }
+}
+
+// The number from low to high that a word writes.
+fn number_within(word: &str, low: u64, high: u64) -> Option<u64>
+    ensures asked { result ≡ number_asked low high word.now }
+    ensures bound { IfSome result (λ n. (low ≤ n) × (n ≤ high)) }
+{
     let digits = word.as_bytes();
     if !is_short_numeral(digits) {
         return None;
     }
     match number_in(digits) {
-        Some(turns) if 1 <= turns && turns <= MOST_TURNS => Some(turns),
+        Some(number) if low <= number && number <= high => Some(number),
         _ => None,
     }
 }

@@ -1,4 +1,4 @@
-use Rattle.std.proofs.Common.{◌≡◌, subst, rules, ◌+◌, sym, ap, arith, ◌≤◌}
+use Rattle.std.proofs.Common.{◌≡◌, subst, ◌+◌, sym, arith, ◌≤◌}
 use Rattle.qc_io.specs.Shelf.{EndsBy}
 use Rattle.qc_program.specs.Fed.{FedTo}
 use Rattle.qc_program.proofs.Feeding.{fed_whole}

@@ -1,4 +1,4 @@
-use Rattle.std.proofs.Common.{◌≡◌, ◌<◌, ◌≤◌, ◌+◌, ◌-◌, length}
+use Rattle.std.proofs.Common.{◌≡◌, ◌<◌, ◌≤◌, ◌-◌, length}
 use Rattle.line_check.specs.Machine.{game_of, IsReady}
 use Rattle.qc_io.specs.Counts.{RoseBy}
 use Rattle.qc_program.specs.Fed.{FedTo}

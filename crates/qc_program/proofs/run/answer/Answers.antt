@@ -14,3 +14,15 @@ returns-in-Some-Decide-clause-wrote g c = rw (← c.in-Some-Decide.ensures.asked
 
 pub returns-in-Some-Rewrite-clause-wrote : goal.returns-in-Some-Rewrite-clause-wrote
 returns-in-Some-Rewrite-clause-wrote g c = rw (← c.in-Some-Rewrite.ensures.asked, c.in-Some-Rewrite.field-0-is) c.rewrite_file.ensures.wrote
+
+pub returns-in-Some-Make-clause-wrote : goal.returns-in-Some-Make-clause-wrote
+returns-in-Some-Make-clause-wrote g c = rw (← c.in-Some-Make.ensures.asked, c.in-Some-Make.field-0-is) c.solve_made.ensures.wrote
+
+pub returns-in-Some-Show-clause-wrote : goal.returns-in-Some-Show-clause-wrote
+returns-in-Some-Show-clause-wrote g c = rw (← c.in-Some-Show.ensures.asked, c.in-Some-Show.field-0-is) c.show_made.ensures.wrote
+
+pub returns-in-Some-Oppose-clause-wrote : goal.returns-in-Some-Oppose-clause-wrote
+returns-in-Some-Oppose-clause-wrote g c = rw (← c.in-Some-Oppose.ensures.asked, c.in-Some-Oppose.field-0-is) c.oppose_file.ensures.wrote
+
+pub returns-in-Some-Restate-clause-wrote : goal.returns-in-Some-Restate-clause-wrote
+returns-in-Some-Restate-clause-wrote g c = rw (← c.in-Some-Restate.ensures.asked, c.in-Some-Restate.field-0-is) c.restate_file.ensures.wrote

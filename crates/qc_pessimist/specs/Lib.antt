@@ -1,0 +1,5 @@
+pub mod Worst
+pub mod Opposed
+pub mod Table
+pub mod Refusals
+pub mod Laws

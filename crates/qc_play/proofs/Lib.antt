@@ -1,0 +1,8 @@
+pub mod Endings
+pub mod Telling
+pub mod Going
+pub mod Ranges
+pub mod Shapes
+pub mod Replies
+pub mod Turns
+mod Plays

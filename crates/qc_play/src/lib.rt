@@ -1,0 +1,28 @@
+//! Plays of a game against what a certificate shows.
+//!
+//! A certificate that proves its outcome shows a strategy, or a counterstrategy: a tree of choices. `make_plan` and
+//! `make_counter` read it from the certificate's tree, and give nothing where the certificate doesn't prove its
+//! outcome. `play` plays the game with such a tree on one side and given moves on the other, and writes what
+//! happened, scope by scope. With an optimal strategy a play ends with a goal that holds, or with an opponent who has
+//! no allowed tuple. With a counterstrategy that wins it ends with a goal that doesn't hold, or with a player from
+//! whose tuples nobody can go on.
+//!
+//! `specs/` says which tree a value is (`Shape`), how a play goes (`Play`), its text (`PlayText`), what it ends with
+//! (`Ends`), and what is made of a certificate (`Made`).
+#![tactic(auto)]
+
+mod board;
+mod counter;
+mod fault;
+mod lines;
+mod make;
+mod plan;
+mod side;
+mod tuple;
+
+pub use board::play;
+pub use counter::{Counter, CounterEntry, CounterList};
+pub use fault::PlayFault;
+pub use make::{make_counter, make_plan};
+pub use plan::{Plan, PlanEntry, PlanList};
+pub use side::Side;
