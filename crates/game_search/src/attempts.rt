@@ -29,7 +29,7 @@ pub struct Flat {
 }
 
 /// Decides a game within so many turns, from 1 to 10,000,000: the lines are those of a certificate that proves the
-/// outcome and the optimum, is in order and diligent, means what it says and has a text. The outcome is Open only where all turns are
+/// outcome and the optimum, is in order and diligent, keeps its incumbents, means what it says and has a text. The outcome is Open only where all turns are
 /// spent and the game can take more. It fails only where memory runs out.
 pub fn solve_flat(alloc: Global, problem: &Problem, turns: u64) -> Result<Flat, AllocError>
     requires some { 1 ≤ turns }

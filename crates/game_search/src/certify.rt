@@ -10,7 +10,7 @@ use qc_model::Problem;
 use std::alloc::{AllocError, Global};
 
 /// Decides a game within so many turns, from 1 to 10,000,000: the certificate is of the second version, proves its
-/// outcome and its optimum, is in order and diligent, means what it says and has a text. The outcome is Open only where all turns are
+/// outcome and its optimum, is in order and diligent, keeps its incumbents, means what it says and has a text. The outcome is Open only where all turns are
 /// spent and the game can take more. It fails only where memory runs out.
 pub fn solve(alloc: Global, problem: &Problem, turns: u64) -> Result<Certificate, AllocError>
     requires some { 1 ≤ turns }

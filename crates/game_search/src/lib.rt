@@ -2,7 +2,8 @@
 //!
 //! No tree is built on the way: `solve_flat` puts the lines into an arena, and `solve` reads them as a tree afterwards.
 //! The contracts say which tree the lines are by what holds of it (`specs/Made`, `specs/Solution`), not by how it was
-//! found: it proves the outcome, is in order, means what it says, fits the text, and has no more turns than the budget.
+//! found: it proves the outcome, is in order, keeps its incumbents, means what it says, fits the text, and has no more turns
+//! than the budget.
 //!
 //! The values left are those of a `SearchBox`: it is closed by the filters of the constraints in force before each branch,
 //! and each node looks ahead for a scope that nobody passes. What the leaves of a node come to, joins say (`qc_joins`), one

@@ -259,3 +259,36 @@ fn folds_over_an_opponent(rt: HostRuntime) -> Result<(), Fail> {
     assert!(rt; open.outcome == Outcome::Open(8) && open.optimum == None);
     Ok(())
 }
+
+/// The player alone chooses variables from 0 to this value, and wants the last of them as small or as large as can be.
+fn wished(alloc: Global, sense: Sense, count: u16, high: i64) -> Result<Option<Problem>, AllocError>
+    requires some { 1 ≤ count }
+{
+    let wish = Condition {
+        sense,
+        target: Target::Var(VarId(count - 1)),
+    };
+    let mut draft = draft_of(alloc, &[(Kind::Exists, Some(wish))])?;
+    let names = ["x", "y"];
+    for name in names.iter().take(count as usize) {
+        draft.variables.push(variable(alloc, name, 0, 0, high)?)?;
+    }
+    Ok(build(draft))
+}
+
+#[test]
+fn gives_up_what_is_worse(rt: HostRuntime) -> Result<(), Fail> {
+    let alloc = rt.alloc();
+    // Small: v 1, n, g, and b, e for each greater value; dot. Large: each value beats the one before, so nothing is given up:
+    // v 1, four times n, g; dot. With y wished small, x = 1 could only tie: v 1, v 2, n, g, b, e, dot, b, e, dot.
+    let rows = [
+        (Sense::Min, 1, 3, 0, 10),
+        (Sense::Max, 1, 3, 3, 10),
+        (Sense::Min, 2, 1, 0, 10),
+    ];
+    for (sense, count, high, best, lines) in rows {
+        let answer = solved(alloc, wished(alloc, sense, count, high)?, 4)?.ok_or("no game")?;
+        assert!(rt; answer.outcome == Outcome::True && answer.optimum == Some(best) && answer.lines == lines);
+    }
+    Ok(())
+}
