@@ -1,16 +1,15 @@
 -- The old game and the one with opposing scopes agree at places that belong together; at an added scope nothing is chosen.
-use Rattle.std.proofs.Common.{◌≡◌, refl, sym, ap, ◌∙◌, subst, ℕ, zero, suc, ◌+◌, Bool, true, false, cond, List, [], ◌∷◌, ◌++◌, drop, take, length, map, filter, IsTrue}
-use Rattle.std.specs.Prelude.{nat_lt, ◌==◌, ◌&&◌, count_by, Option, Some, None, slice_get, ℤ}
+use Rattle.std.proofs.Common.{◌≡◌, refl, sym, ap, ◌∙◌, subst, ℕ, zero, suc, ◌+◌, Bool, true, false, cond, List, [], ◌∷◌, ◌++◌, drop, take, map, filter, IsTrue}
+use Rattle.std.specs.Prelude.{nat_lt, ◌==◌, ◌&&◌, count_by, slice_get, ℤ}
 use Rattle.std.specs.List.{list_all}
 use Rattle.std.proofs.lemmas.List.Sums.{sum_by-cons}
 use Rattle.qc_model.specs.declared.problem.Variable.{Variable}
 use Rattle.qc_model.specs.declared.problem.Aggregate.{Aggregate}
-use Rattle.qc_model.specs.declared.problem.Target.{Target}
 use Rattle.qc_model.specs.Content.{Game, Rule}
 use Rattle.qc_model.specs.Domains.{domain_values, declared_box}
 use Rattle.qc_model.specs.Holds.{holds_on}
 use Rattle.qc_model.specs.Lists.{LiesIn, tuples}
-use Rattle.qc_model.specs.Game.{before, part, scope_domains, restriction, allows, IsMove, moves}
+use Rattle.qc_model.specs.Game.{before, scope_domains, allows, IsMove, moves}
 use Rattle.qc_model.specs.Value.{aggregate_fold, inner_target}
 use Rattle.qc_pessimist.specs.Opposed.{moved, move_variable, move_aggregate, move_rule, opposed_game}
 use Rattle.qc_pessimist.proofs.Numbers.{moved_lt, moved_up_to, moved_eq, moved_beside}

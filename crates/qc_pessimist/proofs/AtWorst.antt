@@ -3,11 +3,10 @@ use Rattle.std.proofs.Common.{◌≡◌, refl, sym, ap, ◌∙◌, subst, ℕ, s
 use Rattle.std.specs.Prelude.{◌↔◌, Option, Some, None, ℤ}
 use Rattle.qc_model.specs.declared.problem.Kind.{Kind}
 use Rattle.qc_model.specs.declared.problem.Kind.TheVariants.{Exists, Forall}
-use Rattle.qc_model.specs.declared.problem.Target.{Target}
 use Rattle.qc_model.specs.declared.problem.Condition.{Condition}
 use Rattle.qc_model.specs.declared.problem.Scope.{Scope}
 use Rattle.qc_model.specs.Content.{Game}
-use Rattle.qc_model.specs.Game.{IsMove, AfterMove, Wins, IsWon}
+use Rattle.qc_model.specs.Game.{AfterMove, Wins, IsWon}
 use Rattle.qc_model.specs.Plan.{Plan}
 use Rattle.qc_model.specs.Value.{value}
 use Rattle.qc_model.specs.Optimal.{Optimal}
@@ -73,9 +72,10 @@ module _ (q : ℕ → Bool) (g : Game) where
       plain j = omega arith
   passed_wins (Some c) later j n V e pass f b =
       let next : n ≡ suc (suc j) = e ∙ one_more j in
-      let here : V b ↔ Wins (opposed_game q g) later (suc (suc j)) b = subst (λ m. V b ↔ Wins (opposed_game q g) later m b) next (f b) in
-      (λ v. ([], pass_is_move (opposed_game q g) (suc j) (pass next) b, subst (Wins (opposed_game q g) later (suc (suc j))) (sym (append-nil b)) (here.0 v)),
-      λ w. here.1 (subst (Wins (opposed_game q g) later (suc (suc j))) (ap (λ t. b ++ t) (pass_is_empty (opposed_game q g) (suc j) (pass next) b w.0 w.1) ∙ append-nil b) w.2))
+      let here : V b ↔ Wins (opposed_game q g) later (suc (suc j)) b = subst (λ m. V b ↔ Wins (opposed_game q g) later m b) next (f b) in (
+        λ v. ([], pass_is_move (opposed_game q g) (suc j) (pass next) b, subst (Wins (opposed_game q g) later (suc (suc j))) (sym (append-nil b)) (here.0 v)),
+        λ w. here.1 (subst (Wins (opposed_game q g) later (suc (suc j))) (ap (λ t. b ++ t) (pass_is_empty (opposed_game q g) (suc j) (pass next) b w.0 w.1) ∙ append-nil b) w.2),
+      )
     where
       one_more : (j : ℕ) → suc (j + 1) ≡ suc (suc j)
       one_more j = omega arith
@@ -98,15 +98,16 @@ module _ (q : ℕ → Bool) (g : Game) where
       (w.1, w.0)
 
   optimum_of : (c : Condition) (v : ℤ) → HasOptimum c (opposed_game q g) v ↔ HasPessimisticOptimum q c g v
-  optimum_of c v =
-      (λ o. record { won = won_together.0 o.won; has_value = λ s k. sym (whole.worth [] s c.target) ∙ o.has_value (with_empty_choices q g.scopes 0 s) (whole.to [] s k) },
-      λ o. record {
-        won = won_together.1 o.won;
-        has_value = λ p k.
-            let n = whole.form [] p k in
-            ap (λ r. value (opposed_game q g) r c.target []) n.1 ∙ whole.worth [] n.0 c.target
-            ∙ o.has_value n.0 (whole.from [] n.0 (subst (Optimal (opposed_game q g) (with_opposing q 0 g.scopes) 0 []) n.1 k));
-      })
+  optimum_of c v = (
+    λ o. record { won = won_together.0 o.won; has_value = λ s k. sym (whole.worth [] s c.target) ∙ o.has_value (with_empty_choices q g.scopes 0 s) (whole.to [] s k) },
+    λ o. record {
+      won = won_together.1 o.won;
+      has_value = λ p k.
+          let n = whole.form [] p k in
+          ap (λ r. value (opposed_game q g) r c.target []) n.1 ∙ whole.worth [] n.0 c.target
+          ∙ o.has_value n.0 (whole.from [] n.0 (subst (Optimal (opposed_game q g) (with_opposing q 0 g.scopes) 0 []) n.1 k));
+    },
+  )
 
   optimum_by : (scopes : List Scope) (v : ℤ) → IsOptimum (with_opposing q 0 scopes) (opposed_game q g) v ↔ IsPessimisticOptimum q scopes g v
   optimum_by [] v = (λ h. h, λ h. h)
@@ -127,7 +128,8 @@ module _ (q : ℕ → Bool) (g : Game) where
   }
     where
       won_by : IsWon g ↔ ((s : Plan) × OptimalAtWorst q g g.scopes 0 [] s)
-      won_by =
-          (λ w. let p = (won_by_strategy (opposed_game q g) (with_opposing q 0 g.scopes) 0 []).0 (won_together.1 w) in
-          let n = whole.form [] p.0 p.1 in (n.0, whole.from [] n.0 (subst (Optimal (opposed_game q g) (with_opposing q 0 g.scopes) 0 []) n.1 p.1)),
-          λ s. won_together.0 ((won_by_strategy (opposed_game q g) (with_opposing q 0 g.scopes) 0 []).1 (with_empty_choices q g.scopes 0 s.0, whole.to [] s.0 s.1)))
+      won_by = (
+        λ w. let p = (won_by_strategy (opposed_game q g) (with_opposing q 0 g.scopes) 0 []).0 (won_together.1 w) in
+            let n = whole.form [] p.0 p.1 in (n.0, whole.from [] n.0 (subst (Optimal (opposed_game q g) (with_opposing q 0 g.scopes) 0 []) n.1 p.1)),
+        λ s. won_together.0 ((won_by_strategy (opposed_game q g) (with_opposing q 0 g.scopes) 0 []).1 (with_empty_choices q g.scopes 0 s.0, whole.to [] s.0 s.1)),
+      )

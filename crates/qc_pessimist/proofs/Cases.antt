@@ -1,7 +1,6 @@
 -- A worked case: a leader with the price x, and a follower whose answers are all the same to it.
-use Rattle.std.proofs.Common.{◌≡◌, refl, inl, inr, sym, ap, ◌∙◌, subst, ℕ, Bool, true, false, List, [], ◌∷◌, drop}
-use Rattle.std.specs.Prelude.{ℤ, pos, ◌==◌, Some, None, IsFalse}
-use Rattle.qc_model.specs.Content.{Game}
+use Rattle.std.proofs.Common.{◌≡◌, refl, inl, inr, ap, ℕ, Bool, List, [], ◌∷◌, drop}
+use Rattle.std.specs.Prelude.{ℤ, pos, ◌==◌, Some, IsFalse}
 use Rattle.qc_model.specs.Lists.{Among}
 use Rattle.qc_model.specs.Plan.{Plan, finish, choose}
 use Rattle.qc_model.specs.Value.{value}
@@ -12,7 +11,7 @@ use Rattle.qc_laws.proofs.Listed.{Lists, optimal_exact}
 use Rattle.qc_laws.proofs.Computed.{IsOptimum, only_strategy}
 use Rattle.qc_laws.proofs.CaseGames.{variable, of_variable, minimise, maximise, exists, indifferent, opposed as contrary}
 use Rattle.qc_pessimist.specs.Worst.{IsWorst, OptimalAtWorst, IsPessimisticOptimum}
-use Rattle.qc_pessimist.specs.Opposed.{opposed_game, with_opposing, moved}
+use Rattle.qc_pessimist.specs.Opposed.{opposed_game, moved}
 use Rattle.qc_pessimist.proofs.AtWorst.{reads_at_worst}
 
 -- the leader meets the worst ties

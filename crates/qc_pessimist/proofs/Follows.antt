@@ -1,6 +1,6 @@
 -- Families of strategies of two games that correspond: what holds after a choice, and at a scope.
-use Rattle.std.proofs.Common.{◌≡◌, refl, sym, ap, ◌∙◌, subst, ℕ, suc, ◌+◌, Bool, true, false, List, [], ◌∷◌, ◌++◌, filter, map, length, IsTrue, append-nil, arith}
-use Rattle.std.specs.Prelude.{cond, Option, Some, None, slice_get, IsFalse, ℤ}
+use Rattle.std.proofs.Common.{◌≡◌, refl, sym, ap, ◌∙◌, subst, ℕ, suc, ◌+◌, List, [], ◌∷◌, ◌++◌, length, append-nil, arith}
+use Rattle.std.specs.Prelude.{Option, Some, None, slice_get, IsFalse, ℤ}
 use Rattle.qc_model.specs.declared.problem.Kind.{Kind}
 use Rattle.qc_model.specs.declared.problem.Kind.TheVariants.{Exists, Forall}
 use Rattle.qc_model.specs.declared.problem.Sense.{Sense}
@@ -10,12 +10,10 @@ use Rattle.qc_model.specs.declared.problem.Target.TheVariants.{Var, Aggregate as
 use Rattle.qc_model.specs.declared.problem.Condition.{Condition}
 use Rattle.qc_model.specs.declared.problem.Scope.{Scope}
 use Rattle.qc_model.specs.Content.{Game}
-use Rattle.qc_model.specs.Lists.{LiesIn, tuples}
-use Rattle.qc_model.specs.Game.{scope_domains, allows, IsMove, moves}
 use Rattle.qc_model.specs.Plan.{Plan, finish, choose, answer, Entries, no_entries, entry, entry_tuples, EachEntry, Turn, Covers}
 use Rattle.qc_model.specs.Value.{value, branch_values, aggregate_fold, inner_target}
 use Rattle.qc_model.specs.Optimal.{is_better, NoBetterChoice, ChoosesBest, Optimal}
-use Rattle.qc_pessimist.specs.Worst.{chosen_wish, IsWorst, Meets}
+use Rattle.qc_pessimist.specs.Worst.{IsWorst, Meets}
 use Rattle.qc_pessimist.specs.Opposed.{other_sense, opposed, added, put_empty, map_entries, map_turn}
 use Rattle.qc_pessimist.proofs.Agree.{SameScope, IsPass, SameAggregates, move_to, move_from, same_moves, pass_is_move, pass_is_empty}
 

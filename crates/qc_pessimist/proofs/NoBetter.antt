@@ -1,5 +1,5 @@
 -- Where the first owner alone meets the worst ties, it comes to nothing better than its optimum.
-use Rattle.std.proofs.Common.{◌≡◌, refl, sym, ap, ◌∙◌, subst, ℕ, zero, suc, Bool, true, false, List, [], ◌∷◌, ◌++◌}
+use Rattle.std.proofs.Common.{◌≡◌, sym, ap, ◌∙◌, subst, ℕ, suc, Bool, true, false, List, [], ◌∷◌, ◌++◌}
 use Rattle.std.specs.Prelude.{Option, Some, None, IsFalse, ℤ}
 use Rattle.qc_model.specs.declared.problem.Kind.{Kind}
 use Rattle.qc_model.specs.declared.problem.Kind.TheVariants.{Exists, Forall}
@@ -9,8 +9,11 @@ use Rattle.qc_model.specs.Content.{Game}
 use Rattle.qc_model.specs.Plan.{Plan, finish, choose, answer, Entries, no_entries, entry, EachEntry, Turn, Covers}
 use Rattle.qc_model.specs.Value.{value}
 use Rattle.qc_model.specs.Optimal.{is_better, NoBetterChoice, ChoosesBest, Optimal}
-use Rattle.qc_pessimist.specs.Worst.{chosen_wish, Meets, OptimalAtWorst}
-use Rattle.qc_pessimist.specs.Laws.{NoBetterBy, NoBetterThan, NoBetterAtWorst}
+use Rattle.proof_tree.specs.Meaning.{OptimumBy, IsOptimum}
+use Rattle.qc_laws.proofs.Existence.{won_by_strategy}
+use Rattle.qc_pessimist.specs.Worst.{chosen_wish, Meets, OptimalAtWorst, PessimisticBy, IsPessimisticOptimum}
+use Rattle.qc_pessimist.specs.Laws.{first_wish, NoBetterValue, NoBetterBy, NoBetterAtWorst}
+use Rattle.qc_pessimist.proofs.AtWorst.{reads_at_worst}
 
 -- what holds of the same plans later makes the same plans optimal now
 module _ (g : Game) (i : ℕ) (O P : List ℤ → Plan → Type 0) (to : (b : List ℤ) (s : Plan) → O b s → P b s) (from : (b : List ℤ) (s : Plan) → P b s → O b s) where
@@ -71,9 +74,28 @@ module _ (q : ℕ → Bool) (g : Game) (alone : (i : ℕ) → q (suc i) ≡ fals
           compare (choose t s) (choose u r) h o =
               o.best t s h.is_move (plain_to later 0 ([] ++ t) s (met (chosen_wish (q 0) Exists (Some c)) (OptimalAtWorst q g later 1) ([] ++ t) s h.after))
 
+  strategies_no_better : (scopes : List Scope) → NoBetterBy (first_wish scopes) g (OptimalAtWorst q g scopes 0 []) (Optimal g scopes 0 [])
+  strategies_no_better [] = tt
+  strategies_no_better (scope ∷ later) = no_better scope later
+
+  values_no_better : (k : Kind) (x : Option Condition) → NoBetterBy (chosen_wish true k x) g (OptimalAtWorst q g g.scopes 0 []) (Optimal g g.scopes 0 []) → (v w : ℤ) →
+      PessimisticBy q x g v → OptimumBy x g w → NoBetterValue (chosen_wish true k x) v w
+  values_no_better Forall x n v w a b = tt
+  values_no_better Exists None n v w a b = tt
+  values_no_better Exists (Some c) n v w a b =
+      let s = (reads_at_worst q g).won_by_strategy.0 a.won in
+      let p = (won_by_strategy g g.scopes 0 []).0 b.won in
+      ap (λ z. is_better c.sense z w) (sym (a.has_value s.0 s.1))
+      ∙ ap (is_better c.sense (value g s.0 c.target [])) (sym (b.has_value p.0 p.1))
+      ∙ n s.0 p.0 s.1 p.1
+
+  optimum_no_better : (scopes : List Scope) → NoBetterBy (first_wish scopes) g (OptimalAtWorst q g g.scopes 0 []) (Optimal g g.scopes 0 []) → (v w : ℤ) →
+      IsPessimisticOptimum q scopes g v → IsOptimum scopes g w → NoBetterValue (first_wish scopes) v w
+  optimum_no_better [] n v w a b = tt
+  optimum_no_better (scope ∷ later) n v w a b = values_no_better scope.kind scope.condition n v w a b
+
 pub no_better_at_worst : (q : ℕ → Bool) (g : Game) → NoBetterAtWorst q g
-no_better_at_worst q g = λ alone. by g.scopes alone
-  where
-    by : (scopes : List Scope) → ((i : ℕ) → q (suc i) ≡ false) → NoBetterThan scopes g (OptimalAtWorst q g scopes 0 []) (Optimal g scopes 0 [])
-    by [] alone = tt
-    by (scope ∷ later) alone = no_better q g alone scope later
+no_better_at_worst q g = λ alone. record {
+  strategies = strategies_no_better q g alone g.scopes;
+  optimum = optimum_no_better q g alone g.scopes (strategies_no_better q g alone g.scopes);
+}

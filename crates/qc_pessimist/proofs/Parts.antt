@@ -1,6 +1,6 @@
 -- Scopes, variables, aggregates and constraints of the new game are as valid as they were.
-use Rattle.std.proofs.Common.{◌≡◌, refl, sym, ap, ◌∙◌, subst, ℕ, zero, suc, ◌+◌, ◌<◌, ◌≤◌, Bool, true, false, cond, List, [], ◌∷◌, ◌++◌, map, length, arith, IsTrue}
-use Rattle.std.specs.Prelude.{◌==◌, nat_lt, nat_le, ◌&&◌, ◌||◌, Option, Some, None, slice_get, is_none}
+use Rattle.std.proofs.Common.{◌≡◌, refl, ap, ◌∙◌, ℕ, zero, suc, ◌+◌, ◌<◌, Bool, true, false, List, [], ◌∷◌, ◌++◌, map, length, arith}
+use Rattle.std.specs.Prelude.{nat_lt, nat_le, ◌&&◌, Option, Some, None, slice_get, is_none}
 use Rattle.std.specs.List.{list_all}
 use Rattle.std.proofs.lemmas.Bool.Decides.{nat_tests}
 use Rattle.qc_model.specs.declared.problem.Kind.{Kind}
@@ -26,8 +26,7 @@ use Rattle.qc_model.specs.Valid.{is_variable_with, is_bits, is_integer_domain, i
 use Rattle.qc_model.proofs.InOrder.{both}
 use Rattle.qc_pessimist.specs.Worst.{chosen_wish}
 use Rattle.qc_pessimist.specs.Opposed.{added, added_after, with_opposing, moved, move_variable, move_aggregate, move_rule, opposed_game}
-use Rattle.qc_pessimist.proofs.Numbers.{moved_up, moved_no_less}
-use Rattle.qc_pessimist.proofs.Tables.{first_below, rest_in_order}
+use Rattle.qc_pessimist.proofs.Tables.{first_below}
 
 -- a test that the parts keep, and that all of them pass
 pub all_kept : {X Y : Type 0} (p : Y → Bool) (r : X → Bool) (f : X → Y) → ((x : X) → p (f x) ≡ r x) → (xs : List X) → list_all p (map f xs) ≡ list_all r xs

@@ -1,5 +1,5 @@
 -- Conditions and folds see in the new game what they saw in the old one.
-use Rattle.std.proofs.Common.{◌≡◌, refl, sym, ap, ◌∙◌, subst, ℕ, zero, suc, ◌+◌, ◌<◌, Bool, true, false, cond, List, [], ◌∷◌, ◌++◌, map, filter, drop, length, arith, IsTrue}
+use Rattle.std.proofs.Common.{◌≡◌, refl, sym, ap, ◌∙◌, subst, ℕ, zero, suc, ◌+◌, ◌<◌, Bool, true, false, cond, List, [], ◌∷◌, ◌++◌, map, filter, drop, length, arith}
 use Rattle.std.specs.Prelude.{◌==◌, Option, Some, None, slice_get}
 use Rattle.qc_model.specs.declared.problem.Kind.{Kind}
 use Rattle.qc_model.specs.declared.problem.Kind.TheVariants.{Exists, Forall}
@@ -67,7 +67,7 @@ module _ (q : ℕ → Bool) (g : Game) where
       (IsVisible (opposed_game q g) (added (chosen_wish (q i) s.kind s.condition) ++ with_opposing q (suc i) later) (suc (moved q 0 g.scopes i)) t)
       (here_still t i)
       (λ v. past_added (chosen_wish (q i) s.kind s.condition) (with_opposing q (suc i) later) (moved q 0 g.scopes i) (moved q 0 g.scopes (suc i)) t
-        (moved_next q 0 i i g.scopes s later (omega arith) e) (still_visible later (suc i) (drop_next i g.scopes s later e) t v)) h
+      (moved_next q 0 i i g.scopes s later (omega arith) e) (still_visible later (suc i) (drop_next i g.scopes s later e) t v)) h
 
   -- what stands after scope i, old and new
   after_scope : (s : Scope) (later : List Scope) (i : ℕ) → drop i g.scopes ≡ s ∷ later → (t : Target) → IsVisible g later (suc i) t →
@@ -117,11 +117,12 @@ module _ (q : ℕ → Bool) (g : Game) where
 
   still_sees : (later : List Scope) (i : ℕ) → drop i g.scopes ≡ later → SeesRight g later i → SeesRight (opposed_game q g) (with_opposing q i later) (moved q 0 g.scopes i)
   still_sees [] i e h = tt
-  still_sees (s ∷ later) i e h =
-      (scope_still s.kind later (added (chosen_wish (q i) s.kind s.condition) ++ with_opposing q (suc i) later) (suc i) (suc (moved q 0 g.scopes i)) (after_scope s later i e) s.condition i h.0,
-      added_sees (q i) s.kind s.condition later (with_opposing q (suc i) later) (suc i) (moved q 0 g.scopes i) (moved q 0 g.scopes (suc i)) (aggregates_in g i)
-      (moved_next q 0 i i g.scopes s later (omega arith) e) (still_visible later (suc i) (drop_next i g.scopes s later e)) h.0
-      (still_sees later (suc i) (drop_next i g.scopes s later e) h.1))
+  still_sees (s ∷ later) i e h = (
+    scope_still s.kind later (added (chosen_wish (q i) s.kind s.condition) ++ with_opposing q (suc i) later) (suc i) (suc (moved q 0 g.scopes i)) (after_scope s later i e) s.condition i h.0,
+    added_sees (q i) s.kind s.condition later (with_opposing q (suc i) later) (suc i) (moved q 0 g.scopes i) (moved q 0 g.scopes (suc i)) (aggregates_in g i)
+        (moved_next q 0 i i g.scopes s later (omega arith) e) (still_visible later (suc i) (drop_next i g.scopes s later e)) h.0
+        (still_sees later (suc i) (drop_next i g.scopes s later e) h.1),
+  )
 
   pub sees_still : SeesRight g g.scopes 0 → SeesRight (opposed_game q g) (with_opposing q 0 g.scopes) 0
   sees_still h = subst (SeesRight (opposed_game q g) (with_opposing q 0 g.scopes)) (moved_zero q 0 g.scopes) (still_sees g.scopes 0 (drop_none g.scopes) h)

@@ -26,17 +26,26 @@ pub record ReadsAtWorst (q : ℕ → Bool) (g h : Game) : Type 0 where
   -- the optimum of the one is the pessimistic optimum of the other
   pub optimum : (v : ℤ) → IsOptimum h.scopes h v ↔ IsPessimisticOptimum q g.scopes g v
 
--- no strategy of the first kind has a better value of the condition's target than one of the second
+-- the condition of the first scope, where that is existential
+abbrev pub first_wish : List Scope → Option Condition
+first_wish [] = None
+first_wish (s ∷ later) = chosen_wish true s.kind s.condition
+
+-- v isn't better than w
+abbrev pub NoBetterValue : Option Condition → ℤ → ℤ → Type 0
+NoBetterValue None v w = ⊤
+NoBetterValue (Some c) v w = IsFalse (is_better c.sense v w)
+
+-- no strategy with S has a better value of the condition's target than one with O
 abbrev pub NoBetterBy : Option Condition → Game → (Plan → Type 0) → (Plan → Type 0) → Type 0
 NoBetterBy None g S O = ⊤
 NoBetterBy (Some c) g S O = (s p : Plan) → S s → O p → IsFalse (is_better c.sense (value g s c.target []) (value g p c.target []))
 
--- by the first scope's condition, where the scope is existential
-abbrev pub NoBetterThan : List Scope → Game → (Plan → Type 0) → (Plan → Type 0) → Type 0
-NoBetterThan [] g S O = ⊤
-NoBetterThan (s ∷ later) g S O = NoBetterBy (chosen_wish true s.kind s.condition) g S O
+-- what the first owner comes to at the worst ties isn't better than what it comes to at the best
+pub record IsNoBetterAtWorst (q : ℕ → Bool) (g : Game) : Type 0 where
+  pub strategies : NoBetterBy (first_wish g.scopes) g (OptimalAtWorst q g g.scopes 0 []) (Optimal g g.scopes 0 [])
+  pub optimum : (v w : ℤ) → IsPessimisticOptimum q g.scopes g v → IsOptimum g.scopes g w → NoBetterValue (first_wish g.scopes) v w
 
--- where no owner but the first meets the worst ties, what it comes to then isn't better than its optimum
+-- so it is where no other owner meets the worst ties
 abbrev pub NoBetterAtWorst : (ℕ → Bool) → Game → Type 0
-NoBetterAtWorst q g =
-    ((i : ℕ) → q (suc i) ≡ false) → NoBetterThan g.scopes g (OptimalAtWorst q g g.scopes 0 []) (Optimal g g.scopes 0 [])
+NoBetterAtWorst q g = ((i : ℕ) → q (suc i) ≡ false) → IsNoBetterAtWorst q g

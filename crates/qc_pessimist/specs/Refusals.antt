@@ -1,5 +1,5 @@
 -- Which owners meet the worst ties, and when no such reading can be given.
-use Rattle.std.specs.Prelude.{◌≡◌, ◌<◌, ◌==◌, ℕ, Bool, true, false, List, length, slice_get, is_some, Option, Some, None, ⊤, IsTrue, IsFalse}
+use Rattle.std.specs.Prelude.{◌<◌, ◌≤◌, ◌==◌, ℕ, Bool, true, false, length, slice_get, is_some, Option, Some, None, ⊤, IsTrue, IsFalse}
 use Rattle.qc_model.specs.declared.problem.Scope.{Scope}
 use Rattle.qc_model.specs.Content.{Game}
 use Rattle.qc_pessimist.specs.declared.reading.Places.{Places}
@@ -24,7 +24,11 @@ abbrev pub names_a_wish : Places → Game → Bool
 names_a_wish (One i) g = has_wish (slice_get g.scopes i.0)
 names_a_wish All g = true
 
--- no reading is given for this
+-- a reading is given: a scope is named, and there is room for those added
+abbrev pub IsReadable : Places → Game → Type 0
+IsReadable p g = IsTrue (names_a_wish p g) × (length (with_opposing (is_chosen p) 0 g.scopes) ≤ 64)
+
+-- none is given for this
 abbrev pub Refuses : NoReading → Places → Game → Type 0
 Refuses NoCondition p g = IsFalse (names_a_wish p g)
 Refuses TooManyScopes p g = IsTrue (names_a_wish p g) × (64 < length (with_opposing (is_chosen p) 0 g.scopes))

@@ -1,7 +1,7 @@
 //! The problem in which chosen owners meet the worst ties.
 ghost use Rattle.std.specs.Prelude.{◌≡◌, ◌≤◌, length, IfOk, IfErr, IsTrue};
 ghost use Rattle.qc_pessimist.specs.Opposed.{opposed_game};
-ghost use Rattle.qc_pessimist.specs.Refusals.{is_chosen, names_a_wish as names_a_wish_of, Refuses};
+ghost use Rattle.qc_pessimist.specs.Refusals.{is_chosen, names_a_wish as names_a_wish_of, IsReadable, Refuses};
 ghost use Rattle.qc_pessimist.specs.Laws.{ReadsAtWorst, NoBetterAtWorst};
 
 use crate::opposed::{
@@ -25,11 +25,7 @@ fn names_a_wish(problem: &Problem, places: Places) -> bool
 }
 
 /// The content of the new problem, with the scopes that it has.
-fn opposed_draft(
-    alloc: Global,
-    problem: &Problem,
-    places: Places,
-) -> Result<Draft, NoReading>
+fn opposed_draft(alloc: Global, problem: &Problem, places: Places) -> Result<Draft, NoReading>
     requires { IsTrue (names_a_wish_of places problem.now) }
     ensures made { IfOk result (λ draft. draft ≡ opposed_game (is_chosen places) problem.now) }
     ensures few { IfOk result (λ draft. length draft.scopes ≤ 64) }
@@ -66,7 +62,7 @@ fn opposed_draft(
 /// `TooManyScopes` where the new problem would have more than 64 scopes. `Memory` where memory was refused.
 pub fn pessimistic(alloc: Global, problem: &Problem, places: Places) -> Result<Problem, NoReading>
     ensures made { IfOk result (λ new. new ≡ opposed_game (is_chosen places) problem.now) }
-    ensures named { IfOk result (λ new. IsTrue (names_a_wish_of places problem.now)) }
+    ensures readable { IfOk result (λ new. IsReadable places problem.now) }
     ensures reads { IfOk result (λ new. ReadsAtWorst (is_chosen places) problem.now new) }
     ensures law { NoBetterAtWorst (is_chosen places) problem.now }
     ensures refused { IfErr result (λ e. Refuses e places problem.now) }

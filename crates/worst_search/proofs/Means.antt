@@ -1,5 +1,5 @@
 -- What the answer for the new problem says of the old one.
-use Rattle.std.proofs.Common.{◌≡◌, sym, subst, ℕ, Bool, List}
+use Rattle.std.proofs.Common.{ℕ, Bool, List}
 use Rattle.std.specs.Prelude.{Option, Some, None, ℤ}
 use Rattle.qc_model.specs.Content.{Game}
 use Rattle.proof_tree.specs.declared.line.Line.{Line}
@@ -8,7 +8,6 @@ use Rattle.proof_tree.specs.declared.tree.Outcome.TheVariants.{True, False, Open
 use Rattle.proof_tree.specs.Tree.{Tree}
 use Rattle.proof_tree.specs.Meaning.{OutcomeMeans}
 use Rattle.game_search.specs.Solution.{SolutionLines}
-use Rattle.qc_pessimist.specs.Opposed.{opposed_game}
 use Rattle.qc_pessimist.specs.Laws.{ReadsAtWorst}
 use Rattle.worst_search.specs.Solved.{WorstMeans}
 

@@ -1,8 +1,8 @@
 //! The pessimistic optimum, found by the search.
-ghost use Rattle.std.specs.Prelude.{◌≤◌, IfOk, IfErr, IsTrue};
+ghost use Rattle.std.specs.Prelude.{◌≤◌, IfOk, IfErr};
 ghost use Rattle.game_search.specs.Solution.{SolutionLines};
 ghost use Rattle.qc_pessimist.specs.Opposed.{opposed_game};
-ghost use Rattle.qc_pessimist.specs.Refusals.{is_chosen, names_a_wish, Refuses};
+ghost use Rattle.qc_pessimist.specs.Refusals.{is_chosen, IsReadable, Refuses};
 ghost use Rattle.qc_pessimist.specs.Laws.{ReadsAtWorst, NoBetterAtWorst};
 ghost use Rattle.worst_search.specs.Solved.{WorstMeans};
 
@@ -29,7 +29,7 @@ pub fn solve_worst(
     requires turns { turns ≤ 10000000 }
     ensures solution { IfOk result (λ f. SolutionLines (opposed_game (is_chosen places) problem.now) turns f.outcome f.optimum f.arena) }
     ensures means { IfOk result (λ f. WorstMeans (is_chosen places) f.outcome f.optimum problem.now) }
-    ensures named { IfOk result (λ f. IsTrue (names_a_wish places problem.now)) }
+    ensures readable { IfOk result (λ f. IsReadable places problem.now) }
     ensures reads { ReadsAtWorst (is_chosen places) problem.now (opposed_game (is_chosen places) problem.now) }
     ensures law { NoBetterAtWorst (is_chosen places) problem.now }
     ensures refused { IfErr result (λ e. Refuses e places problem.now) }

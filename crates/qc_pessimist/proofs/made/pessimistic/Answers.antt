@@ -1,7 +1,7 @@
-use Rattle.std.proofs.Common.{◌≡◌, ◌∙◌, true, false}
+use Rattle.std.proofs.Common.{◌≡◌, ◌∙◌, sym, true, false}
 use Rattle.qc_pessimist.specs.Refusals.{is_chosen}
 use Rattle.qc_pessimist.proofs.NoBetter.{no_better_at_worst}
-use Rattle.qc_pessimist.proofs.Owed.{reads_as, draft_valid}
+use Rattle.qc_pessimist.proofs.Owed.{reads_as, few_scopes, draft_valid}
 use Rattle.qc_pessimist.proofs.made.pessimistic.Goals as goal
 
 pub returns-then-not-names_a_wish-clause-law : goal.returns-then-not-names_a_wish-clause-law
@@ -21,3 +21,9 @@ unreachable-requires c =
     let valid = draft_valid (is_chosen c.args.places) c.args.problem.now c.in_ok-opposed_draft.field-0 c.known.ensures c.in_ok-opposed_draft.ensures.made c.in_ok-opposed_draft.ensures.few in
     let k : false ≡ true = c.in-None.ensures.exact.1 valid in
     cc
+
+pub returns-clause-readable : goal.returns-clause-readable
+returns-clause-readable c = (
+  sym c.names_a_wish.ensures ∙ c.if-not-names_a_wish.false,
+  few_scopes (is_chosen c.args.places) c.args.problem.now c.in_ok-opposed_draft.field-0 c.in_ok-opposed_draft.ensures.made c.in_ok-opposed_draft.ensures.few,
+)
