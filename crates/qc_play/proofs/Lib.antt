@@ -5,4 +5,6 @@ pub mod Ranges
 pub mod Shapes
 pub mod Replies
 pub mod Turns
+pub mod Showing
+pub mod Making
 mod Plays

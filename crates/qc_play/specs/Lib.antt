@@ -5,3 +5,4 @@ pub mod PlayText
 pub mod Playing
 pub mod Ends
 pub mod Made
+pub mod Judged

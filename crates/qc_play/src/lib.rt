@@ -14,7 +14,9 @@
 mod board;
 mod counter;
 mod fault;
+mod judged;
 mod lines;
+mod listed;
 mod make;
 mod plan;
 mod side;
