@@ -7,4 +7,5 @@ pub mod Replies
 pub mod Turns
 pub mod Showing
 pub mod Making
+pub mod Starts
 mod Plays

@@ -1,5 +1,5 @@
 -- What is made of a certificate whose tree was judged.
-use Rattle.std.proofs.Common.{◌≡◌, Bool, true, false, ◌&&◌, [], refl, sym, ap, ◌∙◌, subst, Option, Some, None, ℤ}
+use Rattle.std.proofs.Common.{◌≡◌, Bool, true, false, ◌&&◌, [], refl, sym, ◌∙◌, subst, Option, Some, None, ℤ}
 use Rattle.std.specs.Prelude.{IsTrue}
 use Rattle.qc_model.specs.Content.{Game}
 use Rattle.qc_model.specs.Optimal.{Optimal}
@@ -18,7 +18,7 @@ use Rattle.qc_play.specs.declared.counter.Counter.{Counter}
 use Rattle.qc_play.specs.Judged.{answer_wins, answer_loses}
 use Rattle.qc_play.specs.Shape.{plan_of, tree_of_counter}
 use Rattle.qc_play.specs.Ends.{IsWinning}
-use Rattle.qc_play.specs.Made.{IsPlanOf, IsCounterOf, MakesPlan, MakesCounter}
+use Rattle.qc_play.specs.Made.{IsPlanOf, IsCounterOf}
 use Rattle.qc_play.proofs.Showing.{proves_true, proves_false}
 
 both : (a b : Bool) → (a && b) ≡ true → (a ≡ true) × (b ≡ true)

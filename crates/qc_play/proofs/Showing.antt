@@ -1,5 +1,5 @@
 -- What a certificate proves, by what its lines come to.
-use Rattle.std.proofs.Common.{◌≡◌, Bool, true, false, not, ◌&&◌, List, [], refl, sym, ap, ◌∙◌, Option, Some, None, ℤ}
+use Rattle.std.proofs.Common.{◌≡◌, not, ◌&&◌, List, [], refl, sym, ap, ◌∙◌, Option, Some, None, ℤ}
 use Rattle.qc_model.specs.Content.{Game}
 use Rattle.qc_model.specs.Verdict.{is_exact, is_lost}
 use Rattle.qc_levels.specs.declared.leaves.Found.{Found}
@@ -7,7 +7,6 @@ use Rattle.qc_levels.specs.declared.leaves.Found.TheVariants.{Lost, Exact, AtMos
 use Rattle.qc_levels.specs.Seen.{verdict_of}
 use Rattle.proof_tree.specs.declared.tree.Outcome.TheVariants.{True, False}
 use Rattle.proof_tree.specs.Tree.{Tree}
-use Rattle.proof_tree.specs.InPlace.{root_in_place}
 use Rattle.proof_tree.specs.Read.{root_finding}
 use Rattle.proof_tree.specs.Proves.{proves, shows, optimises_first, is_value}
 use Rattle.line_check.specs.declared.answer.Answer.{Answer}

@@ -19,7 +19,10 @@ mod lines;
 mod listed;
 mod make;
 mod plan;
+mod reading;
 mod side;
+#[cfg(test)]
+mod tests;
 mod tuple;
 
 pub use board::play;

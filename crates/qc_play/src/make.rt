@@ -1,45 +1,16 @@
 //! The strategy, or the counterstrategy, that a certificate shows.
-ghost use Rattle.std.specs.Prelude.{◌≡◌, true, IfOk, IsTrue};
-ghost use Rattle.qc_model.specs.Verdict.{is_exact, is_lost};
+ghost use Rattle.std.specs.Prelude.{◌≡◌, IfOk};
 ghost use Rattle.proof_tree.specs.Shape.{tree_of};
-ghost use Rattle.proof_tree.specs.InPlace.{root_in_place};
-ghost use Rattle.proof_tree.specs.Read.{root_finding, strategy_of, counter_of};
-ghost use Rattle.qc_play.specs.Shape.{plan_of, tree_of_counter};
 ghost use Rattle.qc_play.specs.Made.{MakesPlan, MakesCounter};
 
 use crate::counter::Counter;
 use crate::judged::{judged, shows_lost, shows_won};
 use crate::plan::Plan;
-use proof_tree::{Certificate, Node, Outcome};
+use crate::reading::{read_counter, read_plan};
+use proof_tree::{Certificate, Outcome};
 use qc_meaning::outcomes_are_true;
 use qc_model::Problem;
 use std::alloc::{AllocError, Global};
-
-/// The strategy of a tree in place that comes to an exact verdict.
-///
-/// It isn't read yet: the answer is that of refused memory.
-fn read_plan(_alloc: Global, problem: &Problem, root: &Node) -> Result<Plan, AllocError>
-    requires placed { root_in_place problem.now (tree_of root.now) ≡ true }
-    requires exact { IsTrue (is_exact (root_finding problem.now (tree_of root.now)).verdict) }
-    ensures { IfOk result (λ plan. plan_of plan ≡ strategy_of problem.now (tree_of root.now)) }
-{
-    let _ = problem;
-    let _ = root;
-    Err(AllocError)
-}
-
-/// The counterstrategy of a tree in place that is lost.
-///
-/// It isn't read yet: the answer is that of refused memory.
-fn read_counter(_alloc: Global, problem: &Problem, root: &Node) -> Result<Counter, AllocError>
-    requires placed { root_in_place problem.now (tree_of root.now) ≡ true }
-    requires lost { IsTrue (is_lost (root_finding problem.now (tree_of root.now)).verdict) }
-    ensures { IfOk result (λ counter. tree_of_counter counter ≡ counter_of problem.now (tree_of root.now)) }
-{
-    let _ = problem;
-    let _ = root;
-    Err(AllocError)
-}
 
 /// The strategy that a certificate shows which states that the game is won; None where it doesn't prove that.
 fn won_plan(
@@ -85,6 +56,10 @@ fn lost_counter(
 
 /// The strategy that a certificate shows, which is optimal. None comes exactly where the certificate doesn't prove what
 /// it states, or doesn't state that the game is won.
+///
+/// It fails where memory runs out, and as if it had: for trees of more than 2^32 lines, for one with a horizon at a scope
+/// that no game has, and, since a scope's own tree isn't read yet, wherever there is a strategy and the tree's root is no
+/// goal and not stuck.
 pub fn make_plan(
     alloc: Global,
     problem: &Problem,
@@ -101,6 +76,8 @@ pub fn make_plan(
 
 /// The counterstrategy that a certificate shows, which wins. None comes exactly where the certificate doesn't prove
 /// what it states, or doesn't state that the game isn't won.
+///
+/// It fails as `make_plan` does.
 pub fn make_counter(
     alloc: Global,
     problem: &Problem,

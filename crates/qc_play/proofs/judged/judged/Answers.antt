@@ -1,4 +1,4 @@
-use Rattle.std.proofs.Common.{◌≡◌, ◌+◌, ◌≤◌, ◌∙◌, ap, sym, subst, arith, length, Some, None, true}
+use Rattle.std.proofs.Common.{◌≡◌, ◌+◌, ◌≤◌, ◌∙◌, sym, subst, arith, length, Some, None}
 use Rattle.proof_tree.specs.Shape.{tree_of}
 use Rattle.proof_tree.specs.Lines.{tree_lines}
 use Rattle.line_check.specs.LedgerHeld.{first_ledger, goes_through}

@@ -1,4 +1,4 @@
-use Rattle.std.proofs.Common.{◌≡◌, ◌∙◌, sym}
+use Rattle.std.proofs.Common.{◌∙◌, sym}
 use Rattle.std.specs.Prelude.{IsTrue}
 use Rattle.proof_tree.specs.Proves.{proves}
 use Rattle.proof_tree.specs.Shape.{tree_of}
