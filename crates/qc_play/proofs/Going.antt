@@ -52,9 +52,9 @@ module _ (g : Game) (i : ℕ) (a t : List ℤ) (r : Plan) where
   other_here x later Forall s q e m h = elim h [
     | inl w ↦ elim (reply_found (CounterWins g later (suc i)) (CanPassBlock g later (suc i)) s e m w.once
         (subst (λ j. Turn (opposite j) s (Chooses g i a (CounterWins g later (suc i))) (RepliesTo g i a (CanPassBlock g later (suc i)) (CounterWins g later (suc i)))) q w.wins)) [
-        | inl k ↦ inl (record { wins = k.0; once = k.1 })
-        | inr n ↦ inr n
-      ]
+          | inl k ↦ inl (record { wins = k.0; once = k.1 })
+          | inr n ↦ inr n
+        ]
     | inr n ↦ inr (λ p. n (subst (λ j. PassScope j g i a (CanPassBlock g later (suc i))) (sym q) (t, m, p)))
   ]
 

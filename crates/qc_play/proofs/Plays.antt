@@ -1,5 +1,5 @@
 -- Plays worked out.
-use Rattle.std.proofs.Common.{◌≡◌, refl}
+use Rattle.std.proofs.Common.{◌≡◌, ◌⊎◌, inl, inr, refl, sym, ap, subst}
 use Rattle.std.specs.Prelude.{List, [], ◌∷◌, ◌++◌, codes, true, false, ℤ, pos}
 use Rattle.proof_tree.specs.Text.{place_text}
 use Rattle.qc_model.specs.declared.problem.Kind.{Kind}
@@ -10,6 +10,10 @@ use Rattle.qc_model.specs.declared.problem.Argument.TheVariants.{One}
 use Rattle.qc_model.specs.declared.problem.Pred.TheVariants.{IntEq, IntLt}
 use Rattle.qc_model.specs.Content.{Game}
 use Rattle.qc_model.specs.Plan.{Plan, finish, choose, answer, no_entries, entry}
+use Rattle.qc_model.specs.declared.problem.Scope.{Scope}
+use Rattle.qc_model.specs.Game.{IsMove}
+use Rattle.qc_model.specs.Counter.{HasEntry, CanPassBlock, CounterWins}
+use Rattle.qc_play.specs.Ends.{IsSound}
 use Rattle.proof_tree.proofs.Build.{var, scope, variable, rule}
 use Rattle.qc_play.specs.Play.{play_of, Play, Turn, Ending, at_goal, stuck_at, hopeless_at, missing_at, not_allowed_at}
 use Rattle.qc_play.specs.PlayText.{play_text, turn_line, unused_line}
@@ -85,3 +89,39 @@ text_of_a_play = refl
 
 text_without_reply : play_text (play_of guess Forall half (pos 1 ∷ [])) ≡ turn_line 0 Exists (pos 1 ∷ []) ++ ((codes "hopeless " ++ (place_text 0 ++ codes "\n")) ++ unused_line 0)
 text_without_reply = refl
+
+-- the opponent's tree is one to play by: the premise of the theorem can be met
+abbrev after_x : List Scope
+after_x = scope Forall ∷ []
+
+takes_one : CounterWins guess after_x 1 (pos 0 ∷ []) (choose (pos 1 ∷ []) finish)
+takes_one = record { is_move = record { is_tuple = (inr (inl refl), tt); is_allowed = refl }; after = (tt, λ e. cc) }
+
+takes_zero : CounterWins guess after_x 1 (pos 1 ∷ []) (choose (pos 0 ∷ []) finish)
+takes_zero = record { is_move = record { is_tuple = (inl refl, tt); is_allowed = refl }; after = (tt, λ e. cc) }
+
+replies : (t : List ℤ) → IsMove guess 0 [] t →
+    HasEntry (CounterWins guess after_x 1) [] t (entry (pos 0 ∷ []) (choose (pos 1 ∷ []) finish) (entry (pos 1 ∷ []) (choose (pos 0 ∷ []) finish) no_entries)) ⊎ (¬ CanPassBlock guess after_x 1 t)
+replies [] m = absurd m.is_tuple
+replies (v ∷ []) m = elim m.is_tuple.0 [
+  | inl e ↦ inl (inl (ap (λ z. z ∷ []) (sym e), subst (λ z. CounterWins guess after_x 1 (z ∷ []) (choose (pos 1 ∷ []) finish)) (sym e) takes_one))
+  | inr n ↦ elim n [
+    | inl e ↦ inl (inr (inl (ap (λ z. z ∷ []) (sym e), subst (λ z. CounterWins guess after_x 1 (z ∷ []) (choose (pos 0 ∷ []) finish)) (sym e) takes_zero)))
+    | inr k ↦ absurd k
+  ]
+]
+replies (v ∷ w ∷ t) m = absurd m.is_tuple.1
+
+other_is_sound : IsSound Forall guess guess.scopes 0 [] other
+other_is_sound = record { wins = replies; once = ((λ m. elim m [ inl e ↦ zero_is_not_one e | inr k ↦ k ], (λ k. k, tt)), (tt, (tt, tt))) }
+  where
+    zero_is_not_one : ¬ (pos 0 ∷ [] ≡ pos 1 ∷ [])
+    zero_is_not_one e = let h : pos 0 ≡ pos 1 = cc in cc
+
+-- and the player's
+greatest_is_optimal : IsSound Exists below below.scopes 0 [] greatest
+greatest_is_optimal = record {
+  is_move = record { is_tuple = (inr (inl refl), tt); is_allowed = refl };
+  after = record { tuples = refl; each = ((tt, refl), tt) };
+  best = tt;
+}

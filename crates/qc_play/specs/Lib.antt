@@ -4,4 +4,6 @@ pub mod Play
 pub mod PlayText
 pub mod Playing
 pub mod Ends
+pub mod Stuck
 pub mod Made
+pub mod Judged

@@ -2,7 +2,8 @@
 //!
 //! A certificate that proves its outcome shows a strategy, or a counterstrategy: a tree of choices. `make_plan` and
 //! `make_counter` read it from the certificate's tree, and give nothing where the certificate doesn't prove its
-//! outcome. `play` plays the game with such a tree on one side and given moves on the other, and writes what
+//! outcome. As yet they read it at a root alone that is the goal, or stuck; elsewhere they answer as if memory had run
+//! out. `play` plays the game with such a tree on one side and given moves on the other, and writes what
 //! happened, scope by scope. With an optimal strategy a play ends with a goal that holds, or with an opponent who has
 //! no allowed tuple. With a counterstrategy that wins it ends with a goal that doesn't hold, or with a player from
 //! whose tuples nobody can go on.
@@ -14,10 +15,15 @@
 mod board;
 mod counter;
 mod fault;
+mod judged;
 mod lines;
+mod listed;
 mod make;
 mod plan;
+mod reading;
 mod side;
+#[cfg(test)]
+mod tests;
 mod tuple;
 
 pub use board::play;

@@ -1,34 +1,93 @@
 //! The strategy, or the counterstrategy, that a certificate shows.
-ghost use Rattle.std.specs.Prelude.{IfOk};
+ghost use Rattle.std.specs.Prelude.{◌≡◌, IfOk};
 ghost use Rattle.proof_tree.specs.Shape.{tree_of};
 ghost use Rattle.qc_play.specs.Made.{MakesPlan, MakesCounter};
 
 use crate::counter::Counter;
+use crate::judged::{judged, shows_lost, shows_won};
 use crate::plan::Plan;
-use proof_tree::Certificate;
+use crate::reading::{read_counter, read_plan};
+use proof_tree::{Certificate, Outcome};
+use qc_meaning::outcomes_are_true;
 use qc_model::Problem;
 use std::alloc::{AllocError, Global};
 
+/// The strategy that a certificate shows which states that the game is won; None where it doesn't prove that.
+fn won_plan(
+    alloc: Global,
+    problem: &Problem,
+    cert: &Certificate,
+) -> Result<Option<Plan>, AllocError>
+    requires { cert.now.outcome ≡ Outcome.True }
+    ensures { IfOk result (λ plan. MakesPlan problem.now cert.now.outcome cert.now.optimum (tree_of cert.now.root) plan) }
+{
+    problem.known();
+    outcomes_are_true();
+    let Some(answer) = judged(alloc, problem, &cert.root)? else {
+        return Ok(None);
+    };
+    if !shows_won(problem, answer, cert.optimum) {
+        return Ok(None);
+    }
+    let plan = read_plan(alloc, problem, &cert.root)?;
+    Ok(Some(plan))
+}
+
+/// The counterstrategy that a certificate shows which states that the game isn't won; None where it doesn't prove that.
+fn lost_counter(
+    alloc: Global,
+    problem: &Problem,
+    cert: &Certificate,
+) -> Result<Option<Counter>, AllocError>
+    requires { cert.now.outcome ≡ Outcome.False }
+    ensures { IfOk result (λ counter. MakesCounter problem.now cert.now.outcome cert.now.optimum (tree_of cert.now.root) counter) }
+{
+    problem.known();
+    outcomes_are_true();
+    let Some(answer) = judged(alloc, problem, &cert.root)? else {
+        return Ok(None);
+    };
+    if !shows_lost(answer, cert.optimum) {
+        return Ok(None);
+    }
+    let counter = read_counter(alloc, problem, &cert.root)?;
+    Ok(Some(counter))
+}
+
 /// The strategy that a certificate shows, which is optimal. None comes exactly where the certificate doesn't prove what
 /// it states, or doesn't state that the game is won.
+///
+/// It fails where memory runs out, and as if it had: for trees of more than 2^32 lines, for one with a horizon at a scope
+/// that no game has, and, since a scope's own tree isn't read yet, wherever there is a strategy and the tree's root is no
+/// goal and not stuck.
 pub fn make_plan(
-    _alloc: Global,
-    _problem: &Problem,
-    _cert: &Certificate,
+    alloc: Global,
+    problem: &Problem,
+    cert: &Certificate,
 ) -> Result<Option<Plan>, AllocError>
-    ensures { IfOk result (λ plan. MakesPlan _problem.now _cert.now.outcome _cert.now.optimum (tree_of _cert.now.root) plan) }
+    ensures { IfOk result (λ plan. MakesPlan problem.now cert.now.outcome cert.now.optimum (tree_of cert.now.root) plan) }
 {
-    Err(AllocError)
+    match cert.outcome {
+        Outcome::True => won_plan(alloc, problem, cert),
+        Outcome::False => Ok(None),
+        Outcome::Open(_turns) => Ok(None),
+    }
 }
 
 /// The counterstrategy that a certificate shows, which wins. None comes exactly where the certificate doesn't prove
 /// what it states, or doesn't state that the game isn't won.
+///
+/// It fails as `make_plan` does.
 pub fn make_counter(
-    _alloc: Global,
-    _problem: &Problem,
-    _cert: &Certificate,
+    alloc: Global,
+    problem: &Problem,
+    cert: &Certificate,
 ) -> Result<Option<Counter>, AllocError>
-    ensures { IfOk result (λ counter. MakesCounter _problem.now _cert.now.outcome _cert.now.optimum (tree_of _cert.now.root) counter) }
+    ensures { IfOk result (λ counter. MakesCounter problem.now cert.now.outcome cert.now.optimum (tree_of cert.now.root) counter) }
 {
-    Err(AllocError)
+    match cert.outcome {
+        Outcome::True => Ok(None),
+        Outcome::False => lost_counter(alloc, problem, cert),
+        Outcome::Open(_turns) => Ok(None),
+    }
 }

@@ -1,5 +1,5 @@
-use Rattle.std.proofs.Common.{◌+◌, ◌++◌, refl, sym, ap, ◌∙◌, subst, arith, length, take, drop, add-one}
-use Rattle.std.specs.Prelude.{nat_lt}
+use Rattle.std.proofs.Common.{◌≡◌, true, ◌+◌, ◌++◌, refl, sym, ap, ◌∙◌, subst, arith, length, take, drop, add-one}
+use Rattle.std.specs.Prelude.{nat_lt, Some}
 use Rattle.qc_play.specs.Play.{is_move, reply_to, answers_of, stuck_at, hopeless_at}
 use Rattle.qc_play.specs.Sides.{kind_of, choices_of}
 use Rattle.qc_play.proofs.Telling.{play_at, own_stuck, other_stuck, other_missing, other_wrong, other_hopeless, told_end, told_hopeless}
@@ -56,10 +56,10 @@ other_turn-go_on-requires t c =
     let s = choices_of c.args.side in
     let ms = c.args.moves.now in
     let w = c.width-width.result in
-    let e = sym c.split_at.ensures.front in
-    let move = ap (is_move g i a) e ∙ (sym c.in_ok-take_tuple.ensures.allowed ∙ c.if-not-branch.false) in
-    let taken = c.in_ok-take_tuple.ensures.taken c.if-not-branch.false ∙ ap (λ u. a ++ u) (sym e) in
-    let found = ap (λ u. reply_to u (answers_of s)) e ∙ c.in-Some.ensures.tree in
+    let e : take w ms ≡ c.split_at.result.0.now = sym c.split_at.ensures.front in
+    let move : is_move g i a (take w ms) ≡ true = ap (is_move g i a) e ∙ (sym c.in_ok-take_tuple.ensures.allowed ∙ c.if-not-branch.false) in
+    let taken : c.take_tuple.new.values.items ≡ a ++ take w ms = c.in_ok-take_tuple.ensures.taken c.if-not-branch.false ∙ ap (λ u. a ++ u) (sym e) in
+    let found : reply_to (take w ms) (answers_of s) ≡ Some (choices_of c.in-Some.after) = ap (λ u. reply_to u (answers_of s)) e ∙ c.in-Some.ensures.tree in
     let r = other_stands g own (kind_of c.in-Some.after) c.args.owner i (i + 1) a c.take_tuple.new.values.items s (choices_of c.in-Some.after) ms (add-one i) c.in-Some.ensures.kind c.requires.owner
     w c.width-width.ensures (are_left (length ms) w c.if-moves-width.false) c.requires.own (sym c.has_answers.ensures ∙ c.if-not-has_answers.false) move taken found c.known.ensures c.requires.numbers c.requires.sound in
     (omega arith, (omega arith, (r.0, r.1)))
@@ -73,10 +73,10 @@ other_turn-returns t c =
     let s = choices_of c.args.side in
     let ms = c.args.moves.now in
     let w = c.width-width.result in
-    let e = sym c.split_at.ensures.front in
-    let move = ap (is_move g i a) e ∙ (sym c.in_ok-take_tuple.ensures.allowed ∙ c.if-not-branch.false) in
-    let taken = c.in_ok-take_tuple.ensures.taken c.if-not-branch.false ∙ ap (λ u. a ++ u) (sym e) in
-    let found = ap (λ u. reply_to u (answers_of s)) e ∙ c.in-Some.ensures.tree in
+    let e : take w ms ≡ c.split_at.result.0.now = sym c.split_at.ensures.front in
+    let move : is_move g i a (take w ms) ≡ true = ap (is_move g i a) e ∙ (sym c.in_ok-take_tuple.ensures.allowed ∙ c.if-not-branch.false) in
+    let taken : c.take_tuple.new.values.items ≡ a ++ take w ms = c.in_ok-take_tuple.ensures.taken c.if-not-branch.false ∙ ap (λ u. a ++ u) (sym e) in
+    let found : reply_to (take w ms) (answers_of s) ≡ Some (choices_of c.in-Some.after) = ap (λ u. reply_to u (answers_of s)) e ∙ c.in-Some.ensures.tree in
     other_told g own (kind_of c.in-Some.after) c.args.owner i (i + 1) a c.take_tuple.new.values.items s (choices_of c.in-Some.after) ms (add-one i) c.in-Some.ensures.kind c.requires.owner
     w c.width-width.ensures (are_left (length ms) w c.if-moves-width.false) c.requires.own (sym c.has_answers.ensures ∙ c.if-not-has_answers.false) move taken found c.go_on.result c.args.self.now.text.items c.put_turn.new.out.items c.go_on.new.self.text.items
     (c.in_ok-put_turn.ensures ∙ ap (λ u. c.args.self.now.text.items ++ turn_line i c.args.owner u) (sym e))
@@ -98,7 +98,7 @@ own_turn-go_on-requires t c =
     let a = c.args.self.now.values.items in
     let s = choices_of c.args.side in
     let ms = c.args.moves.now in
-    let taken = c.in_ok-extend_from_slice.ensures.items ∙ ap (λ u. a ++ u) c.items-tuple.ensures in
+    let taken : c.extend_from_slice.new.self.items ≡ a ++ c.in-Some.choice.tuple.now = c.in_ok-extend_from_slice.ensures.items ∙ ap (λ u. a ++ u) c.items-tuple.ensures in
     let r = own_stands g own (kind_of c.in-Some.choice.after) c.args.owner i (i + 1) a c.extend_from_slice.new.self.items s (choices_of c.in-Some.choice.after) ms (add-one i) c.in-Some.ensures.kind c.requires.owner
     c.in-Some.choice.tuple.now c.requires.own c.in-Some.ensures.tree taken c.known.ensures c.requires.numbers c.requires.sound in
     (omega arith, (omega arith, (r.0, r.1)))
@@ -111,7 +111,7 @@ own_turn-returns t c =
     let a = c.args.self.now.values.items in
     let s = choices_of c.args.side in
     let ms = c.args.moves.now in
-    let taken = c.in_ok-extend_from_slice.ensures.items ∙ ap (λ u. a ++ u) c.items-tuple.ensures in
+    let taken : c.extend_from_slice.new.self.items ≡ a ++ c.in-Some.choice.tuple.now = c.in_ok-extend_from_slice.ensures.items ∙ ap (λ u. a ++ u) c.items-tuple.ensures in
     own_told g own (kind_of c.in-Some.choice.after) c.args.owner i (i + 1) a c.extend_from_slice.new.self.items s (choices_of c.in-Some.choice.after) ms (add-one i) c.in-Some.ensures.kind c.requires.owner
     c.in-Some.choice.tuple.now c.requires.own c.in-Some.ensures.tree taken c.go_on.result c.args.self.now.text.items c.put_turn.new.out.items c.go_on.new.self.text.items
     (c.in_ok-put_turn.ensures ∙ ap (λ u. c.args.self.now.text.items ++ turn_line i c.args.owner u) c.items-tuple.ensures) c.go_on.ensures

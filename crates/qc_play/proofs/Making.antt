@@ -1,0 +1,81 @@
+-- What is made of a certificate whose tree was judged.
+use Rattle.std.proofs.Common.{◌≡◌, Bool, true, false, ◌&&◌, [], refl, sym, ◌∙◌, subst, Option, Some, None, ℤ}
+use Rattle.std.specs.Prelude.{IsTrue}
+use Rattle.qc_model.specs.Content.{Game}
+use Rattle.qc_model.specs.Optimal.{Optimal}
+use Rattle.qc_model.specs.Verdict.{is_exact, is_lost}
+use Rattle.proof_tree.specs.declared.tree.Outcome.{Outcome}
+use Rattle.proof_tree.specs.declared.tree.Outcome.TheVariants.{True, False}
+use Rattle.proof_tree.specs.Tree.{Tree}
+use Rattle.proof_tree.specs.InPlace.{root_in_place}
+use Rattle.proof_tree.specs.Read.{root_finding, strategy_of, counter_of}
+use Rattle.proof_tree.specs.Proves.{proves, shows}
+use Rattle.proof_tree.specs.Meaning.{OutcomeMeans, TrueMeans}
+use Rattle.line_check.specs.declared.answer.Answer.{Answer}
+use Rattle.line_check.specs.Found.{IsAnswer}
+use Rattle.qc_play.specs.declared.plan.Plan.{Plan}
+use Rattle.qc_play.specs.declared.counter.Counter.{Counter}
+use Rattle.qc_play.specs.Judged.{answer_wins, answer_loses}
+use Rattle.qc_play.specs.Shape.{plan_of, tree_of_counter}
+use Rattle.qc_play.specs.Ends.{IsWinning}
+use Rattle.qc_play.specs.Made.{IsPlanOf, IsCounterOf}
+use Rattle.qc_play.proofs.Showing.{proves_true, proves_false}
+
+both : (a b : Bool) → (a && b) ≡ true → (a ≡ true) × (b ≡ true)
+both true b e = (refl, e)
+both false b e = cc
+
+differ : true ≡ false → ⊥
+differ e = cc
+
+module _ (g : Game) (p : Option ℤ) (t : Tree) (o : Outcome) where
+  -- a tree that isn't in place proves nothing
+  pub out_of_place : (root_in_place g t ≡ true → ⊥) → IsTrue (proves g o p t) → ⊥
+  out_of_place n e = n (both (root_in_place g t) (shows g t (root_finding g t) o p) e).0
+
+  module _ (f : Answer) (a : IsAnswer g t f) where
+    pub not_won : o ≡ True → answer_wins g.scopes f p ≡ false → IsTrue (proves g o p t) → ⊥
+    not_won q n e = differ (sym (subst (λ x. IsTrue (proves g x p t)) q e) ∙ (proves_true g t f a p ∙ n))
+
+    pub not_lost : o ≡ False → answer_loses f p ≡ false → IsTrue (proves g o p t) → ⊥
+    not_lost q n e = differ (sym (subst (λ x. IsTrue (proves g x p t)) q e) ∙ (proves_false g t f a p ∙ n))
+
+    pub does_win : answer_wins g.scopes f p ≡ true → IsTrue (proves g True p t)
+    does_win y = proves_true g t f a p ∙ y
+
+    pub does_lose : answer_loses f p ≡ true → IsTrue (proves g False p t)
+    does_lose y = proves_false g t f a p ∙ y
+
+  exact_true : (q : Option ℤ) → shows g t (root_finding g t) True q ≡ true → is_exact (root_finding g t).verdict ≡ true
+  exact_true None e = (both (is_exact (root_finding g t).verdict) _ e).0
+  exact_true (Some v) e = (both (is_exact (root_finding g t).verdict) _ (both (is_exact (root_finding g t).verdict && _) _ e).0).0
+
+  lost_false : (q : Option ℤ) → shows g t (root_finding g t) False q ≡ true → is_lost (root_finding g t).verdict ≡ true
+  lost_false None e = e
+  lost_false (Some v) e = absurd (differ (sym e))
+
+  pub won_exact : IsTrue (proves g True p t) → is_exact (root_finding g t).verdict ≡ true
+  won_exact e = exact_true p (both (root_in_place g t) (shows g t (root_finding g t) True p) e).1
+
+  pub lost_lost : IsTrue (proves g False p t) → is_lost (root_finding g t).verdict ≡ true
+  lost_lost e = lost_false p (both (root_in_place g t) (shows g t (root_finding g t) False p) e).1
+
+  means_true : (q : Option ℤ) → OutcomeMeans True q g t → TrueMeans g t
+  means_true None m = m
+  means_true (Some v) m = m.0
+
+  pub plan_made : (plan : Plan) → o ≡ True → IsTrue (proves g True p t) → OutcomeMeans True p g t → plan_of plan ≡ strategy_of g t → IsPlanOf g o p t plan
+  plan_made plan q e m r = record {
+    proves = subst (λ x. IsTrue (proves g x p t)) (sym q) e;
+    outcome_is = q;
+    reading = r;
+    optimal = subst (λ s. Optimal g g.scopes 0 [] s) (sym r) (means_true p m).optimal;
+  }
+
+  pub counter_made : (counter : Counter) → o ≡ False → IsTrue (proves g False p t) → OutcomeMeans False p g t → tree_of_counter counter ≡ counter_of g t → IsCounterOf g o p t counter
+  counter_made counter q e m r = record {
+    proves = subst (λ x. IsTrue (proves g x p t)) (sym q) e;
+    outcome_is = q;
+    reading = r;
+    winning = subst (λ s. IsWinning g g.scopes 0 [] s) (sym r) (record { wins = m.loses; once = m.once });
+  }

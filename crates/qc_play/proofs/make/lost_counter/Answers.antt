@@ -1,0 +1,32 @@
+use Rattle.std.proofs.Common.{◌∙◌, sym}
+use Rattle.std.specs.Prelude.{IsTrue}
+use Rattle.proof_tree.specs.Proves.{proves}
+use Rattle.proof_tree.specs.Shape.{tree_of}
+use Rattle.proof_tree.specs.declared.tree.Outcome.TheVariants.{False}
+use Rattle.qc_play.proofs.Making.{not_lost, does_lose, lost_lost, counter_made}
+use Rattle.qc_play.proofs.make.lost_counter.Goals as goal
+use Rattle.qc_play.proofs.make.lost_counter.Goals.{Else-not-shows_lost}
+
+pub returns-then-not-shows_lost : goal.returns-then-not-shows_lost
+returns-then-not-shows_lost c = λ e q.
+    let f = c.in-Some.answer in
+    let cert = c.args.cert.now in
+    not_lost c.args.problem.now cert.optimum (tree_of cert.root) cert.outcome f (c.in_ok-answer.ensures.right f c.in-Some.is) q (sym c.shows_lost.ensures ∙ c.if-not-shows_lost.true) e
+
+shown : (c : Else-not-shows_lost) → IsTrue (proves c.args.problem.now False c.args.cert.now.optimum (tree_of c.args.cert.now.root))
+shown c =
+    let f = c.in-Some.answer in
+    let cert = c.args.cert.now in
+    does_lose c.args.problem.now cert.optimum (tree_of cert.root) cert.outcome f (c.in_ok-answer.ensures.right f c.in-Some.is) (sym c.shows_lost.ensures ∙ c.if-not-shows_lost.false)
+
+pub read_counter-requires-clause-placed : goal.read_counter-requires-clause-placed
+read_counter-requires-clause-placed c = (c.in_ok-answer.ensures.right c.in-Some.answer c.in-Some.is).in_place
+
+pub read_counter-requires-clause-lost : goal.read_counter-requires-clause-lost
+read_counter-requires-clause-lost c = lost_lost c.args.problem.now c.args.cert.now.optimum (tree_of c.args.cert.now.root) c.args.cert.now.outcome (shown c)
+
+pub returns : goal.returns
+returns c =
+    let cert = c.args.cert.now in
+    let e = shown (goal.at.returns c).Else-not-shows_lost in
+    counter_made c.args.problem.now cert.optimum (tree_of cert.root) cert.outcome c.in_ok-counter.counter c.requires e (c.outcomes_are_true.ensures c.args.problem.now False cert.optimum (tree_of cert.root) c.known.ensures e) c.in_ok-counter.ensures

@@ -1,0 +1,32 @@
+use Rattle.std.proofs.Common.{◌∙◌, sym}
+use Rattle.std.specs.Prelude.{IsTrue}
+use Rattle.proof_tree.specs.Proves.{proves}
+use Rattle.proof_tree.specs.Shape.{tree_of}
+use Rattle.proof_tree.specs.declared.tree.Outcome.TheVariants.{True}
+use Rattle.qc_play.proofs.Making.{not_won, does_win, won_exact, plan_made}
+use Rattle.qc_play.proofs.make.won_plan.Goals as goal
+use Rattle.qc_play.proofs.make.won_plan.Goals.{Else-not-shows_won}
+
+pub returns-then-not-shows_won : goal.returns-then-not-shows_won
+returns-then-not-shows_won c = λ e q.
+    let f = c.in-Some.answer in
+    let cert = c.args.cert.now in
+    not_won c.args.problem.now cert.optimum (tree_of cert.root) cert.outcome f (c.in_ok-answer.ensures.right f c.in-Some.is) q (sym c.shows_won.ensures ∙ c.if-not-shows_won.true) e
+
+shown : (c : Else-not-shows_won) → IsTrue (proves c.args.problem.now True c.args.cert.now.optimum (tree_of c.args.cert.now.root))
+shown c =
+    let f = c.in-Some.answer in
+    let cert = c.args.cert.now in
+    does_win c.args.problem.now cert.optimum (tree_of cert.root) cert.outcome f (c.in_ok-answer.ensures.right f c.in-Some.is) (sym c.shows_won.ensures ∙ c.if-not-shows_won.false)
+
+pub read_plan-requires-clause-placed : goal.read_plan-requires-clause-placed
+read_plan-requires-clause-placed c = (c.in_ok-answer.ensures.right c.in-Some.answer c.in-Some.is).in_place
+
+pub read_plan-requires-clause-exact : goal.read_plan-requires-clause-exact
+read_plan-requires-clause-exact c = won_exact c.args.problem.now c.args.cert.now.optimum (tree_of c.args.cert.now.root) c.args.cert.now.outcome (shown c)
+
+pub returns : goal.returns
+returns c =
+    let cert = c.args.cert.now in
+    let e = shown (goal.at.returns c).Else-not-shows_won in
+    plan_made c.args.problem.now cert.optimum (tree_of cert.root) cert.outcome c.in_ok-plan.plan c.requires e (c.outcomes_are_true.ensures c.args.problem.now True cert.optimum (tree_of cert.root) c.known.ensures e) c.in_ok-plan.ensures

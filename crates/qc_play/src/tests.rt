@@ -1,0 +1,177 @@
+//! What no clause says: that a deep tree is let go, and that the calls find memory.
+use crate::{
+    Counter, CounterEntry, CounterList, Plan, PlanEntry, PlanList, PlayFault, Side, make_counter,
+    make_plan, play,
+};
+use proof_text::read_cert;
+use proof_tree::Certificate;
+use qc_model::{
+    Arg, Argument, Constraint, Domain, Draft, Kind, Name, Numbers, Pred, Problem, Scope, ScopeId,
+    VarId, Variable, build,
+};
+use std::alloc::{AllocError, Global};
+use std::test::Fail;
+
+/// The numbers with this one alone.
+fn one(alloc: Global, value: i64) -> Result<Numbers, AllocError> {
+    let mut numbers = Numbers::new(alloc);
+    numbers.push(value)?;
+    Ok(numbers)
+}
+
+/// So many choices, one after the other.
+fn choices(alloc: Global, deep: u32) -> Result<Plan, AllocError> {
+    let mut plan = Plan::End;
+    for _ in 0..deep {
+        plan = Plan::Choose(one(alloc, 7)?, Box::new(alloc, plan)?);
+    }
+    Ok(plan)
+}
+
+/// So many answers of one entry, one in the other.
+fn answers(alloc: Global, deep: u32) -> Result<Plan, AllocError> {
+    let mut plan = Plan::End;
+    for _ in 0..deep {
+        let mut list = PlanList::new(alloc);
+        list.push(PlanEntry {
+            tuple: one(alloc, 7)?,
+            plan,
+        })?;
+        plan = Plan::Answer(list);
+    }
+    Ok(plan)
+}
+
+/// So many replies of one entry, one in the other.
+fn replies(alloc: Global, deep: u32) -> Result<Counter, AllocError> {
+    let mut counter = Counter::End;
+    for _ in 0..deep {
+        let mut list = CounterList::new(alloc);
+        list.push(CounterEntry {
+            tuple: one(alloc, 7)?,
+            counter,
+        })?;
+        counter = Counter::Reply(list);
+    }
+    Ok(counter)
+}
+
+#[test]
+fn deep_trees_are_let_go(rt: HostRuntime) -> Result<(), Fail> {
+    let alloc = rt.alloc();
+    let _chosen = choices(alloc, 1000)?;
+    let _answered = answers(alloc, 1000)?;
+    let _replied = replies(alloc, 1000)?;
+    Ok(())
+}
+
+/// Nobody chooses anything, and the goal has no constraint.
+fn nothing_asked(alloc: Global) -> Result<Option<Problem>, AllocError> {
+    Ok(build(Draft {
+        scopes: Vec::new(alloc),
+        variables: Vec::new(alloc),
+        aggregates: Vec::new(alloc),
+        constraints: Vec::new(alloc),
+    }))
+}
+
+/// The player chooses x from 0 and 1, and it has to be more than 1.
+fn too_much_asked(alloc: Global) -> Result<Option<Problem>, AllocError> {
+    let mut draft = Draft {
+        scopes: Vec::new(alloc),
+        variables: Vec::new(alloc),
+        aggregates: Vec::new(alloc),
+        constraints: Vec::new(alloc),
+    };
+    draft.scopes.push(Scope {
+        kind: Kind::Exists,
+        condition: None,
+    })?;
+    draft.variables.push(Variable {
+        name: Name::new(alloc, "x")?,
+        scope: ScopeId(0),
+        domain: Domain::Range(0, 1),
+    })?;
+    let mut args = Vec::new(alloc);
+    args.push(Argument::One(Arg::Num(1)))?;
+    args.push(Argument::One(Arg::Var(VarId(0))))?;
+    draft.constraints.push(Constraint {
+        owner: ScopeId(0),
+        pred: Pred::IntLt,
+        args,
+    })?;
+    Ok(build(draft))
+}
+
+fn play_plan(
+    alloc: Global,
+    problem: &Problem,
+    cert: &Certificate,
+    moves: &[i64],
+) -> Result<Option<Vec<u8>>, PlayFault> {
+    let Some(plan) = make_plan(alloc, problem, cert)? else {
+        return Ok(None);
+    };
+    let text = play(alloc, problem, Side::Plan(&plan), moves)?;
+    Ok(Some(text))
+}
+
+fn play_counter(
+    alloc: Global,
+    problem: &Problem,
+    cert: &Certificate,
+    moves: &[i64],
+) -> Result<Option<Vec<u8>>, PlayFault> {
+    let Some(counter) = make_counter(alloc, problem, cert)? else {
+        return Ok(None);
+    };
+    let text = play(alloc, problem, Side::Counter(&counter), moves)?;
+    Ok(Some(text))
+}
+
+/// Whether this text was written.
+fn is_text(played: Result<Option<Vec<u8>>, PlayFault>, text: &[u8]) -> bool {
+    match played {
+        Ok(Some(written)) => written.as_slice() == text,
+        Ok(None) => false,
+        Err(_fault) => false,
+    }
+}
+
+/// Whether there was nothing to play by.
+fn is_none(played: Result<Option<Vec<u8>>, PlayFault>) -> bool {
+    match played {
+        Ok(Some(_written)) => false,
+        Ok(None) => true,
+        Err(_fault) => false,
+    }
+}
+
+#[test]
+fn a_goal_that_holds(rt: HostRuntime) -> Result<(), Fail> {
+    let alloc = rt.alloc();
+    let problem = nothing_asked(alloc)?.ok_or("no game")?;
+    let cert = read_cert(alloc, b"qcert 1\ntrue\ng\n").map_err(|_| Fail::from("no certificate"))?;
+    let played = play_plan(alloc, &problem, &cert, &[4]);
+    assert!(rt; is_text(played, b"goal true\nunused 1\n"));
+    let other = play_counter(alloc, &problem, &cert, &[]);
+    assert!(rt; is_none(other));
+    Ok(())
+}
+
+#[test]
+fn a_player_who_is_stuck(rt: HostRuntime) -> Result<(), Fail> {
+    let alloc = rt.alloc();
+    let problem = too_much_asked(alloc)?.ok_or("no game")?;
+    let cert = read_cert(alloc, b"qcert 1\nfalse\nh 1\np 1 0 1 1\n.\nt\n").map_err(|_| Fail::from(
+        "no certificate",
+    ))?;
+    let played = play_counter(alloc, &problem, &cert, &[1]);
+    assert!(rt; is_text(played, b"stuck 1\nunused 1\n"));
+    let unproved = read_cert(alloc, b"qcert 1\nfalse\nt\n").map_err(|_| Fail::from(
+        "no certificate",
+    ))?;
+    let other = play_counter(alloc, &problem, &unproved, &[]);
+    assert!(rt; is_none(other));
+    Ok(())
+}
