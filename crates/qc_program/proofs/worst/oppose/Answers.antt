@@ -4,8 +4,8 @@ use Rattle.qc_program.proofs.worst.oppose.Goals as goal
 
 pub returns-in-Ok-clause-reading : goal.returns-in-Ok-clause-reading
 returns-in-Ok-clause-reading g c = record {
-  named = c.in-Ok.ensures.named;
-  few = rw c.in-Ok.ensures.made at c.known.ensures.few_scopes;
+  named = c.in-Ok.ensures.readable.0;
+  few = c.in-Ok.ensures.readable.1;
   reads = rw c.in-Ok.ensures.made at c.in-Ok.ensures.reads;
   law = c.in-Ok.ensures.law;
 }
