@@ -1,5 +1,5 @@
 -- Which bounds are beaten, and how what beats them goes on.
-use Rattle.std.proofs.Common.{◌≡◌, ◌∙◌, refl, sym, ap, subst, arith, Bool, true, false, not, ◌&&◌, ◌||◌, cond, List, [], ◌∷◌, ◌++◌, map, length, ℤ, Option, None, Some}
+use Rattle.std.proofs.Common.{◌≡◌, ◌∙◌, refl, sym, ap, subst, arith, Bool, true, false, not, ◌&&◌, ◌||◌, cond, List, [], ◌∷◌, ◌++◌, map, ℤ, Option, None, Some}
 use Rattle.std.specs.Prelude.{int_lt}
 use Rattle.std.specs.Ordering.{int_eq}
 use Rattle.std.specs.List.{list_all, list_any}
@@ -10,14 +10,14 @@ use Rattle.qc_model.specs.declared.problem.Sense.TheVariants.{Min, Max}
 use Rattle.qc_model.specs.declared.problem.Condition.{Condition}
 use Rattle.qc_model.specs.ExistsVerdict.{best_vector, best_number_from, beats}
 use Rattle.qc_model.specs.Optimal.{is_better}
-use Rattle.qc_model.specs.Verdict.{lost, exact, at_most, unknown, Seen, seen_barred, seen_skipped, seen_bound, seen_node, exact_vectors, bounds, first_value, is_none_of}
+use Rattle.qc_model.specs.Verdict.{lost, exact, at_most, unknown, Seen, seen_barred, seen_skipped, seen_bound, seen_node, exact_vectors, first_value, is_none_of}
 use Rattle.qc_levels.specs.Bests.{AllLong}
 use Rattle.qc_levels.proofs.ExistsVerdicts.{first_of_best}
 use Rattle.qc_joins.specs.Sizes.{EachHas}
 use Rattle.proof_tree.specs.Incumbents.{has_no_worse}
 use Rattle.proof_tree.specs.Place.{Tracked}
 use Rattle.qc_model.specs.Domains.{Box, Values, values_left}
-use Rattle.game_search.specs.Beaten.{firsts, is_beaten, are_beaten, AreAmong}
+use Rattle.game_search.specs.Beaten.{is_beaten, are_beaten, AreAmong}
 use Rattle.game_search.proofs.Bools.{two, both}
 
 -- ---- tests that hold of each number of two lists

@@ -1,33 +1,29 @@
 -- What a case that is taken does to the box: a bound, and closing after it.
-use Rattle.std.proofs.Common.{◌≡◌, ◌∙◌, ◌≤◌, ◌<◌, ◌+◌, ◌*◌, ℕ, zero, suc, refl, sym, ap, subst, arith, Bool, true, false, not, ◌&&◌, ◌||◌, List, [], ◌∷◌, ◌++◌, map, length, drop, filter, ℤ, Option, None, Some, Result, Ok, Err, OnOk}
+use Rattle.std.proofs.Common.{◌≡◌, ◌∙◌, ◌≤◌, ◌<◌, ◌+◌, ◌*◌, ℕ, zero, suc, refl, sym, ap, subst, arith, Bool, true, false, not, ◌&&◌, ◌||◌, List, [], ◌∷◌, ◌++◌, length, drop, filter, ℤ, Option, None, Some, Result, Ok, Err, OnOk}
 use Rattle.std.specs.Prelude.{unsigned_abs, cond, int_lt, set}
 use Rattle.std.specs.declared.alloc.AllocError.{AllocError}
-use Rattle.std.specs.List.{list_all, list_any}
+use Rattle.std.specs.List.{list_all}
 use Rattle.std.specs.Ordering.{int_eq}
 use Rattle.std.proofs.lemmas.Bool.Decides.{Decides-int_eq, nat_tests}
 use Rattle.std.proofs.lemmas.List.{append-nil}
 use Rattle.qc_model.specs.declared.problem.Sense.{Sense}
 use Rattle.qc_model.specs.declared.problem.Sense.TheVariants.{Min, Max}
-use Rattle.qc_model.specs.declared.problem.VarId.{VarId}
 use Rattle.qc_model.specs.declared.problem.Condition.{Condition}
 use Rattle.qc_model.specs.declared.problem.Scope.{Scope}
 use Rattle.qc_model.specs.Content.{Game}
 use Rattle.qc_model.specs.Demands.{demands}
-use Rattle.qc_model.specs.Domains.{Box, Values, values_left, values_within, values_outside, is_within, is_none_left, is_sub_box, has_value, is_ascending, least_from, greatest_from, has_empty, box_without}
+use Rattle.qc_model.specs.Domains.{Box, Values, values_left, values_within, values_outside, is_within, is_none_left, is_sub_box, has_value, is_ascending, least_from, greatest_from}
 use Rattle.qc_model.specs.Optimal.{is_better}
 use Rattle.qc_model.specs.Valid.{is_number}
 use Rattle.qc_model.specs.Verdict.{Seen, seen_bound}
-use Rattle.qc_arguments.specs.Asked.{is_box_of}
 use Rattle.proof_tree.specs.declared.tree.Step.{Step}
 use Rattle.proof_tree.specs.declared.tree.Step.TheVariants.{Bound}
 use Rattle.proof_tree.specs.Incumbents.{has_no_worse}
 use Rattle.proof_tree.specs.InPlace.{steps_in_place}
 use Rattle.proof_tree.specs.Order.{settles}
 use Rattle.proof_tree.specs.Place.{Tracked, tracked_variable, list_after}
-use Rattle.proof_tree.specs.Steps.{after_step, after_steps, best_value, step_marks}
+use Rattle.proof_tree.specs.Steps.{after_steps, best_value, step_marks}
 use Rattle.qc_joins.specs.Joins.{StandsAt}
-use Rattle.qc_joins.specs.Sizes.{HasSizes}
-use Rattle.qc_joins.specs.Verdicts.{wishes_at, settled_at}
 use Rattle.qc_joins.specs.declared.joins.Joins.{Joins}
 use Rattle.prop_engine.specs.declared.answer.Closed.{Closed}
 use Rattle.search_box.specs.Bounds.{IsBounded, IsUnbounded, BoundAnswers}
@@ -35,11 +31,11 @@ use Rattle.search_box.specs.Closes.{IsPruned}
 use Rattle.search_box.specs.declared.bounding.Bounded.{Bounded}
 use Rattle.search_box.proofs.Goings.{steps_reach}
 use Rattle.game_search.specs.Aims.{tracked_at, IsNoWorse, IsWorse, NoneWorse}
-use Rattle.game_search.specs.Beaten.{firsts, seen_bounds, is_beaten, are_beaten}
+use Rattle.game_search.specs.Beaten.{firsts, seen_bounds}
 use Rattle.game_search.specs.Made.{StepsMade}
 use Rattle.game_search.specs.Narrowed.{NarrowTold}
 use Rattle.game_search.specs.Settled.{is_settled}
-use Rattle.game_search.specs.Told.{IsReady, StepsTold}
+use Rattle.game_search.specs.Told.{IsReady}
 use Rattle.game_search.specs.declared.aim.Worse.{Worse}
 use Rattle.game_search.proofs.Bools.{two, both}
 use Rattle.game_search.proofs.Here.{settled_here}

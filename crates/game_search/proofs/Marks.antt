@@ -1,12 +1,12 @@
 -- Marks of bounds among what was seen.
-use Rattle.std.proofs.Common.{◌≡◌, ◌∙◌, ◌≤◌, ◌+◌, ◌*◌, refl, sym, ap, subst, arith, ℕ, Bool, true, false, ◌&&◌, ◌||◌, List, [], ◌∷◌, ◌++◌, map, ℤ}
+use Rattle.std.proofs.Common.{◌≡◌, ◌∙◌, refl, ap, Bool, List, [], ◌∷◌, ◌++◌, map, ℤ}
 use Rattle.std.proofs.lemmas.List.{append-nil}
 use Rattle.qc_model.specs.declared.problem.Condition.{Condition}
-use Rattle.qc_model.specs.Verdict.{Verdict, lost, exact, at_most, unknown, Seen, seen_barred, seen_skipped, seen_bound, seen_node, some_node, exact_vectors, bounds, first_value}
+use Rattle.qc_model.specs.Verdict.{Verdict, lost, exact, at_most, unknown, Seen, seen_barred, seen_skipped, seen_bound, seen_node, some_node, bounds, first_value}
 use Rattle.proof_tree.specs.Finding.{leaf_bound, seen_of}
 use Rattle.qc_joins.specs.Sizes.{EachHas}
 use Rattle.game_search.specs.Beaten.{firsts, seen_bounds}
-use Rattle.game_search.specs.Settled.{is_settled, is_vague}
+use Rattle.game_search.specs.Settled.{is_vague}
 
 -- the marks of steps, as leaves, are seen so
 pub seen_marks : (ms : List ℤ) → map seen_of (map leaf_bound ms) ≡ seen_bounds ms

@@ -1,5 +1,5 @@
 -- What a node's record, and that of a part of its own tree, follows from: one lemma for each line.
-use Rattle.std.proofs.Common.{◌≡◌, ◌≤◌, Some, inl, ℕ, suc, Bool, true, false, not, ◌&&◌, List, [], ◌∷◌, refl, sym, ap, subst, ◌∙◌, arith, Option, None, ◌++◌, ◌+◌, ◌*◌}
+use Rattle.std.proofs.Common.{◌≡◌, ◌≤◌, Some, inl, ℕ, suc, Bool, true, false, not, ◌&&◌, List, [], ◌∷◌, refl, sym, ap, subst, ◌∙◌, arith, Option, None, ◌++◌, ◌*◌}
 use Rattle.std.specs.Prelude.{◌==◌, nat_le}
 use Rattle.std.proofs.lemmas.Bool.Decides.{nat_tests}
 use Rattle.qc_model.specs.declared.problem.Condition.{Condition}

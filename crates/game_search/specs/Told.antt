@@ -1,5 +1,5 @@
 -- What the calls of the search say: the lines that they wrote, and what the joins stand for afterwards.
-use Rattle.std.specs.Prelude.{◌≡◌, ◌≤◌, ◌<◌, ◌+◌, ◌⊎◌, ℕ, suc, Bool, true, false, None, Option, List, [], ◌++◌, length, drop, ℤ, IsTrue}
+use Rattle.std.specs.Prelude.{◌≡◌, ◌≤◌, ◌<◌, ◌+◌, ◌⊎◌, ℕ, Bool, true, false, None, Option, List, ◌++◌, length, drop, ℤ, IsTrue}
 use Rattle.qc_model.specs.Content.{Game}
 use Rattle.qc_model.specs.Demands.{demands}
 use Rattle.qc_model.specs.Domains.{Values, Box}

@@ -288,7 +288,9 @@ fn gives_up_what_is_worse(rt: HostRuntime) -> Result<(), Fail> {
     ];
     for (sense, count, high, best, lines) in rows {
         let answer = solved(alloc, wished(alloc, sense, count, high)?, 4)?.ok_or("no game")?;
-        assert!(rt; answer.outcome == Outcome::True && answer.optimum == Some(best) && answer.lines == lines);
+        assert!(rt;
+            answer.outcome == Outcome::True && answer.optimum == Some(best) && answer.lines == lines
+        );
     }
     Ok(())
 }

@@ -1,6 +1,6 @@
-use Rattle.std.proofs.Common.{◌≡◌, ◌<◌, ◌≤◌, ◌∙◌, sym, ap, drop, arith, length, add-one}
+use Rattle.std.proofs.Common.{◌∙◌, sym, ap, drop, arith, add-one}
 use Rattle.qc_model.specs.Block.{no_condition_to}
-use Rattle.game_search.proofs.Ruling.{free_stops, free_goes_on, free_ends}
+use Rattle.game_search.proofs.Ruling.{free_stops, free_goes_on}
 use Rattle.game_search.proofs.aim.is_free_to.Goals as goal
 
 pub loop-k-init : goal.loop-k-init

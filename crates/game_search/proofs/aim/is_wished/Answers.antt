@@ -1,4 +1,3 @@
-use Rattle.std.proofs.Common.{◌≡◌, ◌∙◌, sym, ap}
 use Rattle.game_search.proofs.Ruling.{wished_is}
 use Rattle.game_search.proofs.aim.is_wished.Goals as goal
 

@@ -1,4 +1,4 @@
-use Rattle.std.proofs.Common.{◌≡◌, refl, rules, w64, to_z, of_z, pos, ◌+ℤ◌}
+use Rattle.std.proofs.Common.{refl, rules, w64, pos, ◌+ℤ◌}
 use Rattle.std.proofs.lemmas.Int.{to_z-of_z}
 use mir.Val.{SFits}
 use Rattle.game_search.specs.Aims.{IsKeptTo}

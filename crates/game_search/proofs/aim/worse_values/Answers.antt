@@ -1,10 +1,10 @@
-use Rattle.std.proofs.Common.{◌≡◌, ◌∙◌, refl, sym, ap, subst, Option, Some, w64, to_z, of_z, ℤ, rules}
+use Rattle.std.proofs.Common.{◌∙◌, refl, sym, subst, Option, w64, rules}
 use Rattle.std.proofs.lemmas.Int.{to_z-of_z}
 use mir.Val.{SFits}
 use Rattle.qc_joins.specs.Joins.{game_of}
 use Rattle.game_search.specs.Aims.{IsAim, IsAimed, AreRuledOut}
 use Rattle.game_search.specs.declared.aim.Aim.{Aim}
-use Rattle.game_search.proofs.Ruling.{none_reached, worse_so, nothing_worse}
+use Rattle.game_search.proofs.Ruling.{none_reached, worse_so}
 use Rattle.game_search.proofs.aim.worse_values.Goals as goal
 
 pub returns-in_default-incumbent : goal.returns-in_default-incumbent

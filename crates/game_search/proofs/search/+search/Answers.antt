@@ -1,4 +1,4 @@
-use Rattle.std.proofs.Common.{◌≡◌, ◌∙◌, sym, ap, refl, subst, ◌<◌, ◌+◌, ◌-◌, ◌*◌, rules, suc, length, drop, w64, to_z, of_z, arith, true, [], ◌∷◌, ◌++◌}
+use Rattle.std.proofs.Common.{◌≡◌, ◌∙◌, sym, ap, refl, subst, ◌+◌, ◌-◌, ◌*◌, rules, length, drop, w64, to_z, of_z, arith, true, [], ◌∷◌, ◌++◌}
 use Rattle.std.specs.List.{list_all}
 use Rattle.std.proofs.lemmas.Int.{to_z-of_z}
 use Rattle.std.proofs.lemmas.Result.{on_ok_weaker, IfOk-weaker}
@@ -37,7 +37,7 @@ use Rattle.game_search.proofs.Fitting.{number_among, place_fits}
 use Rattle.game_search.proofs.Here.{Passing, asked_here, started, ready_again, case_done, rest_skipped, rest_opened, rest_none, empty_told, barred_told, few_turns, next_told, pruned_told, part_told, branch_told, node_ended, whole_node}
 use Rattle.game_search.proofs.Losing.{ready_after}
 use Rattle.game_search.proofs.Marks.{firsts_marks}
-use Rattle.game_search.proofs.Remains.{goes_next, back_after, back_below, back_more, case_back, longer}
+use Rattle.game_search.proofs.Remains.{back_after, back_below, back_more, case_back, longer}
 use Rattle.game_search.proofs.search.+search.Goals as goal
 
 pub after_tuple-returns-then-not-tuple_allowed-clause-told : goal.after_tuple-returns-then-not-tuple_allowed-clause-told
