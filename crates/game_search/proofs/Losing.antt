@@ -1,6 +1,8 @@
 -- What a case that is taken does to the box: a bound, and closing after it.
-use Rattle.std.proofs.Common.{◌≡◌, ◌∙◌, ◌≤◌, ◌<◌, ◌+◌, ◌*◌, ℕ, zero, suc, refl, sym, ap, subst, arith, Bool, true, false, not, ◌&&◌, ◌||◌, List, [], ◌∷◌, ◌++◌, length, drop, filter, ℤ, Option, None, Some, Result, Ok, Err, OnOk}
-use Rattle.std.specs.Prelude.{unsigned_abs, cond, int_lt, set}
+use Rattle.std.proofs.Common.{◌≡◌, ◌∙◌, ◌≤◌, ◌<◌, ◌+◌, ◌*◌, ℕ, zero, suc, refl, sym, ap, subst, arith, Bool, true, false, not, ◌&&◌, ◌||◌, List, [], ◌∷◌, ◌++◌, length, drop, filter, ℤ, ◌≤ℤ◌, Option, None, Some, Result, Ok, Err, OnOk}
+use Rattle.std.specs.Prelude.{unsigned_abs, cond, int_lt, int_le, set}
+use Rattle.std.specs.Int.{int_max, int_min}
+use Rattle.std.proofs.lemmas.Int.{ints}
 use Rattle.std.specs.declared.alloc.AllocError.{AllocError}
 use Rattle.std.specs.List.{list_all}
 use Rattle.std.specs.Ordering.{int_eq}
@@ -9,10 +11,11 @@ use Rattle.std.proofs.lemmas.List.{append-nil}
 use Rattle.qc_model.specs.declared.problem.Sense.{Sense}
 use Rattle.qc_model.specs.declared.problem.Sense.TheVariants.{Min, Max}
 use Rattle.qc_model.specs.declared.problem.Condition.{Condition}
+use Rattle.qc_model.specs.declared.problem.VarId.{VarId}
 use Rattle.qc_model.specs.declared.problem.Scope.{Scope}
 use Rattle.qc_model.specs.Content.{Game}
 use Rattle.qc_model.specs.Demands.{demands}
-use Rattle.qc_model.specs.Domains.{Box, Values, values_left, values_within, values_outside, is_within, is_none_left, is_sub_box, has_value, is_ascending, least_from, greatest_from}
+use Rattle.qc_model.specs.Domains.{Box, Values, values_left, values_within, values_outside, is_within, is_none_left, is_sub_box, has_value, is_ascending, least_from, greatest_from, greatest_value}
 use Rattle.qc_model.specs.Optimal.{is_better}
 use Rattle.qc_model.specs.Valid.{is_number}
 use Rattle.qc_model.specs.Verdict.{Seen, seen_bound}
@@ -26,11 +29,13 @@ use Rattle.proof_tree.specs.Steps.{after_steps, best_value, step_marks}
 use Rattle.qc_joins.specs.Joins.{StandsAt}
 use Rattle.qc_joins.specs.declared.joins.Joins.{Joins}
 use Rattle.prop_engine.specs.declared.answer.Closed.{Closed}
-use Rattle.search_box.specs.Bounds.{IsBounded, IsUnbounded, BoundAnswers}
+use Rattle.fd_store.specs.Held.{values_from}
+use Rattle.search_box.specs.Rests.{IsFirst, IsLast}
+use Rattle.search_box.specs.Bounds.{tracked_as, IsBounded, IsUnbounded, BoundAnswers}
 use Rattle.search_box.specs.Closes.{IsPruned}
 use Rattle.search_box.specs.declared.bounding.Bounded.{Bounded}
 use Rattle.search_box.proofs.Goings.{steps_reach}
-use Rattle.game_search.specs.Aims.{tracked_at, IsNoWorse, IsWorse, NoneWorse}
+use Rattle.game_search.specs.Aims.{tracked_at, IsNoWorse, IsWorse, IsWorseHere, NoneWorse}
 use Rattle.game_search.specs.Beaten.{firsts, seen_bounds}
 use Rattle.game_search.specs.Made.{StepsMade}
 use Rattle.game_search.specs.Narrowed.{NarrowTold}
@@ -167,12 +172,12 @@ module _ (g : Game) (i : ℕ) (box : Box) (joins : Joins) (before : List Seen) (
       by None e = refl
       by (Some t) e = all_no_worse joins i t.sense before (values_left box t.variable) stands (λ v h. none t e v (one_of is_number (values_left box t.variable) v (numbers t.variable) h))
 
-  module _ (w : Worse) (m : IsWorse g i joins w) where
+  module _ (w : Worse) (m : IsWorseHere g i joins box w) where
     -- nothing, since no worse value is left
     pub none_lost : (left : Box) (steps : List Step) → IsUnbounded w.variable w.lo w.hi box left [] steps → NarrowTold g i box left before joins steps
     none_lost left steps u =
         let vs = values_left box w.variable.0 in
-        let each = all_no_worse joins i w.sense before vs stands (λ v h. m.stays v (one_of is_number vs v (numbers w.variable.0) h) (not_within w.lo w.hi vs v u.none h)) in
+        let each = all_no_worse joins i w.sense before vs stands (λ v h. m.stays v h (one_of is_number vs v (numbers w.variable.0) h) (not_within w.lo w.hi vs v u.none h)) in
         let worse : has_no_worse (tracked_at g i) (firsts before) box ≡ true = ap (λ (t : Option Tracked). has_no_worse t (firsts before) box) m.tracked ∙ each in
         record {
           ms = [];
@@ -210,7 +215,7 @@ module _ (g : Game) (i : ℕ) (box : Box) (joins : Joins) (before : List Seen) (
         let reached : left ≡ after_steps steps box = u.reached ∙ ap (λ ss. after_steps ss box) (sym one) in
         let kept : values_left left w.variable.0 ≡ values_outside w.lo w.hi vs = ap (λ (d : Box). values_left d w.variable.0) u.reached ∙ read_set box w.variable.0 (values_outside w.lo w.hi vs) inside in
         let each = all_no_worse joins i w.sense before (values_left left w.variable.0) stands
-        (λ v h. let o = outside_is w.lo w.hi vs v (subst (λ us. has_value us v ≡ true) kept h) in m.stays v (one_of is_number vs v (numbers w.variable.0) o.1) o.0) in
+        (λ v h. let o = outside_is w.lo w.hi vs v (subst (λ us. has_value us v ≡ true) kept h) in m.stays v o.1 (one_of is_number vs v (numbers w.variable.0) o.1) o.0) in
         record {
           ms = b.best ∷ [];
           stepped = record {
@@ -269,8 +274,116 @@ ready_after g i box left_box first joins left before steps n r = record {
     none : is_settled later list (seen_bounds n.ms) ≡ false
     none = ap (is_settled later list) (sym (append-nil (seen_bounds n.ms))) ∙ some_marks (settles later list) n.ms []
 
+-- ---- the ends of what is left
+from_there : (v : ℤ) (vs : Values) (x : ℤ) → has_value (values_from v vs) x ≡ true → v ≤ℤ x
+from_there v [] x h = cc
+from_there v (u ∷ vs) x h = by (int_le v u) refl (int_eq x u) refl h (from_there v vs x)
+  where
+    by : (b : Bool) → int_le v u ≡ b → (c : Bool) → int_eq x u ≡ c → has_value (cond b (u ∷ values_from v vs) (values_from v vs)) x ≡ true → (has_value (values_from v vs) x ≡ true → v ≤ℤ x) → v ≤ℤ x
+    by true p true q h rest = let e = (Decides-int_eq x u).0 q in omega (arith, ints, p, e)
+    by true p false q h rest = rest (sym (ap (λ b. b || has_value (values_from v vs) x) q) ∙ h)
+    by false p c q h rest = rest h
+
+pub first_least : (vs : Values) (v x : ℤ) → IsFirst vs v → has_value vs x ≡ true → v ≤ℤ x
+first_least vs v x f h = from_there v vs x (ap (λ us. has_value us x) f.all ∙ h)
+
+most_from : (n : ℤ) (vs : Values) → (n ≤ℤ greatest_from n vs) × ((x : ℤ) → has_value vs x ≡ true → x ≤ℤ greatest_from n vs)
+most_from n [] = (omega (arith, ints), λ x h. cc)
+most_from n (u ∷ vs) = by (int_lt n u) refl (most_from u vs) (most_from n vs)
+  where
+    by : (b : Bool) → int_lt n u ≡ b → (u ≤ℤ greatest_from u vs) × ((x : ℤ) → has_value vs x ≡ true → x ≤ℤ greatest_from u vs) → (n ≤ℤ greatest_from n vs) × ((x : ℤ) → has_value vs x ≡ true → x ≤ℤ greatest_from n vs) →
+        (n ≤ℤ greatest_from (cond b u n) vs) × ((x : ℤ) → has_value (u ∷ vs) x ≡ true → x ≤ℤ greatest_from (cond b u n) vs)
+    by true p f g = (let m = f.0 in omega (arith, ints, p, m), λ x h. either x (int_eq x u) refl (greatest_from u vs) h f.0 (f.1 x))
+      where
+        either : (x : ℤ) (c : Bool) → int_eq x u ≡ c → (top : ℤ) → (c || has_value vs x) ≡ true → u ≤ℤ top → (has_value vs x ≡ true → x ≤ℤ top) → x ≤ℤ top
+        either x true q top h m rest = let e = (Decides-int_eq x u).0 q in omega (arith, ints, e, m)
+        either x false q top h m rest = rest h
+    by false p f g = (g.0, λ x h. either x (int_eq x u) refl (greatest_from n vs) h g.0 (g.1 x))
+      where
+        either : (x : ℤ) (c : Bool) → int_eq x u ≡ c → (top : ℤ) → (c || has_value vs x) ≡ true → n ≤ℤ top → (has_value vs x ≡ true → x ≤ℤ top) → x ≤ℤ top
+        either x true q top h m rest = let e = (Decides-int_eq x u).0 q in omega (arith, ints, e, m, p)
+        either x false q top h m rest = rest h
+
+greatest_most : (vs : Values) (x : ℤ) → has_value vs x ≡ true → x ≤ℤ greatest_value vs
+greatest_most [] x h = cc
+greatest_most (w ∷ vs) x h = by (int_eq x w) refl h (most_from w vs)
+  where
+    by : (c : Bool) → int_eq x w ≡ c → (c || has_value vs x) ≡ true → (w ≤ℤ greatest_from w vs) × ((y : ℤ) → has_value vs y ≡ true → y ≤ℤ greatest_from w vs) → x ≤ℤ greatest_from w vs
+    by true q h m = let e = (Decides-int_eq x w).0 q in let f = m.0 in omega (arith, ints, e, f)
+    by false q h m = m.1 x h
+
+from_itself : (vs : Values) (x : ℤ) → has_value vs x ≡ true → has_value (values_from x vs) x ≡ true
+from_itself [] x h = cc
+from_itself (u ∷ vs) x h = by (int_le x u) refl (int_eq x u) refl h (from_itself vs x)
+  where
+    by : (b : Bool) → int_le x u ≡ b → (c : Bool) → int_eq x u ≡ c → (c || has_value vs x) ≡ true → (has_value vs x ≡ true → has_value (values_from x vs) x ≡ true) → has_value (cond b (u ∷ values_from x vs) (values_from x vs)) x ≡ true
+    by true p true q h rest = ap (λ b. b || has_value (values_from x vs) x) q
+    by true p false q h rest = ap (λ b. b || has_value (values_from x vs) x) q ∙ rest h
+    by false p true q h rest = let e = (Decides-int_eq x u).0 q in absurd (omega (arith, ints, p, e))
+    by false p false q h rest = rest h
+
+pub last_most : (vs : Values) (u x : ℤ) → IsLast vs u → has_value vs x ≡ true → x ≤ℤ u
+last_most vs u x l h = subst (λ n. x ≤ℤ n) (l.last x h) (greatest_most (values_from x vs) x (from_itself vs x h))
+
+above_max : (x y v : ℤ) → int_le (int_max x y) v ≡ true → int_le x v ≡ true
+above_max x y v h = by (int_lt y x) refl h
+  where
+    by : (b : Bool) → int_lt y x ≡ b → int_le (cond b x y) v ≡ true → int_le x v ≡ true
+    by true p h = h
+    by false p h = grind (arith, ints)
+
+below_min : (x y v : ℤ) → int_le v (int_min x y) ≡ true → int_le v x ≡ true
+below_min x y v h = by (int_lt y x) refl h
+  where
+    by : (b : Bool) → int_lt y x ≡ b → int_le v (cond b y x) ≡ true → int_le v x ≡ true
+    by true p h = grind (arith, ints)
+    by false p h = h
+
+at_max : (x y v : ℤ) → y ≤ℤ v → int_le x v ≡ true → int_le (int_max x y) v ≡ true
+at_max x y v l h = by (int_lt y x)
+  where
+    by : (b : Bool) → int_le (cond b x y) v ≡ true
+    by true = h
+    by false = grind (arith, ints)
+
+at_min : (x y v : ℤ) → v ≤ℤ y → int_le v x ≡ true → int_le v (int_min x y) ≡ true
+at_min x y v l h = by (int_lt y x)
+  where
+    by : (b : Bool) → int_le v (cond b y x) ≡ true
+    by true = grind (arith, ints)
+    by false = h
+
+one_number : (b : Bool) (x y : ℤ) → is_number x ≡ true → is_number y ≡ true → is_number (cond b x y) ≡ true
+one_number true x y h k = h
+one_number false x y h k = k
+
+-- the values that are ruled out, between the ends of what is left
+pub worse_here : (g : Game) (i : ℕ) (joins : Joins) (box : Box) (w r : Worse) (first last : ℤ) → IsWorse g i joins w → IsFirst (values_left box w.variable.0) first → IsLast (values_left box w.variable.0) last → is_number first ≡ true → is_number last ≡ true →
+    r.sense ≡ w.sense → r.variable ≡ w.variable → r.lo ≡ int_max w.lo first → r.hi ≡ int_min w.hi last → IsWorseHere g i joins box r
+worse_here g i joins box w r first last m f l nf nl s x lo hi = record {
+  tracked = m.tracked ∙ (ap (λ (z : Sense). Some (tracked_as z w.variable)) (sym s) ∙ ap (λ (y : VarId). Some (tracked_as r.sense y)) (sym x));
+  exists = subst (λ (y : VarId). y.0 < length g.variables) (sym x) m.exists;
+  lo = ap is_number lo ∙ one_number (int_lt first w.lo) w.lo first m.lo nf;
+  hi = ap is_number hi ∙ one_number (int_lt last w.hi) last w.hi nl m.hi;
+  goes = λ v before n inside. let q = both (int_le r.lo v) (int_le v r.hi) inside in
+      m.goes v before n (two (int_le w.lo v) (int_le v w.hi) (above_max w.lo first v (sym (ap (λ k. int_le k v) lo) ∙ q.0)) (below_min w.hi last v (sym (ap (int_le v) hi) ∙ q.1)));
+  stays = λ v h n outside.
+      let here = subst (λ (y : VarId). has_value (values_left box y.0) v ≡ true) x h in
+      subst (λ (z : Sense). IsNoWorse joins i z v) (sym s) (m.stays v n (outside_too v (first_least (values_left box w.variable.0) first v f here) (last_most (values_left box w.variable.0) last v l here) outside));
+}
+  where
+    outside_too : (v : ℤ) → first ≤ℤ v → v ≤ℤ last → is_within r.lo r.hi v ≡ false → is_within w.lo w.hi v ≡ false
+    outside_too v a b out = by (is_within w.lo w.hi v) refl
+      where
+        by : (c : Bool) → is_within w.lo w.hi v ≡ c → is_within w.lo w.hi v ≡ false
+        by false e = e
+        by true e =
+            let q = both (int_le w.lo v) (int_le v w.hi) e in
+            let inside = two (int_le r.lo v) (int_le v r.hi) (ap (λ k. int_le k v) lo ∙ at_max w.lo first v a q.0) (ap (int_le v) hi ∙ at_min w.hi last v b q.1) in
+            let f : true ≡ false = sym inside ∙ out in absurd cc
+
 -- ---- what bounding answers
-module _ (g : Game) (i : ℕ) (box left : Box) (joins : Joins) (before : List Seen) (numbers : (x : ℕ) → list_all is_number (values_left box x) ≡ true) (stands : StandsAt joins i before) (w : Worse) (m : IsWorse g i joins w) (low high : ℤ) (l : low ≡ w.lo) (h : high ≡ w.hi) (old new : List Step) (o : old ≡ []) where
+module _ (g : Game) (i : ℕ) (box left : Box) (joins : Joins) (before : List Seen) (numbers : (x : ℕ) → list_all is_number (values_left box x) ≡ true) (stands : StandsAt joins i before) (w : Worse) (m : IsWorseHere g i joins box w) (low high : ℤ) (l : low ≡ w.lo) (h : high ≡ w.hi) (old new : List Step) (o : old ≡ []) where
   at_ends : (r : Option Bounded) → BoundAnswers w.sense w.variable low high box left old new r → BoundAnswers w.sense w.variable w.lo w.hi box left [] new r
   at_ends r a =
       subst (λ (ss : List Step). BoundAnswers w.sense w.variable w.lo w.hi box left ss new r) o

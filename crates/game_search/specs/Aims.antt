@@ -5,7 +5,7 @@ use Rattle.qc_model.specs.declared.problem.Sense.{Sense}
 use Rattle.qc_model.specs.declared.problem.Condition.{Condition}
 use Rattle.qc_model.specs.Content.{Game}
 use Rattle.qc_model.specs.Demands.{demands}
-use Rattle.qc_model.specs.Domains.{is_within}
+use Rattle.qc_model.specs.Domains.{Box, is_within, has_value, values_left}
 use Rattle.qc_model.specs.ExistsVerdict.{beats}
 use Rattle.qc_model.specs.Optimal.{is_better}
 use Rattle.qc_model.specs.Valid.{is_number}
@@ -78,6 +78,15 @@ pub record IsWorse (g : Game) (i : ℕ) (joins : Joins) (w : Worse) : Type 0 whe
   pub hi : IsTrue (is_number w.hi)
   pub goes : (v : ℤ) (before : List Seen) → IsTrue (is_number v) → IsTrue (is_within w.lo w.hi v) → StandsAt joins i before → IsTrue (is_beaten (wishes_at g i) (firsts before) v)
   pub stays : (v : ℤ) → IsTrue (is_number v) → IsFalse (is_within w.lo w.hi v) → IsNoWorse joins i w.sense v
+
+-- so among the values left in this box
+pub record IsWorseHere (g : Game) (i : ℕ) (joins : Joins) (box : Box) (w : Worse) : Type 0 where
+  pub tracked : tracked_at g i ≡ Some (tracked_as w.sense w.variable)
+  pub exists : w.variable.0 < length g.variables
+  pub lo : IsTrue (is_number w.lo)
+  pub hi : IsTrue (is_number w.hi)
+  pub goes : (v : ℤ) (before : List Seen) → IsTrue (is_number v) → IsTrue (is_within w.lo w.hi v) → StandsAt joins i before → IsTrue (is_beaten (wishes_at g i) (firsts before) v)
+  pub stays : (v : ℤ) → IsTrue (has_value (values_left box w.variable.0) v) → IsTrue (is_number v) → IsFalse (is_within w.lo w.hi v) → IsNoWorse joins i w.sense v
 
 -- no number is worse than the incumbent's, or nothing is optimised
 abbrev pub NoneWorse : Game → ℕ → Joins → Type 0

@@ -3,6 +3,7 @@
 //! Where the list after a scope of the player begins with a variable that no later owner decides first, values of it that
 //! are worse than the best so far needn't be looked at: the incumbent beats whatever comes of them.
 ghost use Rattle.std.specs.Prelude.{◌≡◌, ◌<◌, ◌∷◌, ◌||◌, suc, not, nat_lt, is_none, length, drop, List};
+ghost use Rattle.std.specs.Int.{int_max, int_min};
 ghost use Rattle.qc_model.specs.declared.problem.Scope.{Scope};
 ghost use Rattle.qc_model.specs.declared.problem.Sense.TheVariants.{Min, Max};
 ghost use Rattle.qc_model.specs.Block.{no_condition_to};
@@ -146,4 +147,19 @@ pub(crate) fn worse_values(aim: Option<Aim>, joins: &Joins, i: ScopeId) -> Optio
         return None;
     };
     worse_than(aim, best)
+}
+
+/// Those of the values from the first to the last.
+pub(crate) fn between(worse: Worse, first: i64, last: i64) -> Worse
+    ensures sense { result.sense ≡ worse.sense }
+    ensures variable { result.variable ≡ worse.variable }
+    ensures lo { result.lo ≡ int_max worse.lo first }
+    ensures hi { result.hi ≡ int_min worse.hi last }
+{
+    Worse {
+        sense: worse.sense,
+        variable: worse.variable,
+        lo: worse.lo.max(first),
+        hi: worse.hi.min(last),
+    }
 }

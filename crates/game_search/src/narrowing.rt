@@ -9,7 +9,7 @@ ghost use Rattle.search_box.specs.Entered.{IsEntered};
 ghost use Rattle.game_search.specs.Going.{IsGoing, GoesOn};
 ghost use Rattle.game_search.specs.Narrowed.{NarrowTold, IsGivenUp};
 
-use crate::aim::worse_values;
+use crate::aim::{between, worse_values};
 use crate::stage::Stage;
 use crate::walk::Walk;
 use proof_tree::StepList;
@@ -47,6 +47,8 @@ fn give_up(stage: &Stage, steps: &mut StepList, walk: &mut Walk) -> Result<Given
     let Some(worse) = worse_values(stage.aim, &walk.joins, number) else {
         return Ok(GivenUp::Nothing);
     };
+    let x = worse.variable;
+    let worse = between(worse, walk.remains.first(x), walk.remains.last(x));
     let bound = walk
         .remains
         .bound(worse.sense, worse.variable, worse.lo, worse.hi, steps)?;
