@@ -5,8 +5,8 @@
 
 Run it at the top of a checkout, after ./qecode has built the program. Nothing here is part of the gate.
 
-The runs are `solve` of examples/tolls.qc, `check` of what that writes, and `print` of a small text. Where an allocation is
-refused, the program has to end with status 9 and nothing written, or as it does when none is. An allocation is a call of
+The runs are `solve` of examples/tolls.qc, `check` of what that writes, `print` of a small text, and `generate 0`. Where an
+allocation is refused, the program has to end with status 9 and nothing written, or as it does when none is. An allocation is a call of
 malloc or realloc. The first 300 are refused in turn, the last 20 too, and about 300 between them.
 
 How it is run: the program takes its memory from the C library, so bench/refuse.c, which is compiled by cc, is loaded
@@ -85,7 +85,7 @@ def tried(options, built, words):
             wrong += 1
             tell_wrong(words, number, answer)
     told = f"{len(numbers)} of {count} allocations refused: {refused} times status {REFUSED} and nothing written"
-    print(f"{words[0]:6} {told}, {len(numbers) - refused - wrong} times the usual answer, {wrong} wrong", flush=True)
+    print(f"{words[0]:8} {told}, {len(numbers) - refused - wrong} times the usual answer, {wrong} wrong", flush=True)
     return usual[1], wrong
 
 
@@ -95,7 +95,7 @@ def try_built(options, folder):
     built = Built(options.program, folder, options.on)
     solved, wrong = tried(options, built, ["solve", TOLLS])
     write(certificate, solved)
-    for words in ["check", TOLLS, certificate], ["print", small]:
+    for words in ["check", TOLLS, certificate], ["print", small], ["generate", "0"]:
         wrong += tried(options, built, words)[1]
     return wrong
 

@@ -137,6 +137,6 @@ bad_read r m h n bytes b k read e says more =
     subst (λ a. IsNotACertificate a (bytes ++ b ∷ [] ++ more)) here (bad_stays now.at (bytes ++ b ∷ []) more (last_lt bytes b now.at (now.here k.begins)) now.is)
 
 -- bytes after a fault
-pub still_stopped : (s : Stop) (n : ℕ) (bytes : List ℕ) (b : ℕ) → IsStopped s n bytes → IsStopped s n (bytes ++ b ∷ [])
-still_stopped BadStop n bytes b h = λ more. subst (IsNotACertificate n) (sym (append_assoc bytes (b ∷ []) more)) (h (b ∷ more))
-still_stopped DeepStop n bytes b h = λ more. subst (IsTooDeep n) (sym (append_assoc bytes (b ∷ []) more)) (h (b ∷ more))
+pub still_stopped : (s : Stop) (n : ℕ) (bytes next : List ℕ) → IsStopped s n bytes → IsStopped s n (bytes ++ next)
+still_stopped BadStop n bytes next h = λ more. subst (IsNotACertificate n) (sym (append_assoc bytes next more)) (h (next ++ more))
+still_stopped DeepStop n bytes next h = λ more. subst (IsTooDeep n) (sym (append_assoc bytes next more)) (h (next ++ more))

@@ -88,8 +88,8 @@ impl<'p> Checker<'p> {
         }
     }
 
-    /// Reads the next bytes, up to 2^32 in all. After a fault they are passed over.
-    pub fn feed(&mut self, bytes: &[u8])
+    // Reads the next bytes one by one.
+    fn read_each(&mut self, bytes: &[u8])
         requires ready { IsReady self.old.machine }
         requires room { self.old.read + length bytes.now ≤ 2 ^ 32 }
         ensures ready { IsReady self.new.machine }
@@ -99,6 +99,21 @@ impl<'p> Checker<'p> {
     {
         for byte in bytes {
             self.byte(*byte);
+        }
+    }
+
+    /// Reads the next bytes, up to 2^32 in all. After a fault they are passed over.
+    pub fn feed(&mut self, bytes: &[u8])
+        requires ready { IsReady self.old.machine }
+        requires room { self.old.read + length bytes.now ≤ 2 ^ 32 }
+        ensures ready { IsReady self.new.machine }
+        ensures same { game_of self.new.machine ≡ game_of self.old.machine }
+        ensures read { self.new.read ≤ self.old.read + length bytes.now }
+        ensures checking { (before : List ℕ) → IsChecking self.old before → IsChecking self.new (before ++ bytes.now) }
+    {
+        match self.stop {
+            Some(_) => {}
+            None => self.read_each(bytes),
         }
     }
 

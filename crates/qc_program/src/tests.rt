@@ -1,6 +1,7 @@
 //! Worked runs over a shelf and a sink in memory.
 mod examples;
 mod formulas;
+mod hostile;
 mod made;
 mod optima;
 mod refusals;
@@ -57,25 +58,25 @@ fn goals_and_single_moves_are_answered(rt: HostRuntime) -> Result<(), Fail> {
 // The outcomes are those of the games, gone through by hand: the opponent picks y at most x; the opponent
 // has no move; the player has none; no scope can be passed; the player has to meet a y that comes later, and
 // one that came before; a divisor is zero; a quotient and a remainder are truncated towards zero; a game of three
-// truth values.
+// truth values; a truth value told by a comparison. Where a scope can't be passed, that is said at once.
 #[test]
 fn games_are_answered(rt: HostRuntime) -> Result<(), Fail> {
-    let rows: [(&[u8], &[u8]); 9] = [
+    let rows: [(&[u8], &[u8]); 10] = [
         (
             b"exists; var 1..3: x; constraint int_ne(x,2); forall; var 1..2: y; constraint int_le(y,x); goal; constraint int_lin_le([1,1],[x,y],3); solve;",
             b"qcert 2\ntrue\n",
         ),
         (
             b"exists; var 0..1: x; forall; var 0..1: y; constraint int_lt(y,0); goal; constraint int_eq(x,2); solve;",
-            b"qcert 2\ntrue\n",
+            b"qcert 2\ntrue\nh 2\n",
         ),
         (
             b"exists; var 0..1: x; constraint int_lt(1,x); goal; solve;",
-            b"qcert 2\nfalse\n",
+            b"qcert 2\nfalse\nh 1\n",
         ),
         (
             b"exists; var 0..1: x; forall; var 0..1: y; exists; var 0..1: z; constraint int_lt(z,0); goal; solve;",
-            b"qcert 2\nfalse\n",
+            b"qcert 2\nfalse\nh 3\n",
         ),
         (
             b"exists; var 0..1: x; forall; var 0..1: y; goal; constraint int_eq(x,y); solve;",
@@ -95,6 +96,10 @@ fn games_are_answered(rt: HostRuntime) -> Result<(), Fail> {
         ),
         (
             b"forall; var bool: a; var bool: b; exists; var bool: c; goal; constraint bool_xor(a,b,c); solve;",
+            b"qcert 2\ntrue\n",
+        ),
+        (
+            b"exists; var bool: b; var 0..3: x; constraint int_le_reif(x,1,b); goal; constraint bool_clause([],[b]); constraint int_le(x,2); solve;",
             b"qcert 2\ntrue\n",
         ),
     ];
@@ -296,11 +301,11 @@ const UNLIKE: &[u8] =
     b"exists; var 0..1: x; forall; var 0..1: y; goal; constraint int_eq(x,y); solve;";
 
 // A counterstrategy; the same against the player who moves last; a case skipped at the opponent's turn; a case missing; a
-// tuple barred that is allowed.
+// tuple barred that is allowed; two halves of a domain, each refuted.
 #[test]
 fn certificates_are_judged(rt: HostRuntime) -> Result<(), Fail> {
     let counter: &[u8] = b"qcert 1\nfalse\nv 1\nn\nv 2\ns\nn\ng\n.\nn\nv 2\nn\ng\ns\n.\n.\n";
-    let rows: [(&[u8], &[u8], Status, &[u8]); 5] = [
+    let rows: [(&[u8], &[u8], Status, &[u8]); 6] = [
         (UNLIKE, counter, Status::Done, b"yes false\n"),
         (
             b"forall; var 0..1: y; exists; var 0..1: x; goal; constraint int_eq(x,y); solve;",
@@ -326,6 +331,12 @@ fn certificates_are_judged(rt: HostRuntime) -> Result<(), Fail> {
             Status::NotProved,
             b"no\n",
         ),
+        (
+            b"exists; var 0..9: x; constraint int_lt(9,x); goal; solve;",
+            b"qcert 2\nfalse\nv 1\nr 4\np 1 0 4 1\ne\nr 9\np 1 5 9 1\ne\n.\n",
+            Status::Done,
+            b"yes false\n",
+        ),
     ];
     for (problem, certificate, status, written) in rows {
         let (answer, sink) = judged(rt.alloc(), problem, certificate)?;
@@ -334,6 +345,11 @@ fn certificates_are_judged(rt: HostRuntime) -> Result<(), Fail> {
     }
     Ok(())
 }
+
+const ALONE: &[u8] = b"exists minimize x; var 0..2: x; goal; solve;";
+
+// A bound leaves the least value.
+const BOUNDED: &[u8] = b"qcert 1\ntrue 0\nb 1 1 2\nn\ng\n";
 
 // What a check of a certificate against a problem answers and writes.
 fn judged(

@@ -228,10 +228,12 @@ fn examples_are_answered(rt: HostRuntime) -> Result<(), Fail> {
         assert_eq!(rt; status, Status::Done);
         assert!(rt; sink.bytes().starts_with(front));
         shelf.add("c", sink.bytes())?;
-        let mut answer = MemorySink::new(alloc, 65_536, 65_536)?;
-        let status = run(alloc, &["check", "p", "c"], &mut shelf, &mut answer);
-        assert_eq!(rt; status, Status::Done);
-        assert!(rt; answer.bytes() == yes);
+        for _ in 0..2 {
+            let mut answer = MemorySink::new(alloc, 65_536, 65_536)?;
+            let status = run(alloc, &["check", "p", "c"], &mut shelf, &mut answer);
+            assert_eq!(rt; status, Status::Done);
+            assert!(rt; answer.bytes() == yes);
+        }
     }
     Ok(())
 }

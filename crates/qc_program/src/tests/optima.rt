@@ -1,31 +1,18 @@
 //! Games in which something is optimised: their best values, and what certificates say of them.
+use super::{ALONE, BOUNDED, judged};
 use crate::run::run;
 use crate::status::Status;
 use qc_io::{MemoryShelf, MemorySink};
-use std::alloc::{AllocError, Global};
 use std::test::Fail;
-
-// What `check` answers and writes for a problem and a certificate.
-fn checked(
-    alloc: Global,
-    problem: &[u8],
-    certificate: &[u8],
-) -> Result<(Status, MemorySink), AllocError> {
-    let mut shelf = MemoryShelf::new(alloc);
-    shelf.add("p", problem)?;
-    shelf.add("c", certificate)?;
-    let mut sink = MemorySink::new(alloc, 65_536, 65_536)?;
-    let status = run(alloc, &["check", "p", "c"], &mut shelf, &mut sink);
-    Ok((status, sink))
-}
 
 const FOLLOWER: &[u8] =
     b"exists minimize c; var 0..1: x; exists minimize d; var 0..1: y; var 0..9: c; var 0..0: d;
 constraint int_lin_eq([4,1,-1],[y,x,c],0); goal; solve;";
 
-// The answers were found by hand: an indifferent follower leaves the choice to the leader, one with a wish of its own
+// The answers were found by hand: the least value, and a bound for the others; an indifferent follower leaves the choice to the leader, one with a wish of its own
 // doesn't; sums over three branches are 6, 3 and 1; no branch counts 7; a sum comes before a greatest value.
-const GAMES: [(&[u8], &[u8], &[u8]); 5] = [
+const GAMES: [(&[u8], &[u8], &[u8]); 6] = [
+    (ALONE, b"qcert 2\ntrue 0\nv 1\nn\ng\nb 1", b"yes true 0\n"),
     (FOLLOWER, b"qcert 2\ntrue 0\n", b"yes true 0\n"),
     (
         b"exists minimize c; var 0..1: x; exists maximize y; var 0..1: y; var 0..9: c; var 0..0: d;
@@ -64,14 +51,12 @@ fn best_values_are_found(rt: HostRuntime) -> Result<(), Fail> {
         let status = run(alloc, &["solve", "p"], &mut shelf, &mut sink);
         assert_eq!(rt; status, Status::Done, "at {text:?}");
         assert!(rt; sink.bytes().starts_with(front), "at {text:?}");
-        let (status, answer) = checked(alloc, text, sink.bytes())?;
+        let (status, answer) = judged(alloc, text, sink.bytes())?;
         assert_eq!(rt; status, Status::Done, "at {text:?}");
         assert!(rt; answer.bytes() == yes, "at {text:?}");
     }
     Ok(())
 }
-
-const ALONE: &[u8] = b"exists minimize x; var 0..2: x; goal; solve;";
 
 const LEADER: &[u8] =
     b"exists minimize c; var 0..0: x; exists maximize c; var 0..9: c; goal; solve;";
@@ -110,16 +95,11 @@ s
 ";
 
 // A bound that keeps the best, and one that removes it; a leader may not bound what a follower with a wish chooses; a
-// cut at the greatest, and the same at a sum; a wrong optimum, and none where one is owed.
+// cut at the greatest, and the same at a sum; a wrong optimum, and none where one is owed; the rest skipped unseen.
 #[test]
 fn optima_are_judged(rt: HostRuntime) -> Result<(), Fail> {
-    let rows: [(&[u8], &[u8], Status, &[u8]); 8] = [
-        (
-            ALONE,
-            b"qcert 1\ntrue 0\nb 1 1 2\nn\ng\n",
-            Status::Done,
-            b"yes true 0\n",
-        ),
+    let rows: [(&[u8], &[u8], Status, &[u8]); 9] = [
+        (ALONE, BOUNDED, Status::Done, b"yes true 0\n"),
         (
             ALONE,
             b"qcert 1\ntrue 1\nb 1 0 0\nb 1 2 2\nn\ng\n",
@@ -152,9 +132,15 @@ fn optima_are_judged(rt: HostRuntime) -> Result<(), Fail> {
             Status::NotProved,
             b"no\n",
         ),
+        (
+            b"exists minimize x; var 0..9: x; goal; solve;",
+            b"qcert 2\ntrue 0\nv 1\nn\ng\nr 9\ns\n.\n",
+            Status::NotProved,
+            b"no\n",
+        ),
     ];
     for (text, certificate, status, written) in rows {
-        let (answer, sink) = checked(rt.alloc(), text, certificate)?;
+        let (answer, sink) = judged(rt.alloc(), text, certificate)?;
         assert_eq!(rt; answer, status, "at {certificate:?}");
         assert!(rt; sink.bytes() == written, "at {certificate:?}");
     }

@@ -116,11 +116,11 @@ fn limits_are_kept(rt: HostRuntime) -> Result<(), Fail> {
     let rows: [(&str, &str, usize, &str, usize); 6] = [
         ("", "forall; ", 64, "goal; solve;", 512),
         (
-            "goal;",
-            "constraint array_bool_xor([]);",
+            "goal; ",
+            "constraint int_le(0,0); ",
             20_000,
             "solve;",
-            600_005,
+            480_006,
         ),
         (
             "goal;constraint all_different_int([",

@@ -1,7 +1,7 @@
 use Rattle.std.proofs.Common.{◌≡◌, ◌≤◌, ◌+◌, ℕ, List, ◌++◌, take}
 use Rattle.line_check.specs.Machine.{game_of, IsReady}
 use Rattle.qc_check.specs.Checking.{IsChecking}
-use Rattle.qc_check.proofs.progress.Checker.feed.Given as goal
+use Rattle.qc_check.proofs.progress.Checker.read_each.Given as goal
 
 -- the checker was given the bytes so far
 abbrev pub invariant-loop-byte : goal.invariant-loop-byte
