@@ -55,13 +55,14 @@ fn goals_and_single_moves_are_answered(rt: HostRuntime) -> Result<(), Fail> {
     Ok(())
 }
 
-// The outcomes are those of the games, gone through by hand: the opponent picks y at most x; the opponent
+// The outcomes are those of the games, gone through by hand: a y that is at most x; the opponent picks y at most x; the opponent
 // has no move; the player has none; no scope can be passed; the player has to meet a y that comes later, and
 // one that came before; a divisor is zero; a quotient and a remainder are truncated towards zero; a game of three
 // truth values; a truth value told by a comparison. Where a scope can't be passed, that is said at once.
 #[test]
 fn games_are_answered(rt: HostRuntime) -> Result<(), Fail> {
-    let rows: [(&[u8], &[u8]); 10] = [
+    let rows: [(&[u8], &[u8]); 11] = [
+        (GAME, b"qcert 2\ntrue\n"),
         (
             b"exists; var 1..3: x; constraint int_ne(x,2); forall; var 1..2: y; constraint int_le(y,x); goal; constraint int_lin_le([1,1],[x,y],3); solve;",
             b"qcert 2\ntrue\n",
@@ -141,7 +142,7 @@ fn budgets_are_kept(rt: HostRuntime) -> Result<(), Fail> {
 
 #[test]
 fn problems_are_printed(rt: HostRuntime) -> Result<(), Fail> {
-    let rows: [(&[u8], &[u8]); 4] = [
+    let rows: [(&[u8], &[u8]); 5] = [
         (
             b"exists;constraint int_le(x,3);var {2,0,1,2}: x; % c\ngoal;solve;",
             b"exists;\nvar 0..2: x;\nconstraint int_le(x,3);\ngoal;\nsolve;\n",
@@ -157,6 +158,10 @@ fn problems_are_printed(rt: HostRuntime) -> Result<(), Fail> {
         (
             b"exists minimize y; exists; var {5}: y; goal; constraint set_in(y,-1000000000..1000000000); solve;",
             b"exists minimize y;\nexists;\nvar 5..5: y;\ngoal;\nconstraint set_in(y,-1000000000..1000000000);\nsolve;\n",
+        ),
+        (
+            b"forall; var 0..1: t; aggregate f = sum(t); aggregate g = sum(t); goal; solve;",
+            b"forall;\nvar 0..1: t;\naggregate f = sum(t);\naggregate g = sum(t);\ngoal;\nsolve;\n",
         ),
     ];
     for (text, written) in rows {
@@ -184,6 +189,7 @@ fn faults_are_answered(rt: HostRuntime) -> Result<(), Fail> {
     assert!(rt; sink.bytes() == b"qcert 2\ntr".as_slice());
     let status = run(alloc, &["solve", "q"], &mut shelf, &mut sink);
     assert_eq!(rt; status, Status::ReadFault);
+    assert!(rt; sink.bytes() == b"qcert 2\ntr".as_slice());
     Ok(())
 }
 
@@ -300,18 +306,24 @@ fn certificates_are_answered(rt: HostRuntime) -> Result<(), Fail> {
 const UNLIKE: &[u8] =
     b"exists; var 0..1: x; forall; var 0..1: y; goal; constraint int_eq(x,y); solve;";
 
-// A counterstrategy; the same against the player who moves last; a case skipped at the opponent's turn; a case missing; a
-// tuple barred that is allowed; two halves of a domain, each refuted.
+// A counterstrategy; the same against the player who moves last, and there with a line too many; a case skipped at the
+// opponent's turn; a case missing; a tuple barred that is allowed; two halves of a domain, each refuted.
 #[test]
 fn certificates_are_judged(rt: HostRuntime) -> Result<(), Fail> {
     let counter: &[u8] = b"qcert 1\nfalse\nv 1\nn\nv 2\ns\nn\ng\n.\nn\nv 2\nn\ng\ns\n.\n.\n";
-    let rows: [(&[u8], &[u8], Status, &[u8]); 6] = [
+    let rows: [(&[u8], &[u8], Status, &[u8]); 7] = [
         (UNLIKE, counter, Status::Done, b"yes false\n"),
         (
             b"forall; var 0..1: y; exists; var 0..1: x; goal; constraint int_eq(x,y); solve;",
             counter,
             Status::NotProved,
             b"no\n",
+        ),
+        (
+            b"forall; var 0..1: y; exists; var 0..1: x; goal; constraint int_eq(x,y); solve;",
+            b"qcert 1\nfalse\nv 1\nn\nv 2\ns\nn\ng\n.\nn\nv 2\nn\ng\ns\n.\n.\ng\n",
+            Status::BadCertificate,
+            b"bad certificate at 48\n",
         ),
         (
             UNLIKE,

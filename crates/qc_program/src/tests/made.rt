@@ -1,5 +1,6 @@
 //! Problems made from a number: their summaries, and a text. The optimum is the sum over the links of the gap times the
 //! demands of the link's customers: 4 * 8 + 6 * 8 + 8 * 4, and 5 * 12 + 1 * 12 + 7 * 8.
+use super::judged;
 use crate::run::run;
 use crate::status::Status;
 use qc_io::{MemoryShelf, MemorySink};
@@ -53,5 +54,20 @@ fn made_problems_are_answered(rt: HostRuntime) -> Result<(), Fail> {
         assert_eq!(rt; answer, Status::Done, "at {words:?}");
         assert!(rt; sink.bytes() == written, "at {words:?}");
     }
+    Ok(())
+}
+
+// The text by itself is solved, and the answer checked.
+#[test]
+fn a_made_text_is_solved(rt: HostRuntime) -> Result<(), Fail> {
+    let alloc = rt.alloc();
+    let mut shelf = MemoryShelf::new(alloc);
+    shelf.add("p", TEXT)?;
+    let mut sink = MemorySink::new(alloc, 65_536, 16_777_216)?;
+    let status = run(alloc, &["solve", "p"], &mut shelf, &mut sink);
+    assert_eq!(rt; status, Status::Done);
+    let (status, answer) = judged(alloc, TEXT, sink.bytes())?;
+    assert_eq!(rt; status, Status::Done);
+    assert!(rt; answer.bytes() == b"yes true 128\n".as_slice());
     Ok(())
 }
