@@ -8,7 +8,7 @@ mod refusals;
 mod table;
 mod worst;
 
-use crate::run::run;
+use crate::run::run as run_over;
 use crate::status::Status;
 use qc_io::{MemoryShelf, MemorySink};
 use std::alloc::{AllocError, Global};
@@ -17,6 +17,16 @@ use std::test::Fail;
 const TRUE: &[u8] = b"qcert 2\ntrue\ng\n";
 
 const FALSE: &[u8] = b"qcert 2\nfalse\ng\n";
+
+// A run over memory. It promises nothing, so that a test isn't shown all that `run` promises.
+fn run(
+    alloc: Global,
+    words: &[&str],
+    shelf: &mut MemoryShelf,
+    sink: &mut MemorySink,
+) -> Status {
+    run_over(alloc, words, shelf, sink)
+}
 
 // What a run of these words over one file `p` answers and writes.
 fn answered(alloc: Global, word: &str, text: &[u8]) -> Result<(Status, MemorySink), AllocError> {

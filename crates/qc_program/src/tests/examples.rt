@@ -1,6 +1,6 @@
 //! The texts of the project's examples, answered as their guide says. They are kept equal to the files
 //! of `examples/` by `examples/check`.
-use crate::run::run;
+use super::run;
 use crate::status::Status;
 use qc_io::{MemoryShelf, MemorySink};
 use std::test::Fail;

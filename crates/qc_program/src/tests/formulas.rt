@@ -1,5 +1,5 @@
 //! Formulas: their answers, the texts of their games, and refusals. The outcomes and places were found by hand.
-use crate::run::run;
+use super::run;
 use crate::status::Status;
 use qc_io::{MemoryShelf, MemorySink};
 use std::alloc::{AllocError, Global};

@@ -1,8 +1,8 @@
 //! Files that end anywhere, or never; bytes that were changed; devices that fail at each of their calls.
 ghost use Rattle.std.specs.Prelude.{◌≡◌, ◌≤◌, length, None};
 
-use super::{ALONE, BOUNDED, TRUE, UNLIKE, answered, judged};
-use crate::run::run;
+use super::{ALONE, BOUNDED, TRUE, UNLIKE, answered, judged, run};
+use crate::run::run as run_over;
 use crate::status::Status;
 use qc_io::{Failed, MemoryShelf, MemorySink, Shelf};
 use std::alloc::Global;
@@ -179,7 +179,7 @@ fn an_endless_certificate_is_refused(rt: HostRuntime) -> Result<(), Fail> {
         given: 0,
     };
     let mut sink = MemorySink::new(alloc, 65_536, 65_536)?;
-    let answer = run(alloc, &["check", "p", "c"], &mut shelf, &mut sink);
+    let answer = run_over(alloc, &["check", "p", "c"], &mut shelf, &mut sink);
     assert_eq!(rt; answer, Status::TooLong);
     assert!(rt; sink.bytes() == b"too long: c\n".as_slice());
     Ok(())

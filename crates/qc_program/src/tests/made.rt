@@ -1,7 +1,6 @@
 //! Problems made from a number: their summaries, and a text. The optimum is the sum over the links of the gap times the
 //! demands of the link's customers: 4 * 8 + 6 * 8 + 8 * 4, and 5 * 12 + 1 * 12 + 7 * 8.
-use super::judged;
-use crate::run::run;
+use super::{judged, run};
 use crate::status::Status;
 use qc_io::{MemoryShelf, MemorySink};
 use std::test::Fail;

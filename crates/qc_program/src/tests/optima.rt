@@ -1,6 +1,5 @@
 //! Games in which something is optimised: their best values, and what certificates say of them.
-use super::{ALONE, BOUNDED, judged};
-use crate::run::run;
+use super::{ALONE, BOUNDED, judged, run};
 use crate::status::Status;
 use qc_io::{MemoryShelf, MemorySink};
 use std::test::Fail;

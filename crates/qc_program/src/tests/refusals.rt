@@ -1,5 +1,5 @@
 //! Texts that are no problems, each with its kind and its place, which were counted by hand.
-use crate::run::run;
+use super::run;
 use crate::status::Status;
 use qc_io::{MemoryShelf, MemorySink};
 use std::alloc::{AllocError, Global};

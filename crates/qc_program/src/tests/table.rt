@@ -1,5 +1,5 @@
 //! The predicates on values, through problem texts that have no scope. The truths were computed by hand.
-use crate::run::run;
+use super::run;
 use crate::status::Status;
 use qc_io::{MemoryShelf, MemorySink};
 use std::test::Fail;

@@ -1,5 +1,5 @@
 //! Problems where chosen owners meet the worst ties. The answers were worked out by hand.
-use crate::run::run;
+use super::run;
 use crate::status::Status;
 use qc_io::{MemoryShelf, MemorySink};
 use std::test::Fail;
