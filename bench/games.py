@@ -337,15 +337,19 @@ class Game:
         later = (self.wins(i + 1, b) for b in self.moves(i, a))
         return any(later) if self.kinds[i] == "exists" else all(later)
 
-    def optimal(self, i=0, a=()):
-        """What the optimal strategies after a give the targets that are seen from scope i on: a set of tuples."""
+    def optimal(self, i=0, a=(), worst=frozenset()):
+        """What the optimal strategies after a give the targets that are seen from scope i on: a set of tuples.
+
+        The owners of the scopes `worst` meet the worst ties of later scopes.
+        """
         if i == self.goal:
             return {()} if self.wins(i, a) else set()
         if self.kinds[i] == "forall":
-            return self.optimal_answers(i, a)
+            return self.optimal_answers(i, a, worst)
         found, best = set(), None
         for b in self.moves(i, a):
-            for later in self.optimal(i + 1, b):
+            laters = self.optimal(i + 1, b, worst)
+            for later in self.worst_ties(i, b, laters) if i in worst else laters:
                 value = self.conditions[i] and self.value(self.conditions[i][1], i, b, later)
                 if self.conditions[i] and (best is None or better(self.conditions[i][0], value, best)):
                     found, best = set(), value
@@ -359,13 +363,20 @@ class Game:
             return b[target.var]
         return later[self.seen[i + 1].index(target)]
 
-    def optimal_answers(self, i, a):
+    def worst_ties(self, i, b, laters):
+        """Of what the later scopes' optimal strategies give, what is the worst by the wish of scope i."""
+        sense, target = self.conditions[i]
+        values = {later: self.value(target, i, b, later) for later in laters}
+        return {later for later in laters if not any(better(sense, values[later], v) for v in values.values())}
+
+    def optimal_answers(self, i, a, worst):
         """One optimal strategy for each branch, whichever; each aggregate folds over the branches."""
         aggregates = [q for q in self.aggregates if q.owner == i]
         folds = [FOLDS[q.fold] for q in aggregates]
         totals = {None}
         for b in self.moves(i, a):
-            branch = {tuple(self.value(q.target, i, b, later) for q in aggregates) for later in self.optimal(i + 1, b)}
+            laters = self.optimal(i + 1, b, worst)
+            branch = {tuple(self.value(q.target, i, b, later) for q in aggregates) for later in laters}
             if not branch:
                 return set()
             totals = {
@@ -374,12 +385,12 @@ class Game:
             }
         return {tuple(q.over_none or 0 for q in aggregates)} if totals == {None} else totals
 
-    def outcome(self):
-        """`true`, `true V` or `false`, as a certificate states it."""
+    def outcome(self, worst=frozenset()):
+        """`true`, `true V` or `false`, as a certificate states it, where the scopes `worst` meet the worst ties."""
         won = self.wins()
         if self.is_plain():
             return "true" if won else "false"
-        values = self.optimal()
+        values = self.optimal(worst=worst)
         assert won == bool(values), "won exactly where some strategy is optimal"
         if not won or not self.conditions[0]:
             return "true" if won else "false"

@@ -3,7 +3,7 @@
 
     python3 bench/player.py --self-test
     python3 bench/player.py --alone [--games N] [--seed S]
-    python3 bench/player.py [--games N] [--seed S] [--program PATH] [--plain] [--turns N] [--stepless] [--jobs J]
+    python3 bench/player.py [--games N] [--seed S] [--program PATH] [--plain] [--turns N] [--worst] [--jobs J]
 
 Run it at the top of a checkout, after ./qecode has built the program. Nothing here is part of the gate.
 
@@ -19,6 +19,9 @@ found; `--alone` looks at that without the program.
 --stepless  the program answers `no` to certificates with steps, horizons or taken ranges, even where they prove
 --diligent  the program propagates, so that its certificates are diligent (promises.py)
 --incumbents  it bounds by what it has found, so that no value is left that is worse
+--worst     looks at `worst` too: one scope of each game, or all, meets the worst ties, by the definition as games.py has
+            it; the certificate has to be believed for the problem that `worst --text` writes, and the gap has to be the
+            two outcomes found
 --jobs J    plays in J processes; the seed and a game's number say what is played, whichever process plays it
 
 A budget that the program doesn't know is counted apart.
@@ -39,7 +42,7 @@ from certificates import BadCertificate, Certificate, Line, NotProved, Proof, Ru
 from games import Game, Var, holds, holds_of, refutes
 from promises import Promises
 from reader import SIGNATURES
-from rows import CHECKED, PROMISED, REFUSED, SOLVED, TURNS
+from rows import CHECKED, PROMISED, REFUSED, SOLVED, TURNS, WORST
 
 PROGRAM = "crates/qc_program/out/qc_program"
 USUAL_TURNS = 1_000_000
@@ -346,14 +349,14 @@ class Player:
         parts = f"-- certificate {certificate!r}", f"-- written {written}", f"-- wanted  {wanted}"
         self.different.append("\n".join([what, self.game.text.decode().rstrip(), *parts, ""]))
 
-    def run(self, command, *files):
+    def run(self, command, *files, more=()):
         paths = []
         for name, data in zip(("problem", "certificate"), files):
             paths.append(os.path.join(self.folder, f"{name}{os.getpid()}"))
             with open(paths[-1], "wb") as file:
                 file.write(data)
         words = ["--turns", str(self.options.turns)] if self.options.turns and command == "solve" else []
-        done = subprocess.run([self.options.program, command, *paths, *words], stdout=subprocess.PIPE, check=False)
+        done = subprocess.run([self.options.program, command, *paths, *words, *more], stdout=subprocess.PIPE, check=False)
         return done.stdout, done.returncode
 
     def play(self):
@@ -366,6 +369,33 @@ class Player:
         certificates.append(self.woven(Maker(self.random, self.options.plain).game(), 0.5))
         for certificate in certificates:
             self.check(certificate)
+        if self.options.worst:
+            self.play_at_worst()
+
+    def play_at_worst(self):
+        """`worst` with a number, mostly that of a scope with a wish, or with all."""
+        wishes = [i for i, condition in enumerate(self.game.conditions) if condition]
+        place = self.random.choice([*wishes, *wishes, self.random.randrange(self.game.goal + 1), "all"])
+        worst = frozenset(wishes if place == "all" else [place])
+        if worst - frozenset(wishes):
+            self.answers("worst", place, (), (b"no condition\n", 12))
+            return
+        outcome = self.game.outcome(worst)
+        self.met[f"worst: {'the same' if outcome == self.outcome else 'another'} outcome"] += 1
+        certificate = self.answers("worst", place, (), None)
+        opposed = self.answers("worst", place, ("--text",), None)
+        written = self.run("check", opposed, certificate)
+        if written != (f"yes {outcome}\n".encode(), 0):
+            self.differs(f"worst {place}", certificate, written, outcome)
+        self.answers("worst", place, ("--gap",), (f"best {self.outcome}\nworst {outcome}\n".encode(), 0))
+
+    def answers(self, command, place, more, wanted):
+        """What the program answers at this place, which has to be what is wanted, where something is."""
+        name = place if place == "all" else str(place + 1)
+        written = self.run(command, self.game.text, more=(name, *more))
+        if wanted and written != wanted:
+            self.differs(" ".join([command, name, *more]), None, written, wanted)
+        return written[0]
 
     def woven(self, game, steps):
         return Weaver(self.random, game, steps, 0.1).certificate().text()
@@ -452,6 +482,8 @@ def self_test():
     failed = 0
     for text, wanted in SOLVED:
         failed += told(text, Game(text.encode()).outcome(), wanted)
+    for text, worst, wanted in WORST:
+        failed += told((text, worst), Game(text.encode()).outcome(frozenset(worst)), wanted)
     for text, wanted in TURNS:
         failed += told(text, Game(text.encode()).full_turns(), wanted)
     for text, certificate, wanted in CHECKED:
@@ -465,7 +497,7 @@ def self_test():
     chance = random.Random(1)
     broken = [constraint for constraint in (laws_fail(chance) for _ in range(2_000)) if constraint]
     failed += sum(told(constraint, "breaks a law", "none") for constraint in broken)
-    rows = len(SOLVED) + len(TURNS) + len(CHECKED) + len(PROMISED) + len(REFUSED)
+    rows = len(SOLVED) + len(WORST) + len(TURNS) + len(CHECKED) + len(PROMISED) + len(REFUSED)
     print(f"{rows} rows and the laws of the table: {failed} failed")
     return failed
 
@@ -483,7 +515,7 @@ def options_of(words):
     parser.add_argument("--program", default=PROGRAM)
     parser.add_argument("--turns", type=int)
     parser.add_argument("--jobs", type=int, default=1)
-    for flag in ("--plain", "--stepless", "--diligent", "--incumbents", "--alone", "--self-test"):
+    for flag in ("--plain", "--stepless", "--diligent", "--incumbents", "--worst", "--alone", "--self-test"):
         parser.add_argument(flag, action="store_true")
     return parser.parse_args(words)
 

@@ -211,6 +211,23 @@ PROMISED = [
     (UNEQUAL, split("qcert 1,open 1,v 1,n,v 2,s,o,.,o,."), ["a case is left out, and nothing is known"]),
 ]
 
+# The follower doesn't mind whether the leader pays 4 or nothing.
+TIED = (
+    "exists minimize c; var 0..1: x; exists minimize d; var 0..1: y; var 0..9: c; var 0..0: d;"
+    "constraint int_lin_eq([4,1,-1],[y,x,c],0); goal; solve;"
+)
+
+# A text, the scopes (from 0) whose owners meet the worst ties, and the outcome.
+WORST = [
+    (TIED, [], "true 0"),
+    (TIED, [0], "true 4"),
+    (TIED, [1], "true 0"),
+    (TIED, [0, 1], "true 4"),
+    ("exists maximize c; var 0..1: x; exists; var 0..9: c; constraint int_le(x,c); goal; solve;", [0], "true 1"),
+    ("exists maximize s; forall; var 0..1: t; aggregate s = sum(z); exists; var 0..3: z; goal; solve;", [0], "true 0"),
+    ("exists minimize c; var 0..1: x; exists; var 0..9: c; goal; constraint int_lt(c,x); solve;", [0], "true 0"),
+]
+
 # A text, and what `print` writes.
 REFUSED = [
     (
