@@ -11,7 +11,6 @@ use Rattle.qc_model.specs.Content.{Game}
 use Rattle.qc_model.specs.Lists.{Among, Distinct}
 use Rattle.qc_model.specs.Domains.{Box, InBox, has_empty}
 use Rattle.qc_model.specs.Game.{IsMove}
-use Rattle.qc_model.specs.Demands.{demands_after}
 use Rattle.qc_model.specs.Verdict.{is_exact, each_node}
 use Rattle.qc_model.proofs.Moves.{moves_to, moves_from}
 use Rattle.proof_tree.specs.Finding.{Leaf, leaf_barred, leaf_skipped, leaf_bound, leaf_node, seen_of}

@@ -1,5 +1,5 @@
 -- In a tree in place each scope of the opponent whose leaves are all exact goes on with each of his allowed tuples: the induction over the tree.
-use Rattle.std.proofs.Common.{◌≡◌, ℕ, suc, Bool, false, ◌&&◌, not, List, [], ◌∷◌, ◌++◌, length, set, refl, Option, None}
+use Rattle.std.proofs.Common.{ℕ, suc, Bool, false, ◌&&◌, not, List, [], ◌∷◌, ◌++◌, length, set, refl, Option, None}
 use Rattle.std.specs.Prelude.{ℤ, IsTrue, nat_lt}
 use Rattle.qc_model.specs.declared.problem.Scope.{Scope}
 use Rattle.qc_model.specs.declared.problem.Condition.{Condition}
@@ -15,7 +15,7 @@ use Rattle.proof_tree.specs.Cover.{covered, uncovered, is_cover}
 use Rattle.proof_tree.specs.InPlace.{horizon_below, is_horizon, horizon_in_place, steps_in_place, in_place, body_in_place, ending_in_place, branches_in_place, case_in_place, root_in_place}
 use Rattle.proof_tree.specs.Read.{marks, leaves}
 use Rattle.proof_tree.specs.Fair.{bounded_within}
-use Rattle.qc_meaning.specs.Answered.{IsAnswered, Answered, BodyAnswered, EndingAnswered, BranchesAnswered, CaseAnswered}
+use Rattle.qc_meaning.specs.Answered.{Answered, BodyAnswered, EndingAnswered, BranchesAnswered, CaseAnswered}
 use Rattle.qc_meaning.proofs.AnsweredLeaves.{node_answered}
 use Rattle.qc_meaning.proofs.Boxes.{differ}
 use Rattle.qc_meaning.proofs.LeafLists.{LeavesMean}

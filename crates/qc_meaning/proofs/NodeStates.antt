@@ -9,7 +9,6 @@ use Rattle.qc_model.specs.Lists.{Among, Distinct}
 use Rattle.qc_model.specs.Domains.{Values, Box, declared_box, values_left, has_empty}
 use Rattle.qc_model.specs.Game.{before, allows, is_of_scope}
 use Rattle.qc_model.specs.Sees.{AllVisible, SeesRight}
-use Rattle.qc_model.specs.Valid.{IsValid}
 use Rattle.qc_model.proofs.Moves.{among_left, among_right}
 use Rattle.qc_laws.proofs.Domains.{domains_differ}
 use Rattle.qc_laws.proofs.Validity.{valid_differs}

@@ -1,5 +1,5 @@
 -- Trees in which each scope of the opponent that comes to an exact verdict goes on with each of his allowed tuples, once.
-use Rattle.std.specs.Prelude.{◌≡◌, ⊤, ℕ, suc, List, [], ◌∷◌, ◌++◌, map, take, drop, length, IsTrue, ℤ}
+use Rattle.std.specs.Prelude.{◌≡◌, ⊤, ℕ, suc, List, [], ◌∷◌, ◌++◌, map, drop, length, IsTrue, ℤ}
 use Rattle.qc_model.specs.declared.problem.Kind.TheVariants.{Forall}
 use Rattle.qc_model.specs.declared.problem.Condition.{Condition}
 use Rattle.qc_model.specs.declared.problem.Scope.{Scope}
