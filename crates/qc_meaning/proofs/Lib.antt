@@ -31,4 +31,7 @@ pub mod Standing
 pub mod FairForms
 pub mod HandedOn
 pub mod InnerNodes
+pub mod AnsweredLeaves
+pub mod NodeStates
+pub mod AnsweredTrees
 mod Examples

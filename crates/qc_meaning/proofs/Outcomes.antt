@@ -34,7 +34,7 @@ use Rattle.qc_meaning.proofs.Frames.{FairNode}
 use Rattle.qc_meaning.proofs.Entering.{root_fair}
 use Rattle.qc_meaning.proofs.Trees.{OwnBy, OwnMeans, NodeMeans, tree_means}
 
-no_position : (g : Game) (box : Box) → position g 0 box ≡ []
+pub no_position : (g : Game) (box : Box) → position g 0 box ≡ []
 no_position g box = ap (λ n. map least_value (take n box)) (before-zero g)
 
 pub root_means : (g : Game) (t : Tree) → IsValid g → IsTrue (root_in_place g t) → NodeMeans g false g.scopes 0 [] [] (declared_box g) (root_finding g t)

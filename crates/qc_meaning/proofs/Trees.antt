@@ -140,7 +140,7 @@ mutual
       (steps_mean g r s later i x a up w.0 (tracked_variable g (s ∷ later) i x) refl steps (bounded_within s.kind b) box (leaves g end (s ∷ later) i d after) p1.1 part m) f full v
 
   -- later has the scopes after i
-  ending_means : (g : Game) (r : IsSound g) (end : Ending) (s : Scope) (later : List Scope) (i : ℕ) (d : List Condition) (box : Box) (a : List ℤ) (b : Bool) (h : Option ℕ) → suc i + length later ≡ length g.scopes →
+  pub ending_means : (g : Game) (r : IsSound g) (end : Ending) (s : Scope) (later : List Scope) (i : ℕ) (d : List Condition) (box : Box) (a : List ℤ) (b : Bool) (h : Option ℕ) → suc i + length later ≡ length g.scopes →
       SeesRight g (s ∷ later) i → Asked g (s ∷ later) i d → FairPart g b s.kind later i a box → IsBlocked g i a box h → IsTrue (ending_in_place g end (s ∷ later) i d box h) →
       LeavesMean g b s.kind later i (list_after g (s ∷ later) d) a box (leaves g end (s ∷ later) i d box)
   ending_means g r empty s later i d box a b h len sees v f blocked e = empty_mean g b s.kind later i (list_after g (s ∷ later) d) a box r.ordered.no_empty f e

@@ -19,6 +19,7 @@ ghost use Rattle.proof_tree.specs.Proves.{proves};
 ghost use Rattle.proof_tree.specs.Good.{IsBlocked};
 ghost use Rattle.proof_tree.specs.Fair.{Taken, IsBoxAt, IsFairBox, IsFairWithin, bounded_within, bounded_after};
 ghost use Rattle.proof_tree.specs.Meaning.{OutcomeMeans, VerdictMeans};
+ghost use Rattle.qc_meaning.specs.Answered.{Answered};
 ghost use Rattle.qc_meaning.specs.Nodes.{node_in_place, NodeMeans, IsScope, is_legal_at};
 ghost use Rattle.std.specs.Prelude.{drop};
 
@@ -65,4 +66,10 @@ pub fn horizons_block()
     ensures stands { (g : Game) (z : Option Horizon) (i : ℕ) (a : List ℤ) (box : Box) (h : Option ℕ) → IsValid g → IsBoxAt g i a box → IsTrue (horizon_in_place g z (drop i g.scopes) i box h) → IsBlocked g i a box h → IsBlocked g i a box (horizon_below z h) }
     ensures within { (g : Game) (i : ℕ) (a : List ℤ) (box small : Box) (h : Option ℕ) → ((w : List ℤ) → InBox w small → InBox w box) → IsBlocked g i a box h → IsBlocked g i a small h }
     ensures next { (g : Game) (i : ℕ) (a t : List ℤ) (box : Box) (h : Option ℕ) → IsMove g i a t → IsBlocked g i a box h → IsBlocked g (suc i) (a ++ t) box h }
+{}
+
+/// In a valid game, a tree in place answers each allowed tuple: where the opponent chooses and every leaf
+/// is exact, the leaves go on with each of his allowed tuples, once, and with no other.
+pub fn trees_answer_all_tuples()
+    ensures { (g : Game) (t : Tree) → IsValid g → IsTrue (root_in_place g t) → Answered g t g.scopes 0 [] (declared_box g) }
 {}

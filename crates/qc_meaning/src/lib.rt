@@ -7,5 +7,5 @@ mod laws;
 
 pub use laws::{
     fair_boxes_are_handed_on, horizons_block, nodes_mean_their_verdicts, outcomes_are_true,
-    root_means_its_verdict,
+    root_means_its_verdict, trees_answer_all_tuples,
 };
