@@ -47,7 +47,6 @@ impl<'p> Gathering<'p> {
     /// vector.
     pub(crate) fn add(
         &mut self,
-        alloc: Global,
         values: &[i64],
         vector: &[i64],
         shown: Shown,
@@ -56,19 +55,19 @@ impl<'p> Gathering<'p> {
         ensures scope { IsSameScope self.old self.new }
     {
         match self {
-            Gathering::Player(leaves) => leaves.add(alloc, values, vector, shown),
-            Gathering::Opponent(leaves) => leaves.add(alloc, values, shown),
+            Gathering::Player(leaves) => leaves.add(values, vector, shown),
+            Gathering::Opponent(leaves) => leaves.add(values, shown),
         }
     }
 
     /// What the scope comes to, which is `found`, with its trees of choices. It takes memory for a choice alone, and the
     /// time to sort the leaves of an opponent's scope.
-    pub(crate) fn finish(self, alloc: Global, found: Found) -> Result<Shown, AllocError>
+    pub(crate) fn finish(self, found: Found) -> Result<Shown, AllocError>
         ensures { IfOk result (λ shown. (g : Game) (own : Option Wish) (i : ℕ) (d : List Wish) (a v : List ℤ) (ls : List Leaf) → length a ≡ count_before self.entry → IsAtScope self.entry g own i d a ls → Gathers self.entry ls → verdict_of found v ≡ (kind_finding (owner_of self.entry) own g i d a ls).verdict → Shows (kind_finding (owner_of self.entry) own g i d a ls) v shown) }
     {
         match self {
-            Gathering::Player(leaves) => leaves.finish(alloc, found),
-            Gathering::Opponent(leaves) => leaves.finish(alloc, found),
+            Gathering::Player(leaves) => leaves.finish(found),
+            Gathering::Opponent(leaves) => leaves.finish(found),
         }
     }
 }

@@ -22,6 +22,7 @@ use std::alloc::{AllocError, Global};
 /// its strategy answers each. An exact scope has only exact leaves that go on, so no answer is kept to others.
 #[derive(Drop)]
 pub(crate) struct OpponentLeaves {
+    alloc: Global,
     // how many variables stand before the scope
     pub(crate) before: usize,
     pub(crate) first: Option<CounterEntry>,
@@ -60,6 +61,7 @@ impl OpponentLeaves {
         ensures before { result.before ≡ before }
     {
         OpponentLeaves {
+            alloc,
             before,
             first: None,
             answers: PlanList::new(alloc),
@@ -67,16 +69,11 @@ impl OpponentLeaves {
     }
 
     /// Takes a leaf that goes on with these values to a node that comes to `shown`, with this vector.
-    pub(crate) fn add(
-        &mut self,
-        alloc: Global,
-        values: &[i64],
-        shown: Shown,
-    ) -> Result<(), AllocError>
+    pub(crate) fn add(&mut self, values: &[i64], shown: Shown) -> Result<(), AllocError>
         ensures leaf { OnOk result ((ls : List Leaf) (v : List ℤ) (f : Finding) → GathersOpponent self.old ls → Shows f v shown → GathersOpponent self.new (ls ++ leaf_node values.now f ∷ [])) }
         ensures before { self.new.before ≡ self.old.before }
     {
-        let tuple = tuple_of(alloc, values, self.before)?;
+        let tuple = tuple_of(self.alloc, values, self.before)?;
         let Shown {
             found,
             plan,
@@ -95,10 +92,11 @@ impl OpponentLeaves {
 
     /// What the scope comes to, which is `found`, with its trees of choices. The answers are sorted, in a time of
     /// n log n comparisons of tuples.
-    pub(crate) fn finish(self, alloc: Global, found: Found) -> Result<Shown, AllocError>
+    pub(crate) fn finish(self, found: Found) -> Result<Shown, AllocError>
         ensures { IfOk result (λ shown. (g : Game) (own : Option Wish) (i : ℕ) (d : List Wish) (a v : List ℤ) (ls : List Leaf) → length a ≡ self.before → IsValid g × (IsTrue (each_node is_exact (map seen_of ls)) → GoOnWithAll g i a ls) → GathersOpponent self ls → verdict_of found v ≡ (kind_finding Forall own g i d a ls).verdict → Shows (kind_finding Forall own g i d a ls) v shown) }
     {
         let OpponentLeaves {
+            alloc,
             before: _,
             first,
             mut answers,

@@ -20,6 +20,7 @@ use std::alloc::{AllocError, Global};
 /// kept to others.
 #[derive(Drop)]
 pub(crate) struct PlayerLeaves<'p> {
+    alloc: Global,
     // what is demanded after the scope, and how many variables stand before it
     pub(crate) wishes: &'p [Condition],
     pub(crate) before: usize,
@@ -38,6 +39,7 @@ impl<'p> PlayerLeaves<'p> {
         ensures before { result.before ≡ before }
     {
         PlayerLeaves {
+            alloc,
             wishes,
             before,
             best: None,
@@ -48,7 +50,6 @@ impl<'p> PlayerLeaves<'p> {
     /// Takes a leaf that goes on with these values to a node that comes to `shown`, with this vector.
     pub(crate) fn add(
         &mut self,
-        alloc: Global,
         values: &[i64],
         vector: &[i64],
         shown: Shown,
@@ -57,14 +58,14 @@ impl<'p> PlayerLeaves<'p> {
         ensures wishes { self.new.wishes.now ≡ self.old.wishes.now }
         ensures before { self.new.before ≡ self.old.before }
     {
-        let tuple = tuple_of(alloc, values, self.before)?;
+        let tuple = tuple_of(self.alloc, values, self.before)?;
         let Shown {
             found,
             plan,
             counter,
         } = shown;
         match found {
-            Found::Exact => keep_best(alloc, &mut self.best, self.wishes, tuple, vector, plan),
+            Found::Exact => keep_best(self.alloc, &mut self.best, self.wishes, tuple, vector, plan),
             Found::Lost => self.replies.push(CounterEntry { tuple, counter }),
             Found::AtMost(_bound) => Ok(()),
             Found::Unknown => Ok(()),
@@ -72,10 +73,11 @@ impl<'p> PlayerLeaves<'p> {
     }
 
     /// What the scope comes to, which is `found`, with its trees of choices.
-    pub(crate) fn finish(self, alloc: Global, found: Found) -> Result<Shown, AllocError>
+    pub(crate) fn finish(self, found: Found) -> Result<Shown, AllocError>
         ensures { IfOk result (λ shown. (g : Game) (own : Option Wish) (i : ℕ) (d : List Wish) (a v : List ℤ) (ls : List Leaf) → length a ≡ self.entry.before → demands_after g Exists own d ≡ self.entry.wishes.now → GathersPlayer self.entry ls → verdict_of found v ≡ (kind_finding Exists own g i d a ls).verdict → Shows (kind_finding Exists own g i d a ls) v shown) }
     {
         let PlayerLeaves {
+            alloc,
             wishes: _,
             before: _,
             best,
