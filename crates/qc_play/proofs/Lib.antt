@@ -9,3 +9,12 @@ pub mod Showing
 pub mod Making
 pub mod Starts
 mod Plays
+pub mod LeavesMore
+pub mod BestLeaf
+pub mod LeafEntries
+pub mod QuietLeaves
+pub mod Lexicographic
+pub mod SortedAnswers
+pub mod Finishing
+pub mod Finished
+pub mod ShownVerdicts

@@ -8,19 +8,30 @@
 //! no allowed tuple. With a counterstrategy that wins it ends with a goal that doesn't hold, or with a player from
 //! whose tuples nobody can go on.
 //!
+//! A scope's own tree is read leaf by leaf: a `Gathering` takes the leaves that go on, and gives the trees of choices of
+//! the scope from those of its leaves. It keeps of a scope of the player the best leaf, and a reply to each that is lost;
+//! of one of the opponent the first lost leaf, and an answer to each that is exact, which it sorts at the end.
+//!
 //! `specs/` says which tree a value is (`Shape`), how a play goes (`Play`), its text (`PlayText`), what it ends with
-//! (`Ends`), and what is made of a certificate (`Made`).
+//! (`Ends`), what is made of a certificate (`Made`), what a node shows (`Shown`), and what is gathered of leaves
+//! (`Gathers`).
 #![tactic(auto)]
 
+mod best;
 mod board;
 mod counter;
 mod fault;
+mod gathering;
 mod judged;
 mod lines;
 mod listed;
 mod make;
+mod numbers;
+mod opponent_leaves;
 mod plan;
+mod player_leaves;
 mod reading;
+mod shown;
 mod side;
 #[cfg(test)]
 mod tests;

@@ -1,9 +1,12 @@
 //! A strategy, as a value.
 ghost use Rattle.std.specs.Prelude.{◌≡◌, [], ◌∷◌, ◌++◌, OnOk, OnErr};
+ghost use Rattle.std.specs.List.Sorted.{IsPermutation, IsSorted};
 ghost use Rattle.qc_play.specs.Shape.{entries_of};
+ghost use Rattle.qc_play.specs.EntryOrder.{entry_order as entry_order_of};
 
 use qc_model::Numbers;
 use std::alloc::{AllocError, Global};
+use std::cmp::Ordering;
 
 /// What the player does: a tree of choices. Anybody may build one, of any shape; whether it is a strategy of a game,
 /// and an optimal one, is another question.
@@ -33,6 +36,20 @@ pub struct PlanEntry {
     pub plan: Plan,
 }
 
+/// The order of two answers: that of their tuples, by the first place where they differ.
+fn entry_order(x: &PlanEntry, y: &PlanEntry) -> Ordering
+    ensures { result ≡ entry_order_of x.now y.now }
+{
+    x.tuple.items().cmp(&y.tuple.items())
+}
+
+fn sort_entries(entries: &mut Vec<PlanEntry>)
+    ensures same { IsPermutation entries.old.items entries.new.items }
+    ensures sorted { IsSorted entry_order_of entries.new.items }
+{
+    entries.sort_unstable_by(|x, y| entry_order(x, y));
+}
+
 impl PlanList {
     /// No answer. It takes no memory.
     pub fn new(alloc: Global) -> PlanList
@@ -57,5 +74,13 @@ impl PlanList {
         ensures { result.now ≡ entries_of self.now }
     {
         self.items.as_slice()
+    }
+
+    /// Puts the answers in the order of their tuples.
+    pub(crate) fn sort(&mut self)
+        ensures same { IsPermutation (entries_of self.old) (entries_of self.new) }
+        ensures sorted { IsSorted entry_order_of (entries_of self.new) }
+    {
+        sort_entries(&mut self.items);
     }
 }
