@@ -18,7 +18,7 @@ use Rattle.qc_play.specs.declared.counter.CounterEntry.{CounterEntry}
 use Rattle.qc_play.specs.Shape.{all_entries, all_replies as replies_in}
 use Rattle.qc_play.specs.EntryOrder.{entry_order}
 use Rattle.qc_play.specs.Entries.{entries_on, KeepsBest, KeepsFirst, KeepsReplies, KeepsAnswers, best_choice, lost_choice}
-use Rattle.qc_play.specs.GoingOn.{GoOnWithAll}
+use Rattle.qc_meaning.specs.Answered.{GoOnWithAll}
 use Rattle.qc_play.proofs.SortedAnswers.{answers_sorted}
 
 differ : false ≡ true → ⊥

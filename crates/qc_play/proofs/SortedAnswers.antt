@@ -17,7 +17,7 @@ use Rattle.qc_play.specs.declared.plan.PlanEntry.{PlanEntry}
 use Rattle.qc_play.specs.Shape.{plan_of, all_entries}
 use Rattle.qc_play.specs.EntryOrder.{entry_order}
 use Rattle.qc_play.specs.Entries.{entries_on}
-use Rattle.qc_play.specs.GoingOn.{tuples_on, GoOnFrom, GoOnWithAll}
+use Rattle.qc_meaning.specs.Answered.{tuples_on, GoOnFrom, GoOnWithAll}
 use Rattle.qc_play.proofs.Lexicographic.{order_of, total, AllAfter, Ascends, is_after, same_ascending, moves_ascend}
 
 abbrev tuples_of : List PlanEntry → List (List ℤ)

@@ -8,7 +8,6 @@ pub mod Stuck
 pub mod Made
 pub mod Judged
 pub mod Shown
-pub mod GoingOn
 pub mod EntryOrder
 pub mod Entries
 pub mod Gathers

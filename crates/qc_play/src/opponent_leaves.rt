@@ -52,7 +52,7 @@ fn lost_choice(alloc: Global, first: Option<CounterEntry>) -> Result<Counter, Al
 
 impl OpponentLeaves {
     ghost use Rattle.qc_play.specs.Shown.{Shows};
-    ghost use Rattle.qc_play.specs.GoingOn.{GoOnWithAll};
+    ghost use Rattle.qc_meaning.specs.Answered.{GoOnWithAll};
     ghost use Rattle.qc_play.specs.Gathers.{GathersOpponent};
 
     /// None so far.
