@@ -29,3 +29,4 @@ pub mod FittingLines
 pub mod UniqueLines
 pub mod Telling
 pub mod OneAnswer
+mod WholeLines

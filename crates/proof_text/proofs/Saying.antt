@@ -13,9 +13,9 @@ use Rattle.proof_text.specs.declared.answer.Read.TheVariants.{Within, Head, Whol
 use Rattle.proof_text.specs.LineRanges.{line_fits}
 use Rattle.proof_text.specs.Symbols.{Symbol, start}
 use Rattle.proof_text.specs.Places.{IsText, BeginsText, IsNotACertificate, IsTooDeep}
-use Rattle.proof_text.specs.Standing.{Standing, owing, too_deep, no_text, next_standing, standing, Tells}
-use Rattle.proof_text.specs.Readings.{Reading, IsGoing, GoesOn}
-use Rattle.proof_text.specs.Answers.{Told, nothing, headed, told_text, tell, is_nothing, StandsFor, HasStopped, Says}
+use Rattle.proof_text.specs.Standing.{Standing, owing, too_deep, no_text, next_standing, standing_from, standing, Tells}
+use Rattle.proof_text.specs.Readings.{Reading, IsGoing, GoesOn, GoesOnLine}
+use Rattle.proof_text.specs.Answers.{Told, nothing, headed, told_text, tell, is_nothing, StandsFor, HasStopped, Says, SaysLine}
 use Rattle.proof_text.proofs.Standings.{tells, standing_append}
 
 was_going : (s : Standing) (b : ℕ) (owed : List Symbol) → next_standing s b ≡ owing owed → IsGoing s
@@ -197,3 +197,47 @@ says_for old given new b read e g bytes told h = says given new bytes told b rea
 
 pub ended_for : (old given : Reading) (answer : Bool) → given ≡ old → IsTrue answer ↔ (given.standing ≡ owing []) → (bytes : List ℕ) (told : Told) → StandsFor old bytes told → IsTrue answer ↔ IsText 1000 bytes
 ended_for old given answer e h bytes told f = ended given answer h bytes told (subst (λ (r : Reading). StandsFor r bytes told) (sym e) f)
+
+-- the same of a whole line
+
+standing_after : (g : Standing) (bytes more : List ℕ) → standing_from g (bytes ++ more) ≡ standing_from (standing_from g bytes) more
+standing_after g [] more = refl
+standing_after g (b ∷ bytes) more = standing_after (next_standing g b) bytes more
+
+line_is : (old new : Reading) (before : List ℕ) (told : Told) (line : Line) → StandsFor old before told → GoesOnLine old line new → standing (before ++ line_text line) ≡ new.standing
+line_is old new before told line h g = standing_after (owing start) before (line_text line) ∙ ap (λ (s : Standing). standing_from s (line_text line)) h.standing ∙ sym g.0
+
+with_whole : (old new : Reading) (before : List ℕ) (told : Told) (line : Line) → StandsFor old before told → GoesOnLine old line new → before ++ line_text line ≡ told_text told ++ line_text line
+with_whole old new before told line h g = ap (λ (l : List ℕ). l ++ line_text line) (h.text g.1 ∙ ap (λ (l : List ℕ). told_text told ++ l) g.5 ∙ append-nil (told_text told))
+
+line_stands : (old new : Reading) (before : List ℕ) (told : Told) (line : Line) → StandsFor old before told → GoesOnLine old line new → StandsFor new (before ++ line_text line) (tell told (Whole line))
+line_stands old new before nothing line h g = let no : true ≡ false = sym (h.head g.1) ∙ g.3 in absurd (cc)
+line_stands old new before (headed v o p lines) line h g = record {
+  standing = line_is old new before (headed v o p lines) line h g;
+  text = λ n.
+      with_whole old new before (headed v o p lines) line h g
+      ∙ append_assoc (version_text v ++ outcome_text o p) (flat_map line_text lines) (line_text line)
+      ∙ ap (λ (l : List ℕ). version_text v ++ outcome_text o p ++ l) (sym (one_more lines line))
+      ∙ sym (append-nil (told_text (headed v o p (lines ++ line ∷ []))))
+      ∙ ap (λ (l : List ℕ). told_text (headed v o p (lines ++ line ∷ [])) ++ l) (sym g.6);
+  head = λ n. g.4;
+  fits = with_line o p lines line h.fits g.7;
+}
+
+line_says : (old new : Reading) (before : List ℕ) (told : Told) (line : Line) → StandsFor old before told → GoesOnLine old line new → SaysLine before told (line_text line) line
+line_says old new before told line h g =
+    let e = line_is old new before told line h g in
+    let bytes = before ++ line_text line in (
+      begins_of (standing bytes) bytes (subst IsGoing (sym e) g.2) (tells bytes),
+      sym (h.head g.1) ∙ g.3,
+      with_whole old new before told line h g,
+      g.7,
+    )
+
+pub line_stands_for : (old given new : Reading) (piece : List ℕ) (line : Line) → given ≡ old → piece ≡ line_text line → GoesOnLine given line new → (before : List ℕ) (told : Told) → StandsFor old before told → StandsFor new (before ++ piece) (tell told (Whole line))
+line_stands_for old given new piece line e f g before told h =
+    subst (λ (l : List ℕ). StandsFor new (before ++ l) (tell told (Whole line))) (sym f) (line_stands given new before told line (subst (λ (r : Reading). StandsFor r before told) (sym e) h) g)
+
+pub line_says_for : (old given new : Reading) (piece : List ℕ) (line : Line) → given ≡ old → piece ≡ line_text line → GoesOnLine given line new → (before : List ℕ) (told : Told) → StandsFor old before told → SaysLine before told piece line
+line_says_for old given new piece line e f g before told h =
+    subst (λ (l : List ℕ). SaysLine before told l line) (sym f) (line_says given new before told line (subst (λ (r : Reading). StandsFor r before told) (sym e) h) g)

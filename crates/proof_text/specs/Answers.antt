@@ -1,5 +1,5 @@
 -- What a reader of lines was given, and what it told.
-use Rattle.std.specs.Prelude.{ℕ, ◌≤◌, ◌≡◌, List, [], ◌∷◌, ◌++◌, length, flat_map, Bool, true, false, ◌&&◌, Option, ℤ, IsTrue}
+use Rattle.std.specs.Prelude.{ℕ, ◌≤◌, ◌<◌, ◌≡◌, List, [], ◌∷◌, ◌++◌, length, take, flat_map, Bool, true, false, ◌&&◌, Option, ℤ, IsTrue}
 use Rattle.std.specs.List.{list_all}
 use Rattle.proof_tree.specs.declared.tree.Version.{Version}
 use Rattle.proof_tree.specs.declared.tree.Outcome.{Outcome}
@@ -72,3 +72,11 @@ Says bytes told b (Head version outcome optimum) =
 Says bytes told b (Whole line) = BeginsText 1000 (bytes ++ b ∷ []) × (is_nothing told ≡ false) × (bytes ++ b ∷ [] ≡ told_text told ++ line_text line) × IsTrue (line_fits line)
 Says bytes told b TooDeep = HasStopped IsTooDeep bytes b
 Says bytes told b Bad = HasStopped IsNotACertificate bytes b
+
+-- the bytes begin with a whole line, which has so many
+abbrev pub BeginsLine : List ℕ → Line → ℕ → Type 0
+BeginsLine bytes line n = (0 < n) × (n ≤ length bytes) × (take n bytes ≡ line_text line)
+
+-- what a whole line says of its bytes, after the bytes before it and what was told of them
+abbrev pub SaysLine : List ℕ → Told → List ℕ → Line → Type 0
+SaysLine before told bytes line = BeginsText 1000 (before ++ bytes) × (is_nothing told ≡ false) × (before ++ bytes ≡ told_text told ++ line_text line) × IsTrue (line_fits line)

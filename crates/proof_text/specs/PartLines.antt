@@ -2,6 +2,7 @@
 use Rattle.std.specs.Prelude.{ℕ, ◌≡◌, List, [], ◌∷◌, ◌++◌, Bool, true, false, IsTrue}
 use Rattle.std.specs.Fmt.{signed_decimal}
 use Rattle.qc_model.specs.Valid.{is_number}
+use Rattle.proof_tree.specs.declared.line.Line.{Line}
 use Rattle.proof_tree.specs.Text.{line_text, place_text, is_place}
 use Rattle.proof_text.specs.declared.part_line.Kind.{Kind}
 use Rattle.proof_text.specs.declared.part_line.Kind.TheVariants.{Horizon as HorizonKind, Branch as BranchKind, Range as RangeKind, Prune as PruneKind, Bound as BoundKind}
@@ -12,7 +13,7 @@ use Rattle.proof_text.specs.declared.part_line.PartNext.TheVariants.{More, Whole
 use Rattle.proof_text.specs.LineRanges.{line_fits}
 use Rattle.proof_text.specs.Numerals.{counted_owes, counted_text, FitsCounted, signed_owes, signed_text, FitsSigned}
 use Rattle.proof_text.specs.Symbols.{Symbol, byte, number, signed, prune_line, bound_line}
-use Rattle.proof_text.specs.Standing.{owing, no_text, next_standing}
+use Rattle.proof_text.specs.Standing.{owing, no_text, next_standing, standing_from}
 
 -- a removal of refuted values names a constraint at last
 abbrev pub removal_end : Bool → ℕ
@@ -81,3 +82,11 @@ abbrev pub PartGoes : PartLine → ℕ → PartNext → Type 0
 PartGoes part b (More next) = ((later : List Symbol) → next_standing (owing (part_owes part ++ later)) b ≡ owing (part_owes next ++ later)) × (part_text next ≡ part_text part ++ b ∷ []) × FitsPart next
 PartGoes part b (Whole line) = ((later : List Symbol) → next_standing (owing (part_owes part ++ later)) b ≡ owing later) × (line_text line ≡ part_text part ++ b ∷ []) × IsTrue (line_fits line)
 PartGoes part b Wrong = (later : List Symbol) → next_standing (owing (part_owes part ++ later)) b ≡ no_text
+
+-- the line is this part of it, and then bytes that are all that the part owes
+abbrev pub EndsPart : PartLine → Line → Type 0
+EndsPart part line = (more : List ℕ) × (line_text line ≡ part_text part ++ more) × ((later : List Symbol) → standing_from (owing (part_owes part ++ later)) more ≡ owing later) × IsTrue (line_fits line)
+
+-- with so much of it read, the text goes on with the rest of the line, and then with other bytes
+abbrev pub ReadsPart : PartLine → List ℕ → Line → List ℕ → Type 0
+ReadsPart part text line rest = (part_text part ++ text ≡ line_text line ++ rest) × EndsPart part line

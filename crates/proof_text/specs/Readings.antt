@@ -2,11 +2,12 @@
 use Rattle.std.specs.Prelude.{ℕ, ◌≡◌, List, [], ◌∷◌, ◌++◌, Bool, true, false, IsTrue}
 use Rattle.proof_tree.specs.declared.tree.Version.{Version}
 use Rattle.proof_tree.specs.Text.{version_text, outcome_text, outcome_fits, line_text}
+use Rattle.proof_tree.specs.declared.line.Line.{Line}
 use Rattle.proof_text.specs.declared.answer.Read.{Read}
 use Rattle.proof_text.specs.declared.answer.Read.TheVariants.{Within, Head, Whole, TooDeep, Bad}
 use Rattle.proof_text.specs.LineRanges.{line_fits}
 use Rattle.proof_text.specs.Symbols.{Symbol}
-use Rattle.proof_text.specs.Standing.{Standing, owing, too_deep, no_text, next_standing}
+use Rattle.proof_text.specs.Standing.{Standing, owing, too_deep, no_text, next_standing, standing_from}
 
 -- what the bytes so far still owe, whether their head isn't whole yet, and the bytes since the last
 -- answer that was a head or a line
@@ -35,3 +36,9 @@ Goes old b new Bad = new.standing ≡ no_text
 
 abbrev pub GoesOn : Reading → ℕ → Reading → Read → Type 0
 GoesOn old b new read = (new.standing ≡ next_standing old.standing b) × Goes old b new read
+
+-- a reading goes on with a whole line of the tree
+abbrev pub GoesOnLine : Reading → Line → Reading → Type 0
+GoesOnLine old line new =
+    (new.standing ≡ standing_from old.standing (line_text line)) × IsGoing old.standing × IsGoing new.standing × (old.in_head ≡ false) × (new.in_head ≡ false) × (old.unfinished ≡ []) × (new.unfinished ≡ [])
+    × IsTrue (line_fits line)

@@ -25,6 +25,7 @@ mod scan;
 #[cfg(test)]
 mod tests;
 mod walk;
+mod whole_line;
 mod write;
 
 pub use answer::Read;

@@ -1,14 +1,16 @@
 //! Reading the lines of a certificate byte by byte.
 ghost use Rattle.proof_text.specs.Standing.{standing, Tells};
 ghost use Rattle.proof_text.specs.Places.{IsText};
-ghost use Rattle.proof_text.specs.Answers.{Told, nothing, tell, StandsFor, Says, IsTold};
-ghost use Rattle.std.specs.Prelude.{◌↔◌, ◌++◌, ◌∷◌, [], IsTrue, List, ℕ};
+ghost use Rattle.proof_text.specs.Answers.{Told, nothing, tell, StandsFor, Says, IsTold, BeginsLine, SaysLine};
+ghost use Rattle.proof_text.specs.declared.answer.Read.TheVariants.{Whole as WholeLine};
+ghost use Rattle.std.specs.Prelude.{◌≡◌, ◌↔◌, ◌++◌, ◌∷◌, [], take, IsTrue, IfSome, MatchOption, List, ℕ};
 
 use crate::answer::Read;
 use crate::front::{Front, Word};
 use crate::levels::Levels;
 use crate::walk::{At, Nested, is_over, read_byte};
-use proof_tree::Version;
+use crate::whole_line::whole_line;
+use proof_tree::{Line, Version};
 use std::marker::Model;
 
 /// What any bytes say of the texts of certificates, byte by byte.
@@ -63,6 +65,24 @@ impl LineReader {
         let (at, read) = read_byte(&mut self.tree, self.at, byte);
         self.at = at;
         read
+    }
+
+    /// Reads a whole line of the tree at once, where the reader stands before one and the bytes begin
+    /// with all of it: the line, and how many bytes it has. `byte` answers `Within` to each of these
+    /// but the last, and to that one `Whole`. Where it is `None`, nothing has changed.
+    pub fn line(&mut self, bytes: &[u8]) -> Option<(Line, usize)>
+        ensures line { MatchOption result (self.new ≡ self.old) (λ r. BeginsLine bytes.now r.0 r.1) }
+        ensures stands { IfSome result (λ r. (before : List ℕ) (told : Told) → StandsFor self.old before told → StandsFor self.new (before ++ take r.1 bytes.now) (tell told (WholeLine r.0))) }
+        ensures says { IfSome result (λ r. (before : List ℕ) (told : Told) → StandsFor self.old before told → SaysLine before told (take r.1 bytes.now) r.0) }
+    {
+        let At::Letter(place) = self.at else {
+            return None;
+        };
+        let Some((line, place, rest)) = whole_line(&mut self.tree, place, bytes) else {
+            return None;
+        };
+        self.at = At::Letter(place);
+        Some((line, bytes.len() - rest.len()))
     }
 
     /// Whether the bytes so far are a whole text.

@@ -130,7 +130,7 @@ fn letter_byte(tree: &mut Nested, place: Place, byte: u8) -> (At, Read)
 }
 
 // Goes one level deeper, into a branch or a next node.
-fn go_in(tree: &mut Nested, branch: bool)
+pub(crate) fn go_in(tree: &mut Nested, branch: bool)
     requires { tree.old.nesting < 1000 }
     ensures version { tree.new.version ≡ tree.old.version }
     ensures nesting { tree.new.nesting ≡ tree.old.nesting + 1 }
@@ -140,10 +140,12 @@ fn go_in(tree: &mut Nested, branch: bool)
     tree.nesting += 1;
 }
 
-fn open_letter(tree: &mut Nested, place: Place, byte: u8) -> Opened
+// Opens a line by its letter. Of the tree the nesting alone may change.
+pub(crate) fn open_letter(tree: &mut Nested, place: Place, byte: u8) -> Opened
     requires nesting { tree.old.nesting ≤ 1000 }
     ensures opens { OpensTree tree.new (tree_owes tree.old.version tree.old.levels.marks tree.old.nesting place) byte result }
     ensures nesting { tree.new.nesting ≤ 1000 }
+    ensures kept { (tree.new.version ≡ tree.old.version) × (tree.new.levels ≡ tree.old.levels) }
 {
     match place {
         Place::Node => open_node(tree.version, tree.nesting, byte),
@@ -160,6 +162,7 @@ fn open_after(tree: &mut Nested, byte: u8) -> Opened
     requires nesting { tree.old.nesting ≤ 1000 }
     ensures opens { OpensTree tree.new (tree_owes tree.old.version tree.old.levels.marks tree.old.nesting ClosedPlace) byte result }
     ensures nesting { tree.new.nesting ≤ 1000 }
+    ensures kept { (tree.new.version ≡ tree.old.version) × (tree.new.levels ≡ tree.old.levels) }
 {
     let level = tree.levels.deepest(tree.nesting);
     if level == 0 {

@@ -3,7 +3,7 @@ use Rattle.std.proofs.Common.{◌≡◌, ℕ, ◌-◌, ◌^◌, min, Bool, true,
 use Rattle.std.specs.Prelude.{◌==◌, nat_le}
 use Rattle.std.proofs.lemmas.Bool.Decides.{nat_tests}
 use Rattle.qc_model.specs.Content.{Game}
-use Rattle.qc_model.specs.Verdict.{Verdict, is_exact, is_lost, is_unknown}
+use Rattle.qc_model.specs.Verdict.{is_exact, is_lost, is_unknown}
 use Rattle.qc_levels.specs.declared.leaves.Found.{Found}
 use Rattle.qc_levels.specs.declared.leaves.Found.TheVariants.{Lost, Exact, AtMost, Unknown}
 use Rattle.qc_levels.specs.Seen.{verdict_of}
@@ -17,7 +17,7 @@ use Rattle.proof_tree.specs.Counts.{turns_of}
 use Rattle.proof_tree.specs.Text.{outcome_fits}
 use Rattle.line_check.specs.declared.answer.Answer.{Answer}
 use Rattle.line_check.specs.Found.{IsAnswer}
-use Rattle.qc_check.specs.Shown.{bare_verdict, answer_shows, found_shows}
+use Rattle.qc_check.specs.Shown.{answer_shows, found_shows}
 
 -- the vector is of no matter
 bare_exact : (f : Found) (w : List ℤ) → is_exact (verdict_of f w) ≡ is_exact (verdict_of f [])

@@ -1,14 +1,14 @@
 -- What one byte more makes of a reading.
-use Rattle.std.proofs.Common.{◌≡◌, ◌<◌, ◌≤◌, ◌+◌, ℕ, zero, suc, List, [], ◌∷◌, ◌++◌, length, take, refl, sym, ap, ◌∙◌, subst, arith, length-append, append_assoc, Option, Some, None, false}
+use Rattle.std.proofs.Common.{◌≡◌, ◌<◌, ◌≤◌, ◌+◌, ◌-◌, ℕ, zero, suc, List, [], ◌∷◌, ◌++◌, length, take, drop, take-append-drop, length-drop, refl, sym, ap, ◌∙◌, subst, arith, length-append, append_assoc, Option, Some, None, false}
 use Rattle.std.specs.Prelude.{slice_index}
-use Rattle.std.proofs.lemmas.List.{take-append-le}
+use Rattle.std.proofs.lemmas.List.{take-append-le, take_all}
 use Rattle.qc_model.specs.Content.{Game}
 use Rattle.proof_tree.specs.declared.tree.Version.{Version}
 use Rattle.proof_tree.specs.declared.tree.Outcome.{Outcome}
 use Rattle.proof_tree.specs.declared.line.Line.{Line}
 use Rattle.proof_text.specs.declared.answer.Read.{Read}
 use Rattle.proof_text.specs.declared.answer.Read.TheVariants.{Within, Head, Whole, TooDeep, Bad}
-use Rattle.proof_text.specs.Answers.{Told, nothing, headed, tell, is_nothing, StandsFor, Says}
+use Rattle.proof_text.specs.Answers.{Told, nothing, headed, tell, is_nothing, StandsFor, Says, SaysLine}
 use Rattle.proof_text.specs.Places.{BeginsText, IsNotACertificate, IsTooDeep}
 use Rattle.proof_text.specs.Readings.{Reading}
 use Rattle.line_check.specs.declared.machine.Machine.{Machine}
@@ -67,29 +67,40 @@ head_read r s m h n bytes b k read v st e stands says =
       tells = subst (λ t. TellsAfter (length (lines_told t)) m (goes_through (game_of m) (Some (first_ledger (game_of m))) (lines_told t))) now.1 k.tells;
     }
 
--- a line ends, and the machine is given it
-pub line_read : (r s : Reading) (m w : Machine) (h : Option Stated) (n : ℕ) (bytes : List ℕ) (b : ℕ) (k : IsReading r m h n bytes) (read : Read) (line : Line) → read ≡ Whole line →
-    StandsFor s (bytes ++ b ∷ []) (tell k.told read) → Says bytes k.told b read → game_of w ≡ game_of m → n < 4294967296 →
-    ((i : ℕ) (p : Option Ledger) → i < 4294967296 → TellsAfter i m p → TellsAfter (suc i) w (goes (game_of m) p line)) → IsReading s w h (n + 1) (bytes ++ b ∷ [])
-line_read r s m w h n bytes b k read line e stands says same room taken =
-    let now = subst (λ q. Says bytes k.told b q) e says in
-    by k.told (subst (λ q. StandsFor s (bytes ++ b ∷ []) (tell k.told q)) e stands) now.1 k.head_is k.few k.tells now.0
+-- a line ends with these bytes, and the machine is given it
+pub whole_read : (r s : Reading) (m w : Machine) (h : Option Stated) (n : ℕ) (bytes piece : List ℕ) (k : IsReading r m h n bytes) (line : Line) (size : ℕ) → length piece ≡ size → 0 < size →
+    StandsFor s (bytes ++ piece) (tell k.told (Whole line)) → SaysLine bytes k.told piece line → game_of w ≡ game_of m → n < 4294967296 →
+    ((i : ℕ) (p : Option Ledger) → i < 4294967296 → TellsAfter i m p → TellsAfter (suc i) w (goes (game_of m) p line)) → IsReading s w h (n + size) (bytes ++ piece)
+whole_read r s m w h n bytes piece k line size long some stands says same room taken = by k.told stands says.1 k.head_is k.few k.tells says.0
   where
-    by : (t : Told) → StandsFor s (bytes ++ b ∷ []) (tell t (Whole line)) → is_nothing t ≡ false → HeadIs h t →
-        length (lines_told t) ≤ n → TellsAfter (length (lines_told t)) m (goes_through (game_of m) (Some (first_ledger (game_of m))) (lines_told t)) → BeginsText 1000 (bytes ++ b ∷ []) → IsReading s w h (n + 1) (bytes ++ b ∷ [])
-    by nothing st some hd few tells begins = cc
-    by (headed v o p ls) st some hd few tells begins = record {
+    by : (t : Told) → StandsFor s (bytes ++ piece) (tell t (Whole line)) → is_nothing t ≡ false → HeadIs h t →
+        length (lines_told t) ≤ n → TellsAfter (length (lines_told t)) m (goes_through (game_of m) (Some (first_ledger (game_of m))) (lines_told t)) → BeginsText 1000 (bytes ++ piece) → IsReading s w h (n + size) (bytes ++ piece)
+    by nothing st headless hd few tells begins = cc
+    by (headed v o p ls) st head hd few tells begins = record {
       told = headed v o p (ls ++ line ∷ []);
       stands = st;
       begins = begins;
-      counted = one_more n bytes b k.counted;
+      counted = (let c = k.counted in rw length-append (omega (arith, c, long)));
       head_is = head_more h v o p ls line hd;
-      few = rw line_more (omega (arith, few));
+      few = rw line_more (omega (arith, few, some));
       tells = subst (λ g. TellsAfter (length (ls ++ line ∷ [])) w (goes_through g (Some (first_ledger g)) (ls ++ line ∷ []))) (sym same)
           (subst (λ i. TellsAfter i w (goes_through (game_of m) (Some (first_ledger (game_of m))) (ls ++ line ∷ []))) (sym (line_more ls line))
           (subst (TellsAfter (suc (length ls)) w) (sym (goes_more (game_of m) (Some (first_ledger (game_of m))) ls line))
           (taken (length ls) (goes_through (game_of m) (Some (first_ledger (game_of m))) ls) (omega (arith, few, room)) tells)));
     }
+
+-- one with this byte
+pub line_read : (r s : Reading) (m w : Machine) (h : Option Stated) (n : ℕ) (bytes : List ℕ) (b : ℕ) (k : IsReading r m h n bytes) (read : Read) (line : Line) → read ≡ Whole line →
+    StandsFor s (bytes ++ b ∷ []) (tell k.told read) → Says bytes k.told b read → game_of w ≡ game_of m → n < 4294967296 →
+    ((i : ℕ) (p : Option Ledger) → i < 4294967296 → TellsAfter i m p → TellsAfter (suc i) w (goes (game_of m) p line)) → IsReading s w h (n + 1) (bytes ++ b ∷ [])
+line_read r s m w h n bytes b k read line e stands says same room taken =
+    whole_read r s m w h n bytes (b ∷ []) k line 1 refl (omega arith) (subst (λ q. StandsFor s (bytes ++ b ∷ []) (tell k.told q)) e stands) (subst (λ q. Says bytes k.told b q) e says) same room taken
+
+-- some more of the bytes are read
+pub further : (bytes front rest : List ℕ) (n : ℕ) → bytes ≡ front ++ rest → bytes ≡ (front ++ take n rest) ++ take (length rest - n) (drop n rest)
+further bytes front rest n e =
+    e ∙ ap (λ xs. front ++ xs) (sym (take-append-drop n rest) ∙ ap (λ xs. take n rest ++ xs) (sym (take_all (length rest - n) (drop n rest) (omega (arith, length-drop n rest)))))
+    ∙ sym (append_assoc front (take n rest) (take (length rest - n) (drop n rest)))
 
 index_before : (xs ys : List ℕ) (n : ℕ) → n < length xs → slice_index (xs ++ ys) n ≡ slice_index xs n
 index_before [] ys n h = absurd (omega arith)

@@ -1,5 +1,5 @@
 //! The checker, byte by byte.
-ghost use Rattle.std.specs.Prelude.{◌≡◌, ◌≤◌, ◌+◌, ◌^◌, ◌++◌, ◌∷◌, [], None, length, IfOk, ℕ, List};
+ghost use Rattle.std.specs.Prelude.{◌≡◌, ◌≤◌, ◌<◌, ◌+◌, ◌^◌, ◌++◌, ◌∷◌, [], None, length, take, IfOk, ℕ, List};
 ghost use Rattle.line_check.specs.Machine.{game_of, IsReady};
 ghost use Rattle.qc_model.specs.Content.{Game};
 ghost use Rattle.qc_check.specs.Checking.{Comes, IsChecking, IsStopped};
@@ -73,22 +73,50 @@ impl<'p> Checker<'p> {
         }
     }
 
-    /// Reads the next byte.
-    fn byte(&mut self, byte: u8)
+    // Reads some of the next bytes, where none was a fault: a whole line where they begin with one, else
+    // one byte. How many were read.
+    fn some(&mut self, bytes: &[u8]) -> usize
         requires ready { IsReady self.old.machine }
-        requires room { self.old.read + 1 ≤ 2 ^ 32 }
+        requires more { 0 < length bytes.now }
+        requires room { self.old.read + length bytes.now ≤ 2 ^ 32 }
+        requires going { self.old.stop ≡ None }
         ensures ready { IsReady self.new.machine }
         ensures same { game_of self.new.machine ≡ game_of self.old.machine }
-        ensures read { self.new.read ≤ self.old.read + 1 }
-        ensures checking { (bytes : List ℕ) → IsChecking self.old bytes → IsChecking self.new (bytes ++ byte ∷ []) }
+        ensures size { (0 < result) × (result ≤ length bytes.now) }
+        ensures read { self.new.read ≤ self.old.read + result }
+        ensures checking { (before : List ℕ) → IsChecking self.old before → IsChecking self.new (before ++ take result bytes.now) }
     {
-        match self.stop {
-            Some(_) => {}
-            None => self.next(byte),
+        match self.reader.line(bytes) {
+            Some((whole, size)) => {
+                self.read += size as u64;
+                self.machine.line(whole);
+                size
+            }
+            None => {
+                self.next(bytes[0]);
+                1
+            }
         }
     }
 
-    // Reads the next bytes one by one.
+    // Reads some of the next bytes. After a fault all are passed over.
+    fn step(&mut self, bytes: &[u8]) -> usize
+        requires ready { IsReady self.old.machine }
+        requires more { 0 < length bytes.now }
+        requires room { self.old.read + length bytes.now ≤ 2 ^ 32 }
+        ensures ready { IsReady self.new.machine }
+        ensures same { game_of self.new.machine ≡ game_of self.old.machine }
+        ensures size { (0 < result) × (result ≤ length bytes.now) }
+        ensures read { self.new.read ≤ self.old.read + result }
+        ensures checking { (before : List ℕ) → IsChecking self.old before → IsChecking self.new (before ++ take result bytes.now) }
+    {
+        match self.stop {
+            Some(_) => bytes.len(),
+            None => self.some(bytes),
+        }
+    }
+
+    // Reads the next bytes, line by line where they are whole lines, and else one by one.
     fn read_each(&mut self, bytes: &[u8])
         requires ready { IsReady self.old.machine }
         requires room { self.old.read + length bytes.now ≤ 2 ^ 32 }
@@ -97,8 +125,10 @@ impl<'p> Checker<'p> {
         ensures read { self.new.read ≤ self.old.read + length bytes.now }
         ensures checking { (before : List ℕ) → IsChecking self.old before → IsChecking self.new (before ++ bytes.now) }
     {
-        for byte in bytes {
-            self.byte(*byte);
+        let mut rest = bytes;
+        while !rest.is_empty() {
+            let size = self.step(rest);
+            rest = &rest[size..];
         }
     }
 

@@ -1,10 +1,18 @@
-use Rattle.std.proofs.Common.{◌≡◌, ◌≤◌, ◌+◌, ℕ, List, ◌++◌, take}
+use Rattle.std.proofs.Common.{◌≡◌, ◌≤◌, ◌+◌, ℕ, List, ◌++◌, length}
 use Rattle.line_check.specs.Machine.{game_of, IsReady}
 use Rattle.qc_check.specs.Checking.{IsChecking}
 use Rattle.qc_check.proofs.progress.Checker.read_each.Given as goal
 
--- the checker was given the bytes so far
-abbrev pub invariant-loop-byte : goal.invariant-loop-byte
-invariant-loop-byte l =
-    IsReady l.self.machine × (game_of l.self.machine ≡ game_of l.fn.self.machine) × (l.self.read ≤ l.fn.self.read + l.byte-index)
-    × ((before : List ℕ) → IsChecking l.fn.self before → IsChecking l.self (before ++ take l.byte-index l.bytes))
+-- the checker was given the bytes before the rest
+abbrev pub invariant-loop-rest : goal.invariant-loop-rest
+invariant-loop-rest l = record {
+  ready : IsReady l.self.machine;
+  same : game_of l.self.machine ≡ game_of l.fn.self.machine;
+  front : List ℕ;
+  whole : l.bytes ≡ front ++ l.rest;
+  read : l.self.read ≤ l.fn.self.read + length front;
+  checking : (before : List ℕ) → IsChecking l.fn.self before → IsChecking l.self (before ++ front);
+}
+
+abbrev pub decreases-loop-rest : goal.decreases-loop-rest
+decreases-loop-rest l = length l.rest
