@@ -28,10 +28,10 @@ use Rattle.search_box.specs.Rests.{IsFirst, IsAfter}
 use Rattle.search_box.proofs.Goings.{follows_on}
 use Rattle.search_box.proofs.Places.{read_numbers}
 use Rattle.game_search.specs.Going.{GoesOn}
-use Rattle.game_search.specs.Aims.{tracked_at}
+use Rattle.game_search.specs.Aims.{tracked_at, IsAimed}
 use Rattle.game_search.specs.Beaten.{seen_bounds}
 use Rattle.game_search.specs.Narrowed.{NarrowTold}
-use Rattle.game_search.specs.Rivals.{above_at, StandsAbove, outdoes}
+use Rattle.game_search.specs.Rivals.{above_at, StandsAbove, outdoes, IsRival}
 use Rattle.game_search.specs.Settled.{is_outdone}
 use Rattle.game_search.specs.Told.{IsReady, StepsTold, PartTold, CaseTold, BodyTold, NodeTold}
 use Rattle.game_search.specs.Uppers.{upto_between, without_before}
@@ -152,7 +152,7 @@ cases-returns-then-is_outdone-clause-told t c =
 pub cases-returns-then-is_outdone-clause-back : goal.cases-returns-then-is_outdone-clause-back
 cases-returns-then-is_outdone-clause-back t c =
     on_ok_weaker c.leave_out-then-is_outdone.result
-    (λ e. back_more c.args.stage.now.level.now.problem.now c.args.stage.now.level.now.number c.args.walk.now c.values.walk _ c.values.invariant.back refl c.add_skipped.ensures.same (λ j xs h s. c.add_skipped.ensures.others j xs (λ q. omega (arith, q, h)) s)
+    (λ e. back_more c.args.stage.now.level.now.problem.now c.args.stage.now.level.now.number c.args.walk.now c.values.walk _ c.values.invariant.back refl c.add_skipped.ensures.same (λ j xs h s. c.add_skipped.ensures.others j xs (λ q. absurd (omega arith)) s)
     (longer c.values.walk.lines c.leave_out-then-is_outdone.new.lines _ e))
     c.leave_out-then-is_outdone.ensures
 
@@ -293,6 +293,20 @@ node-returns-then-is_here-clause-back t c =
     let look = c.in_ok-ahead.ensures in
     on_ok_weaker c.stuck.result
     (λ e. back_after c.args.levels.now.problem.now _ c.args.number _ c.level-level.ensures.problem c.level-level.ensures.number c.args.walk.now _ c.stuck.new.walk look.game look.content look.past look.values refl _ c.in_ok-below.ensures.lines e) c.stuck.ensures.back
+
+pub node-invariant_of-stage-clause-aimed : goal.node-invariant_of-stage-clause-aimed
+node-invariant_of-stage-clause-aimed t c =
+    let level = c.level-level.result.now in
+    let aim = c.aim_of.result in
+    let here = subst (λ (f : Game). IsAimed f c.args.number aim) (sym c.level-level.ensures.problem) c.aim_of.ensures in
+    subst (λ n. IsAimed level.problem.now n aim) (sym c.level-level.ensures.number) here
+
+pub node-invariant_of-stage-clause-rivalled : goal.node-invariant_of-stage-clause-rivalled
+node-invariant_of-stage-clause-rivalled t c =
+    let level = c.level-level.result.now in
+    let rival = c.rival_of.result in
+    let here = subst (λ (f : Game). IsRival f c.args.number rival) (c.requires.joins ∙ sym c.level-level.ensures.problem) c.rival_of.ensures.sense in
+    subst (λ n. IsRival level.problem.now n rival) (sym c.level-level.ensures.number) here
 
 pub node-returns-clause-told : goal.node-returns-clause-told
 node-returns-clause-told t c =
