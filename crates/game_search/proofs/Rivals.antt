@@ -1,5 +1,5 @@
 -- The incumbent of the scope right above: what it beats is beaten there.
-use Rattle.std.proofs.Common.{◌≡◌, ◌∙◌, ◌<◌, ◌-◌, ℕ, suc, refl, sym, ap, subst, arith, Bool, true, false, List, [], ◌∷◌, ℤ, Option, None, Some, length, drop}
+use Rattle.std.proofs.Common.{◌≡◌, ◌∙◌, ◌<◌, ◌-◌, ℕ, suc, refl, sym, ap, subst, arith, Bool, true, false, List, ◌∷◌, ℤ, Some, length, drop}
 use Rattle.qc_model.specs.declared.problem.Condition.{Condition}
 use Rattle.qc_model.specs.Content.{Game}
 use Rattle.qc_model.specs.Demands.{demands}

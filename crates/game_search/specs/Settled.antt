@@ -1,5 +1,5 @@
 -- What was seen in a scope's own tree so far: whether further leaves count.
-use Rattle.std.specs.Prelude.{Bool, true, false, not, ◌||◌, List, [], ◌∷◌, ℤ}
+use Rattle.std.specs.Prelude.{Bool, true, false, not, ◌||◌, List, ℤ}
 use Rattle.std.specs.List.{list_any}
 use Rattle.qc_model.specs.declared.problem.Condition.{Condition}
 use Rattle.qc_model.specs.declared.problem.Scope.{Scope}

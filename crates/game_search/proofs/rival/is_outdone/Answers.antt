@@ -1,4 +1,4 @@
-use Rattle.std.proofs.Common.{◌≡◌, ◌∙◌, sym, ap, true, Option, Some, w64, rules}
+use Rattle.std.proofs.Common.{◌≡◌, ◌∙◌, sym, ap, Option, w64, rules}
 use Rattle.std.proofs.lemmas.Int.{to_z-of_z}
 use mir.Val.{SFits}
 use Rattle.qc_model.specs.ExistsVerdict.{beats}
