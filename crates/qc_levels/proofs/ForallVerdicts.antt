@@ -1,5 +1,5 @@
 -- The verdict by what a universal join keeps is that of the leaves.
-use Rattle.std.proofs.Common.{◌≡◌, ℕ, Bool, true, false, not, cond, Option, Some, None, List, [], ◌∷◌, map, refl, sym, ap, ◌∙◌}
+use Rattle.std.proofs.Common.{◌≡◌, ℕ, Bool, true, false, not, ◌&&◌, cond, Option, Some, None, List, [], ◌∷◌, map, refl, sym, ap, ◌∙◌}
 use Rattle.std.specs.Prelude.{ℤ, pos, slice_get, slice_index_or}
 use Rattle.qc_model.specs.declared.problem.Sense.{Sense}
 use Rattle.qc_model.specs.declared.problem.Sense.TheVariants.{Min, Max}
@@ -17,7 +17,7 @@ use Rattle.qc_model.specs.ForallVerdict.{entry_value, entry_values, numbers_for,
 use Rattle.qc_model.specs.ForallVerdict.{fold_bound as bound_by_fold}
 use Rattle.qc_levels.specs.declared.columns.Source.{Source}
 use Rattle.qc_levels.specs.declared.columns.Column.{Column}
-use Rattle.qc_levels.specs.Columns.{total_of, TotalsAre, known_by, known_of, folded_at, source_of, sources_of, first_sense, value_by, values_by, side_by, bound_by, bounded_by}
+use Rattle.qc_levels.specs.Columns.{total_of, TotalsAre, known_by, known_of, folded_at, source_of, sources_of, first_sense, value_by, values_by, side_by, bound_by, bounded_by, is_one_sided, side_of_fold, side_bound, side_by_source, side_by_columns}
 use Rattle.qc_levels.specs.ForallJoin.{Gathers}
 
 value_folded : (o : Option Aggregate) (k : ℕ) (s : Source) (t : ℤ) (a : List ℤ) (ws : List (List ℤ)) → s ≡ folded_at o k → t ≡ total_of s ws →
@@ -84,6 +84,34 @@ bounded_kept g d s cs l e k h a t xs q r w =
     ∙ ap (λ (z : Bool). bounded_by (first_sense d) cs z a t) w.all_known_is
     ∙ ap (λ (z : Bool). bounded_by (first_sense d) cs (each_node is_known xs) z t) w.any_known_is
     ∙ bounded_is g d d cs t xs q w.known_is
+
+-- the bound that the leaves give by themselves
+number_folded : (o : Option Aggregate) (k : ℕ) (s : Sense) (c : Source) (n : ℤ) (ns : List ℤ) → c ≡ folded_at o k → n ≡ known_by c ns → side_by_source s c (not (is_none_of ns)) n ≡ side_of_fold s o ns
+number_folded None k s c n ns e h = ap (λ (z : Source). side_by_source s z (not (is_none_of ns)) n) e
+number_folded (Some p) k s c n ns e h =
+    let q : n ≡ fold_of p.fold ns = h ∙ ap (λ (z : Source). known_by z ns) e in
+    ap (λ (z : Source). side_by_source s z (not (is_none_of ns)) n) e
+    ∙ ap (λ (z : ℤ). cond (not (is_none_of ns) && is_one_sided s p.fold) (Some z) None) q
+
+number_is : (g : Game) (d e : List Condition) (cs : List Column) (n : ℤ) (ns : List ℤ) → map (λ c. c.source) cs ≡ map (λ c. source_of g d c.target) e → n ≡ known_of cs ns →
+    side_by_columns (first_sense e) cs (not (is_none_of ns)) n ≡ side_bound g e ns
+number_is g d [] [] n ns q h = refl
+number_is g d [] (c ∷ cs) n ns q h = cc
+number_is g d (x ∷ e) [] n ns q h = cc
+number_is g d (x ∷ e) (c ∷ cs) n ns q h =
+    let r : c.source ≡ source_of g d x.target = cc in
+    by x.target r
+  where
+    by : (y : Target) → c.source ≡ source_of g d y → side_by_source x.sense c.source (not (is_none_of ns)) n ≡ side_bound g (record { sense = x.sense; target = y } ∷ e) ns
+    by (Var v) r = ap (λ (z : Source). side_by_source x.sense z (not (is_none_of ns)) n) r
+    by (Agg q) r = number_folded (slice_get g.aggregates q.0) (place_of q.0 d) x.sense c.source n ns r h
+
+pub side_is_bound : (g : Game) (d : List Condition) (s : Sense) (cs : List Column) (l e k h a : Bool) (t : ℤ) (xs : List Seen) → map (λ c. c.source) cs ≡ sources_of g d → s ≡ first_sense d → Gathers cs l e k h a t xs →
+    side_by_columns s cs a t ≡ side_bound g d (known_numbers xs)
+side_is_bound g d s cs l e k h a t xs q r w =
+    ap (λ (z : Sense). side_by_columns z cs a t) r
+    ∙ ap (λ (z : Bool). side_by_columns (first_sense d) cs z t) w.any_known_is
+    ∙ number_is g d d cs t (known_numbers xs) q w.known_is
 
 cond_true : (b : Bool) (x y : Verdict) → b ≡ true → x ≡ cond b x y
 cond_true true x y e = refl

@@ -1,5 +1,5 @@
 -- What a universal join keeps of its leaves, and the verdict by what it keeps.
-use Rattle.std.specs.Prelude.{◌≡◌, ◌≤◌, ◌+◌, ◌==◌, ⊤, ℕ, Bool, cond, Option, Some, None, List, [], ◌∷◌, ◌++◌, map, slice_get, slice_index_or, ℤ, pos, ◌+ℤ◌, unsigned_abs}
+use Rattle.std.specs.Prelude.{◌≡◌, ◌≤◌, ◌+◌, ◌==◌, ⊤, ℕ, Bool, true, false, not, ◌&&◌, cond, Option, Some, None, List, [], ◌∷◌, ◌++◌, map, slice_get, slice_index_or, ℤ, pos, ◌+ℤ◌, unsigned_abs}
 use Rattle.std.specs.Int.{int_min, int_max, int_wrap}
 use mir.Syntax.{w64}
 use Rattle.qc_model.specs.declared.problem.Sense.{Sense}
@@ -13,7 +13,7 @@ use Rattle.qc_model.specs.declared.problem.Condition.{Condition}
 use Rattle.qc_model.specs.Content.{Game}
 use Rattle.qc_model.specs.Value.{fold_of}
 use Rattle.qc_model.specs.Demands.{place_among, first_namings}
-use Rattle.qc_model.specs.Verdict.{Verdict, lost, exact, at_most, unknown, Seen, seen_barred, seen_skipped, seen_bound, seen_node}
+use Rattle.qc_model.specs.Verdict.{Verdict, lost, exact, at_most, unknown, Seen, seen_barred, seen_skipped, seen_bound, seen_node, is_none_of}
 use Rattle.qc_levels.specs.declared.columns.Source.{Source}
 use Rattle.qc_levels.specs.declared.columns.Source.TheVariants.{Variable, Folded, Missing}
 use Rattle.qc_levels.specs.declared.columns.Column.{Column}
@@ -147,3 +147,35 @@ bounded_by s (c ∷ cs) all_known any_known n = bound_by s c.source all_known an
 abbrev pub forall_by : Sense → List Column → List ℤ → Bool → Bool → Bool → Bool → ℤ → Verdict
 forall_by s cs a any_lost all_exact all_known any_known n =
     cond any_lost lost (cond all_exact (exact (values_by a cs)) (bounded_by s cs all_known any_known n))
+
+-- some branches alone bound the fold: the greatest where less is better, the least where more is
+abbrev pub is_one_sided : Sense → Fold → Bool
+is_one_sided Min (Greatest e) = true
+is_one_sided Max (Least e) = true
+is_one_sided Min Sum = false
+is_one_sided Min (Least e) = false
+is_one_sided Max Sum = false
+is_one_sided Max (Greatest e) = false
+
+abbrev pub side_of_fold : Sense → Option Aggregate → List ℤ → Option ℤ
+side_of_fold s None ns = None
+side_of_fold s (Some q) ns = cond (not (is_none_of ns) && is_one_sided s q.fold) (Some (fold_of q.fold ns)) None
+
+abbrev pub side_of_target : Game → Sense → Target → List ℤ → Option ℤ
+side_of_target g s (Var x) ns = None
+side_of_target g s (Agg q) ns = side_of_fold s (slice_get g.aggregates q.0) ns
+
+-- the bound that branches with the numbers ns give by themselves, by the list's first entry
+abbrev pub side_bound : Game → List Condition → List ℤ → Option ℤ
+side_bound g [] ns = None
+side_bound g (c ∷ d) ns = side_of_target g c.sense c.target ns
+
+-- the same by what is kept
+abbrev pub side_by_source : Sense → Source → Bool → ℤ → Option ℤ
+side_by_source s (Variable x) any_known n = None
+side_by_source s (Folded f k) any_known n = cond (any_known && is_one_sided s f) (Some n) None
+side_by_source s Missing any_known n = None
+
+abbrev pub side_by_columns : Sense → List Column → Bool → ℤ → Option ℤ
+side_by_columns s [] any_known n = None
+side_by_columns s (c ∷ cs) any_known n = side_by_source s c.source any_known n

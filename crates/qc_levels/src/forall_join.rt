@@ -3,9 +3,9 @@ ghost use Rattle.std.specs.Prelude.{◌≡◌, ◌≤◌, ◌<◌, IfOk, ℕ, []
 ghost use Rattle.qc_model.specs.Content.{Game};
 ghost use Rattle.qc_model.specs.Demands.{demands};
 ghost use Rattle.qc_model.specs.Verdict.{Seen, seen_skipped, seen_node, lost, exact, at_most, unknown, is_lost, some_node};
-ghost use Rattle.qc_model.specs.ForallVerdict.{forall_verdict};
+ghost use Rattle.qc_model.specs.ForallVerdict.{forall_verdict, known_numbers};
 ghost use Rattle.qc_levels.specs.Seen.{seen_of, verdict_of, is_exact_answer};
-ghost use Rattle.qc_levels.specs.Columns.{IsSmall, StaySmall, side_by, bound_by, bounded_by, first_sense as first_sense_of};
+ghost use Rattle.qc_levels.specs.Columns.{IsSmall, StaySmall, side_by, bound_by, bounded_by, is_one_sided as is_one_sided_by, side_by_source, side_by_columns, side_bound as side_bound_of, first_sense as first_sense_of};
 
 use crate::columns::{
     Column, Source, add_vector, empty, fresh_columns, hand_out, known_of_none, known_with,
@@ -62,6 +62,42 @@ fn side(sense: Sense, fold: Fold, known: i64) -> Found
             Fold::Sum => Found::Unknown,
             Fold::Greatest(_) => Found::Unknown,
         },
+    }
+}
+
+/// Whether some of the branches alone bound the fold: the greatest where less is better, the least
+/// where more is.
+fn is_one_sided(sense: Sense, fold: Fold) -> bool
+    ensures { result ≡ is_one_sided_by sense fold }
+{
+    match sense {
+        Sense::Min => match fold {
+            Fold::Greatest(_) => true,
+            Fold::Sum => false,
+            Fold::Least(_) => false,
+        },
+        Sense::Max => match fold {
+            Fold::Least(_) => true,
+            Fold::Sum => false,
+            Fold::Greatest(_) => false,
+        },
+    }
+}
+
+/// The bound that some of the branches give by themselves.
+fn side_number(sense: Sense, source: Source, any_known: bool, known: i64) -> Option<i64>
+    ensures { result ≡ side_by_source sense source any_known known }
+{
+    match source {
+        Source::Variable(_) => None,
+        Source::Folded(fold, _) => {
+            if any_known && is_one_sided(sense, fold) {
+                Some(known)
+            } else {
+                None
+            }
+        }
+        Source::Missing => None,
     }
 }
 
@@ -204,6 +240,25 @@ impl ForallJoin {
         ensures { (xs : List Seen) → StandsFor self.now xs → result ≡ some_node is_lost xs }
     {
         self.any_lost
+    }
+
+    /// The bound that the leaves so far give by themselves, whatever the others come to. None comes exactly where no number
+    /// is known, or the list's first entry isn't an aggregate that some of the branches bound.
+    pub fn side_bound(&self) -> Option<i64>
+        ensures { (g : Game) (i : ℕ) (xs : List Seen) → JoinsScope g i self.now → StandsFor self.now xs → result ≡ side_bound_of g (demands g i) (known_numbers xs) }
+    {
+        self.side()
+    }
+
+    fn side(&self) -> Option<i64>
+        ensures { result ≡ side_by_columns self.now.sense self.now.columns.items self.now.any_known self.now.known }
+    {
+        match self.columns.split_first() {
+            Some((first, _rest)) => {
+                side_number(self.sense, first.source, self.any_known, self.known)
+            }
+            None => None,
+        }
     }
 
     /// What the leaves come to, where none is lost and not all are exact.
