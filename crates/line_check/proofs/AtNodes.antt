@@ -90,7 +90,7 @@ stuck_tells m js f w others same new h e n d es u few p k =
     subst (λ a. Tells new (Some (node_closed g (node_at m d es u) es m.number m.horizon (stuck_of (drop m.number g.scopes) g (demands g m.number) a)))) (sym (position_is m w))
     (alone_closes m js f w others same new v n d es u h e (w.sound.laws.stuck_long m.number (before_of m)) (w.sound.laws.stuck_sized m.number (before_of m) (before_numbers m w)) few p k)
 
-drop_none : (ss : List Scope) (i : ℕ) → length ss ≤ i → drop i ss ≡ []
+pub drop_none : (ss : List Scope) (i : ℕ) → length ss ≤ i → drop i ss ≡ []
 drop_none [] zero h = refl
 drop_none [] (suc i) h = refl
 drop_none (s ∷ ss) zero h = absurd (omega arith)

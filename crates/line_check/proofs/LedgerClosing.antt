@@ -19,7 +19,7 @@ kind_comes : (k : Kind) (own : Option Condition) (g : Game) (i : ℕ) (d : List 
 kind_comes Exists own g i d a ls = refl
 kind_comes Forall own g i d a ls = refl
 
-scope_is : (ss : List Scope) (g : Game) (i : ℕ) (d : List Condition) (a : List ℤ) (ls : List Leaf) → scope_verdict ss g d a (map seen_of ls) ≡ (scope_finding ss g i d a ls).verdict
+pub scope_is : (ss : List Scope) (g : Game) (i : ℕ) (d : List Condition) (a : List ℤ) (ls : List Leaf) → scope_verdict ss g d a (map seen_of ls) ≡ (scope_finding ss g i d a ls).verdict
 scope_is [] g i d a ls = refl
 scope_is (s ∷ later) g i d a ls = kind_comes s.kind s.condition g i d a ls
 

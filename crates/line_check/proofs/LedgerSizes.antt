@@ -44,7 +44,7 @@ all_filter p q (x ∷ xs) h = let r = both (p x) (list_all p xs) h in kept (q x)
     kept true e f = two (p x) (list_all p (filter q xs)) e f
     kept false e f = f
 
-all_take : {X : Type 0} (p : X → Bool) (n : ℕ) (xs : List X) → list_all p xs ≡ true → list_all p (take n xs) ≡ true
+pub all_take : {X : Type 0} (p : X → Bool) (n : ℕ) (xs : List X) → list_all p xs ≡ true → list_all p (take n xs) ≡ true
 all_take p zero xs h = refl
 all_take p (suc n) [] h = refl
 all_take p (suc n) (x ∷ xs) h = let r = both (p x) (list_all p xs) h in two (p x) (list_all p (take n xs)) r.0 (all_take p n xs r.1)
@@ -54,12 +54,12 @@ all_drop p zero xs h = h
 all_drop p (suc n) [] h = refl
 all_drop p (suc n) (x ∷ xs) h = all_drop p n xs (both (p x) (list_all p xs) h).1
 
-all_set : {X : Type 0} (p : X → Bool) (xs : List X) (n : ℕ) (x : X) → list_all p xs ≡ true → p x ≡ true → list_all p (set xs n x) ≡ true
+pub all_set : {X : Type 0} (p : X → Bool) (xs : List X) (n : ℕ) (x : X) → list_all p xs ≡ true → p x ≡ true → list_all p (set xs n x) ≡ true
 all_set p [] n x h e = refl
 all_set p (y ∷ xs) zero x h e = two (p x) (list_all p xs) e (both (p y) (list_all p xs) h).1
 all_set p (y ∷ xs) (suc n) x h e = let r = both (p y) (list_all p xs) h in two (p y) (list_all p (set xs n x)) r.0 (all_set p xs n x r.1 e)
 
-left_numbers : (box : Box) (x : ℕ) → HasNumbers box → AreNumbers (values_left box x)
+pub left_numbers : (box : Box) (x : ℕ) → HasNumbers box → AreNumbers (values_left box x)
 left_numbers [] zero h = refl
 left_numbers [] (suc x) h = refl
 left_numbers (vs ∷ box) zero h = (both (list_all is_number vs) (list_all (list_all is_number) box) h).0
@@ -69,7 +69,7 @@ without_numbers : (box : Box) (x : ℕ) (low high : ℤ) → HasNumbers box → 
 without_numbers box x low high h =
     all_set (list_all is_number) box x (values_outside low high (values_left box x)) h (all_filter is_number (λ v. not (is_within low high v)) (values_left box x) (left_numbers box x h))
 
-step_numbers : (step : Step) (box : Box) → HasNumbers box → HasNumbers (after_step step box)
+pub step_numbers : (step : Step) (box : Box) → HasNumbers box → HasNumbers (after_step step box)
 step_numbers (PruneStep x low high c) box h = without_numbers box x.0 low high h
 step_numbers (BoundStep x low high) box h = without_numbers box x.0 low high h
 
@@ -104,20 +104,20 @@ box_numbers (vs ∷ box) h =
     let r = both (list_all is_number vs) (list_all (list_all is_number) box) h in
     two (is_number (least_value vs)) (list_all is_number (box_values box)) (least_is vs r.0) (box_numbers box r.1)
 
-position_numbers : (g : Game) (i : ℕ) (box : Box) → HasNumbers box → AreNumbers (position g i box)
+pub position_numbers : (g : Game) (i : ℕ) (box : Box) → HasNumbers box → AreNumbers (position g i box)
 position_numbers g i box h = box_numbers (take (before g i) box) (all_take (list_all is_number) (before g i) box h)
 
 -- what was seen
 sizes_more : (m n : ℕ) (xs : List Seen) → m ≤ n → HasSizes m xs → HasSizes n xs
 sizes_more m n xs l h = λ k. omega (arith, l, h k)
 
-sized_more : (m n : ℕ) (v : Verdict) → m ≤ n → IsSized m v → IsSized n v
+pub sized_more : (m n : ℕ) (v : Verdict) → m ≤ n → IsSized m v → IsSized n v
 sized_more m n lost l h = h
 sized_more m n (exact w) l h = λ k. omega (arith, l, h k)
 sized_more m n (at_most p) l h = omega (arith, l, h)
 sized_more m n unknown l h = h
 
-node_sizes : (n : ℕ) (v : Verdict) → IsSized n v → HasSizes n (seen_node v ∷ [])
+pub node_sizes : (n : ℕ) (v : Verdict) → IsSized n v → HasSizes n (seen_node v ∷ [])
 node_sizes n lost h = λ k. omega arith
 node_sizes n (exact w) h = λ k. omega (arith, h k)
 node_sizes n (at_most p) h = λ k. omega (arith, h)

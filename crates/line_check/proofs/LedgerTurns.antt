@@ -35,7 +35,7 @@ use Rattle.line_check.proofs.Offs.{node_flag, part_flag, end_off}
 use Rattle.line_check.proofs.Facts.{both, goal_at, next_drop, failed, too_deep, or_false, or_true, some_open, one_later}
 use Rattle.line_check.proofs.LedgerClosing.{own_also, node_leads, part_leads}
 
-demands_step : (g : Game) (ss : List Scope) (i : ℕ) (d : List Condition) → i < length ss → list_after g (drop i ss) (demands_from g (take i ss) d) ≡ demands_from g (take (suc i) ss) d
+pub demands_step : (g : Game) (ss : List Scope) (i : ℕ) (d : List Condition) → i < length ss → list_after g (drop i ss) (demands_from g (take i ss) d) ≡ demands_from g (take (suc i) ss) d
 demands_step g [] i d h = absurd (omega arith)
 demands_step g (s ∷ ss) zero d h = refl
 demands_step g (s ∷ ss) (suc i) d h = demands_step g ss i (demands_after g s.kind s.condition d) (omega arith)
@@ -47,7 +47,7 @@ place_next g s i z h e =
     ∙ (ap (λ (ds : List Condition). let p : Spot = record { later = drop (suc i) g.scopes; number = suc i; demands = ds; horizon = z } in p) (demands_step g g.scopes i [] h)
     ∙ ap (λ m. place_at g m z) (sym (add-one i))))
 
-stuck_comes : (g : Game) (later : List Scope) (d : List Condition) (a : List ℤ) → stuck_of later g d a ≡ (stuck_finding later g d a).verdict
+pub stuck_comes : (g : Game) (later : List Scope) (d : List Condition) (a : List ℤ) → stuck_of later g d a ≡ (stuck_finding later g d a).verdict
 stuck_comes g [] d a = refl
 stuck_comes g (s ∷ later) d a = by s.kind
   where
@@ -64,7 +64,7 @@ stuck_owns g (s ∷ later) d a = by s.kind
     by Exists = refl
     by Forall = refl
 
-map_both : (ms : List ℤ) → map seen_bound ms ≡ map seen_of (map leaf_bound ms)
+pub map_both : (ms : List ℤ) → map seen_bound ms ≡ map seen_of (map leaf_bound ms)
 map_both [] = refl
 map_both (m ∷ ms) = ap (λ us. seen_bound m ∷ us) (map_both ms)
 

@@ -247,7 +247,7 @@ fork_begins s x mark e n =
     ap (λ b. let f : Fork = record { variable = x.0; box = b; left = values_from (negsuc 999999999) (values_left b x.0) } in f) (past_now s mark.at e)
     ∙ ap (λ vs. let f : Fork = record { variable = x.0; box = s.box; left = vs } in f) (from_least (values_left s.box x.0) n)
 
-of_scope : (g : Game) (i x : ℕ) → is_of_scope g i x ≡ true → x < length g.variables
+pub of_scope : (g : Game) (i x : ℕ) → is_of_scope g i x ≡ true → x < length g.variables
 of_scope g i x e =
     let below = lower x (before g (suc i)) (second (nat_le (before g i) x) (nat_lt x (before g (suc i))) e) in
     let most = before-le g (suc i) in

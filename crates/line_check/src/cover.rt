@@ -10,14 +10,16 @@ use qc_model::VarId;
 
 /// The first and the last of the values that a case covers.
 #[derive(Clone, Copy)]
-pub(crate) struct Ends {
-    pub(crate) first: i64,
-    pub(crate) last: i64,
+pub struct Ends {
+    /// The least of them.
+    pub first: i64,
+    /// The greatest of them.
+    pub last: i64,
 }
 
 /// The ends of a case that has this upper value, or one value alone, and begins at the first of the values of x from `from`
 /// on; None where there is no such value, or the upper value isn't one that comes after the first.
-pub(crate) fn case_ends(store: &Store, x: VarId, from: i64, upto: Option<i64>) -> Option<Ends>
+pub fn case_ends(store: &Store, x: VarId, from: i64, upto: Option<i64>) -> Option<Ends>
     requires var { x.0 < length store.now.box }
     ensures none { IfNone result (is_cover upto (values_from from (values_left store.now.box x.0)) ≡ false) }
     ensures some { IfSome result (λ e. IsCase (values_left store.now.box x.0) from upto e.first e.last) }

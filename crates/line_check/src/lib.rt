@@ -1,4 +1,7 @@
 //! Checks certificates line by line, with memory that doesn't grow with their number.
+//!
+//! What the machine keeps of a box, and what it asks of it, is there for others who walk a tree too: `Remains`,
+//! `case_ends`, `read_values`, `goal_holds`.
 #![tactic(auto)]
 
 mod answer;
@@ -23,8 +26,11 @@ mod tuple;
 mod turn;
 
 pub use answer::Answer;
+pub use cover::{Ends, case_ends};
 pub use judge::judge_lines;
 pub use laws::answers_are_right;
 pub use ledgers::{ledgers_are_right, ledgers_keep_sizes};
 pub use machine::Machine;
 pub use qc_levels::Found;
+pub use remains::Remains;
+pub use tuple::{goal_holds, read_values};

@@ -15,9 +15,9 @@ const PLACES: usize = 16_400;
 /// A store, and whether a variable has no value left.
 ///
 /// The trail has room for each value's removal, and for one removal more, from the beginning: so nothing but `new` takes
-/// memory.
+/// memory. Contracts see what the store holds.
 #[derive(Drop)]
-pub(crate) struct Remains {
+pub struct Remains {
     store: Store,
     empty: bool,
 }
@@ -50,7 +50,7 @@ fn count_values(store: &Store) -> usize
 
 impl Remains {
     /// The declared domains of a problem's variables. It fails only where memory runs out.
-    pub(crate) fn new(alloc: Global, problem: &Problem) -> Result<Remains, AllocError>
+    pub fn new(alloc: Global, problem: &Problem) -> Result<Remains, AllocError>
         ensures { IfOk result (λ r. (r.box ≡ declared_box problem.now) × (r.past ≡ [])) }
     {
         problem.known();
@@ -63,28 +63,29 @@ impl Remains {
         })
     }
 
-    pub(crate) fn store(&self) -> &Store
+    /// The store, to be read.
+    pub fn store(&self) -> &Store
         ensures { result.now ≡ self.now }
     {
         &self.store
     }
 
-    /// The trail's length.
-    pub(crate) fn mark(&self) -> Mark
+    /// The trail's length, to go back to.
+    pub fn mark(&self) -> Mark
         ensures { result.at ≡ trail_len self.now }
     {
         self.store.mark()
     }
 
     /// Whether a variable has no value left.
-    pub(crate) fn is_empty(&self) -> bool
+    pub fn is_empty(&self) -> bool
         ensures { result ≡ has_empty self.now.box }
     {
         self.empty
     }
 
     /// Whether x has a value from lo to hi.
-    pub(crate) fn has_within(&self, x: VarId, lo: i64, hi: i64) -> bool
+    pub fn has_within(&self, x: VarId, lo: i64, hi: i64) -> bool
         ensures { result ≡ not (is_none_left (values_within lo hi (values_left self.now.box x.0))) }
     {
         if x.0 as usize >= self.store.count() {
@@ -97,7 +98,7 @@ impl Remains {
     }
 
     /// Takes the values from lo to hi out of x.
-    pub(crate) fn cut(&mut self, x: VarId, lo: i64, hi: i64)
+    pub fn cut(&mut self, x: VarId, lo: i64, hi: i64)
         requires var { x.0 < length self.old.box }
         ensures content { self.new.box ≡ box_without self.old.box x.0 lo hi }
         ensures past { Follows self.old self.new }
@@ -114,7 +115,7 @@ impl Remains {
     }
 
     /// Leaves x its values from first to last alone.
-    pub(crate) fn keep(&mut self, x: VarId, first: i64, last: i64)
+    pub fn keep(&mut self, x: VarId, first: i64, last: i64)
         requires var { x.0 < length self.old.box }
         requires first { IsTrue (is_number first) }
         requires last { IsTrue (is_number last) }
@@ -128,7 +129,7 @@ impl Remains {
     }
 
     /// Goes back to a box in which each variable had a value.
-    pub(crate) fn undo_to(&mut self, mark: Mark)
+    pub fn undo_to(&mut self, mark: Mark)
         requires at { mark.at ≤ trail_len self.old }
         requires full { has_empty (past_box self.old mark.at) ≡ false }
         ensures past { IsUndone mark.at self.old self.new }

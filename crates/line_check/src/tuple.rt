@@ -30,7 +30,7 @@ fn are_fixed(store: &Store, from: usize, stop: usize) -> bool
 
 /// Reads the one value left to each variable from `from` to the one before `stop` into its place. Those before stand
 /// there already.
-fn read_values(store: &Store, from: usize, stop: usize, values: &mut [i64])
+pub fn read_values(store: &Store, from: usize, stop: usize, values: &mut [i64])
     requires order { from ≤ stop }
     requires bound { stop ≤ length store.now.box }
     requires few { length store.now.box ≤ 500 }
@@ -77,7 +77,7 @@ pub(crate) fn tuple_allowed(level: &Level, remains: &Remains, values: &mut [i64]
 }
 
 /// Whether the goal holds on these values, one for each variable.
-pub(crate) fn goal_holds(levels: &Levels, values: &[i64]) -> bool
+pub fn goal_holds(levels: &Levels, values: &[i64]) -> bool
     requires numbers { list_all is_number values.now ≡ true }
     ensures { result ≡ allows levels.now.problem.now (length levels.now.problem.now.scopes) values.now }
 {

@@ -7,7 +7,7 @@ use crate::joins::Joins;
 use qc_model::{Condition, ScopeId};
 
 impl Joins<'_> {
-    ghost use Rattle.qc_joins.specs.Joins.{game_of, StandsAt};
+    ghost use Rattle.qc_joins.specs.Joins.{game_of, out_of, StandsAt};
 
     /// The value of the own condition of scope i. None comes exactly where the scope has no condition, or
     /// its leaves and bounds don't come to exact.
@@ -24,6 +24,13 @@ impl Joins<'_> {
         ensures { result.now ≡ wishes_at (game_of self.now) i.0 }
     {
         self.joins[i.0 as usize].wishes()
+    }
+
+    /// The vector that was handed out last.
+    pub fn vector(&self) -> &[i64]
+        ensures { result.now ≡ out_of self.now }
+    {
+        self.out.items()
     }
 
     /// The incumbent of scope i, a scope of the player: the first value of the best vector so far. None comes exactly
