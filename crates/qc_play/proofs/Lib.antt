@@ -8,4 +8,5 @@ pub mod Turns
 pub mod Showing
 pub mod Making
 pub mod Starts
+mod Opened
 mod Plays

@@ -7,3 +7,4 @@ pub mod Ends
 pub mod Stuck
 pub mod Made
 pub mod Judged
+pub mod Shows

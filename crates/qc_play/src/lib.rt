@@ -6,10 +6,10 @@
 //! out. `play` plays the game with such a tree on one side and given moves on the other, and writes what
 //! happened, scope by scope. With an optimal strategy a play ends with a goal that holds, or with an opponent who has
 //! no allowed tuple. With a counterstrategy that wins it ends with a goal that doesn't hold, or with a player from
-//! whose tuples nobody can go on.
+//! whose tuples nobody can go on. `make_answer` tells what a certificate shows, whatever it states.
 //!
 //! `specs/` says which tree a value is (`Shape`), how a play goes (`Play`), its text (`PlayText`), what it ends with
-//! (`Ends`), and what is made of a certificate (`Made`).
+//! (`Ends`), what is made of a certificate (`Made`), and what one shows (`Shows`).
 #![tactic(auto)]
 
 mod board;
@@ -21,6 +21,7 @@ mod listed;
 mod make;
 mod plan;
 mod reading;
+mod shown;
 mod side;
 #[cfg(test)]
 mod tests;
@@ -31,4 +32,5 @@ pub use counter::{Counter, CounterEntry, CounterList};
 pub use fault::PlayFault;
 pub use make::{make_counter, make_plan};
 pub use plan::{Plan, PlanEntry, PlanList};
+pub use shown::{Shown, make_answer};
 pub use side::Side;

@@ -22,8 +22,12 @@ use Rattle.qdimacs.specs.Refusals.{IsRefused as IsRefusedFormula, formula_of}
 use Rattle.qdimacs.specs.Laws.{OneFile, NeverBoth as NeverRefusedFormula}
 use Rattle.qc_program.specs.declared.status.Status.{Status}
 use Rattle.qc_program.specs.declared.status.Status.TheVariants.{Done, NotProved, Open, Usage, BadProblem, BadCertificate, TooLong, ReadFault, WriteFault, Memory, BadQdimacs, NoReading}
-use Rattle.qc_program.specs.Words.{Asked, solves, checks, prints, decides, rewrites, makes, shows, opposes, restates}
-use Rattle.qc_program.specs.Answers.{Denies, FaultLine, IsProblemOf, IsNoProblem, TurnsProblemDown, AnswersProblem, SolvesProblem, PrintsProblem, ChecksBytes, ChecksFile, Answers}
+use Rattle.qc_program.specs.Words.{Asked, solves, checks, plays, prints, decides, rewrites, makes, shows, opposes, restates}
+use Rattle.qc_program.specs.Certificates.{FaultLine}
+use Rattle.qc_program.specs.Plays.{PlaysProblem}
+use Rattle.qc_program.proofs.PlaysDone.{plays_done}
+use Rattle.qc_program.proofs.Told.{told_bytes, never_long, never_unread, no_want}
+use Rattle.qc_program.specs.Answers.{Denies, IsProblemOf, IsNoProblem, TurnsProblemDown, AnswersProblem, SolvesProblem, PrintsProblem, ChecksBytes, ChecksFile, Answers}
 use Rattle.qc_program.specs.Certifies.{status_of}
 use Rattle.qc_program.specs.Files.{IsLong, IsFile, TurnsFileDown, Wrote}
 use Rattle.qc_program.specs.Summaries.{SummarisesProblem}
@@ -45,9 +49,6 @@ pub record Laws : Type 0 where
   pub formula : OneFile
   pub formula_never : NeverRefusedFormula
 
-told_bytes : (told : Option (List ℕ)) (b c : List ℕ) → told ≡ Some b → IfSome told (λ file. c ≡ file) → c ≡ b
-told_bytes told b c e h = subst (λ o. IfSome o (λ file. c ≡ file)) e h
-
 same_game : ReadsOne → (told : Option (List ℕ)) (g h : Game) → TellsProblem told g → IsProblemOf told h → h ≡ g
 same_game one told g h tells of =
     let e : of.bytes ≡ tells.bytes = told_bytes told tells.bytes of.bytes tells.told_is of.file.same in
@@ -58,11 +59,6 @@ never_refused : NeverRefused → (told : Option (List ℕ)) (g : Game) (t : List
 never_refused either told g t tells down =
     let e : down.bytes ≡ tells.bytes = told_bytes told tells.bytes down.bytes tells.told_is down.file.same in
     either down.bytes g down.refused.kind down.refused.at (subst (λ b. Reads b g) (sym e) tells.reads) down.refused.refuses
-
--- and isn't too long
-never_long : (limit : ℕ) (name : List ℕ) (told : Option (List ℕ)) (gave : ℕ → Type 0) (t b : List ℕ) → told ≡ Some b → length b ≤ limit → IsLong limit name told gave t → ⊥
-never_long limit name told gave t b e le long =
-    let lt : limit < length b = subst (λ o. IfSome o (λ file. limit < length file)) e long.longer in omega arith
 
 -- so nothing tells that there is no problem
 never_turned_down : Laws → (name : List ℕ) (told : Option (List ℕ)) (gave : ℕ → Type 0) (g : Game) → TellsProblem told g →
@@ -107,11 +103,6 @@ summarises_done g s t c m = absurd c
 moved : (g : Game) (o p : Outcome) (v w : Option ℤ) (r s : Tree) → o ≡ p → v ≡ w → r ≡ s → IsTrue (proves g o v r) → IsTrue (proves g p w s)
 moved g o p v w r s a b c h = rw (← a, ← b, ← c) h
 
-no_want : (fault : CertFault) (t : List ℕ) → FaultLine fault t → IsWant fault → ⊥
-no_want (NotACertificate at) t h w = w
-no_want (TooDeep at) t h w = w
-no_want (Want e) t h w = h
-
 denied : IsOneCertificate → (told : Option (List ℕ)) (g : Game) (bytes t : List ℕ) (proof : TellsProof told g) → Denies g bytes t → bytes ≡ proof.bytes → ⊥
 denied one told g bytes t proof d e =
     let p : IsText 1000 bytes = (proof.version, proof.outcome, proof.optimum, proof.root, proof.read.spellable, proof.read.shallow, e ∙ proof.read.spelled) in
@@ -130,14 +121,6 @@ never_faulty never told g bytes t fault proof file is line =
     let e : bytes ≡ proof.bytes = told_bytes told proof.bytes bytes proof.told_is file.same in
     never proof.bytes fault (proof.version, proof.outcome, proof.optimum, proof.root, proof.read.spellable, proof.read.shallow, proof.read.spelled)
     (subst (IsFault fault) e is, no_want fault t line)
-
--- no certificate's file is turned down that isn't too long
-never_unread : (limit : ℕ) (name : List ℕ) (told : Option (List ℕ)) (gave : ℕ → Type 0) (bytes : List ℕ) → told ≡ Some bytes → length bytes ≤ limit →
-    (s : Status) (t : List ℕ) → TurnsFileDown limit name told gave s t → ¬ (s ≡ Memory) → ¬ (s ≡ ReadFault) → ⊥
-never_unread limit name told gave bytes e le TooLong t d m r = never_long limit name told gave t bytes e le d
-never_unread limit name told gave bytes e le Memory t d m r = m refl
-never_unread limit name told gave bytes e le ReadFault t d m r = r refl
-never_unread limit name told gave bytes e le s t d m r = d
 
 confirms_done : Laws → (told : Option (List ℕ)) (g : Game) (bytes : List ℕ) → TellsProof told g → IsFile 1073741824 told bytes →
     (s : Status) (t : List ℕ) → ChecksBytes g bytes s t → s ≡ Done
@@ -225,6 +208,9 @@ asked_done l (Some (prints name)) told gave s t h m r = λ g tells. prints_done 
 asked_done l (Some (checks name certificate)) told gave s t h m r =
     λ g tells proof. checks_done l certificate (told certificate) gave g proof s t
     (for_problem l (ChecksFile certificate (told certificate) gave) name (told name) gave g tells s t h m r) m r
+asked_done l (Some (plays name certificate moves)) told gave s t h m r =
+    λ g own root tells side made. plays_done l.never l.certificate certificate moves told gave g own root side made s t
+    (for_problem l (PlaysProblem certificate moves told gave) name (told name) gave g tells s t h m r) m r
 asked_done l (Some (decides name turns)) told gave s t h m r =
     λ f tells full. decides_done turns (formula_of f) s t (for_formula l (DecidesFormula turns) name (told name) gave f tells s t h m r) m full
 asked_done l (Some (rewrites name)) told gave s t h m r =

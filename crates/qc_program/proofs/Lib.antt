@@ -4,6 +4,10 @@ mod Completeness
 mod Down
 mod Feeding
 mod FormulaGames
+mod Numbers
 mod Numerals
 mod Parts
+mod Played
+mod PlaysDone
 mod Summarised
+mod Told

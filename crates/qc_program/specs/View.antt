@@ -1,12 +1,13 @@
 -- A command of the program, seen as what it asks for.
 use Rattle.std.specs.Prelude.{◌≤◌, ⊤}
 use Rattle.qc_program.specs.declared.words.Command.{Command}
-use Rattle.qc_program.specs.declared.words.Command.TheVariants.{Solve, Check, Print, Decide, Rewrite, Make, Show, Oppose, Restate}
-use Rattle.qc_program.specs.Words.{Asked, solves, checks, prints, decides, rewrites, makes, shows, opposes, restates}
+use Rattle.qc_program.specs.declared.words.Command.TheVariants.{Solve, Check, Play, Print, Decide, Rewrite, Make, Show, Oppose, Restate}
+use Rattle.qc_program.specs.Words.{Asked, solves, checks, plays, prints, decides, rewrites, makes, shows, opposes, restates}
 
 abbrev pub asked : Command → Asked
 asked (Solve problem turns) = solves problem.now turns
 asked (Check problem certificate) = checks problem.now certificate.now
+asked (Play problem certificate moves) = plays problem.now certificate.now moves.now
 asked (Print problem) = prints problem.now
 asked (Decide formula turns) = decides formula.now turns
 asked (Rewrite formula) = rewrites formula.now
@@ -19,6 +20,7 @@ asked (Restate problem places) = restates problem.now places
 abbrev pub IsWithin : Command → Type 0
 IsWithin (Solve problem turns) = (1 ≤ turns) × (turns ≤ 10000000)
 IsWithin (Check problem certificate) = ⊤
+IsWithin (Play problem certificate moves) = ⊤
 IsWithin (Print problem) = ⊤
 IsWithin (Decide formula turns) = (1 ≤ turns) × (turns ≤ 10000000)
 IsWithin (Rewrite formula) = ⊤

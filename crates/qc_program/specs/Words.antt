@@ -4,11 +4,12 @@ use Rattle.std.specs.Str.{bytes_eq}
 use Rattle.qc_pessimist.specs.declared.reading.Places.{Places}
 use Rattle.qc_pessimist.specs.declared.reading.Places.TheVariants.{One, All}
 
--- what the words ask for: files by their names, and a budget of turns; a formula is decided, or rewritten as a problem; the
+-- what the words ask for: files by their names, and a budget of turns; a problem is played against what a certificate shows; a formula is decided, or rewritten as a problem; the
 -- problem made from a number is solved, or shown; where chosen owners meet the worst ties a problem is solved, or rewritten
 pub data Asked : Type 0 where
   solves : List ℕ → ℕ → Asked
   checks : List ℕ → List ℕ → Asked
+  plays : List ℕ → List ℕ → List ℕ → Asked
   prints : List ℕ → Asked
   decides : List ℕ → ℕ → Asked
   rewrites : List ℕ → Asked
@@ -107,7 +108,8 @@ asked_by_three word first second =
 
 abbrev pub asked_by_four : List ℕ → List ℕ → List ℕ → List ℕ → Option Asked
 asked_by_four word first second third =
-    if bytes_eq word (codes "solve") && is_name first && bytes_eq second (codes "--turns") then solves_within first (turns_asked third)
+    if bytes_eq word (codes "play") && is_name first && is_name second && is_name third then Some (plays first second third)
+    else if bytes_eq word (codes "solve") && is_name first && bytes_eq second (codes "--turns") then solves_within first (turns_asked third)
     else if bytes_eq word (codes "qbf") && is_name first && bytes_eq second (codes "--turns") then decides_within first (turns_asked third)
     else if bytes_eq word (codes "worst") && is_name first && bytes_eq third (codes "--text") then restates_at first (places_asked second) else None
 

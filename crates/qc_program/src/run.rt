@@ -10,6 +10,7 @@ ghost use Rattle.qc_program.specs.Complete.{IsComplete, MayRunOut};
 use crate::check::check_files;
 use crate::formula::{decide_file, rewrite_file};
 use crate::generate::{show_made, solve_made};
+use crate::play::play_files;
 use crate::print::print_file;
 use crate::solve::solve_file;
 use crate::status::Status;
@@ -23,12 +24,13 @@ use qdimacs::texts_get_one_answer;
 use std::alloc::Global;
 
 const USAGE: &[u8] =
-    b"usage: qecode solve PROBLEM [--turns N] | check PROBLEM CERTIFICATE | print PROBLEM | generate N [--text] | qbf FILE [--turns N | --text] | worst PROBLEM SCOPE [--turns N | --text]\n";
+    b"usage: qecode solve PROBLEM [--turns N] | check PROBLEM CERTIFICATE | print PROBLEM | generate N [--text] | qbf FILE [--turns N | --text] | worst PROBLEM SCOPE [--turns N | --text] | play PROBLEM CERTIFICATE MOVES\n";
 
 /// Does what the words ask for.
 ///
 /// Where nothing failed and memory sufficed, a problem is solved within as many turns as the whole game can
-/// take, a certificate that proves what it states is confirmed, and a problem is printed; a formula is decided within as
+/// take, a certificate that proves what it states is confirmed, a play against it is written whose moves can be made, and
+/// a problem is printed; a formula is decided within as
 /// many turns, or its game is printed; a made problem is solved or left open, or its text is written;
 /// where chosen owners meet the worst ties a problem is solved within as many turns as it can take, or printed.
 pub fn run<S: Shelf, K: Sink>(alloc: Global, words: &[&str], shelf: &mut S, out: &mut K) -> Status
@@ -65,6 +67,13 @@ fn answer<S: Shelf, K: Sink>(alloc: Global, words: &[&str], shelf: &mut S, out: 
                 certificate,
             },
         ) => check_files(alloc, problem, certificate, shelf, out),
+        Some(
+            Command::Play {
+                problem,
+                certificate,
+                moves,
+            },
+        ) => play_files(alloc, problem, certificate, moves, shelf, out),
         Some(Command::Print { problem }) => print_file(alloc, problem, shelf, out),
         Some(Command::Decide { formula, turns }) => decide_file(alloc, formula, turns, shelf, out),
         Some(Command::Rewrite { formula }) => rewrite_file(alloc, formula, shelf, out),

@@ -4,6 +4,7 @@ mod formulas;
 mod hostile;
 mod made;
 mod optima;
+mod play;
 mod refusals;
 mod table;
 mod worst;
@@ -206,7 +207,7 @@ fn faults_are_answered(rt: HostRuntime) -> Result<(), Fail> {
 #[test]
 fn other_words_give_the_usage_line(rt: HostRuntime) -> Result<(), Fail> {
     let alloc = rt.alloc();
-    let rows: [&[&str]; 25] = [
+    let rows: [&[&str]; 28] = [
         &[],
         &["solve"],
         &["solve", "--turns"],
@@ -232,6 +233,9 @@ fn other_words_give_the_usage_line(rt: HostRuntime) -> Result<(), Fail> {
         &["worst", "p", "0"],
         &["worst", "p", "65"],
         &["worst", "p", "1", "--turns", "0"],
+        &["play", "p", "c"],
+        &["play", "p", "c", "-m"],
+        &["play", "p", "", "m"],
     ];
     for words in rows {
         let mut shelf = MemoryShelf::new(alloc);

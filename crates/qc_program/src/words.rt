@@ -31,6 +31,11 @@ pub(crate) enum Command<'a> {
         problem: &'a str,
         certificate: &'a str,
     },
+    Play {
+        problem: &'a str,
+        certificate: &'a str,
+        moves: &'a str,
+    },
     Print {
         problem: &'a str,
     },
@@ -119,10 +124,22 @@ fn by_three<'a>(word: &str, first: &'a str, second: &'a str) -> Option<Command<'
     None
 }
 
-fn by_four<'a>(word: &str, first: &'a str, second: &'a str, third: &str) -> Option<Command<'a>>
+fn by_four<'a>(
+    word: &str,
+    first: &'a str,
+    second: &'a str,
+    third: &'a str,
+) -> Option<Command<'a>>
     ensures asked { option_map asked result ≡ asked_by_four word.now first.now second.now third.now }
     ensures within { IfSome result IsWithin }
 {
+    if word == "play" && is_name(first) && is_name(second) && is_name(third) {
+        return Some(Command::Play {
+            problem: first,
+            certificate: second,
+            moves: third,
+        });
+    }
     if word == "solve" && is_name(first) && second == "--turns" {
         return solve_within(first, turns_in(third));
     }
