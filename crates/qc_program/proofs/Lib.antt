@@ -4,7 +4,6 @@ mod Completeness
 mod Down
 mod Feeding
 mod FormulaGames
-mod Numbers
 mod Numerals
 mod Parts
 mod Played

@@ -1,5 +1,6 @@
 -- What is answered for a play, from its last step to its first.
-use Rattle.std.proofs.Common.{◌≡◌, ℕ, List, [], Option, Some, None, ℤ, inl, inr, ap, sym, subst}
+use Rattle.std.proofs.Common.{◌≡◌, ℕ, List, [], ◌++◌, Option, ℤ, inl, inr, ap, sym, subst}
+use Rattle.std.specs.Prelude.{IsTrue, codes, decimal}
 use Rattle.qc_model.specs.declared.problem.Kind.{Kind}
 use Rattle.qc_model.specs.declared.problem.Kind.TheVariants.{Exists, Forall}
 use Rattle.qc_model.specs.Content.{Game}
@@ -7,6 +8,7 @@ use Rattle.qc_model.specs.Plan.{Plan as Choices}
 use Rattle.qc_model.specs.Optimal.{Optimal}
 use Rattle.proof_tree.specs.declared.tree.Outcome.{Outcome}
 use Rattle.proof_tree.specs.Tree.{Tree}
+use Rattle.proof_tree.specs.Proves.{proves}
 use Rattle.proof_text.specs.declared.fault.CertFault.{CertFault}
 use Rattle.proof_text.specs.declared.fault.CertFault.TheVariants.{NotACertificate, TooDeep, Memory as WantCertificate}
 use Rattle.proof_text.specs.Places.{IsFault}
@@ -17,6 +19,7 @@ use Rattle.qc_play.specs.declared.fault.PlayFault.TheVariants.{Missing, NotAllow
 use Rattle.qc_play.specs.Shape.{plan_of, tree_of_counter}
 use Rattle.qc_play.specs.Ends.{IsWinning}
 use Rattle.qc_play.specs.Made.{IsPlanOf, IsCounterOf}
+use Rattle.qc_play.specs.Shows.{IsLeftOpen}
 use Rattle.qc_play.specs.Play.{play_of}
 use Rattle.qc_play.specs.Playing.{IsFaultOf}
 use Rattle.qc_program.specs.declared.status.Status.{Status}
@@ -60,14 +63,14 @@ play_down g own tree ms (WantPlay e) s t why is = rw is.0 is.1
 
 module _ (g : Game) (outcome : Outcome) (optimum : Option ℤ) (root : Tree) where
   -- who plays by what the certificate shows
-  pub plan_side : (plan : Plan) → IsPlanOf g outcome optimum root plan → ShowsSide g outcome optimum root Exists
+  plan_side : (plan : Plan) → IsPlanOf g outcome optimum root plan → ShowsSide g outcome optimum root Exists
   plan_side plan m = record {
     proves = m.proves;
     side = ap side_of m.outcome_is;
     sound = subst (λ q. Optimal g g.scopes 0 [] q) m.reading m.optimal;
   }
 
-  pub counter_side : (counter : Counter) → IsCounterOf g outcome optimum root counter → ShowsSide g outcome optimum root Forall
+  counter_side : (counter : Counter) → IsCounterOf g outcome optimum root counter → ShowsSide g outcome optimum root Forall
   counter_side counter m = record {
     proves = m.proves;
     side = ap side_of m.outcome_is;
@@ -84,12 +87,29 @@ module _ (g : Game) (outcome : Outcome) (optimum : Option ℤ) (root : Tree) whe
     nothing_written : PlaysFile g own tree name told gave Memory t → t ≡ []
     nothing_written h = elim h [ inl d ↦ d | inr (bytes, file, k) ↦ elim k [ inl d ↦ d | inr (good, m) ↦ m ] ]
 
-  pub by_side : (own : Kind) (tree : Choices) (name : List ℕ) (told : Option (List ℕ)) (gave : ℕ → Type 0) → ShowsSide g outcome optimum root own → tree ≡ shown_tree g root own →
+  by_side : (own : Kind) (tree : Choices) (name : List ℕ) (told : Option (List ℕ)) (gave : ℕ → Type 0) → ShowsSide g outcome optimum root own → tree ≡ shown_tree g root own →
       (s : Status) (t : List ℕ) → PlaysFile g own tree name told gave s t → PlaysCertificate outcome optimum root name told gave g s t
   by_side own tree name told gave shows e NotProved t h = absurd (never_not_proved own tree name told gave t h)
   by_side own tree name told gave shows e Open t h = absurd (never_open own tree name told gave t h)
   by_side own tree name told gave shows e Memory t h = nothing_written own tree name told gave t h
   by_side own tree name told gave shows e s t h = (own, shows, subst (λ q. PlaysFile g own q name told gave s t) e h)
+
+  -- what is answered for what it shows
+  pub plan_played : (plan : Plan) → IsPlanOf g outcome optimum root plan → (name : List ℕ) (told : Option (List ℕ)) (gave : ℕ → Type 0) →
+      (s : Status) (t : List ℕ) → PlaysFile g Exists (plan_of plan) name told gave s t → PlaysCertificate outcome optimum root name told gave g s t
+  plan_played plan m name told gave = by_side Exists (plan_of plan) name told gave (plan_side plan m) m.reading
+
+  pub counter_played : (counter : Counter) → IsCounterOf g outcome optimum root counter → (name : List ℕ) (told : Option (List ℕ)) (gave : ℕ → Type 0) →
+      (s : Status) (t : List ℕ) → PlaysFile g Forall (tree_of_counter counter) name told gave s t → PlaysCertificate outcome optimum root name told gave g s t
+  counter_played counter m name told gave = by_side Forall (tree_of_counter counter) name told gave (counter_side counter m) m.reading
+
+  pub opened : (n : ℕ) → IsLeftOpen g outcome optimum root n → (name : List ℕ) (told : Option (List ℕ)) (gave : ℕ → Type 0) →
+      (s : Status) (t : List ℕ) → (s ≡ Open) × (t ≡ codes "open " ++ decimal n ++ codes "\n") → PlaysCertificate outcome optimum root name told gave g s t
+  opened n m name told gave s t is = rw is.0 (record { proves = m.proves; turns = n; outcome_is = m.outcome_is; line = is.1 })
+
+  pub not_proved : ¬ (IsTrue (proves g outcome optimum root)) → (name : List ℕ) (told : Option (List ℕ)) (gave : ℕ → Type 0) →
+      (s : Status) (t : List ℕ) → (s ≡ NotProved) × (t ≡ codes "no\n") → PlaysCertificate outcome optimum root name told gave g s t
+  not_proved fails name told gave s t is = rw is.0 (record { fails = fails; line = is.1 })
 
 module _ (gave gave' : ℕ → Type 0) (f : (n : ℕ) → gave n → gave' n) where
   -- more was given before

@@ -1,5 +1,5 @@
 -- A play is written where the certificate proves that the game is won, or that it isn't, and the moves can be made.
-use Rattle.std.proofs.Common.{◌≡◌, ◌∙◌, ℕ, true, List, Option, Some, None, ℤ, refl, subst}
+use Rattle.std.proofs.Common.{◌≡◌, ◌∙◌, ℕ, true, List, Option, Some, None, ℤ, inl, inr, refl, subst}
 use Rattle.qc_model.specs.declared.problem.Kind.{Kind}
 use Rattle.qc_model.specs.Content.{Game}
 use Rattle.qc_model.specs.Plan.{Plan as Choices}
