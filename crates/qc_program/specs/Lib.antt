@@ -5,6 +5,7 @@ pub mod Edge
 pub mod Files
 pub mod Fed
 pub mod Formulas
+pub mod Gap
 pub mod Readings
 pub mod Refusals
 pub mod Summaries

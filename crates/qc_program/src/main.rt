@@ -11,6 +11,7 @@ mod check;
 mod file;
 mod formula;
 mod formula_file;
+mod gap;
 mod generate;
 mod print;
 mod problem_file;
