@@ -48,11 +48,7 @@ fn shows_open(answer: Answer, turns: u64, optimum: Option<i64>) -> bool
     }
 }
 
-fn won_answer(
-    alloc: Global,
-    problem: &Problem,
-    cert: &Certificate,
-) -> Result<Shown, AllocError>
+fn won_answer(alloc: Global, problem: &Problem, cert: &Certificate) -> Result<Shown, AllocError>
     requires { cert.now.outcome ≡ Outcome.True }
     ensures { IfOk result (λ shown. IsShown problem.now cert.now.outcome cert.now.optimum (tree_of cert.now.root) shown) }
 {
@@ -62,11 +58,7 @@ fn won_answer(
     }
 }
 
-fn lost_answer(
-    alloc: Global,
-    problem: &Problem,
-    cert: &Certificate,
-) -> Result<Shown, AllocError>
+fn lost_answer(alloc: Global, problem: &Problem, cert: &Certificate) -> Result<Shown, AllocError>
     requires { cert.now.outcome ≡ Outcome.False }
     ensures { IfOk result (λ shown. IsShown problem.now cert.now.outcome cert.now.optimum (tree_of cert.now.root) shown) }
 {

@@ -1,5 +1,5 @@
 -- A run in which nothing failed answers what was asked.
-use Rattle.std.proofs.Common.{◌≡◌, ◌⊎◌, ◌≤◌, ◌<◌, ℕ, true, false, List, length, Option, Some, None, IfSome, inl, inr, refl, sym, subst, arith, ◌∙◌, ℤ, IsTrue}
+use Rattle.std.proofs.Common.{◌≡◌, ◌⊎◌, ◌≤◌, ◌<◌, ℕ, true, false, List, length, Option, Some, None, inl, inr, refl, sym, subst, arith, ◌∙◌, ℤ, IsTrue}
 use Rattle.qc_io.specs.Counts.{Rose, NoneRose}
 use Rattle.qc_model.specs.Content.{Game}
 use Rattle.qc_model.specs.Turns.{full_turns_of}
@@ -10,8 +10,7 @@ use Rattle.proof_tree.specs.declared.tree.Outcome.TheVariants.{True, False, Open
 use Rattle.proof_tree.specs.Tree.{Tree}
 use Rattle.proof_tree.specs.Proves.{proves}
 use Rattle.proof_text.specs.declared.fault.CertFault.{CertFault}
-use Rattle.proof_text.specs.declared.fault.CertFault.TheVariants.{NotACertificate, TooDeep, Memory as Want}
-use Rattle.proof_text.specs.Places.{IsText, IsFault, IsWant}
+use Rattle.proof_text.specs.Places.{IsText, IsFault}
 use Rattle.proof_text.specs.Laws.{NeverBoth, IsOneCertificate}
 use Rattle.game_search.specs.Solution.{OpenMeans}
 use Rattle.qdimacs.specs.Grammar.{File, IsFile as IsFormulaFile}
@@ -22,14 +21,14 @@ use Rattle.qdimacs.specs.Refusals.{IsRefused as IsRefusedFormula, formula_of}
 use Rattle.qdimacs.specs.Laws.{OneFile, NeverBoth as NeverRefusedFormula}
 use Rattle.qc_program.specs.declared.status.Status.{Status}
 use Rattle.qc_program.specs.declared.status.Status.TheVariants.{Done, NotProved, Open, Usage, BadProblem, BadCertificate, TooLong, ReadFault, WriteFault, Memory, BadQdimacs, NoReading}
-use Rattle.qc_program.specs.Words.{Asked, solves, checks, plays, prints, decides, rewrites, makes, shows, opposes, restates}
+use Rattle.qc_program.specs.Words.{Asked, solves, checks, plays, prints, decides, rewrites, makes, shows, opposes, restates, compares, usual_turns}
 use Rattle.qc_program.specs.Certificates.{FaultLine}
 use Rattle.qc_program.specs.Plays.{PlaysProblem}
 use Rattle.qc_program.proofs.PlaysDone.{plays_done}
 use Rattle.qc_program.proofs.Told.{told_bytes, never_long, never_unread, no_want}
 use Rattle.qc_program.specs.Answers.{Denies, IsProblemOf, IsNoProblem, TurnsProblemDown, AnswersProblem, SolvesProblem, PrintsProblem, ChecksBytes, ChecksFile, Answers}
 use Rattle.qc_program.specs.Certifies.{status_of}
-use Rattle.qc_program.specs.Files.{IsLong, IsFile, TurnsFileDown, Wrote}
+use Rattle.qc_program.specs.Files.{IsFile, Wrote}
 use Rattle.qc_program.specs.Summaries.{SummarisesProblem}
 use Rattle.qc_generated.specs.Pricing.{generated_game}
 use Rattle.qc_pessimist.specs.declared.reading.Places.{Places}
@@ -37,8 +36,10 @@ use Rattle.qc_pessimist.specs.declared.reading.NoReading.{NoReading as Fault}
 use Rattle.qc_pessimist.specs.declared.reading.NoReading.TheVariants.{NoCondition, TooManyScopes, Memory as WantReading}
 use Rattle.qc_pessimist.specs.Refusals.{names_a_wish, Refuses}
 use Rattle.qc_program.specs.Readings.{worst_game, ReadingLine, TurnsReadingDown, AnswersReading}
+use Rattle.qc_program.specs.Gap.{gap_status, ComparesGames, AnswersGap}
 use Rattle.qc_program.specs.Formulas.{IsFormulaOf, HasNoFormula, TurnsFormulaDown, AnswersFormula, DecidesFormula, RewritesFormula}
 use Rattle.qc_program.specs.Complete.{TellsProblem, TellsProof, TellsFormula, TellsReading, IsComplete}
+use Rattle.qc_program.proofs.Compared.{same_turns}
 
 -- the laws of the texts
 pub record Laws : Type 0 where
@@ -187,14 +188,50 @@ never_unreadable told places g tells NoReading t d m = no_reason places g d.why 
 never_unreadable told places g tells Memory t d m = m refl
 never_unreadable told places g tells s t d m = d
 
+of_reading : (told : Option (List ℕ)) (places : Places) (P : Game → Status → List ℕ → Type 0) (g : Game) → TellsReading told places g →
+    (s : Status) (t : List ℕ) → AnswersReading places P g s t → ¬ (s ≡ Memory) → P (worst_game places g) s t
+of_reading told places P g tells s t h m =
+    elim h [
+      | inl d ↦ absurd (never_unreadable told places g tells s t d m)
+      | inr (reading, k) ↦ k
+    ]
+
 for_reading : Laws → (places : Places) (P : Game → Status → List ℕ → Type 0) (name : List ℕ) (told : Option (List ℕ)) (gave : ℕ → Type 0) (g : Game) →
     TellsReading told places g → (s : Status) (t : List ℕ) → AnswersProblem (AnswersReading places P) name told gave s t → ¬ (s ≡ Memory) → ¬ (s ≡ ReadFault) →
     P (worst_game places g) s t
 for_reading l places P name told gave g tells s t h m r =
-    elim (for_problem l (AnswersReading places P) name told gave g tells.problem s t h m r) [
-      | inl d ↦ absurd (never_unreadable told places g tells s t d m)
-      | inr (reading, k) ↦ k
-    ]
+    of_reading told places P g tells s t (for_problem l (AnswersReading places P) name told gave g tells.problem s t h m r) m
+
+-- both games are answered
+for_gap : Laws → (places : Places) (name : List ℕ) (told : Option (List ℕ)) (gave : ℕ → Type 0) (g : Game) →
+    TellsReading told places g → (s : Status) (t : List ℕ) → AnswersProblem (AnswersGap places) name told gave s t → ¬ (s ≡ Memory) → ¬ (s ≡ ReadFault) →
+    ComparesGames g (worst_game places g) s t
+for_gap l places name told gave g tells s t h m r =
+    of_reading told places (ComparesGames g) g tells s t (for_problem l (AnswersGap places) name told gave g tells.problem s t h m r) m
+
+compares_done : (g h : Game) (s : Status) (t : List ℕ) → ComparesGames g h s t → ¬ (s ≡ Memory) → (s ≡ Done) ⊎ (s ≡ Open)
+compares_done g h Done t c m = inl refl
+compares_done g h Open t c m = inr refl
+compares_done g h Memory t c m = absurd (m refl)
+compares_done g h s t c m = absurd c
+
+neither_open : (o p : Outcome) (g h : Game) (r q : Tree) → Open ≡ gap_status o p → OpenMeans o g usual_turns r → OpenMeans p h usual_turns q →
+    full_turns_of g ≤ usual_turns → full_turns_of h ≤ usual_turns → ⊥
+neither_open True p g h r q e m n f k = open_below p h usual_turns q e n k
+neither_open False p g h r q e m n f k = open_below p h usual_turns q e n k
+neither_open (OpenOutcome i) p g h r q e m n f k = open_below (OpenOutcome i) g usual_turns r refl m f
+
+compares_settled : (g h : Game) (s : Status) (t : List ℕ) → ComparesGames g h s t → ¬ (s ≡ Memory) → full_turns_of g ≤ usual_turns → full_turns_of h ≤ usual_turns → s ≡ Done
+compares_settled g h Done t c m f k = refl
+compares_settled g h Open t c m f k =
+    absurd (neither_open c.best.certifies.outcome c.worst.certifies.outcome g h c.best.certifies.root c.worst.certifies.root c.ends c.best.certifies.spent c.worst.certifies.spent f k)
+compares_settled g h Memory t c m f k = absurd (m refl)
+compares_settled g h s t c m f k = absurd c
+
+compares_both : (places : Places) (g : Game) (s : Status) (t : List ℕ) → ComparesGames g (worst_game places g) s t → ¬ (s ≡ Memory) →
+    ((s ≡ Done) ⊎ (s ≡ Open)) × (full_turns_of g ≤ usual_turns → s ≡ Done)
+compares_both places g s t c m =
+    (compares_done g (worst_game places g) s t c m, λ f. compares_settled g (worst_game places g) s t c m f (subst (λ n. n ≤ usual_turns) (sym (same_turns places g)) f))
 
 asked_done : Laws → (asked : Option Asked) (told : List ℕ → Option (List ℕ)) (gave : ℕ → Type 0) (s : Status) (t : List ℕ) →
     Answers asked told gave s t → ¬ (s ≡ Memory) → ¬ (s ≡ ReadFault) → IsComplete asked told s
@@ -221,6 +258,8 @@ asked_done l (Some (opposes name places turns)) told gave s t h m r =
     λ g tells f. solves_done turns (worst_game places g) s t (for_reading l places (SolvesProblem turns) name (told name) gave g tells s t h m r) m f
 asked_done l (Some (restates name places)) told gave s t h m r =
     λ g tells. prints_done (worst_game places g) s t (for_reading l places PrintsProblem name (told name) gave g tells s t h m r) m
+asked_done l (Some (compares name places)) told gave s t h m r =
+    λ g tells. compares_both places g s t (for_gap l places name (told name) gave g tells s t h m r) m
 
 no_fault : (before now : ℕ) → Rose before now → NoneRose before now → ⊥
 no_fault before now rose (same, below) = omega arith

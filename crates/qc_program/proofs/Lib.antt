@@ -1,5 +1,6 @@
 pub mod Written
 mod Certified
+mod Compared
 mod Completeness
 mod Down
 mod Feeding

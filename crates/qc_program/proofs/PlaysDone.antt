@@ -77,8 +77,8 @@ file_done name told gave g own root tells s t h m r =
     elim h [
       | inl d ↦ absurd (never_unread 65536 name told gave tells.bytes tells.told_is tells.within s t d m r)
       | inr (bytes, file, k) ↦
-        bytes_done g own (shown_tree g root own) tells.bytes tells.good tells.played s t
-        (subst (λ b. PlaysBytes g own (shown_tree g root own) b s t) (told_bytes told tells.bytes bytes tells.told_is file.same) k) m
+          bytes_done g own (shown_tree g root own) tells.bytes tells.good tells.played s t
+          (subst (λ b. PlaysBytes g own (shown_tree g root own) b s t) (told_bytes told tells.bytes bytes tells.told_is file.same) k) m
     ]
 
 same_side : (o : Outcome) (own other : Kind) → side_of o ≡ Some own → side_of o ≡ Some other → other ≡ own
@@ -104,9 +104,9 @@ plays_done never one certificate name told gave g own root tells moves s t h m r
     elim h [
       | inl d ↦ absurd (never_uncertified never certificate (told certificate) gave g own root tells s t d m r)
       | inr (o, p, q, of, k) ↦
-        let same = one_certificate one (told certificate) g own root o p q tells of in
-        certificate_done (told certificate) name (told name) gave g own root tells moves s t
-        (subst (λ x. PlaysCertificate tells.outcome tells.optimum x name (told name) gave g s t) same.2
-        (subst (λ x. PlaysCertificate tells.outcome x q name (told name) gave g s t) same.1
-        (subst (λ x. PlaysCertificate x p q name (told name) gave g s t) same.0 k))) m r
+          let same = one_certificate one (told certificate) g own root o p q tells of in
+          certificate_done (told certificate) name (told name) gave g own root tells moves s t
+          (subst (λ x. PlaysCertificate tells.outcome tells.optimum x name (told name) gave g s t) same.2
+          (subst (λ x. PlaysCertificate tells.outcome x q name (told name) gave g s t) same.1
+          (subst (λ x. PlaysCertificate x p q name (told name) gave g s t) same.0 k))) m r
     ]

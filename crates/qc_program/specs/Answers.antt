@@ -1,5 +1,5 @@
 -- What `run` answers and writes.
-use Rattle.std.specs.Prelude.{◌≡◌, ◌⊎◌, ℕ, ℤ, List, [], ◌++◌, codes, decimal, Option, Some, None}
+use Rattle.std.specs.Prelude.{◌≡◌, ◌⊎◌, ℕ, ℤ, List, [], ◌++◌, codes, Option, Some, None}
 use Rattle.qc_model.specs.Content.{Game}
 use Rattle.proof_tree.specs.declared.tree.Outcome.{Outcome}
 use Rattle.proof_tree.specs.Text.{outcome_text}
@@ -10,7 +10,7 @@ use Rattle.qc_syntax.specs.Reads.{Reads}
 use Rattle.qc_check.specs.Checking.{IsProof, IsNoProof}
 use Rattle.qc_program.specs.declared.status.Status.{Status}
 use Rattle.qc_program.specs.declared.status.Status.TheVariants.{Done, NotProved, Open, Usage, BadProblem, BadCertificate, Memory}
-use Rattle.qc_program.specs.Words.{Asked, solves, checks, plays, prints, decides, rewrites, makes, shows, opposes, restates}
+use Rattle.qc_program.specs.Words.{Asked, solves, checks, plays, prints, decides, rewrites, makes, shows, opposes, restates, compares}
 use Rattle.qc_program.specs.Refusals.{IsRefused}
 use Rattle.qc_program.specs.Certifies.{Certifies}
 use Rattle.qc_program.specs.Files.{IsFile, TurnsFileDown}
@@ -20,6 +20,7 @@ use Rattle.qc_program.specs.Formulas.{AnswersFormula, DecidesFormula, RewritesFo
 use Rattle.qc_program.specs.Summaries.{SummarisesProblem}
 use Rattle.qc_generated.specs.Pricing.{generated_game}
 use Rattle.qc_program.specs.Readings.{AnswersReading}
+use Rattle.qc_program.specs.Gap.{AnswersGap}
 
 -- what `solve` answers for a problem, and so many turns
 abbrev pub SolvesProblem : ℕ → Game → Status → List ℕ → Type 0
@@ -94,9 +95,10 @@ AnswersAsked (makes n) told gave status text = SummarisesProblem (generated_game
 AnswersAsked (shows n) told gave status text = PrintsProblem (generated_game n) status text
 AnswersAsked (opposes name places turns) told gave status text = AnswersProblem (AnswersReading places (SolvesProblem turns)) name (told name) gave status text
 AnswersAsked (restates name places) told gave status text = AnswersProblem (AnswersReading places PrintsProblem) name (told name) gave status text
+AnswersAsked (compares name places) told gave status text = AnswersProblem (AnswersGap places) name (told name) gave status text
 
 -- what is answered for the words; told gives the bytes of the names that are told
 abbrev pub Answers : Option Asked → (List ℕ → Option (List ℕ)) → (ℕ → Type 0) → Status → List ℕ → Type 0
-Answers None told gave Usage text = text ≡ codes "usage: qecode solve PROBLEM [--turns N] | check PROBLEM CERTIFICATE | print PROBLEM | generate N [--text] | qbf FILE [--turns N | --text] | worst PROBLEM SCOPE [--turns N | --text] | play PROBLEM CERTIFICATE MOVES\n"
+Answers None told gave Usage text = text ≡ codes "usage: qecode solve PROBLEM [--turns N] | check PROBLEM CERTIFICATE | print PROBLEM | generate N [--text] | qbf FILE [--turns N | --text] | worst PROBLEM SCOPE [--turns N | --text | --gap] | play PROBLEM CERTIFICATE MOVES\n"
 Answers None told gave status text = ⊥
 Answers (Some asked) told gave status text = AnswersAsked asked told gave status text

@@ -11,7 +11,7 @@ use Rattle.proof_tree.specs.declared.tree.Outcome.{Outcome}
 use Rattle.proof_tree.specs.Tree.{Tree}
 use Rattle.qc_program.specs.declared.status.Status.{Status}
 use Rattle.qc_program.specs.declared.status.Status.TheVariants.{Done, Open, Usage}
-use Rattle.qc_program.specs.Words.{Asked, solves, checks, plays, prints, decides, rewrites, makes, shows, opposes, restates}
+use Rattle.qc_program.specs.Words.{Asked, solves, checks, plays, prints, decides, rewrites, makes, shows, opposes, restates, compares, usual_turns}
 use Rattle.proof_tree.specs.Proves.{proves}
 use Rattle.qc_check.specs.Checking.{IsCertificate}
 use Rattle.qc_model.specs.declared.problem.Kind.{Kind}
@@ -76,8 +76,10 @@ pub record TellsReading (told : Option (List ℕ)) (places : Places) (g : Game) 
   pub few : length (worst_game places g).scopes ≤ 64
 
 -- A problem is solved where the turns are as many as the whole game can take; a certificate that proves what it states is
--- confirmed; a play against one is written, with moves that can be made; a problem is printed. A formula is decided where the turns are as many as its game can take, or its game is printed. A made problem is settled or left open, or its text is
--- written. A game at the worst ties is solved within as many turns as it can take, or printed.
+-- confirmed; a play against one is written, with moves that can be made; a problem is printed. A formula is decided where the
+-- turns are as many as its game can take, or its game is printed. A made problem is settled or left open, or its text is
+-- written. A game at the worst ties is solved within as many turns as it can take, or printed. Where both numbers are asked each is
+-- settled or left open, and settled where the usual turns are as many as the game can take.
 abbrev pub Completes : Asked → (List ℕ → Option (List ℕ)) → Status → Type 0
 Completes (solves name turns) told status = (g : Game) → TellsProblem (told name) g → full_turns_of g ≤ turns → status ≡ Done
 Completes (prints name) told status = (g : Game) → TellsProblem (told name) g → status ≡ Done
@@ -91,6 +93,8 @@ Completes (makes n) told status = (status ≡ Done) ⊎ (status ≡ Open)
 Completes (shows n) told status = status ≡ Done
 Completes (opposes name places turns) told status = (g : Game) → TellsReading (told name) places g → full_turns_of (worst_game places g) ≤ turns → status ≡ Done
 Completes (restates name places) told status = (g : Game) → TellsReading (told name) places g → status ≡ Done
+Completes (compares name places) told status =
+    (g : Game) → TellsReading (told name) places g → ((status ≡ Done) ⊎ (status ≡ Open)) × (full_turns_of g ≤ usual_turns → status ≡ Done)
 
 abbrev pub IsComplete : Option Asked → (List ℕ → Option (List ℕ)) → Status → Type 0
 IsComplete None told status = status ≡ Usage
@@ -110,3 +114,4 @@ MayRunOut (Some (makes n)) told before now = ⊤
 MayRunOut (Some (shows n)) told before now = ⊤
 MayRunOut (Some (opposes name places turns)) told before now = ⊤
 MayRunOut (Some (restates name places)) told before now = ⊤
+MayRunOut (Some (compares name places)) told before now = ⊤

@@ -6,6 +6,7 @@ pub mod Edge
 pub mod Files
 pub mod Fed
 pub mod Formulas
+pub mod Gap
 pub mod Moves
 pub mod Plays
 pub mod Readings

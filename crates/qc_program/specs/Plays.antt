@@ -108,4 +108,4 @@ abbrev pub PlaysProblem : List ℕ → List ℕ → (List ℕ → Option (List �
 PlaysProblem certificate moves told gave g status text =
     TurnsCertificateDown certificate (told certificate) gave status text
     ⊎ ((outcome : Outcome) × (optimum : Option ℤ) × (root : Tree) × IsCertificateOf (told certificate) outcome optimum root
-      × PlaysCertificate outcome optimum root moves (told moves) gave g status text)
+    × PlaysCertificate outcome optimum root moves (told moves) gave g status text)

@@ -12,6 +12,7 @@ mod check;
 mod file;
 mod formula;
 mod formula_file;
+mod gap;
 mod generate;
 mod moves;
 mod play;

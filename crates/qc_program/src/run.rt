@@ -9,6 +9,7 @@ ghost use Rattle.qc_program.specs.Complete.{IsComplete, MayRunOut};
 
 use crate::check::check_files;
 use crate::formula::{decide_file, rewrite_file};
+use crate::gap::compare_file;
 use crate::generate::{show_made, solve_made};
 use crate::play::play_files;
 use crate::print::print_file;
@@ -24,7 +25,7 @@ use qdimacs::texts_get_one_answer;
 use std::alloc::Global;
 
 const USAGE: &[u8] =
-    b"usage: qecode solve PROBLEM [--turns N] | check PROBLEM CERTIFICATE | print PROBLEM | generate N [--text] | qbf FILE [--turns N | --text] | worst PROBLEM SCOPE [--turns N | --text] | play PROBLEM CERTIFICATE MOVES\n";
+    b"usage: qecode solve PROBLEM [--turns N] | check PROBLEM CERTIFICATE | print PROBLEM | generate N [--text] | qbf FILE [--turns N | --text] | worst PROBLEM SCOPE [--turns N | --text | --gap] | play PROBLEM CERTIFICATE MOVES\n";
 
 /// Does what the words ask for.
 ///
@@ -32,7 +33,8 @@ const USAGE: &[u8] =
 /// take, a certificate that proves what it states is confirmed, a play against it is written whose moves can be made, and
 /// a problem is printed; a formula is decided within as
 /// many turns, or its game is printed; a made problem is solved or left open, or its text is written;
-/// where chosen owners meet the worst ties a problem is solved within as many turns as it can take, or printed.
+/// where chosen owners meet the worst ties a problem is solved within as many turns as it can take, or printed, or what it
+/// comes to stands beside what it comes to otherwise.
 pub fn run<S: Shelf, K: Sink>(alloc: Global, words: &[&str], shelf: &mut S, out: &mut K) -> Status
     ensures wrote { Wrote (K.written out.old) (K.written out.new) (K.faults out.old) (K.faults out.new) result
         (Answers (asked_of (map (λ w. w.now) words.now)) (S.told shelf.old) (λ n. RoseBy n (S.given shelf.old) (S.given shelf.new))) }
@@ -87,6 +89,9 @@ fn answer<S: Shelf, K: Sink>(alloc: Global, words: &[&str], shelf: &mut S, out: 
             },
         ) => oppose_file(alloc, problem, places, turns, shelf, out),
         Some(Command::Restate { problem, places }) => restate_file(
+            alloc, problem, places, shelf, out,
+        ),
+        Some(Command::Compare { problem, places }) => compare_file(
             alloc, problem, places, shelf, out,
         ),
         None => finish(out, USAGE, Status::Usage),

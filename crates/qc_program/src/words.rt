@@ -1,7 +1,7 @@
 //! The words of a command.
 ghost use Rattle.std.specs.Prelude.{◌≡◌, ◌≤◌, ◌<◌, length, map, Some, IfSome};
 ghost use Rattle.std.specs.Option.{option_map};
-ghost use Rattle.qc_program.specs.Words.{is_name as is_name_of, digits_after, is_short_numeral as is_short_numeral_of, solves_within, decides_within, makes_from, shows_from, number_asked, turns_asked, made_from as made_from_word, scope_place, places_asked as places_asked_by, opposes_within, restates_at, asked_by_two, asked_by_three, asked_by_four, asked_by_five, asked_of};
+ghost use Rattle.qc_program.specs.Words.{is_name as is_name_of, digits_after, is_short_numeral as is_short_numeral_of, solves_within, decides_within, makes_from, shows_from, number_asked, turns_asked, made_from as made_from_word, scope_place, places_asked as places_asked_by, opposes_within, restates_at, compares_at, asked_by_two, asked_by_three, asked_by_four, asked_by_five, asked_of};
 ghost use Rattle.qc_program.specs.View.{asked, IsWithin};
 
 use qc_model::ScopeId;
@@ -58,6 +58,10 @@ pub(crate) enum Command<'a> {
         turns: u64,
     },
     Restate {
+        problem: &'a str,
+        places: Places,
+    },
+    Compare {
         problem: &'a str,
         places: Places,
     },
@@ -124,12 +128,7 @@ fn by_three<'a>(word: &str, first: &'a str, second: &'a str) -> Option<Command<'
     None
 }
 
-fn by_four<'a>(
-    word: &str,
-    first: &'a str,
-    second: &'a str,
-    third: &'a str,
-) -> Option<Command<'a>>
+fn by_four<'a>(word: &str, first: &'a str, second: &'a str, third: &'a str) -> Option<Command<'a>>
     ensures asked { option_map asked result ≡ asked_by_four word.now first.now second.now third.now }
     ensures within { IfSome result IsWithin }
 {
@@ -148,6 +147,9 @@ fn by_four<'a>(
     }
     if word == "worst" && is_name(first) && third == "--text" {
         return restate_at(first, places_in(second));
+    }
+    if word == "worst" && is_name(first) && third == "--gap" {
+        return compare_at(first, places_in(second));
     }
     None
 }
@@ -236,6 +238,16 @@ fn restate_at(problem: &str, places: Option<Places>) -> Option<Command<'_>>
 {
     match places {
         Some(places) => Some(Command::Restate { problem, places }),
+        None => None,
+    }
+}
+
+fn compare_at(problem: &str, places: Option<Places>) -> Option<Command<'_>>
+    ensures asked { option_map asked result ≡ compares_at problem.now places }
+    ensures within { IfSome result IsWithin }
+{
+    match places {
+        Some(places) => Some(Command::Compare { problem, places }),
         None => None,
     }
 }

@@ -29,3 +29,6 @@ returns-in-Some-Restate-clause-wrote g c = rw (← c.in-Some-Restate.ensures.ask
 
 pub returns-in-Some-Play-clause-wrote : goal.returns-in-Some-Play-clause-wrote
 returns-in-Some-Play-clause-wrote g c = rw (← c.in-Some-Play.ensures.asked, c.in-Some-Play.field-0-is) c.play_files.ensures.wrote
+
+pub returns-in-Some-Compare-clause-wrote : goal.returns-in-Some-Compare-clause-wrote
+returns-in-Some-Compare-clause-wrote g c = rw (← c.in-Some-Compare.ensures.asked, c.in-Some-Compare.field-0-is) c.compare_file.ensures.wrote
