@@ -8,6 +8,7 @@ pub mod Turns
 pub mod Showing
 pub mod Making
 pub mod Starts
+mod Opened
 mod Plays
 pub mod LeavesMore
 pub mod BestLeaf

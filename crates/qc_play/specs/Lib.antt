@@ -11,3 +11,4 @@ pub mod Shown
 pub mod EntryOrder
 pub mod Entries
 pub mod Gathers
+pub mod Evidence

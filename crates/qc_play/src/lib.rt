@@ -6,20 +6,21 @@
 //! out. `play` plays the game with such a tree on one side and given moves on the other, and writes what
 //! happened, scope by scope. With an optimal strategy a play ends with a goal that holds, or with an opponent who has
 //! no allowed tuple. With a counterstrategy that wins it ends with a goal that doesn't hold, or with a player from
-//! whose tuples nobody can go on.
+//! whose tuples nobody can go on. `make_evidence` tells what a certificate shows, whatever it states.
 //!
 //! A scope's own tree is read leaf by leaf: a `Gathering` takes the leaves that go on, and gives the trees of choices of
 //! the scope from those of its leaves. It keeps of a scope of the player the best leaf, and a reply to each that is lost;
 //! of one of the opponent the first lost leaf, and an answer to each that is exact, which it sorts at the end.
 //!
 //! `specs/` says which tree a value is (`Shape`), how a play goes (`Play`), its text (`PlayText`), what it ends with
-//! (`Ends`), what is made of a certificate (`Made`), what a node shows (`Shown`), and what is gathered of leaves
-//! (`Gathers`).
+//! (`Ends`), what is made of a certificate (`Made`), what one shows (`Evidence`), what a node shows (`Shown`), and what is
+//! gathered of leaves (`Gathers`).
 #![tactic(auto)]
 
 mod best;
 mod board;
 mod counter;
+mod evidence;
 mod fault;
 mod gathering;
 mod judged;
@@ -39,6 +40,7 @@ mod tuple;
 
 pub use board::play;
 pub use counter::{Counter, CounterEntry, CounterList};
+pub use evidence::{Evidence, make_evidence};
 pub use fault::PlayFault;
 pub use make::{make_counter, make_plan};
 pub use plan::{Plan, PlanEntry, PlanList};

@@ -1,5 +1,5 @@
 -- A run in which nothing failed answers what was asked.
-use Rattle.std.proofs.Common.{◌≡◌, ◌⊎◌, ◌≤◌, ◌<◌, ℕ, true, false, List, length, Option, Some, None, IfSome, inl, inr, refl, sym, subst, arith, ◌∙◌, ℤ, IsTrue}
+use Rattle.std.proofs.Common.{◌≡◌, ◌⊎◌, ◌≤◌, ◌<◌, ℕ, true, false, List, length, Option, Some, None, inl, inr, refl, sym, subst, arith, ◌∙◌, ℤ, IsTrue}
 use Rattle.qc_io.specs.Counts.{Rose, NoneRose}
 use Rattle.qc_model.specs.Content.{Game}
 use Rattle.qc_model.specs.Turns.{full_turns_of}
@@ -10,8 +10,7 @@ use Rattle.proof_tree.specs.declared.tree.Outcome.TheVariants.{True, False, Open
 use Rattle.proof_tree.specs.Tree.{Tree}
 use Rattle.proof_tree.specs.Proves.{proves}
 use Rattle.proof_text.specs.declared.fault.CertFault.{CertFault}
-use Rattle.proof_text.specs.declared.fault.CertFault.TheVariants.{NotACertificate, TooDeep, Memory as Want}
-use Rattle.proof_text.specs.Places.{IsText, IsFault, IsWant}
+use Rattle.proof_text.specs.Places.{IsText, IsFault}
 use Rattle.proof_text.specs.Laws.{NeverBoth, IsOneCertificate}
 use Rattle.game_search.specs.Solution.{OpenMeans}
 use Rattle.qdimacs.specs.Grammar.{File, IsFile as IsFormulaFile}
@@ -22,10 +21,14 @@ use Rattle.qdimacs.specs.Refusals.{IsRefused as IsRefusedFormula, formula_of}
 use Rattle.qdimacs.specs.Laws.{OneFile, NeverBoth as NeverRefusedFormula}
 use Rattle.qc_program.specs.declared.status.Status.{Status}
 use Rattle.qc_program.specs.declared.status.Status.TheVariants.{Done, NotProved, Open, Usage, BadProblem, BadCertificate, TooLong, ReadFault, WriteFault, Memory, BadQdimacs, NoReading}
-use Rattle.qc_program.specs.Words.{Asked, solves, checks, prints, decides, rewrites, makes, shows, opposes, restates}
-use Rattle.qc_program.specs.Answers.{Denies, FaultLine, IsProblemOf, IsNoProblem, TurnsProblemDown, AnswersProblem, SolvesProblem, PrintsProblem, ChecksBytes, ChecksFile, Answers}
+use Rattle.qc_program.specs.Words.{Asked, solves, checks, plays, prints, decides, rewrites, makes, shows, opposes, restates, compares, usual_turns}
+use Rattle.qc_program.specs.Certificates.{FaultLine}
+use Rattle.qc_program.specs.Plays.{PlaysProblem}
+use Rattle.qc_program.proofs.PlaysDone.{plays_done}
+use Rattle.qc_program.proofs.Told.{told_bytes, never_long, never_unread, no_want}
+use Rattle.qc_program.specs.Answers.{Denies, IsProblemOf, IsNoProblem, TurnsProblemDown, AnswersProblem, SolvesProblem, PrintsProblem, ChecksBytes, ChecksFile, Answers}
 use Rattle.qc_program.specs.Certifies.{status_of}
-use Rattle.qc_program.specs.Files.{IsLong, IsFile, TurnsFileDown, Wrote}
+use Rattle.qc_program.specs.Files.{IsFile, Wrote}
 use Rattle.qc_program.specs.Summaries.{SummarisesProblem}
 use Rattle.qc_generated.specs.Pricing.{generated_game}
 use Rattle.qc_pessimist.specs.declared.reading.Places.{Places}
@@ -33,8 +36,10 @@ use Rattle.qc_pessimist.specs.declared.reading.NoReading.{NoReading as Fault}
 use Rattle.qc_pessimist.specs.declared.reading.NoReading.TheVariants.{NoCondition, TooManyScopes, Memory as WantReading}
 use Rattle.qc_pessimist.specs.Refusals.{names_a_wish, Refuses}
 use Rattle.qc_program.specs.Readings.{worst_game, ReadingLine, TurnsReadingDown, AnswersReading}
+use Rattle.qc_program.specs.Gap.{gap_status, ComparesGames, AnswersGap}
 use Rattle.qc_program.specs.Formulas.{IsFormulaOf, HasNoFormula, TurnsFormulaDown, AnswersFormula, DecidesFormula, RewritesFormula}
 use Rattle.qc_program.specs.Complete.{TellsProblem, TellsProof, TellsFormula, TellsReading, IsComplete}
+use Rattle.qc_program.proofs.Compared.{same_turns}
 
 -- the laws of the texts
 pub record Laws : Type 0 where
@@ -44,9 +49,6 @@ pub record Laws : Type 0 where
   pub certificate : IsOneCertificate
   pub formula : OneFile
   pub formula_never : NeverRefusedFormula
-
-told_bytes : (told : Option (List ℕ)) (b c : List ℕ) → told ≡ Some b → IfSome told (λ file. c ≡ file) → c ≡ b
-told_bytes told b c e h = subst (λ o. IfSome o (λ file. c ≡ file)) e h
 
 same_game : ReadsOne → (told : Option (List ℕ)) (g h : Game) → TellsProblem told g → IsProblemOf told h → h ≡ g
 same_game one told g h tells of =
@@ -58,11 +60,6 @@ never_refused : NeverRefused → (told : Option (List ℕ)) (g : Game) (t : List
 never_refused either told g t tells down =
     let e : down.bytes ≡ tells.bytes = told_bytes told tells.bytes down.bytes tells.told_is down.file.same in
     either down.bytes g down.refused.kind down.refused.at (subst (λ b. Reads b g) (sym e) tells.reads) down.refused.refuses
-
--- and isn't too long
-never_long : (limit : ℕ) (name : List ℕ) (told : Option (List ℕ)) (gave : ℕ → Type 0) (t b : List ℕ) → told ≡ Some b → length b ≤ limit → IsLong limit name told gave t → ⊥
-never_long limit name told gave t b e le long =
-    let lt : limit < length b = subst (λ o. IfSome o (λ file. limit < length file)) e long.longer in omega arith
 
 -- so nothing tells that there is no problem
 never_turned_down : Laws → (name : List ℕ) (told : Option (List ℕ)) (gave : ℕ → Type 0) (g : Game) → TellsProblem told g →
@@ -107,11 +104,6 @@ summarises_done g s t c m = absurd c
 moved : (g : Game) (o p : Outcome) (v w : Option ℤ) (r s : Tree) → o ≡ p → v ≡ w → r ≡ s → IsTrue (proves g o v r) → IsTrue (proves g p w s)
 moved g o p v w r s a b c h = rw (← a, ← b, ← c) h
 
-no_want : (fault : CertFault) (t : List ℕ) → FaultLine fault t → IsWant fault → ⊥
-no_want (NotACertificate at) t h w = w
-no_want (TooDeep at) t h w = w
-no_want (Want e) t h w = h
-
 denied : IsOneCertificate → (told : Option (List ℕ)) (g : Game) (bytes t : List ℕ) (proof : TellsProof told g) → Denies g bytes t → bytes ≡ proof.bytes → ⊥
 denied one told g bytes t proof d e =
     let p : IsText 1000 bytes = (proof.version, proof.outcome, proof.optimum, proof.root, proof.read.spellable, proof.read.shallow, e ∙ proof.read.spelled) in
@@ -130,14 +122,6 @@ never_faulty never told g bytes t fault proof file is line =
     let e : bytes ≡ proof.bytes = told_bytes told proof.bytes bytes proof.told_is file.same in
     never proof.bytes fault (proof.version, proof.outcome, proof.optimum, proof.root, proof.read.spellable, proof.read.shallow, proof.read.spelled)
     (subst (IsFault fault) e is, no_want fault t line)
-
--- no certificate's file is turned down that isn't too long
-never_unread : (limit : ℕ) (name : List ℕ) (told : Option (List ℕ)) (gave : ℕ → Type 0) (bytes : List ℕ) → told ≡ Some bytes → length bytes ≤ limit →
-    (s : Status) (t : List ℕ) → TurnsFileDown limit name told gave s t → ¬ (s ≡ Memory) → ¬ (s ≡ ReadFault) → ⊥
-never_unread limit name told gave bytes e le TooLong t d m r = never_long limit name told gave t bytes e le d
-never_unread limit name told gave bytes e le Memory t d m r = m refl
-never_unread limit name told gave bytes e le ReadFault t d m r = r refl
-never_unread limit name told gave bytes e le s t d m r = d
 
 confirms_done : Laws → (told : Option (List ℕ)) (g : Game) (bytes : List ℕ) → TellsProof told g → IsFile 1073741824 told bytes →
     (s : Status) (t : List ℕ) → ChecksBytes g bytes s t → s ≡ Done
@@ -204,14 +188,50 @@ never_unreadable told places g tells NoReading t d m = no_reason places g d.why 
 never_unreadable told places g tells Memory t d m = m refl
 never_unreadable told places g tells s t d m = d
 
+of_reading : (told : Option (List ℕ)) (places : Places) (P : Game → Status → List ℕ → Type 0) (g : Game) → TellsReading told places g →
+    (s : Status) (t : List ℕ) → AnswersReading places P g s t → ¬ (s ≡ Memory) → P (worst_game places g) s t
+of_reading told places P g tells s t h m =
+    elim h [
+      | inl d ↦ absurd (never_unreadable told places g tells s t d m)
+      | inr (reading, k) ↦ k
+    ]
+
 for_reading : Laws → (places : Places) (P : Game → Status → List ℕ → Type 0) (name : List ℕ) (told : Option (List ℕ)) (gave : ℕ → Type 0) (g : Game) →
     TellsReading told places g → (s : Status) (t : List ℕ) → AnswersProblem (AnswersReading places P) name told gave s t → ¬ (s ≡ Memory) → ¬ (s ≡ ReadFault) →
     P (worst_game places g) s t
 for_reading l places P name told gave g tells s t h m r =
-    elim (for_problem l (AnswersReading places P) name told gave g tells.problem s t h m r) [
-      | inl d ↦ absurd (never_unreadable told places g tells s t d m)
-      | inr (reading, k) ↦ k
-    ]
+    of_reading told places P g tells s t (for_problem l (AnswersReading places P) name told gave g tells.problem s t h m r) m
+
+-- both games are answered
+for_gap : Laws → (places : Places) (name : List ℕ) (told : Option (List ℕ)) (gave : ℕ → Type 0) (g : Game) →
+    TellsReading told places g → (s : Status) (t : List ℕ) → AnswersProblem (AnswersGap places) name told gave s t → ¬ (s ≡ Memory) → ¬ (s ≡ ReadFault) →
+    ComparesGames g (worst_game places g) s t
+for_gap l places name told gave g tells s t h m r =
+    of_reading told places (ComparesGames g) g tells s t (for_problem l (AnswersGap places) name told gave g tells.problem s t h m r) m
+
+compares_done : (g h : Game) (s : Status) (t : List ℕ) → ComparesGames g h s t → ¬ (s ≡ Memory) → (s ≡ Done) ⊎ (s ≡ Open)
+compares_done g h Done t c m = inl refl
+compares_done g h Open t c m = inr refl
+compares_done g h Memory t c m = absurd (m refl)
+compares_done g h s t c m = absurd c
+
+neither_open : (o p : Outcome) (g h : Game) (r q : Tree) → Open ≡ gap_status o p → OpenMeans o g usual_turns r → OpenMeans p h usual_turns q →
+    full_turns_of g ≤ usual_turns → full_turns_of h ≤ usual_turns → ⊥
+neither_open True p g h r q e m n f k = open_below p h usual_turns q e n k
+neither_open False p g h r q e m n f k = open_below p h usual_turns q e n k
+neither_open (OpenOutcome i) p g h r q e m n f k = open_below (OpenOutcome i) g usual_turns r refl m f
+
+compares_settled : (g h : Game) (s : Status) (t : List ℕ) → ComparesGames g h s t → ¬ (s ≡ Memory) → full_turns_of g ≤ usual_turns → full_turns_of h ≤ usual_turns → s ≡ Done
+compares_settled g h Done t c m f k = refl
+compares_settled g h Open t c m f k =
+    absurd (neither_open c.best.certifies.outcome c.worst.certifies.outcome g h c.best.certifies.root c.worst.certifies.root c.ends c.best.certifies.spent c.worst.certifies.spent f k)
+compares_settled g h Memory t c m f k = absurd (m refl)
+compares_settled g h s t c m f k = absurd c
+
+compares_both : (places : Places) (g : Game) (s : Status) (t : List ℕ) → ComparesGames g (worst_game places g) s t → ¬ (s ≡ Memory) →
+    ((s ≡ Done) ⊎ (s ≡ Open)) × (full_turns_of g ≤ usual_turns → s ≡ Done)
+compares_both places g s t c m =
+    (compares_done g (worst_game places g) s t c m, λ f. compares_settled g (worst_game places g) s t c m f (subst (λ n. n ≤ usual_turns) (sym (same_turns places g)) f))
 
 asked_done : Laws → (asked : Option Asked) (told : List ℕ → Option (List ℕ)) (gave : ℕ → Type 0) (s : Status) (t : List ℕ) →
     Answers asked told gave s t → ¬ (s ≡ Memory) → ¬ (s ≡ ReadFault) → IsComplete asked told s
@@ -225,6 +245,9 @@ asked_done l (Some (prints name)) told gave s t h m r = λ g tells. prints_done 
 asked_done l (Some (checks name certificate)) told gave s t h m r =
     λ g tells proof. checks_done l certificate (told certificate) gave g proof s t
     (for_problem l (ChecksFile certificate (told certificate) gave) name (told name) gave g tells s t h m r) m r
+asked_done l (Some (plays name certificate moves)) told gave s t h m r =
+    λ g own root tells side made. plays_done l.never l.certificate certificate moves told gave g own root side made s t
+    (for_problem l (PlaysProblem certificate moves told gave) name (told name) gave g tells s t h m r) m r
 asked_done l (Some (decides name turns)) told gave s t h m r =
     λ f tells full. decides_done turns (formula_of f) s t (for_formula l (DecidesFormula turns) name (told name) gave f tells s t h m r) m full
 asked_done l (Some (rewrites name)) told gave s t h m r =
@@ -235,6 +258,8 @@ asked_done l (Some (opposes name places turns)) told gave s t h m r =
     λ g tells f. solves_done turns (worst_game places g) s t (for_reading l places (SolvesProblem turns) name (told name) gave g tells s t h m r) m f
 asked_done l (Some (restates name places)) told gave s t h m r =
     λ g tells. prints_done (worst_game places g) s t (for_reading l places PrintsProblem name (told name) gave g tells s t h m r) m
+asked_done l (Some (compares name places)) told gave s t h m r =
+    λ g tells. compares_both places g s t (for_gap l places name (told name) gave g tells s t h m r) m
 
 no_fault : (before now : ℕ) → Rose before now → NoneRose before now → ⊥
 no_fault before now rose (same, below) = omega arith

@@ -69,7 +69,7 @@ long_before : (limit : ℕ) (name : List ℕ) (told : Option (List ℕ)) (gave g
 long_before limit name told gave gave' t f h = record { given = f (limit + 1) h.given; longer = h.longer; line = h.line }
 
 -- more was given before
-file_before : (limit : ℕ) (name : List ℕ) (told : Option (List ℕ)) (gave gave' : ℕ → Type 0) → ((n : ℕ) → gave n → gave' n) →
+pub file_before : (limit : ℕ) (name : List ℕ) (told : Option (List ℕ)) (gave gave' : ℕ → Type 0) → ((n : ℕ) → gave n → gave' n) →
     (s : Status) (t : List ℕ) → TurnsFileDown limit name told gave s t → TurnsFileDown limit name told gave' s t
 file_before limit name told gave gave' f TooLong t h = long_before limit name told gave gave' t f h
 file_before limit name told gave gave' f s t h = h

@@ -1,24 +1,26 @@
 -- What `run` answers and writes.
-use Rattle.std.specs.Prelude.{◌≡◌, ◌⊎◌, ℕ, ℤ, List, [], ◌++◌, codes, decimal, Option, Some, None}
+use Rattle.std.specs.Prelude.{◌≡◌, ◌⊎◌, ℕ, ℤ, List, [], ◌++◌, codes, Option, Some, None}
 use Rattle.qc_model.specs.Content.{Game}
 use Rattle.proof_tree.specs.declared.tree.Outcome.{Outcome}
 use Rattle.proof_tree.specs.Text.{outcome_text}
 use Rattle.proof_text.specs.declared.fault.CertFault.{CertFault}
-use Rattle.proof_text.specs.declared.fault.CertFault.TheVariants.{NotACertificate, TooDeep, Memory as Want}
 use Rattle.proof_text.specs.Places.{IsFault}
 use Rattle.qc_model.specs.Canonical.{canonical_text}
 use Rattle.qc_syntax.specs.Reads.{Reads}
 use Rattle.qc_check.specs.Checking.{IsProof, IsNoProof}
 use Rattle.qc_program.specs.declared.status.Status.{Status}
 use Rattle.qc_program.specs.declared.status.Status.TheVariants.{Done, NotProved, Open, Usage, BadProblem, BadCertificate, Memory}
-use Rattle.qc_program.specs.Words.{Asked, solves, checks, prints, decides, rewrites, makes, shows, opposes, restates}
+use Rattle.qc_program.specs.Words.{Asked, solves, checks, plays, prints, decides, rewrites, makes, shows, opposes, restates, compares}
 use Rattle.qc_program.specs.Refusals.{IsRefused}
 use Rattle.qc_program.specs.Certifies.{Certifies}
 use Rattle.qc_program.specs.Files.{IsFile, TurnsFileDown}
+use Rattle.qc_program.specs.Certificates.{FaultLine}
+use Rattle.qc_program.specs.Plays.{PlaysProblem}
 use Rattle.qc_program.specs.Formulas.{AnswersFormula, DecidesFormula, RewritesFormula}
 use Rattle.qc_program.specs.Summaries.{SummarisesProblem}
 use Rattle.qc_generated.specs.Pricing.{generated_game}
 use Rattle.qc_program.specs.Readings.{AnswersReading}
+use Rattle.qc_program.specs.Gap.{AnswersGap}
 
 -- what `solve` answers for a problem, and so many turns
 abbrev pub SolvesProblem : ℕ → Game → Status → List ℕ → Type 0
@@ -44,12 +46,6 @@ pub record Confirms (g : Game) (bytes text : List ℕ) : Type 0 where
 pub record Denies (g : Game) (bytes text : List ℕ) : Type 0 where
   pub no_proof : IsNoProof g bytes
   pub line : text ≡ codes "no\n"
-
--- the line of a fault in a certificate's bytes
-abbrev pub FaultLine : CertFault → List ℕ → Type 0
-FaultLine (NotACertificate at) text = text ≡ codes "bad certificate at " ++ decimal at ++ codes "\n"
-FaultLine (TooDeep at) text = text ≡ codes "certificate too deep at " ++ decimal at ++ codes "\n"
-FaultLine (Want e) text = ⊥
 
 -- what `check` answers for the bytes of a certificate's text
 abbrev pub ChecksBytes : Game → List ℕ → Status → List ℕ → Type 0
@@ -91,15 +87,18 @@ AnswersAsked (solves name turns) told gave status text = AnswersProblem (SolvesP
 AnswersAsked (prints name) told gave status text = AnswersProblem PrintsProblem name (told name) gave status text
 AnswersAsked (checks problem certificate) told gave status text =
     AnswersProblem (ChecksFile certificate (told certificate) gave) problem (told problem) gave status text
+AnswersAsked (plays problem certificate moves) told gave status text =
+    AnswersProblem (PlaysProblem certificate moves told gave) problem (told problem) gave status text
 AnswersAsked (decides name turns) told gave status text = AnswersFormula (DecidesFormula turns) name (told name) gave status text
 AnswersAsked (rewrites name) told gave status text = AnswersFormula RewritesFormula name (told name) gave status text
 AnswersAsked (makes n) told gave status text = SummarisesProblem (generated_game n) status text
 AnswersAsked (shows n) told gave status text = PrintsProblem (generated_game n) status text
 AnswersAsked (opposes name places turns) told gave status text = AnswersProblem (AnswersReading places (SolvesProblem turns)) name (told name) gave status text
 AnswersAsked (restates name places) told gave status text = AnswersProblem (AnswersReading places PrintsProblem) name (told name) gave status text
+AnswersAsked (compares name places) told gave status text = AnswersProblem (AnswersGap places) name (told name) gave status text
 
 -- what is answered for the words; told gives the bytes of the names that are told
 abbrev pub Answers : Option Asked → (List ℕ → Option (List ℕ)) → (ℕ → Type 0) → Status → List ℕ → Type 0
-Answers None told gave Usage text = text ≡ codes "usage: qecode solve PROBLEM [--turns N] | check PROBLEM CERTIFICATE | print PROBLEM | generate N [--text] | qbf FILE [--turns N | --text] | worst PROBLEM SCOPE [--turns N | --text]\n"
+Answers None told gave Usage text = text ≡ codes "usage: qecode solve PROBLEM [--turns N] | check PROBLEM CERTIFICATE | print PROBLEM | generate N [--text] | qbf FILE [--turns N | --text] | worst PROBLEM SCOPE [--turns N | --text | --gap] | play PROBLEM CERTIFICATE MOVES\n"
 Answers None told gave status text = ⊥
 Answers (Some asked) told gave status text = AnswersAsked asked told gave status text

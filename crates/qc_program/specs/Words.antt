@@ -4,11 +4,13 @@ use Rattle.std.specs.Str.{bytes_eq}
 use Rattle.qc_pessimist.specs.declared.reading.Places.{Places}
 use Rattle.qc_pessimist.specs.declared.reading.Places.TheVariants.{One, All}
 
--- what the words ask for: files by their names, and a budget of turns; a formula is decided, or rewritten as a problem; the
--- problem made from a number is solved, or shown; where chosen owners meet the worst ties a problem is solved, or rewritten
+-- what the words ask for: files by their names, and a budget of turns; a problem is played against what a certificate
+-- shows; a formula is decided, or rewritten as a problem; the problem made from a number is solved, or shown; where chosen owners meet the worst ties a problem is solved, or rewritten, or
+-- what it comes to is compared with what it comes to otherwise
 pub data Asked : Type 0 where
   solves : List ℕ → ℕ → Asked
   checks : List ℕ → List ℕ → Asked
+  plays : List ℕ → List ℕ → List ℕ → Asked
   prints : List ℕ → Asked
   decides : List ℕ → ℕ → Asked
   rewrites : List ℕ → Asked
@@ -16,6 +18,7 @@ pub data Asked : Type 0 where
   shows : ℕ → Asked
   opposes : List ℕ → Places → ℕ → Asked
   restates : List ℕ → Places → Asked
+  compares : List ℕ → Places → Asked
 
 -- a word that names a file: it isn't empty and doesn't begin with a dash
 abbrev pub is_name : List ℕ → Bool
@@ -86,6 +89,10 @@ abbrev pub restates_at : List ℕ → Option Places → Option Asked
 restates_at name None = None
 restates_at name (Some places) = Some (restates name places)
 
+abbrev pub compares_at : List ℕ → Option Places → Option Asked
+compares_at name None = None
+compares_at name (Some places) = Some (compares name places)
+
 -- the turns where the words name none
 abbrev pub usual_turns : ℕ
 usual_turns = 1000000
@@ -107,9 +114,11 @@ asked_by_three word first second =
 
 abbrev pub asked_by_four : List ℕ → List ℕ → List ℕ → List ℕ → Option Asked
 asked_by_four word first second third =
-    if bytes_eq word (codes "solve") && is_name first && bytes_eq second (codes "--turns") then solves_within first (turns_asked third)
+    if bytes_eq word (codes "play") && is_name first && is_name second && is_name third then Some (plays first second third)
+    else if bytes_eq word (codes "solve") && is_name first && bytes_eq second (codes "--turns") then solves_within first (turns_asked third)
     else if bytes_eq word (codes "qbf") && is_name first && bytes_eq second (codes "--turns") then decides_within first (turns_asked third)
-    else if bytes_eq word (codes "worst") && is_name first && bytes_eq third (codes "--text") then restates_at first (places_asked second) else None
+    else if bytes_eq word (codes "worst") && is_name first && bytes_eq third (codes "--text") then restates_at first (places_asked second)
+    else if bytes_eq word (codes "worst") && is_name first && bytes_eq third (codes "--gap") then compares_at first (places_asked second) else None
 
 abbrev pub asked_by_five : List ℕ → List ℕ → List ℕ → List ℕ → List ℕ → Option Asked
 asked_by_five word first second third fourth =

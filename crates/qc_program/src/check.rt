@@ -107,8 +107,8 @@ fn tell<K: Sink>(out: &mut K, checked: Checked) -> Status
     }
 }
 
-// The line that names the place of a fault.
-fn refuse<K: Sink>(out: &mut K, words: &[u8], at: u64) -> Status
+/// The line that names the place of a fault.
+pub(crate) fn refuse<K: Sink>(out: &mut K, words: &[u8], at: u64) -> Status
     ensures wrote { Wrote (K.written out.old) (K.written out.new) (K.faults out.old) (K.faults out.new) result
         (λ s t. (s ≡ Status.BadCertificate) × (t ≡ words.now ++ decimal at ++ codes "\n")) }
     ensures rows { (result ≡ Status.BadCertificate) ⊎ (result ≡ Status.WriteFault) }

@@ -7,11 +7,15 @@ ghost use Rattle.qc_program.specs.Words.{asked_of};
 ghost use Rattle.qc_program.specs.Edge.{EndsRight};
 
 mod certificate;
+mod certificate_file;
 mod check;
 mod file;
 mod formula;
 mod formula_file;
+mod gap;
 mod generate;
+mod moves;
+mod play;
 mod print;
 mod problem_file;
 mod refuse;

@@ -9,7 +9,9 @@ ghost use Rattle.qc_program.specs.Complete.{IsComplete, MayRunOut};
 
 use crate::check::check_files;
 use crate::formula::{decide_file, rewrite_file};
+use crate::gap::compare_file;
 use crate::generate::{show_made, solve_made};
+use crate::play::play_files;
 use crate::print::print_file;
 use crate::solve::solve_file;
 use crate::status::Status;
@@ -23,14 +25,16 @@ use qdimacs::texts_get_one_answer;
 use std::alloc::Global;
 
 const USAGE: &[u8] =
-    b"usage: qecode solve PROBLEM [--turns N] | check PROBLEM CERTIFICATE | print PROBLEM | generate N [--text] | qbf FILE [--turns N | --text] | worst PROBLEM SCOPE [--turns N | --text]\n";
+    b"usage: qecode solve PROBLEM [--turns N] | check PROBLEM CERTIFICATE | print PROBLEM | generate N [--text] | qbf FILE [--turns N | --text] | worst PROBLEM SCOPE [--turns N | --text | --gap] | play PROBLEM CERTIFICATE MOVES\n";
 
 /// Does what the words ask for.
 ///
 /// Where nothing failed and memory sufficed, a problem is solved within as many turns as the whole game can
-/// take, a certificate that proves what it states is confirmed, and a problem is printed; a formula is decided within as
+/// take, a certificate that proves what it states is confirmed, a play against it is written whose moves can be made, and
+/// a problem is printed; a formula is decided within as
 /// many turns, or its game is printed; a made problem is solved or left open, or its text is written;
-/// where chosen owners meet the worst ties a problem is solved within as many turns as it can take, or printed.
+/// where chosen owners meet the worst ties a problem is solved within as many turns as it can take, or printed, or what it
+/// comes to stands beside what it comes to otherwise.
 pub fn run<S: Shelf, K: Sink>(alloc: Global, words: &[&str], shelf: &mut S, out: &mut K) -> Status
     ensures wrote { Wrote (K.written out.old) (K.written out.new) (K.faults out.old) (K.faults out.new) result
         (Answers (asked_of (map (λ w. w.now) words.now)) (S.told shelf.old) (λ n. RoseBy n (S.given shelf.old) (S.given shelf.new))) }
@@ -65,6 +69,13 @@ fn answer<S: Shelf, K: Sink>(alloc: Global, words: &[&str], shelf: &mut S, out: 
                 certificate,
             },
         ) => check_files(alloc, problem, certificate, shelf, out),
+        Some(
+            Command::Play {
+                problem,
+                certificate,
+                moves,
+            },
+        ) => play_files(alloc, problem, certificate, moves, shelf, out),
         Some(Command::Print { problem }) => print_file(alloc, problem, shelf, out),
         Some(Command::Decide { formula, turns }) => decide_file(alloc, formula, turns, shelf, out),
         Some(Command::Rewrite { formula }) => rewrite_file(alloc, formula, shelf, out),
@@ -78,6 +89,9 @@ fn answer<S: Shelf, K: Sink>(alloc: Global, words: &[&str], shelf: &mut S, out: 
             },
         ) => oppose_file(alloc, problem, places, turns, shelf, out),
         Some(Command::Restate { problem, places }) => restate_file(
+            alloc, problem, places, shelf, out,
+        ),
+        Some(Command::Compare { problem, places }) => compare_file(
             alloc, problem, places, shelf, out,
         ),
         None => finish(out, USAGE, Status::Usage),

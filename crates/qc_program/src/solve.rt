@@ -68,7 +68,8 @@ fn write_flat<K: Sink>(flat: &Flat, out: &mut K) -> Status
     }
 }
 
-fn status_for(outcome: Outcome) -> Status
+/// How a run ends whose certificate states this.
+pub(crate) fn status_for(outcome: Outcome) -> Status
     ensures { result ≡ status_of outcome }
 {
     match outcome {

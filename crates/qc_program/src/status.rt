@@ -23,6 +23,8 @@ pub enum Status {
     WriteFault,
     /// There was too little memory; nothing was written.
     Memory,
+    /// The text isn't moves, or they can't be made in the game.
+    BadMoves,
     /// The text isn't a formula.
     BadQdimacs = 11,
     /// No reading at the worst ties is given for the scopes named.

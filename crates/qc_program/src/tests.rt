@@ -4,6 +4,7 @@ mod formulas;
 mod hostile;
 mod made;
 mod optima;
+mod play;
 mod refusals;
 mod table;
 mod worst;
@@ -19,12 +20,7 @@ const TRUE: &[u8] = b"qcert 2\ntrue\ng\n";
 const FALSE: &[u8] = b"qcert 2\nfalse\ng\n";
 
 // A run over memory. It promises nothing, so that a test isn't shown all that `run` promises.
-fn run(
-    alloc: Global,
-    words: &[&str],
-    shelf: &mut MemoryShelf,
-    sink: &mut MemorySink,
-) -> Status {
+fn run(alloc: Global, words: &[&str], shelf: &mut MemoryShelf, sink: &mut MemorySink) -> Status {
     run_over(alloc, words, shelf, sink)
 }
 
@@ -206,7 +202,7 @@ fn faults_are_answered(rt: HostRuntime) -> Result<(), Fail> {
 #[test]
 fn other_words_give_the_usage_line(rt: HostRuntime) -> Result<(), Fail> {
     let alloc = rt.alloc();
-    let rows: [&[&str]; 25] = [
+    let rows: [&[&str]; 31] = [
         &[],
         &["solve"],
         &["solve", "--turns"],
@@ -232,6 +228,12 @@ fn other_words_give_the_usage_line(rt: HostRuntime) -> Result<(), Fail> {
         &["worst", "p", "0"],
         &["worst", "p", "65"],
         &["worst", "p", "1", "--turns", "0"],
+        &["worst", "p", "--gap"],
+        &["worst", "p", "0", "--gap"],
+        &["worst", "p", "1", "--gap", "5"],
+        &["play", "p", "c"],
+        &["play", "p", "c", "-m"],
+        &["play", "p", "", "m"],
     ];
     for words in rows {
         let mut shelf = MemoryShelf::new(alloc);

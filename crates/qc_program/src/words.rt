@@ -1,7 +1,7 @@
 //! The words of a command.
 ghost use Rattle.std.specs.Prelude.{◌≡◌, ◌≤◌, ◌<◌, length, map, Some, IfSome};
 ghost use Rattle.std.specs.Option.{option_map};
-ghost use Rattle.qc_program.specs.Words.{is_name as is_name_of, digits_after, is_short_numeral as is_short_numeral_of, solves_within, decides_within, makes_from, shows_from, number_asked, turns_asked, made_from as made_from_word, scope_place, places_asked as places_asked_by, opposes_within, restates_at, asked_by_two, asked_by_three, asked_by_four, asked_by_five, asked_of};
+ghost use Rattle.qc_program.specs.Words.{is_name as is_name_of, digits_after, is_short_numeral as is_short_numeral_of, solves_within, decides_within, makes_from, shows_from, number_asked, turns_asked, made_from as made_from_word, scope_place, places_asked as places_asked_by, opposes_within, restates_at, compares_at, asked_by_two, asked_by_three, asked_by_four, asked_by_five, asked_of};
 ghost use Rattle.qc_program.specs.View.{asked, IsWithin};
 
 use qc_model::ScopeId;
@@ -31,6 +31,11 @@ pub(crate) enum Command<'a> {
         problem: &'a str,
         certificate: &'a str,
     },
+    Play {
+        problem: &'a str,
+        certificate: &'a str,
+        moves: &'a str,
+    },
     Print {
         problem: &'a str,
     },
@@ -53,6 +58,10 @@ pub(crate) enum Command<'a> {
         turns: u64,
     },
     Restate {
+        problem: &'a str,
+        places: Places,
+    },
+    Compare {
         problem: &'a str,
         places: Places,
     },
@@ -119,10 +128,17 @@ fn by_three<'a>(word: &str, first: &'a str, second: &'a str) -> Option<Command<'
     None
 }
 
-fn by_four<'a>(word: &str, first: &'a str, second: &'a str, third: &str) -> Option<Command<'a>>
+fn by_four<'a>(word: &str, first: &'a str, second: &'a str, third: &'a str) -> Option<Command<'a>>
     ensures asked { option_map asked result ≡ asked_by_four word.now first.now second.now third.now }
     ensures within { IfSome result IsWithin }
 {
+    if word == "play" && is_name(first) && is_name(second) && is_name(third) {
+        return Some(Command::Play {
+            problem: first,
+            certificate: second,
+            moves: third,
+        });
+    }
     if word == "solve" && is_name(first) && second == "--turns" {
         return solve_within(first, turns_in(third));
     }
@@ -131,6 +147,9 @@ fn by_four<'a>(word: &str, first: &'a str, second: &'a str, third: &str) -> Opti
     }
     if word == "worst" && is_name(first) && third == "--text" {
         return restate_at(first, places_in(second));
+    }
+    if word == "worst" && is_name(first) && third == "--gap" {
+        return compare_at(first, places_in(second));
     }
     None
 }
@@ -219,6 +238,16 @@ fn restate_at(problem: &str, places: Option<Places>) -> Option<Command<'_>>
 {
     match places {
         Some(places) => Some(Command::Restate { problem, places }),
+        None => None,
+    }
+}
+
+fn compare_at(problem: &str, places: Option<Places>) -> Option<Command<'_>>
+    ensures asked { option_map asked result ≡ compares_at problem.now places }
+    ensures within { IfSome result IsWithin }
+{
+    match places {
+        Some(places) => Some(Command::Compare { problem, places }),
         None => None,
     }
 }

@@ -84,9 +84,9 @@ fn restate_problem<K: Sink>(alloc: Global, problem: &Problem, places: Places, ou
     }
 }
 
-// The game with an owner of the opposite wish after each chosen one. Where there is none the answer is written, and its
-// status given.
-fn oppose<K: Sink>(
+/// The game with an owner of the opposite wish after each chosen one. Where there is none the answer is written, and its
+/// status given.
+pub(crate) fn oppose<K: Sink>(
     alloc: Global,
     problem: &Problem,
     places: Places,

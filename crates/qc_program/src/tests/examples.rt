@@ -179,7 +179,7 @@ goal;
 solve;
 ";
 
-const TOLLS: &[u8] =
+pub(super) const TOLLS: &[u8] =
     b"% A leader sets three tolls. Each of three customers then takes its cheapest route, by one of the tolls or by a free
 % road, and pays the toll for each of its cars. Which tolls bring most?
 exists maximize total;

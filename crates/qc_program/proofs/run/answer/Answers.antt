@@ -26,3 +26,9 @@ returns-in-Some-Oppose-clause-wrote g c = rw (← c.in-Some-Oppose.ensures.asked
 
 pub returns-in-Some-Restate-clause-wrote : goal.returns-in-Some-Restate-clause-wrote
 returns-in-Some-Restate-clause-wrote g c = rw (← c.in-Some-Restate.ensures.asked, c.in-Some-Restate.field-0-is) c.restate_file.ensures.wrote
+
+pub returns-in-Some-Play-clause-wrote : goal.returns-in-Some-Play-clause-wrote
+returns-in-Some-Play-clause-wrote g c = rw (← c.in-Some-Play.ensures.asked, c.in-Some-Play.field-0-is) c.play_files.ensures.wrote
+
+pub returns-in-Some-Compare-clause-wrote : goal.returns-in-Some-Compare-clause-wrote
+returns-in-Some-Compare-clause-wrote g c = rw (← c.in-Some-Compare.ensures.asked, c.in-Some-Compare.field-0-is) c.compare_file.ensures.wrote
