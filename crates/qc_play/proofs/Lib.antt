@@ -9,3 +9,16 @@ pub mod Showing
 pub mod Making
 pub mod Starts
 mod Plays
+pub mod Backs
+pub mod TreeSizes
+pub mod Tellings
+pub mod Stepping
+pub mod ScopeEnds
+pub mod Branching
+pub mod Readable
+pub mod Outcomes
+pub mod AtLevels
+pub mod Leafing
+pub mod Parted
+pub mod OwnTrees
+pub mod TupleReads

@@ -7,3 +7,6 @@ pub mod Ends
 pub mod Stuck
 pub mod Made
 pub mod Judged
+pub mod Gathers
+pub mod Walk
+pub mod Shown

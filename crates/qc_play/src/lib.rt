@@ -12,19 +12,28 @@
 //! (`Ends`), and what is made of a certificate (`Made`).
 #![tactic(auto)]
 
+mod alone;
 mod board;
 mod counter;
+mod covers;
 mod fault;
+mod gathering;
 mod judged;
 mod lines;
 mod listed;
 mod make;
 mod plan;
 mod reading;
+mod root;
+mod scope;
+mod shown;
 mod side;
+mod steps;
+mod tables;
 #[cfg(test)]
 mod tests;
 mod tuple;
+mod walk;
 
 pub use board::play;
 pub use counter::{Counter, CounterEntry, CounterList};
