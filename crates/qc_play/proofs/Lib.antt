@@ -19,3 +19,16 @@ pub mod SortedAnswers
 pub mod Finishing
 pub mod Finished
 pub mod ShownVerdicts
+pub mod Backs
+pub mod TreeSizes
+pub mod Tellings
+pub mod Stepping
+pub mod ScopeEnds
+pub mod Branching
+pub mod Readable
+pub mod Outcomes
+pub mod AtLevels
+pub mod Leafing
+pub mod Parted
+pub mod OwnTrees
+pub mod TupleReads

@@ -12,3 +12,4 @@ pub mod EntryOrder
 pub mod Entries
 pub mod Gathers
 pub mod Evidence
+pub mod Walk

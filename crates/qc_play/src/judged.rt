@@ -1,10 +1,11 @@
 //! What a certificate's tree comes to, and whether that shows its outcome.
-ghost use Rattle.std.specs.Prelude.{◌≡◌, ◌≤◌, [], true, Some, None, IfOk};
+ghost use Rattle.std.specs.Prelude.{◌≡◌, ◌≤◌, [], true, Some, None, length, IfOk};
 ghost use Rattle.qc_model.specs.Verdict.{is_exact as is_exact_verdict, is_lost as is_lost_verdict};
 ghost use Rattle.qc_levels.specs.Seen.{verdict_of};
 ghost use Rattle.proof_tree.specs.Shape.{tree_of};
 ghost use Rattle.proof_tree.specs.Counts.{depth_of};
 ghost use Rattle.proof_tree.specs.InPlace.{root_in_place};
+ghost use Rattle.proof_tree.specs.Lines.{tree_lines};
 ghost use Rattle.proof_tree.specs.Proves.{optimises_first as optimises, is_value as is_value_of};
 ghost use Rattle.line_check.specs.declared.answer.Answer.{Answer as Told};
 ghost use Rattle.line_check.specs.Found.{IsAnswer};
@@ -27,6 +28,7 @@ pub(crate) fn judged(
     requires { depth_of (tree_of root.now) ≤ 1000 }
     ensures right { IfOk result (λ o. (f : Told) → o ≡ Some f → IsAnswer problem.now (tree_of root.now) f) }
     ensures all { IfOk result (λ o. o ≡ None → root_in_place problem.now (tree_of root.now) ≡ true → ⊥) }
+    ensures few { IfOk result (λ o. length (tree_lines (tree_of root.now)) ≤ 4294967296) }
 {
     answers_are_right();
     let lines = list_node(alloc, root)?;

@@ -17,9 +17,11 @@
 //! gathered of leaves (`Gathers`).
 #![tactic(auto)]
 
+mod alone;
 mod best;
 mod board;
 mod counter;
+mod covers;
 mod evidence;
 mod fault;
 mod gathering;
@@ -32,11 +34,16 @@ mod opponent_leaves;
 mod plan;
 mod player_leaves;
 mod reading;
+mod root;
+mod scope;
 mod shown;
 mod side;
+mod steps;
+mod tables;
 #[cfg(test)]
 mod tests;
 mod tuple;
+mod walk;
 
 pub use board::play;
 pub use counter::{Counter, CounterEntry, CounterList};

@@ -30,3 +30,6 @@ returns-clause-all c = λ e placed.
   where
     none : (f : Answer) → ¬ (None ≡ Some f)
     none f q = cc
+
+pub returns-clause-few : goal.returns-clause-few
+returns-clause-few c = subst (λ ls. length ls ≤ 4294967296) c.in_ok-lines.ensures (omega (arith, c.if-len.false, c.len.ensures))

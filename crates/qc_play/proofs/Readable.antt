@@ -1,0 +1,134 @@
+-- What stands in place below a part that does.
+use Rattle.std.proofs.Common.{◌≡◌, ℕ, zero, suc, ◌+◌, ◌<◌, ◌≤◌, Bool, true, false, not, ◌&&◌, List, [], ◌∷◌, ◌++◌, length, map, drop, refl, sym, ap, ◌∙◌, subst, arith, Option, length-append}
+use Rattle.std.proofs.lemmas.List.{length-map}
+use Rattle.qc_model.specs.declared.problem.Scope.{Scope}
+use Rattle.qc_model.specs.declared.problem.VarId.{VarId}
+use Rattle.qc_model.specs.Content.{Game}
+use Rattle.qc_model.specs.Demands.{demands}
+use Rattle.qc_model.specs.Domains.{Box, has_empty, is_single, values_left}
+use Rattle.qc_model.specs.Game.{allows, is_of_scope}
+use Rattle.qc_arguments.specs.Asked.{is_box_of}
+use Rattle.proof_tree.specs.declared.tree.Horizon.{Horizon}
+use Rattle.proof_tree.specs.declared.tree.Step.{Step}
+use Rattle.proof_tree.specs.InPlace.{in_place, body_in_place, ending_in_place, branches_in_place, horizon_below, horizon_in_place, is_horizon}
+use Rattle.proof_tree.specs.Lines.{step_line, horizon_lines, tree_lines, ending_lines}
+use Rattle.proof_tree.specs.Place.{position, is_fixed, is_goal, next_scopes, list_after}
+use Rattle.proof_tree.specs.Steps.{after_steps}
+use Rattle.proof_tree.specs.Tree.{Tree, tree, goal, cases, Ending, next, branch, Branches}
+use Rattle.qc_meaning.specs.Answered.{Answered, IsAnswered}
+use Rattle.line_check.proofs.Facts.{next_drop}
+use Rattle.line_check.proofs.Parts.{of_scope}
+use Rattle.line_check.proofs.Readings.{box_size}
+use Rattle.qc_play.specs.Walk.{steps_fit, part_leaves, CanReadNode, CanReadPart, CanReadEnd, CanReadBranches}
+use Rattle.qc_play.proofs.TreeSizes.{list_next}
+
+both : (a b : Bool) → (a && b) ≡ true → (a ≡ true) × (b ≡ true)
+both true b e = (refl, e)
+both false b e = cc
+
+together : (a b : Bool) → a ≡ true → b ≡ true → (a && b) ≡ true
+together a b e f = ap (λ c. c && b) e ∙ f
+
+not_true : (b : Bool) → not b ≡ true → b ≡ false
+not_true true e = cc
+not_true false e = refl
+
+last_scope : (ss : List Scope) (i : ℕ) → is_goal (drop i ss) ≡ true → length ss ≤ i
+last_scope [] i e = omega arith
+last_scope (s ∷ ss) zero e = cc
+last_scope (s ∷ ss) (suc i) e = let h = last_scope ss i e in omega (arith, h)
+
+some_scope : (ss : List Scope) (i : ℕ) → is_goal (drop i ss) ≡ false → i < length ss
+some_scope [] zero e = cc
+some_scope [] (suc i) e = cc
+some_scope (s ∷ ss) zero e = omega arith
+some_scope (s ∷ ss) (suc i) e = let h = some_scope ss i e in omega (arith, h)
+
+-- the goal stands after all scopes
+pub goal_last : (g : Game) (z : Option Horizon) (i : ℕ) (box : Box) → CanReadNode g (tree z goal) i box → i ≤ length g.scopes → i ≡ length g.scopes
+goal_last g z i box h l =
+    let k = horizon_below z h.horizon in
+    let b = (both (horizon_in_place g z (drop i g.scopes) i box h.horizon) (body_in_place g goal (drop i g.scopes) i (demands g i) box k) h.placed).1 in
+    let m = last_scope g.scopes i (both (not (is_horizon k i)) (is_goal (drop i g.scopes)) b).1 in
+    omega (arith, l, m)
+
+-- a scope's own tree
+module _ (g : Game) (z : Option Horizon) (steps : List Step) (e : Ending) (i : ℕ) (box : Box) (h : CanReadNode g (tree z (cases steps e)) i box) where
+  abbrev below : Option ℕ
+  below = horizon_below z h.horizon
+
+  own_parts : (is_goal (drop i g.scopes) ≡ false) × (steps_fit g steps i box ≡ true) × (ending_in_place g e (drop i g.scopes) i (demands g i) (after_steps steps box) below ≡ true)
+  own_parts =
+      let b = (both (horizon_in_place g z (drop i g.scopes) i box h.horizon) (body_in_place g (cases steps e) (drop i g.scopes) i (demands g i) box below) h.placed).1 in
+      let r = both (not (is_horizon below i) && not (is_goal (drop i g.scopes)) && steps_fit g steps i box) (ending_in_place g e (drop i g.scopes) i (demands g i) (after_steps steps box) below) b in
+      let s = both (not (is_horizon below i) && not (is_goal (drop i g.scopes))) (steps_fit g steps i box) r.0 in
+      let t = both (not (is_horizon below i)) (not (is_goal (drop i g.scopes))) s.0 in
+      (not_true (is_goal (drop i g.scopes)) t.1, s.1, r.1)
+
+  pub own_scope : i < length g.scopes
+  own_scope = some_scope g.scopes i own_parts.0
+
+  pub own_part : CanReadPart g steps e i box
+  own_part = record { horizon = below; placed = together (steps_fit g steps i box) (ending_in_place g e (drop i g.scopes) i (demands g i) (after_steps steps box) below) own_parts.1 own_parts.2; answered = h.answered.1 }
+
+  pub own_answered : IsAnswered (drop i g.scopes) g i (position g i box) (part_leaves g steps e i box)
+  own_answered = h.answered.0
+
+-- its lines are those of the node, without the horizon's
+pub own_lines : (z : Option Horizon) (steps : List Step) (e : Ending) (n : ℕ) → length (tree_lines (tree z (cases steps e))) ≤ n → length steps + length (ending_lines e) ≤ n
+own_lines z steps e n h =
+    let a = length-append (horizon_lines z) (map step_line steps ++ ending_lines e) in
+    let b = length-append (map step_line steps) (ending_lines e) in
+    let c = length-map steps step_line in
+    omega (arith, h, a, b, c)
+
+-- a part
+pub part_steps : (g : Game) (steps : List Step) (e : Ending) (i : ℕ) (box : Box) → CanReadPart g steps e i box → steps_fit g steps i box ≡ true
+part_steps g steps e i box h = (both (steps_fit g steps i box) (ending_in_place g e (drop i g.scopes) i (demands g i) (after_steps steps box) h.horizon) h.placed).0
+
+pub part_end : (g : Game) (steps : List Step) (e : Ending) (i : ℕ) (box new : Box) → CanReadPart g steps e i box → new ≡ after_steps steps box → CanReadEnd g e i new
+part_end g steps e i box new h q = subst (CanReadEnd g e i) (sym q) (record { horizon = h.horizon; placed = (both (steps_fit g steps i box) (ending_in_place g e (drop i g.scopes) i (demands g i) (after_steps steps box) h.horizon) h.placed).1; answered = h.answered })
+
+-- the node after a tuple
+module _ (g : Game) (t : Tree) (i : ℕ) (box : Box) (h : CanReadEnd g (next t) i box) where
+  next_parts : (has_empty box ≡ false) × (is_fixed g i box ≡ true) × (in_place g t (next_scopes (drop i g.scopes)) (suc i) (list_after g (drop i g.scopes) (demands g i)) box h.horizon ≡ true)
+  next_parts =
+      let r = both (not (has_empty box) && is_fixed g i box && allows g i (position g (suc i) box)) (in_place g t (next_scopes (drop i g.scopes)) (suc i) (list_after g (drop i g.scopes) (demands g i)) box h.horizon) h.placed in
+      let s = both (not (has_empty box) && is_fixed g i box) (allows g i (position g (suc i) box)) r.0 in
+      let u = both (not (has_empty box)) (is_fixed g i box) s.0 in
+      (not_true (has_empty box) u.0, u.1, r.1)
+
+  pub next_full : has_empty box ≡ false
+  next_full = next_parts.0
+
+  pub next_fixed : is_fixed g i box ≡ true
+  next_fixed = next_parts.1
+
+  pub next_node : i < length g.scopes → CanReadNode g t (suc i) box
+  next_node l = record {
+    horizon = h.horizon;
+    placed =
+        subst (λ d. in_place g t (drop (suc i) g.scopes) (suc i) d box h.horizon ≡ true) (list_next g i l)
+        (subst (λ ss. in_place g t ss (suc i) (list_after g (drop i g.scopes) (demands g i)) box h.horizon ≡ true) (next_drop g.scopes i) next_parts.2);
+    answered =
+        subst (λ d. Answered g t (drop (suc i) g.scopes) (suc i) d box) (list_next g i l)
+        (subst (λ ss. Answered g t ss (suc i) (list_after g (drop i g.scopes) (demands g i)) box) (next_drop g.scopes i) h.answered);
+  }
+
+-- a branch
+module _ (g : Game) (x : VarId) (bs : Branches) (i : ℕ) (box : Box) (h : CanReadEnd g (branch x bs) i box) where
+  branch_parts : (has_empty box ≡ false) × (is_of_scope g i x.0 ≡ true) × (branches_in_place g bs x.0 (values_left box x.0) (drop i g.scopes) i (demands g i) box h.horizon ≡ true)
+  branch_parts =
+      let r = both (not (has_empty box) && is_of_scope g i x.0 && not (is_single (values_left box x.0))) (branches_in_place g bs x.0 (values_left box x.0) (drop i g.scopes) i (demands g i) box h.horizon) h.placed in
+      let s = both (not (has_empty box) && is_of_scope g i x.0) (not (is_single (values_left box x.0))) r.0 in
+      let u = both (not (has_empty box)) (is_of_scope g i x.0) s.0 in
+      (not_true (has_empty box) u.0, u.1, r.1)
+
+  pub branch_full : has_empty box ≡ false
+  branch_full = branch_parts.0
+
+  pub branch_variable : is_box_of g box ≡ true → x.0 < length box
+  branch_variable d = let a = of_scope g i x.0 branch_parts.1 in let b = box_size g box d in omega (arith, a, b)
+
+  pub branch_cases : CanReadBranches g bs x.0 (values_left box x.0) i box
+  branch_cases = record { horizon = h.horizon; placed = branch_parts.2; answered = h.answered }

@@ -1,0 +1,36 @@
+use Rattle.std.proofs.Common.{◌∙◌, sym, ap, subst, None}
+use Rattle.qc_model.specs.Domains.{has_empty}
+use Rattle.qc_levels.specs.DemandLists.{HasLists}
+use Rattle.qc_joins.specs.Joins.{out_of}
+use Rattle.proof_tree.specs.Shape.{tree_of}
+use Rattle.line_check.proofs.Emptying.{declared_full}
+use Rattle.qc_play.specs.Shown.{Shows}
+use Rattle.qc_play.specs.Walk.{node_finding, CanReadNode, IsWithin}
+use Rattle.qc_play.proofs.Outcomes.{if_ok}
+use Rattle.qc_play.proofs.root.read_root.Goals as goal
+
+pub node-requires-clause-lists : goal.node-requires-clause-lists
+node-requires-clause-lists c = subst (λ g. HasLists g c.in_ok-tables.tables.demands) (sym c.in_ok-tables.ensures.same) c.in_ok-tables.ensures.lists
+
+pub node-requires-clause-within : goal.node-requires-clause-within
+node-requires-clause-within c = subst (λ g. IsWithin g c.in_ok-walk.walk 0) (sym c.in_ok-tables.ensures.same) c.in_ok-walk.ensures.within
+
+pub node-requires-clause-full : goal.node-requires-clause-full
+node-requires-clause-full c = ap has_empty c.in_ok-walk.ensures.content ∙ declared_full c.args.problem.now c.known.ensures.domains
+
+pub node-requires-clause-tree : goal.node-requires-clause-tree
+node-requires-clause-tree c =
+    let t = tree_of c.args.root.now in
+    subst (λ g. CanReadNode g t 0 c.in_ok-walk.walk.remains.box) (sym c.in_ok-tables.ensures.same)
+    (subst (CanReadNode c.args.problem.now t 0) (sym c.in_ok-walk.ensures.content) (record { horizon = None; placed = c.requires.placed; answered = c.requires.answered }))
+
+pub returns : goal.returns
+returns c =
+    let t = tree_of c.args.root.now in
+    let v = out_of c.node.new.self.joins in
+    if_ok c.node.result
+    (λ s h. (
+      v,
+      subst (λ box. Shows (node_finding c.args.problem.now t 0 box) v s) c.in_ok-walk.ensures.content (subst (λ g. Shows (node_finding g t 0 c.in_ok-walk.walk.remains.box) v s) c.in_ok-tables.ensures.same (h c.requires.few)),
+    ))
+    c.node.ensures.shows
