@@ -32,7 +32,7 @@ const FILES: [(&str, &[u8]); 14] = [
 
 // `solved` is the certificate that is written for `game`, and `blank` and `long` are blanks: as many as a file of moves may
 // have, and one more.
-const ROWS: [(&[&str], Status, &[u8]); 18] = [
+const PLAYS: [(&[&str], Status, &[u8]); 12] = [
     (
         &["play", "unlike", "other", "zero"],
         Status::Done,
@@ -93,6 +93,10 @@ const ROWS: [(&[&str], Status, &[u8]); 18] = [
         Status::ReadFault,
         b"",
     ),
+];
+
+// What is answered before the moves are asked for.
+const OTHERS: [(&[&str], Status, &[u8]); 6] = [
     (
         &["play", "game", "open", "missing"],
         Status::Open,
@@ -140,13 +144,33 @@ fn filled(alloc: Global) -> Result<MemoryShelf, AllocError> {
     Ok(shelf)
 }
 
+// What a run of these words answers and writes.
+fn played(
+    alloc: Global,
+    shelf: &mut MemoryShelf,
+    words: &[&str],
+) -> Result<(Status, MemorySink), AllocError> {
+    let mut sink = MemorySink::new(alloc, 65_536, 65_536)?;
+    let status = run(alloc, words, shelf, &mut sink);
+    Ok((status, sink))
+}
+
 #[test]
 fn games_are_played(rt: HostRuntime) -> Result<(), Fail> {
-    let alloc = rt.alloc();
-    let mut shelf = filled(alloc)?;
-    for (words, status, written) in ROWS {
-        let mut sink = MemorySink::new(alloc, 65_536, 65_536)?;
-        let answer = run(alloc, words, &mut shelf, &mut sink);
+    let mut shelf = filled(rt.alloc())?;
+    for (words, status, written) in PLAYS {
+        let (answer, sink) = played(rt.alloc(), &mut shelf, words)?;
+        assert_eq!(rt; answer, status, "at {words:?}");
+        assert!(rt; sink.bytes() == written, "at {words:?}");
+    }
+    Ok(())
+}
+
+#[test]
+fn others_are_answered(rt: HostRuntime) -> Result<(), Fail> {
+    let mut shelf = filled(rt.alloc())?;
+    for (words, status, written) in OTHERS {
+        let (answer, sink) = played(rt.alloc(), &mut shelf, words)?;
         assert_eq!(rt; answer, status, "at {words:?}");
         assert!(rt; sink.bytes() == written, "at {words:?}");
     }
