@@ -9,6 +9,7 @@ use Rattle.qc_model.specs.Content.{Game}
 use Rattle.qc_model.specs.Demands.{demands}
 use Rattle.qc_model.specs.Domains.{Box, Values, values_left, is_none_left}
 use Rattle.qc_model.specs.Valid.{is_number}
+use Rattle.qc_model.specs.ExistsVerdict.{some_open}
 use Rattle.qc_model.specs.Verdict.{Seen, seen_skipped, bounds}
 use Rattle.proof_tree.specs.Tree.{Ending, Branches, no_more, piece, skip, left_open, go}
 use Rattle.proof_tree.specs.Cover.{is_cover, uncovered, box_to}
@@ -29,16 +30,17 @@ use Rattle.game_search.specs.Uppers.{upto_all}
 use Rattle.qc_joins.specs.Sizes.{HasSizes}
 use Rattle.qc_joins.specs.Verdicts.{scope_wishes}
 use Rattle.game_search.specs.Beaten.{firsts, seen_bounds, is_beaten, are_beaten, AreAmong}
-use Rattle.game_search.specs.Settled.{is_settled, is_vague}
+use Rattle.game_search.specs.Settled.{is_settled, is_ended}
 use Rattle.game_search.specs.Made.{CasesMade, PartMade}
 use Rattle.game_search.proofs.Bools.{two, not_first, not_second, is_below, none_below}
-use Rattle.game_search.proofs.Joining.{seen-append, settled-append, vague-append, any_leaf, neither, or_first, or_second, or_none, settled_wishes}
+use Rattle.game_search.proofs.Joining.{seen-append, open-append, any_leaf, or_none, settled_wishes}
+use Rattle.game_search.proofs.Outdone.{ended_first, ended_last, not_ended}
 use Rattle.game_search.proofs.Beating.{all_both, among_self, among_more, among_join, among_as, beaten_among, none_beaten}
 use Rattle.game_search.proofs.Marks.{firsts-append, firsts_marks, bounds-append}
 use Rattle.game_search.proofs.Covers.{covers_all}
 use Rattle.game_search.proofs.Fitting.{upper_fits}
 use Rattle.game_search.proofs.Sizes.{sizes_none, sizes_skipped}
-use Rattle.game_search.proofs.Stepping.{part_says, part_settled, part_vague, part_beaten, part_sizes, part_long}
+use Rattle.game_search.proofs.Stepping.{part_says, part_open, part_whole, part_beaten, part_sizes, part_long}
 
 -- without turns no case is taken
 pub no_turns : (bs : Branches) → branch_turns bs ≡ 0 → has_go bs ≡ false
@@ -51,12 +53,15 @@ go_apart : (upto : Option ℤ) (steps : List Step) (e : Ending) (bs : Branches) 
 go_apart upto steps e no_more = refl
 go_apart upto steps e (piece high c bs) = refl
 
-module _ (cuts : Bool) (g : Game) (later : List Scope) (i : ℕ) (d : List Condition) (box : Box) (h : Option ℕ) (x : ℕ) where
+module _ (cuts : Bool) (above : ℤ → Bool) (g : Game) (later : List Scope) (i : ℕ) (d : List Condition) (box : Box) (h : Option ℕ) (x : ℕ) where
   abbrev AreMade : Values → Bool → List Seen → List Seen → ℕ → ℕ → Branches → Type 0
-  AreMade vs was_settled before seen had left bs = CasesMade cuts g later i d box h x vs was_settled before seen had left bs
+  AreMade vs was_settled before seen had left bs = CasesMade cuts above g later i d box h x vs was_settled before seen had left bs
 
   abbrev Settled : List Seen → Bool
   Settled seen = is_settled later (list_after g later d) seen
+
+  abbrev Ended : List Seen → Bool
+  Ended seen = is_ended above later (list_after g later d) seen
 
   -- no value is left
   pub none_made : (was : Bool) (before : List Seen) (had : ℕ) → AreMade [] was before [] had had no_more
@@ -71,8 +76,8 @@ module _ (cuts : Bool) (g : Game) (later : List Scope) (i : ℕ) (d : List Condi
     spent = omega arith;
     exact = λ f. omega arith;
     opens = inl refl;
-    gap = λ o p q. refl;
-    skips = λ e p. cc;
+    gap = λ o q. refl;
+    skips = λ e. cc;
     rests = λ e. refl;
     beaten = λ o. refl;
     keeps = λ reached a. refl;
@@ -84,7 +89,7 @@ module _ (cuts : Bool) (g : Game) (later : List Scope) (i : ℕ) (d : List Condi
 
   -- a case that is taken, and those after it
   pub go_made : (v : ℤ) (vs : Values) (before : List Seen) (ms : List ℤ) (seen rest : List Seen) (had left last : ℕ) (steps : List Step) (e : Ending) (bs : Branches) →
-      1 < length (values_left box x) → (p : PartMade cuts g later i d (box_to box x (v ∷ [])) h before ms seen had left steps e) → AreMade vs (Settled seen) (before ++ seen) rest left last bs →
+      1 < length (values_left box x) → (p : PartMade cuts above g later i d (box_to box x (v ∷ [])) h before ms seen had left steps e) → AreMade vs (Settled seen) (before ++ seen) rest left last bs →
       AreMade (v ∷ vs) false before (seen ++ rest) (1 + had) last (piece None (go steps e) bs)
   go_made v vs before ms seen rest had left last steps e bs many p r =
       let m = p.ended in
@@ -92,8 +97,9 @@ module _ (cuts : Bool) (g : Game) (later : List Scope) (i : ℕ) (d : List Condi
       let w = scope_wishes later g d in
       let ls = marks g later i d steps at ++ leaves g e later i d (after_steps steps at) in
       let others = branch_leaves g bs x vs later i d box in
-      let says : seen ≡ map seen_of ls = part_says cuts g later i d at h before ms seen had left steps e p in
-      let all : Settled seen ≡ Settled p.last = part_settled cuts g later i d at h before ms seen had left steps e p in
+      let says : seen ≡ map seen_of ls = part_says cuts above g later i d at h before ms seen had left steps e p in
+      let whole : (before ++ seen_bounds ms) ++ p.last ≡ before ++ seen = part_whole cuts above g later i d at h before ms seen had left steps e p in
+      let joined : (before ++ seen) ++ rest ≡ before ++ (seen ++ rest) = append_assoc before seen rest in
       let known : firsts (before ++ (seen ++ rest)) ≡ firsts (before ++ seen) ++ firsts rest = ap firsts (sym (append_assoc before seen rest)) ∙ firsts-append (before ++ seen) rest in
       let among = among_as (firsts (before ++ seen)) (firsts (before ++ seen) ++ firsts rest) (firsts (before ++ (seen ++ rest))) (sym known) (among_more (firsts (before ++ seen)) (firsts (before ++ seen)) (firsts rest) (among_self (firsts (before ++ seen)))) in
       record {
@@ -107,14 +113,15 @@ module _ (cuts : Bool) (g : Game) (later : List Scope) (i : ℕ) (d : List Condi
         spent = omega (arith, m.spent, r.spent);
         exact = λ f. let a = m.exact f in let b = r.exact f in omega (arith, a, b);
         opens = either m.opens r.opens m.spent r.spent;
-        gap = λ o f q.
-            let q2 = neither (Settled seen) (Settled rest) (sym (settled-append later (list_after g later d) seen rest) ∙ q) in
-            vague-append seen rest
-            ∙ or_none (is_vague seen) (is_vague rest) (part_vague cuts g later i d at h before ms seen had left steps e p ∙ m.gap (omega (arith, o)) (sym all ∙ q2.0)) (r.gap (omega (arith, o)) q2.0 q2.1);
-        skips = λ f q. settled-append later (list_after g later d) seen rest ∙ skipped (skips e) (Settled seen) f refl (λ u. all ∙ m.skips u) r.skips;
+        gap = λ o q.
+            let after : Ended ((before ++ seen) ++ rest) ≡ false = ap Ended joined ∙ q in
+            let here : Ended ((before ++ seen_bounds ms) ++ p.last) ≡ false = ap Ended whole ∙ not_ended above later (list_after g later d) (before ++ seen) rest after in
+            open-append seen rest
+            ∙ or_none (some_open seen) (some_open rest) (part_open cuts above g later i d at h before ms seen had left steps e p ∙ m.gap (omega (arith, o)) here) (r.gap (omega (arith, o)) after);
+        skips = λ f. skipped (skips e) f (λ u. ap Ended (sym whole) ∙ m.skips u) (λ u. ap Ended (sym joined) ∙ r.skips u);
         rests = λ f. cc;
         beaten = λ o.
-            let first = beaten_among w (firsts (before ++ seen)) (firsts (before ++ (seen ++ rest))) (bounds seen) among (part_beaten cuts g later i d at h before ms seen had left steps e p (omega (arith, o))) in
+            let first = beaten_among w (firsts (before ++ seen)) (firsts (before ++ (seen ++ rest))) (bounds seen) among (part_beaten cuts above g later i d at h before ms seen had left steps e p (omega (arith, o))) in
             let second : are_beaten w (firsts (before ++ (seen ++ rest))) (bounds rest) ≡ true = subst (λ xs. are_beaten w (firsts xs) (bounds rest) ≡ true) (append_assoc before seen rest) (r.beaten (omega (arith, o))) in
             ap (are_beaten w (firsts (before ++ (seen ++ rest)))) (bounds-append seen rest) ∙ all_both (is_beaten w (firsts (before ++ (seen ++ rest)))) (bounds seen) (bounds rest) first second;
         keeps = λ reached a.
@@ -122,8 +129,8 @@ module _ (cuts : Bool) (g : Game) (later : List Scope) (i : ℕ) (d : List Condi
             let here = m.keeps reached (among_as reached (firsts before) (firsts (before ++ seen_bounds ms)) (sym (firsts_marks before ms)) a) in
             let after = r.keeps (reached ++ firsts seen) (among_as (reached ++ firsts seen) (firsts before ++ firsts seen) (firsts (before ++ seen)) (sym (firsts-append before seen)) (among_join reached (firsts seen) (firsts before) a)) in
             two _ _ here (subst (λ ns. branches_keep g bs x vs later i d box (reached ++ ns) ≡ true) own after);
-        long = long_join (demands g (suc i)) seen rest (part_long cuts g later i d at h before ms seen had left steps e p) r.long;
-        sizes = subst (λ n. HasSizes n (seen ++ rest)) (regroup (ending_turns e) (branch_turns bs)) (sizes_both (2 * suc (ending_turns e)) (2 * branch_turns bs) seen rest (part_sizes cuts g later i d at h before ms seen had left steps e p) r.sizes);
+        long = long_join (demands g (suc i)) seen rest (part_long cuts above g later i d at h before ms seen had left steps e p) r.long;
+        sizes = subst (λ n. HasSizes n (seen ++ rest)) (regroup (ending_turns e) (branch_turns bs)) (sizes_both (2 * suc (ending_turns e)) (2 * branch_turns bs) seen rest (part_sizes cuts above g later i d at h before ms seen had left steps e p) r.sizes);
         closed = two _ _ m.closed r.closed;
         foreseen = (m.foreseen, r.foreseen);
       }
@@ -143,10 +150,9 @@ module _ (cuts : Bool) (g : Game) (later : List Scope) (i : ℕ) (d : List Condi
       either (inl a) (inr b) p q = inr b
       either (inr a) b p q = inr (omega arith)
 
-      skipped : (b s : Bool) → (b || branches_skip bs) ≡ true → Settled seen ≡ s → (b ≡ true → Settled seen ≡ true) → (branches_skip bs ≡ true → Settled seen ≡ false → Settled rest ≡ true) → (Settled seen || Settled rest) ≡ true
-      skipped true s f u p q = or_first (Settled seen) (Settled rest) (p refl)
-      skipped false true f u p q = or_first (Settled seen) (Settled rest) u
-      skipped false false f u p q = or_second (Settled seen) (Settled rest) (q f u)
+      skipped : (b : Bool) → (b || branches_skip bs) ≡ true → (b ≡ true → Ended (before ++ seen) ≡ true) → (branches_skip bs ≡ true → Ended (before ++ (seen ++ rest)) ≡ true) → Ended (before ++ (seen ++ rest)) ≡ true
+      skipped true f p q = ap Ended (sym (append_assoc before seen rest)) ∙ ended_first above later (list_after g later d) (before ++ seen) rest (p refl)
+      skipped false f p q = q f
 
       regroup : (m n : ℕ) → 2 * suc m + 2 * n ≡ 2 * ((1 + m) + n)
       regroup m n = omega arith
@@ -154,9 +160,9 @@ module _ (cuts : Bool) (g : Game) (later : List Scope) (i : ℕ) (d : List Condi
   left_none : (v : ℤ) (vs : Values) → is_none_left (uncovered (upto_all (v ∷ vs)) (v ∷ vs)) ≡ true
   left_none v vs = ap is_none_left (covers_all v vs).leaves_none
 
-  -- the cases after the one that settles the scope
-  pub skip_made : (v : ℤ) (vs : Values) (before : List Seen) (had : ℕ) → upto_fits Two (upto_all (v ∷ vs)) ≡ true → AreMade (v ∷ vs) true before (seen_skipped ∷ []) had had (piece (upto_all (v ∷ vs)) skip no_more)
-  skip_made v vs before had q = record {
+  -- the cases after which no further leaf counts
+  pub skip_made : (was : Bool) (v : ℤ) (vs : Values) (before : List Seen) (had : ℕ) → Ended before ≡ true → upto_fits Two (upto_all (v ∷ vs)) ≡ true → AreMade (v ∷ vs) was before (seen_skipped ∷ []) had had (piece (upto_all (v ∷ vs)) skip no_more)
+  skip_made was v vs before had e q = record {
     placed = two _ _ (two _ _ (covers_all v vs).is_case refl) (left_none v vs);
     says = refl;
     settled = refl;
@@ -167,8 +173,8 @@ module _ (cuts : Bool) (g : Game) (later : List Scope) (i : ℕ) (d : List Condi
     spent = omega arith;
     exact = λ f. omega arith;
     opens = inl refl;
-    gap = λ o f p. cc;
-    skips = λ f p. cc;
+    gap = λ o f. let p : true ≡ false = sym (ended_first above later (list_after g later d) before (seen_skipped ∷ []) e) ∙ f in cc;
+    skips = λ f. ended_first above later (list_after g later d) before (seen_skipped ∷ []) e;
     rests = λ f. refl;
     beaten = λ o. refl;
     keeps = λ reached a. refl;
@@ -191,8 +197,8 @@ module _ (cuts : Bool) (g : Game) (later : List Scope) (i : ℕ) (d : List Condi
     spent = omega arith;
     exact = λ f. omega arith;
     opens = inr e;
-    gap = λ o f p. absurd (omega arith);
-    skips = λ f p. cc;
+    gap = λ o f. absurd (omega arith);
+    skips = λ f. cc;
     rests = λ f. refl;
     beaten = λ o. refl;
     keeps = λ reached a. refl;
@@ -211,6 +217,7 @@ module _ (cuts : Bool) (g : Game) (later : List Scope) (i : ℕ) (d : List Condi
       let r = subst (λ us. AreMade us false skipped seen had left bs) (sym there) m in
       let w = scope_wishes later g d in
       let nothing : w ≡ [] = settled_wishes g later d seen settled in
+      let ended : Ended (before ++ seen_skipped ∷ seen) ≡ true = ended_last above later (list_after g later d) before (seen_skipped ∷ seen) settled in
       record {
         placed = two _ _ (two _ _ case refl) r.placed;
         says = ap (λ xs. seen_skipped ∷ xs) r.says;
@@ -222,8 +229,8 @@ module _ (cuts : Bool) (g : Game) (later : List Scope) (i : ℕ) (d : List Condi
         spent = omega (arith, r.spent);
         exact = λ f. let a = r.exact f in omega (arith, a);
         opens = also r.opens;
-        gap = λ o f q. let p : true ≡ false = sym settled ∙ q in cc;
-        skips = λ f p. settled;
+        gap = λ o q. let p : true ≡ false = sym ended ∙ q in cc;
+        skips = λ f. ended;
         rests = λ f. cc;
         beaten = λ o.
             let some = subst (λ l. are_beaten l (firsts (skipped ++ seen)) (bounds seen) ≡ true) nothing (r.beaten (omega (arith, o))) in

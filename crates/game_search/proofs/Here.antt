@@ -48,14 +48,16 @@ use Rattle.game_search.specs.Aims.{tracked_at}
 use Rattle.game_search.specs.Attempted.{Attempted}
 use Rattle.game_search.specs.Beaten.{firsts, seen_bounds}
 use Rattle.game_search.specs.Own.{IsOwnSized}
-use Rattle.game_search.specs.Settled.{is_settled, is_vague_verdict}
+use Rattle.game_search.specs.Rivals.{above_at}
+use Rattle.game_search.specs.Settled.{is_settled, is_outdone, is_vague_verdict, beats_none}
 use Rattle.game_search.specs.Uppers.{upto_all, upto_between, without_before}
 use Rattle.game_search.specs.Made.{NodeMade, EndingMade, StepsMade}
 use Rattle.game_search.specs.Written.{NodeWritten}
 use Rattle.game_search.specs.Told.{IsReady, IsTold, EndingTold, StepsTold, PartTold, CaseTold, CasesTold, BodyTold, NodeTold}
 use Rattle.game_search.proofs.Beating.{no_worse_yet}
 use Rattle.game_search.proofs.Joining.{settled_is, settled_so, own_so, own_none, settled-append, or_first, or_second, neither}
-use Rattle.game_search.proofs.Nodes.{goal_made, node_made, horizon_made, stuck_made, empty_made, next_made, barred_made, branch_made}
+use Rattle.game_search.proofs.Nodes.{goal_made, node_made, more_beaten, horizon_made, stuck_made, empty_made, next_made, barred_made, branch_made}
+use Rattle.game_search.proofs.Outdone.{Outdoes, ended_last}
 use Rattle.game_search.proofs.Places.{next_at}
 use Rattle.game_search.proofs.Progress.{Progress, start, taken_from, none, skipped, opened, cut_after}
 use Rattle.game_search.proofs.Sizes.{sizes_none, own_sized}
@@ -119,9 +121,9 @@ module _ (g : Game) (i : ℕ) where
       by (inr q) = q
 
 -- the cases of a branch on x so far: what was seen in them, and what the join stands for
-pub record Passing (cuts : Bool) (g : Game) (i : ℕ) (box : Box) (h : Option ℕ) (x : ℕ) (vs : Values) (before : List Seen) (had : ℕ) (old : List Line) (here : Values) (left : ℕ) (now : List Line) (joins : Joins) : Type 0 where
+pub record Passing (cuts : Bool) (above : ℤ → Bool) (g : Game) (i : ℕ) (box : Box) (h : Option ℕ) (x : ℕ) (vs : Values) (before : List Seen) (had : ℕ) (old : List Line) (here : Values) (left : ℕ) (now : List Line) (joins : Joins) : Type 0 where
   pub seen : List Seen
-  pub progress : Progress cuts g (drop i g.scopes) i (demands g i) box h x vs before had old here seen left now
+  pub progress : Progress cuts above g (drop i g.scopes) i (demands g i) box h x vs before had old here seen left now
   pub told : IsTold g i joins (before ++ seen)
 
 -- what the join answers when it is asked whether the scope is settled
@@ -131,17 +133,17 @@ Answers g i joins b = (ys : List Seen) → StandsAt joins i ys → b ≡ settled
 pub asked_here : (g h : Game) (i : ℕ) (joins : Joins) (b : Bool) → h ≡ g → ((ys : List Seen) → StandsAt joins i ys → b ≡ settled_at h i ys) → Answers g i joins b
 asked_here g h i joins b e f ys s = f ys s ∙ ap (λ k. settled_at k i ys) e
 
-module _ (cuts : Bool) (g : Game) (i : ℕ) (box : Box) (h : Option ℕ) (x : ℕ) (vs : Values) (xs : List Seen) (had : ℕ) (old : List Line) (first : Joins) (ready : IsReady g i first (suc (2 * had)) xs) where
+module _ (cuts : Bool) (above : ℤ → Bool) (g : Game) (i : ℕ) (box : Box) (h : Option ℕ) (x : ℕ) (vs : Values) (xs : List Seen) (had : ℕ) (old : List Line) (first : Joins) (ready : IsReady g i first (suc (2 * had)) xs) where
   abbrev Goes : Values → ℕ → List Line → Joins → Type 0
-  Goes here left now joins = Passing cuts g i box h x vs xs had old here left now joins
+  Goes here left now joins = Passing cuts above g i box h x vs xs had old here left now joins
 
   abbrev Done : ℕ → List Line → Joins → Type 0
-  Done left new joins = CasesTold cuts g i box h x vs xs had left old new joins
+  Done left new joins = CasesTold cuts above g i box h x vs xs had left old new joins
 
   pub started : Goes vs had old first
   started = record {
     seen = [];
-    progress = start cuts g (drop i g.scopes) i (demands g i) box h x vs xs had old;
+    progress = start cuts above g (drop i g.scopes) i (demands g i) box h x vs xs had old;
     told = all_told g i first xs (xs ++ []) ready.stands (sym (append-nil xs));
   }
 
@@ -164,16 +166,16 @@ module _ (cuts : Bool) (g : Game) (i : ℕ) (box : Box) (h : Option ℕ) (x : �
 
   -- it was gone into, and its lines stay
   went_on : (here rest : Values) (v : ℤ) (left next_left : ℕ) (now next_now : List Line) (joins next_joins : Joins) (b : Bool) → 1 < length (values_left box x) → here ≡ v ∷ rest → Answers g i joins b → b ≡ false → ¬ (left ≡ 0) →
-      (p : Goes here left now joins) → CaseTold cuts g i (box_to box x (v ∷ [])) h (xs ++ p.seen) (left - 1) next_left now next_now next_joins → Goes rest next_left next_now next_joins
+      (p : Goes here left now joins) → CaseTold cuts above g i (box_to box x (v ∷ [])) h (xs ++ p.seen) (left - 1) next_left now next_now next_joins → Goes rest next_left next_now next_joins
   went_on here rest v left next_left now next_now joins next_joins b many at asked e some p w = record {
     seen = p.seen ++ w.part.seen;
-    progress = taken_from cuts g (drop i g.scopes) i (demands g i) box h x vs xs had old here rest v p.seen w.ms w.part.seen left next_left now next_now many at (unsettled_now joins p.seen b asked e p.told) some p.progress w.part.written;
+    progress = taken_from cuts above g (drop i g.scopes) i (demands g i) box h x vs xs had old here rest v p.seen w.ms w.part.seen left next_left now next_now many at (unsettled_now joins p.seen b asked e p.told) some p.progress w.part.written;
     told = subst (IsTold g i next_joins) (append_assoc xs p.seen w.part.seen) w.part.told;
   }
 
   -- it settled the scope, and the cases before it are cut
   was_cut : cuts ≡ true → list_all is_number vs ≡ true → (u : Option ℤ) (here rest : Values) (v : ℤ) (left next_left : ℕ) (now next_now new : List Line) (joins next_joins : Joins) (b c : Bool) → 1 < length (values_left box x) → is_cover u vs ≡ true → uncovered u vs ≡ v ∷ rest →
-      Answers g i joins b → b ≡ false → ¬ (left ≡ 0) → Answers g i next_joins c → c ≡ true → (p : Goes here left now joins) → CaseTold cuts g i (box_to box x (v ∷ [])) h (xs ++ p.seen) (left - 1) next_left now next_now next_joins →
+      Answers g i joins b → b ≡ false → ¬ (left ≡ 0) → Answers g i next_joins c → c ≡ true → (p : Goes here left now joins) → CaseTold cuts above g i (box_to box x (v ∷ [])) h (xs ++ p.seen) (left - 1) next_left now next_now next_joins →
       new ≡ take (length old) next_now ++ ((upto_lines u ++ Skip ∷ []) ++ drop (length now) next_now) → Goes rest next_left new next_joins
   was_cut cut numbers u here rest v left next_left now next_now new joins next_joins b c many case leaves asked e turns asked_then f p w q =
       let before = (unsettled_stands g i joins (xs ++ p.seen) b asked e p.told).1 in
@@ -181,14 +183,14 @@ module _ (cuts : Bool) (g : Game) (i : ℕ) (box : Box) (h : Option ℕ) (x : �
       let last : Settled g i w.part.seen ≡ true = settled_last g i (xs ++ p.seen) w.part.seen before all.1 in
       record {
         seen = seen_skipped ∷ w.part.seen;
-        progress = cut_after cuts g (drop i g.scopes) i (demands g i) box h x vs xs had old cut numbers u here rest v p.seen w.ms w.part.seen left next_left now next_now new many case leaves last turns p.progress w.part.written q;
+        progress = cut_after cuts above g (drop i g.scopes) i (demands g i) box h x vs xs had old cut numbers u here rest v p.seen w.ms w.part.seen left next_left now next_now new many case leaves last turns p.progress w.part.written q;
         told = record { stood = w.part.told.stood; stands = w.part.told.stands; same = inr (all.0, settled_then g i xs (seen_skipped ∷ w.part.seen) last) };
       }
 
   -- either way
   pub case_done : list_all is_number vs ≡ true → (low : ℤ) (before dropped : Option ℤ) (here rest : Values) (v : ℤ) (left next_left : ℕ) (now next_now new : List Line) (joins next_joins : Joins) (b c : Bool) → 1 < length (values_left box x) → here ≡ v ∷ rest →
       ((p : ℤ) → before ≡ Some p → (is_cover (upto_between low p) vs ≡ true) × (uncovered (upto_between low p) vs ≡ here)) → Answers g i joins b → b ≡ false → ¬ (left ≡ 0) → Answers g i next_joins c → dropped ≡ cond (cuts && c) before None →
-      (p : Goes here left now joins) → CaseTold cuts g i (box_to box x (v ∷ [])) h (xs ++ p.seen) (left - 1) next_left now next_now next_joins → new ≡ without_before dropped low (length old) (length now) next_now → Goes rest next_left new next_joins
+      (p : Goes here left now joins) → CaseTold cuts above g i (box_to box x (v ∷ [])) h (xs ++ p.seen) (left - 1) next_left now next_now next_joins → new ≡ without_before dropped low (length old) (length now) next_now → Goes rest next_left new next_joins
   case_done numbers low before None here rest v left next_left now next_now new joins next_joins b c many at covers asked e turns asked_then d p w q =
       subst (λ ls. Goes rest next_left ls next_joins) (sym q) (went_on here rest v left next_left now next_now joins next_joins b many at asked e turns p w)
   case_done numbers low before (Some last) here rest v left next_left now next_now new joins next_joins b c many at covers asked e turns asked_then d p w q =
@@ -207,41 +209,54 @@ module _ (cuts : Bool) (g : Game) (i : ℕ) (box : Box) (h : Option ℕ) (x : �
   rest_skipped here left now new joins b some numbers asked e p q =
       let all = settled_told g i joins (xs ++ p.seen) b asked e p.told in
       let last : Settled g i p.seen ≡ true = settled_last g i xs p.seen ready.unsettled all.1 in
+      let ended = ended_last above (drop i g.scopes) (list_after g (drop i g.scopes) (demands g i)) xs p.seen last in
       record {
         seen = p.seen ++ seen_skipped ∷ [];
-        written = skipped cuts g (drop i g.scopes) i (demands g i) box h x vs xs had old here p.seen left now new some numbers last p.progress q;
+        written = skipped cuts above g (drop i g.scopes) i (demands g i) box h x vs xs had old here p.seen left now new some numbers ended p.progress q;
         told = record { stood = p.told.stood; stands = p.told.stands; same = inr (all.0, subst (λ us. settled_at g i us ≡ true) (append_assoc xs p.seen (seen_skipped ∷ [])) (settled_more g i (xs ++ p.seen) (seen_skipped ∷ []) all.1)) };
+      }
+
+  -- they are skipped, since the scope right above beats a bound; the join is told of it
+  pub rest_outdone : (here : Values) (left : ℕ) (now new : List Line) (joins next_joins : Joins) (b : Bool) → is_none_left here ≡ false → list_all is_number here ≡ true → Answers g i joins b → b ≡ false → ((ys : List Seen) → StandsAt joins i ys → is_outdone above ys ≡ true) →
+      ((ys : List Seen) → StandsAt joins i ys → StandsAt next_joins i (ys ++ seen_skipped ∷ [])) → Goes here left now joins → new ≡ now ++ (upto_lines (upto_all here) ++ Skip ∷ []) → Done left new next_joins
+  rest_outdone here left now new joins next_joins b some numbers asked e outdone added p q =
+      let stands = (unsettled_stands g i joins (xs ++ p.seen) b asked e p.told).0 in
+      let ended = or_second (is_settled (drop i g.scopes) (list_after g (drop i g.scopes) (demands g i)) (xs ++ p.seen)) _ (outdone (xs ++ p.seen) stands) in
+      record {
+        seen = p.seen ++ seen_skipped ∷ [];
+        written = skipped cuts above g (drop i g.scopes) i (demands g i) box h x vs xs had old here p.seen left now new some numbers ended p.progress q;
+        told = all_told g i next_joins ((xs ++ p.seen) ++ seen_skipped ∷ []) (xs ++ (p.seen ++ seen_skipped ∷ [])) (added (xs ++ p.seen) stands) (append_assoc xs p.seen (seen_skipped ∷ []));
       }
 
   pub rest_opened : (here : Values) (left : ℕ) (now new : List Line) (joins next_joins : Joins) (b : Bool) → is_none_left here ≡ false → list_all is_number here ≡ true → Answers g i joins b → b ≡ false → left ≡ 0 →
       ((ys : List Seen) → StandsAt joins i ys → StandsAt next_joins i (ys ++ seen_skipped ∷ [])) → Goes here left now joins → new ≡ now ++ (upto_lines (upto_all here) ++ Open ∷ []) → Done left new next_joins
   rest_opened here left now new joins next_joins b some numbers asked e none_left added p q = record {
     seen = p.seen ++ seen_skipped ∷ [];
-    written = opened cuts g (drop i g.scopes) i (demands g i) box h x vs xs had old here p.seen left now new some numbers none_left p.progress q;
+    written = opened cuts above g (drop i g.scopes) i (demands g i) box h x vs xs had old here p.seen left now new some numbers none_left p.progress q;
     told = all_told g i next_joins ((xs ++ p.seen) ++ seen_skipped ∷ []) (xs ++ (p.seen ++ seen_skipped ∷ [])) (added (xs ++ p.seen) (unsettled_stands g i joins (xs ++ p.seen) b asked e p.told).0) (append_assoc xs p.seen (seen_skipped ∷ []));
   }
 
   pub rest_none : (left : ℕ) (now : List Line) (joins : Joins) → Goes [] left now joins → Done left now joins
   rest_none left now joins p = record {
     seen = p.seen;
-    written = none cuts g (drop i g.scopes) i (demands g i) box h x vs xs had old p.seen left now p.progress;
+    written = none cuts above g (drop i g.scopes) i (demands g i) box h x vs xs had old p.seen left now p.progress;
     told = p.told;
   }
 
 -- the parts of a scope's own tree
-module _ (cuts : Bool) (g : Game) (i : ℕ) (box : Box) (h : Option ℕ) (xs : List Seen) (had : ℕ) (old : List Line) (first : Joins) (ready : IsReady g i first (suc (2 * had)) xs) where
-  pub empty_told : (new : List Line) → has_empty box ≡ true → new ≡ old ++ Empty ∷ [] → EndingTold cuts g i box h xs had had old new first
+module _ (cuts : Bool) (above : ℤ → Bool) (g : Game) (i : ℕ) (box : Box) (h : Option ℕ) (xs : List Seen) (had : ℕ) (old : List Line) (first : Joins) (ready : IsReady g i first (suc (2 * had)) xs) where
+  pub empty_told : (new : List Line) → has_empty box ≡ true → new ≡ old ++ Empty ∷ [] → EndingTold cuts above g i box h xs had had old new first
   empty_told new none_left q = record {
     seen = [];
-    written = record { ending = empty; lines = q; made = empty_made cuts g (drop i g.scopes) i (demands g i) h box xs had none_left };
+    written = record { ending = empty; lines = q; made = empty_made cuts above g (drop i g.scopes) i (demands g i) h box xs had none_left };
     told = all_told g i first xs (xs ++ []) ready.stands (sym (append-nil xs));
   }
 
   pub barred_told : (new : List Line) (joins : Joins) → has_empty box ≡ false → is_fixed g i box ≡ true → allows g i (position g (suc i) box) ≡ false → ((ys : List Seen) → StandsAt first i ys → StandsAt joins i (ys ++ seen_barred ∷ [])) → new ≡ old ++ Barred ∷ [] →
-      EndingTold cuts g i box h xs had had old new joins
+      EndingTold cuts above g i box h xs had had old new joins
   barred_told new joins full fixed refused added q = record {
     seen = seen_barred ∷ [];
-    written = record { ending = barred; lines = q; made = barred_made cuts g (drop i g.scopes) i (demands g i) h box xs had full fixed refused };
+    written = record { ending = barred; lines = q; made = barred_made cuts above g (drop i g.scopes) i (demands g i) h box xs had full fixed refused };
     told = all_told g i joins (xs ++ seen_barred ∷ []) (xs ++ seen_barred ∷ []) (added xs ready.stands) refl;
   }
 
@@ -250,18 +265,18 @@ module _ (cuts : Bool) (g : Game) (i : ℕ) (box : Box) (h : Option ℕ) (xs : L
   few_turns = omega (arith, ready.room)
 
   pub next_told : i < length g.scopes → (v : Verdict) (left : ℕ) (mid new : List Line) (below joins : Joins) → has_empty box ≡ false → is_fixed g i box ≡ true → allows g i (position g (suc i) box) ≡ true → has_no_worse (tracked_at g i) (firsts xs) box ≡ true → mid ≡ old ++ Next ∷ [] →
-      NodeTold cuts g (i + 1) box h v had left mid new below → (StandsAt first i xs → StandsAt below i xs) → ((ys : List Seen) → StandsAt below i ys → LeafFits g i ys v → StandsAt joins i (ys ++ seen_node v ∷ [])) → EndingTold cuts g i box h xs had left old new joins
+      NodeTold cuts (above_at g (i + 1) xs) g (i + 1) box h v had left mid new below → (StandsAt first i xs → StandsAt below i xs) → ((ys : List Seen) → StandsAt below i ys → LeafFits g i ys v → StandsAt joins i (ys ++ seen_node v ∷ [])) → EndingTold cuts above g i box h xs had left old new joins
   next_told scope v left mid new below joins full fixed passes worse q node kept added =
-      let n = subst (λ k. NodeWritten cuts g (drop k g.scopes) k (demands g k) box h v had left mid new) (add-one i) node.written in
-      let m1 = subst (λ ss. NodeMade cuts g ss (suc i) (demands g (suc i)) box h v had left n.tree) (sym (next_at i g.scopes)) n.made in
-      let m2 = subst (λ d. NodeMade cuts g (next_scopes (drop i g.scopes)) (suc i) d box h v had left n.tree) (sym (demands_next g g.scopes i [] scope)) m1 in
+      let n = subst (λ k. NodeWritten cuts (above_at g k xs) g (drop k g.scopes) k (demands g k) box h v had left mid new) (add-one i) node.written in
+      let m1 = subst (λ ss. NodeMade cuts (above_at g (suc i) xs) g ss (suc i) (demands g (suc i)) box h v had left n.tree) (sym (next_at i g.scopes)) n.made in
+      let m2 = subst (λ d. NodeMade cuts (above_at g (suc i) xs) g (next_scopes (drop i g.scopes)) (suc i) d box h v had left n.tree) (sym (demands_next g g.scopes i [] scope)) m1 in
       let fits = leaf_fits g i ready.size (suc (2 * turns_of n.tree)) xs v n.made.long ready.sizes n.made.sized (omega (arith, ready.room, n.made.spent)) in
       record {
         seen = seen_node v ∷ [];
         written = record {
           ending = next n.tree;
           lines = n.lines ∙ (ap (λ ls. ls ++ tree_lines n.tree) q ∙ append_assoc old (Next ∷ []) (tree_lines n.tree));
-          made = next_made cuts g (drop i g.scopes) i (demands g i) h box xs v had left n.tree full fixed passes worse m2;
+          made = next_made cuts above g (drop i g.scopes) i (demands g i) h box xs v had left n.tree full fixed passes worse m2;
         };
         told = all_told g i joins (xs ++ seen_node v ∷ []) (xs ++ seen_node v ∷ []) (added xs (kept ready.stands) fits) refl;
       }
@@ -282,9 +297,9 @@ pruned_told g i box left steps p = record {
   worse = no_worse_yet (tracked_at g i) left;
 }
 
-pub part_told : (cuts : Bool) (g : Game) (i : ℕ) (box left_box : Box) (h : Option ℕ) (xs : List Seen) (ms : List ℤ) (had left : ℕ) (old mid new : List Line) (joins : Joins) (steps : List Step) → StepsTold g i box left_box xs ms steps → mid ≡ old ++ map step_line steps →
-    EndingTold cuts g i left_box h (xs ++ seen_bounds ms) had left mid new joins → PartTold cuts g i box h xs ms had left old new joins
-part_told cuts g i box left_box h xs ms had left old mid new joins steps p q w =
+pub part_told : (cuts : Bool) (above : ℤ → Bool) (g : Game) (i : ℕ) (box left_box : Box) (h : Option ℕ) (xs : List Seen) (ms : List ℤ) (had left : ℕ) (old mid new : List Line) (joins : Joins) (steps : List Step) → StepsTold g i box left_box xs ms steps → mid ≡ old ++ map step_line steps →
+    EndingTold cuts above g i left_box h (xs ++ seen_bounds ms) had left mid new joins → PartTold cuts above g i box h xs ms had left old new joins
+part_told cuts above g i box left_box h xs ms had left old mid new joins steps p q w =
     let e = w.written.ending in
     record {
       seen = seen_bounds ms ++ w.seen;
@@ -298,21 +313,21 @@ part_told cuts g i box left_box h xs ms had left old mid new joins steps p q w =
           stepped = p.stepped;
           marks_beaten = p.beaten;
           one = p.one;
-          ended = subst (λ b. EndingMade cuts g (drop i g.scopes) i (demands g i) b h (xs ++ seen_bounds ms) w.seen had left e) p.reached w.written.made;
+          ended = subst (λ b. EndingMade cuts above g (drop i g.scopes) i (demands g i) b h (xs ++ seen_bounds ms) w.seen had left e) p.reached w.written.made;
         };
       };
       told = subst (IsTold g i joins) (append_assoc xs (seen_bounds ms) w.seen) w.told;
     }
 
 -- a branch, by its cases
-pub branch_told : (cuts : Bool) (g : Game) (i : ℕ) (box : Box) (h : Option ℕ) (xs : List Seen) (had left : ℕ) (old mid new last : List Line) (joins : Joins) (x : VarId) → has_empty box ≡ false → is_of_scope g i x.0 ≡ true → is_single (values_left box x.0) ≡ false → is_place 500 x.0 ≡ true →
-    is_closed (constraints_in_force g (drop i g.scopes) i) box ≡ true → is_fixed_to g i x.0 box ≡ true → has_no_worse (tracked_at g i) (firsts xs) box ≡ true → mid ≡ old ++ BranchLine x ∷ [] → last ≡ new ++ Dot ∷ [] → CasesTold cuts g i box h x.0 (values_left box x.0) xs had left mid new joins → EndingTold cuts g i box h xs had left old last joins
-branch_told cuts g i box h xs had left old mid new last joins x full own many place closed earlier worse p q w = record {
+pub branch_told : (cuts : Bool) (above : ℤ → Bool) (g : Game) (i : ℕ) (box : Box) (h : Option ℕ) (xs : List Seen) (had left : ℕ) (old mid new last : List Line) (joins : Joins) (x : VarId) → has_empty box ≡ false → is_of_scope g i x.0 ≡ true → is_single (values_left box x.0) ≡ false → is_place 500 x.0 ≡ true →
+    is_closed (constraints_in_force g (drop i g.scopes) i) box ≡ true → is_fixed_to g i x.0 box ≡ true → has_no_worse (tracked_at g i) (firsts xs) box ≡ true → mid ≡ old ++ BranchLine x ∷ [] → last ≡ new ++ Dot ∷ [] → CasesTold cuts above g i box h x.0 (values_left box x.0) xs had left mid new joins → EndingTold cuts above g i box h xs had left old last joins
+branch_told cuts above g i box h xs had left old mid new last joins x full own many place closed earlier worse p q w = record {
   seen = w.seen;
   written = record {
     ending = branch x w.written.cases;
     lines = q ∙ (ap (λ ls. ls ++ Dot ∷ []) (w.written.lines ∙ ap (λ ls. ls ++ branches_lines w.written.cases) p) ∙ around old (branches_lines w.written.cases) (BranchLine x) Dot);
-    made = branch_made cuts g (drop i g.scopes) i (demands g i) h box x xs w.seen had left w.written.cases full own many place closed earlier worse w.written.made;
+    made = branch_made cuts above g (drop i g.scopes) i (demands g i) h box x xs w.seen had left w.written.cases full own many place closed earlier worse w.written.made;
   };
   told = w.told;
 }
@@ -321,7 +336,7 @@ branch_told cuts g i box h xs had left old mid new last joins x full own many pl
     around old ls first last = ap (λ us. us ++ last ∷ []) (append_assoc old (first ∷ []) ls) ∙ append_assoc old (first ∷ ls) (last ∷ [])
 
 -- a node, by its own tree
-module _ (cuts : Bool) (g : Game) (i : ℕ) (scope : i < length g.scopes) (box : Box) (h : Option ℕ) where
+module _ (cuts : Bool) (above : ℤ → Bool) (g : Game) (i : ℕ) (scope : i < length g.scopes) (box : Box) (h : Option ℕ) where
   -- what the join's answers say of what was seen
   verdict_told : (joins : Joins) (seen : List Seen) (t : IsTold g i joins seen) (a : List ℤ) → verdict_at g i a t.stood ≡ verdict_at g i a seen
   verdict_told joins seen t a = by t.same
@@ -341,10 +356,10 @@ module _ (cuts : Bool) (g : Game) (i : ℕ) (scope : i < length g.scopes) (box :
           own_none g (drop i g.scopes) (demands g i) seen (sym (settled_here g i seen) ∙ q.1)
           ∙ sym (own_none g (drop i g.scopes) (demands g i) t.stood (sym (settled_here g i t.stood) ∙ q.0))
 
-  node_told : is_horizon h i ≡ false → SeesAhead g (drop i g.scopes) i box h → (had left : ℕ) (old new : List Line) (mid joins : Joins) (v : Verdict) → PartTold cuts g i box h [] [] had left old new mid → ((xs : List Seen) → StandsAt mid i xs → v ≡ verdict_at g i (position g i box) xs) →
+  node_told : is_horizon h i ≡ false → Outdoes g (drop i g.scopes) (demands g i) above → SeesAhead g (drop i g.scopes) i box h → (had left : ℕ) (old new : List Line) (mid joins : Joins) (v : Verdict) → PartTold cuts above g i box h [] [] had left old new mid → ((xs : List Seen) → StandsAt mid i xs → v ≡ verdict_at g i (position g i box) xs) →
       ((xs : List Seen) → StandsAt mid i xs → StandsAt joins i xs) → ((xs : List Seen) → AreLong g i xs → IsLong g i (verdict_at g i (position g i box) xs)) → ((xs : List Seen) (n : ℕ) → HasSizes n xs → 1 ≤ n → IsSized n (verdict_at g i (position g i box) xs)) →
-      BodyTold cuts g i box h v had left old new joins
-  node_told apart ahead had left old new mid joins v w says kept long sized =
+      BodyTold cuts above g i box h v had left old new joins
+  node_told apart outdoes ahead had left old new mid joins v w says kept long sized =
       let later = drop i g.scopes in
       let d = demands g i in
       let p = w.written.made in
@@ -354,11 +369,11 @@ module _ (cuts : Bool) (g : Game) (i : ℕ) (scope : i < length g.scopes) (box :
       let sizes = subst (HasSizes (suc (2 * ending_turns e))) (sym p.both) p.ended.sizes in
       let comes : verdict_at g i a w.seen ≡ v = sym (verdict_told mid w.seen w.told a) ∙ sym (says w.told.stood w.told.stands) in
       let own : (read_body g (cases steps e) later i d box).own ≡ own_at g i w.seen =
-      own_so g later i d a _ ∙ ap (scope_own later g d) (sym (part_says cuts g later i d box h [] [] w.seen had left steps e p)) in
+      own_so g later i d a _ ∙ ap (scope_own later g d) (sym (part_says cuts above g later i d box h [] [] w.seen had left steps e p)) in
       record {
         body = cases steps e;
         lines = w.written.lines;
-        made = node_made cuts g later i d h (some_scope i g.scopes scope) (demands_next g g.scopes i [] scope) apart box w.seen v had left steps e p comes (subst (IsLong g i) comes (long w.seen (part_long cuts g later i d box h [] [] w.seen had left steps e p)))
+        made = node_made cuts above g later i d h (some_scope i g.scopes scope) (demands_next g g.scopes i [] scope) apart outdoes box w.seen v had left steps e p comes (subst (IsLong g i) comes (long w.seen (part_long cuts above g later i d box h [] [] w.seen had left steps e p)))
             (subst (IsSized (suc (2 * ending_turns e))) comes (sized w.seen (suc (2 * ending_turns e)) sizes (omega arith))) (subst (IsOwnSized (suc (2 * ending_turns e))) (sym own) (own_sized g later d (suc (2 * ending_turns e)) w.seen sizes)) ahead;
         own = λ s. record { stood = w.told.stood; stands = kept w.told.stood w.told.stands; is_own = own ∙ own_told mid w.seen w.told };
       }
@@ -367,13 +382,13 @@ settled_none : (g : Game) (i : ℕ) → settled_at g i [] ≡ false
 settled_none g i = settled_here g i []
 
 -- the node's own tree begins with nothing seen, and its join says at the end what it comes to
-pub node_ended : (cuts : Bool) (g : Game) (i : ℕ) (h : Option ℕ) → IsValid g → i < length g.scopes → (box last_box : Box) → last_box ≡ box → list_all is_number (position g i box) ≡ true → is_horizon h i ≡ false → SeesAhead g (drop i g.scopes) i box h → (had left last_left : ℕ) (old new last_new : List Line) (first mid joins : Joins) (v : Verdict) →
-    StandsAt first i [] → had < 2147483648 → (IsReady g i first (suc (2 * had)) [] → PartTold cuts g i box h [] [] had left old new mid) → ((xs : List Seen) → StandsAt mid i xs → v ≡ verdict_at g i (position g i last_box) xs) → KeepsAll mid joins → last_new ≡ new → last_left ≡ left →
-    BodyTold cuts g i box h v had last_left old last_new joins
-node_ended cuts g i h valid scope box last_box b numbers apart ahead had left last_left old new last_new first mid joins v stands few told says kept e f =
-    subst (λ ls. BodyTold cuts g i box h v had last_left old ls joins) (sym e)
-    (subst (λ n. BodyTold cuts g i box h v had n old new joins) (sym f)
-    (node_told cuts g i scope box h apart ahead had left old new mid joins v (told ready) (λ xs s. subst (λ d. v ≡ verdict_at g i (position g i d) xs) b (says xs s)) (λ xs s. kept i xs s)
+pub node_ended : (cuts : Bool) (above : ℤ → Bool) (g : Game) (i : ℕ) (h : Option ℕ) → IsValid g → i < length g.scopes → (box last_box : Box) → last_box ≡ box → list_all is_number (position g i box) ≡ true → is_horizon h i ≡ false → Outdoes g (drop i g.scopes) (demands g i) above → SeesAhead g (drop i g.scopes) i box h → (had left last_left : ℕ) (old new last_new : List Line) (first mid joins : Joins) (v : Verdict) →
+    StandsAt first i [] → had < 2147483648 → (IsReady g i first (suc (2 * had)) [] → PartTold cuts above g i box h [] [] had left old new mid) → ((xs : List Seen) → StandsAt mid i xs → v ≡ verdict_at g i (position g i last_box) xs) → KeepsAll mid joins → last_new ≡ new → last_left ≡ left →
+    BodyTold cuts above g i box h v had last_left old last_new joins
+node_ended cuts above g i h valid scope box last_box b numbers apart outdoes ahead had left last_left old new last_new first mid joins v stands few told says kept e f =
+    subst (λ ls. BodyTold cuts above g i box h v had last_left old ls joins) (sym e)
+    (subst (λ n. BodyTold cuts above g i box h v had n old new joins) (sym f)
+    (node_told cuts above g i scope box h apart outdoes ahead had left old new mid joins v (told ready) (λ xs s. subst (λ d. v ≡ verdict_at g i (position g i d) xs) b (says xs s)) (λ xs s. kept i xs s)
     (λ xs s. verdict_long g i (position g i box) xs scope s) (λ xs n s l. verdict_sized g i (position g i box) xs n valid numbers s l)))
   where
     ready : IsReady g i first (suc (2 * had)) []
@@ -396,11 +411,11 @@ stuck_so (s ∷ later) g d a = by s.kind
     by Exists = refl
     by Forall = refl
 
-stuck_sure : (later : List Scope) (g : Game) (d : List Condition) (a : List ℤ) → is_vague_verdict (stuck_of later g d a) ≡ false
-stuck_sure [] g d a = refl
-stuck_sure (s ∷ later) g d a = by s.kind
+stuck_sure : (above : ℤ → Bool) (later : List Scope) (g : Game) (d : List Condition) (a : List ℤ) → is_vague_verdict above (stuck_of later g d a) ≡ false
+stuck_sure above [] g d a = refl
+stuck_sure above (s ∷ later) g d a = by s.kind
   where
-    by : (k : Kind) → is_vague_verdict (stuck_verdict g k d a) ≡ false
+    by : (k : Kind) → is_vague_verdict above (stuck_verdict g k d a) ≡ false
     by Exists = refl
     by Forall = refl
 
@@ -417,9 +432,9 @@ own_of_none (s ∷ later) g d = by s.kind s.condition
     by Exists (Some c) = none c (demands_after g Exists (Some c) d)
     by Forall own = refl
 
-pub stuck_told : (cuts : Bool) (g : Game) (i : ℕ) (h : Option ℕ) → IsValid g → (box : Box) → list_all is_number (position g i box) ≡ true → is_horizon h i ≡ true → (had : ℕ) (old new : List Line) (joins : Joins) (v : Verdict) → v ≡ stuck_of (drop i g.scopes) g (demands g i) (position g i box) →
-    new ≡ old ++ StuckLine ∷ [] → (i < length g.scopes → StandsAt joins i []) → BodyTold cuts g i box h v had had old new joins
-stuck_told cuts g i h valid box numbers f had old new joins v e q stands =
+pub stuck_told : (cuts : Bool) (above : ℤ → Bool) (g : Game) (i : ℕ) (h : Option ℕ) → IsValid g → (box : Box) → list_all is_number (position g i box) ≡ true → is_horizon h i ≡ true → (had : ℕ) (old new : List Line) (joins : Joins) (v : Verdict) → v ≡ stuck_of (drop i g.scopes) g (demands g i) (position g i box) →
+    new ≡ old ++ StuckLine ∷ [] → (i < length g.scopes → StandsAt joins i []) → BodyTold cuts above g i box h v had had old new joins
+stuck_told cuts above g i h valid box numbers f had old new joins v e q stands =
     let later = drop i g.scopes in
     let d = demands g i in
     let a = position g i box in
@@ -427,40 +442,49 @@ stuck_told cuts g i h valid box numbers f had old new joins v e q stands =
     record {
       body = stuck;
       lines = q;
-      made = stuck_made cuts g later i d h box v had f (ap is_vague_verdict e ∙ stuck_sure later g d a) (stuck_so later g d a ∙ sym e) (subst (IsLong g i) (sym e) (stuck_long later g d a)) (subst (IsSized 1) (sym e) (stuck_sized later g d a valid numbers))
+      made = stuck_made cuts above g later i d h box v had f (ap (is_vague_verdict above) e ∙ stuck_sure above later g d a) (stuck_so later g d a ∙ sym e) (subst (IsLong g i) (sym e) (stuck_long later g d a)) (subst (IsSized 1) (sym e) (stuck_sized later g d a valid numbers))
           (subst (IsOwnSized 1) (sym own) tt);
       own = λ s. record { stood = []; stands = stands s; is_own = own ∙ sym (own_of_none later g d) };
     }
 
+-- so where the scope right above beats more
+pub body_more : (cuts : Bool) (above more : ℤ → Bool) (g : Game) (i : ℕ) (box : Box) (h : Option ℕ) (v : Verdict) (had left : ℕ) (old new : List Line) (joins : Joins) → ((n : ℤ) → above n ≡ true → more n ≡ true) → BodyTold cuts above g i box h v had left old new joins → BodyTold cuts more g i box h v had left old new joins
+body_more cuts above more g i box h v had left old new joins f w = record {
+  body = w.body;
+  lines = w.lines;
+  made = more_beaten cuts above more g (drop i g.scopes) i (demands g i) box h v had left (tree None w.body) f w.made;
+  own = w.own;
+}
+
 -- what stands at a node, below a horizon that begins there or not
-pub whole_node : (cuts : Bool) (g : Game) (i : ℕ) (box : Box) (h below : Option ℕ) (z : Option Horizon) (v : Verdict) (had left : ℕ) (old mid new : List Line) (joins : Joins) → horizon_in_place g z (drop i g.scopes) i box h ≡ true → horizon_fits z ≡ true → below ≡ horizon_below z h →
-    mid ≡ old ++ horizon_lines z → BodyTold cuts g i box below v had left mid new joins → NodeTold cuts g i box h v had left old new joins
-whole_node cuts g i box h below z v had left old mid new joins place fits e q w = record {
+pub whole_node : (cuts : Bool) (above : ℤ → Bool) (g : Game) (i : ℕ) (box : Box) (h below : Option ℕ) (z : Option Horizon) (v : Verdict) (had left : ℕ) (old mid new : List Line) (joins : Joins) → horizon_in_place g z (drop i g.scopes) i box h ≡ true → horizon_fits z ≡ true → below ≡ horizon_below z h →
+    mid ≡ old ++ horizon_lines z → BodyTold cuts above g i box below v had left mid new joins → NodeTold cuts above g i box h v had left old new joins
+whole_node cuts above g i box h below z v had left old mid new joins place fits e q w = record {
   written = record {
     tree = tree z w.body;
     lines = w.lines ∙ (ap (λ ls. ls ++ body_lines w.body) q ∙ append_assoc old (horizon_lines z) (body_lines w.body));
-    made = horizon_made cuts g (drop i g.scopes) i (demands g i) h z w.body box v had left place fits (subst (λ k. NodeMade cuts g (drop i g.scopes) i (demands g i) box k v had left (tree None w.body)) e w.made);
+    made = horizon_made cuts above g (drop i g.scopes) i (demands g i) h z w.body box v had left place fits (subst (λ k. NodeMade cuts above g (drop i g.scopes) i (demands g i) box k v had left (tree None w.body)) e w.made);
   };
   own = w.own;
 }
 
 -- the same without one
-pub plain_node : (cuts : Bool) (g : Game) (i : ℕ) (box : Box) (h : Option ℕ) (v : Verdict) (had left : ℕ) (old new : List Line) (joins : Joins) → BodyTold cuts g i box h v had left old new joins → NodeTold cuts g i box h v had left old new joins
-plain_node cuts g i box h v had left old new joins w = whole_node cuts g i box h h None v had left old old new joins refl refl refl (sym (append-nil old)) w
+pub plain_node : (cuts : Bool) (above : ℤ → Bool) (g : Game) (i : ℕ) (box : Box) (h : Option ℕ) (v : Verdict) (had left : ℕ) (old new : List Line) (joins : Joins) → BodyTold cuts above g i box h v had left old new joins → NodeTold cuts above g i box h v had left old new joins
+plain_node cuts above g i box h v had left old new joins w = whole_node cuts above g i box h h None v had left old old new joins refl refl refl (sym (append-nil old)) w
 
 -- the goal
-pub goal_told : (cuts : Bool) (g : Game) (h : Option ℕ) → IsValid g → (box : Box) → list_all is_number (position g (length g.scopes) box) ≡ true → is_horizon h (length g.scopes) ≡ false → (had : ℕ) (old new : List Line) (joins : Joins) (v : Verdict) (b : Bool) → b ≡ allows g (length g.scopes) (position g (length g.scopes) box) →
-    v ≡ goal_verdict g b (demands g (length g.scopes)) (position g (length g.scopes) box) → new ≡ old ++ GoalLine ∷ [] → BodyTold cuts g (length g.scopes) box h v had had old new joins
-goal_told cuts g h valid box numbers apart had old new joins v b e f q =
+pub goal_told : (cuts : Bool) (above : ℤ → Bool) (g : Game) (h : Option ℕ) → IsValid g → (box : Box) → list_all is_number (position g (length g.scopes) box) ≡ true → is_horizon h (length g.scopes) ≡ false → (had : ℕ) (old new : List Line) (joins : Joins) (v : Verdict) (b : Bool) → b ≡ allows g (length g.scopes) (position g (length g.scopes) box) →
+    v ≡ goal_verdict g b (demands g (length g.scopes)) (position g (length g.scopes) box) → new ≡ old ++ GoalLine ∷ [] → BodyTold cuts above g (length g.scopes) box h v had had old new joins
+goal_told cuts above g h valid box numbers apart had old new joins v b e f q =
     let n = length g.scopes in
     let d = demands g n in
     let a = position g n box in
     let comes : goal_verdict g (allows g n a) d a ≡ v = ap (λ c. goal_verdict g c d a) (sym e) ∙ sym f in
-    let m = goal_made cuts g n d box h had v apart comes (subst (IsLong g n) (sym f) (goal_long g b d a)) (subst (IsSized 1) (sym f) (goal_sized g b d a valid numbers)) in
+    let m = goal_made cuts above g n d box h had v apart comes (subst (IsLong g n) (sym f) (goal_long g b d a)) (subst (IsSized 1) (sym f) (goal_sized g b d a valid numbers)) in
     record {
       body = goal;
       lines = q;
-      made = subst (λ ss. NodeMade cuts g ss n d box h v had had (tree None goal)) (sym (drop_of_length-le g.scopes (omega arith))) m;
+      made = subst (λ ss. NodeMade cuts above g ss n d box h v had had (tree None goal)) (sym (drop_of_length-le g.scopes (omega arith))) m;
       own = λ s. absurd (omega arith);
     }
 
@@ -471,14 +495,14 @@ no_own g (tree z goal) i d box = refl
 no_own g (tree z (cases steps end)) i d box = refl
 
 -- the root
-pub root_told : (cuts : Bool) (g : Game) (turns : ℕ) (box : Box) (left : ℕ) (old new : List Line) (joins : Joins) (found : Found) (vector : List ℤ) (own : Option ℤ) → box ≡ declared_box g → old ≡ [] → NodeTold cuts g 0 box None (verdict_of found vector) turns left old new joins →
+pub root_told : (cuts : Bool) (g : Game) (turns : ℕ) (box : Box) (left : ℕ) (old new : List Line) (joins : Joins) (found : Found) (vector : List ℤ) (own : Option ℤ) → box ≡ declared_box g → old ≡ [] → NodeTold cuts beats_none g 0 box None (verdict_of found vector) turns left old new joins →
     (0 < length g.scopes → (xs : List Seen) → StandsAt joins 0 xs → own ≡ own_at g 0 xs) → (length g.scopes ≡ 0 → own ≡ None) → Attempted cuts g turns found own new
 root_told cuts g turns box left old new joins found vector own b e w some none =
-    let u = subst (λ (c : Box). NodeTold cuts g 0 c None (verdict_of found vector) turns left old new joins) b w in
-    let w0 = subst (λ ls. NodeTold cuts g 0 (declared_box g) None (verdict_of found vector) turns left ls new joins) e u in
+    let u = subst (λ (c : Box). NodeTold cuts beats_none g 0 c None (verdict_of found vector) turns left old new joins) b w in
+    let w0 = subst (λ ls. NodeTold cuts beats_none g 0 (declared_box g) None (verdict_of found vector) turns left ls new joins) e u in
     record { left = left; vector = vector; root = w0.written; has_own = by g.scopes refl w0 }
   where
-    by : (ss : List Scope) → g.scopes ≡ ss → (w : NodeTold cuts g 0 (declared_box g) None (verdict_of found vector) turns left [] new joins) → (root_finding g w.written.tree).own ≡ own
+    by : (ss : List Scope) → g.scopes ≡ ss → (w : NodeTold cuts beats_none g 0 (declared_box g) None (verdict_of found vector) turns left [] new joins) → (root_finding g w.written.tree).own ≡ own
     by [] q w = ap (λ ss. (read g w.written.tree ss 0 [] (declared_box g)).own) q ∙ (no_own g w.written.tree 0 [] (declared_box g) ∙ sym (none (ap length q)))
     by (s ∷ ss) q w =
         let more : 0 < length g.scopes = omega (arith, ap length q) in
@@ -486,15 +510,15 @@ root_told cuts g turns box left old new joins found vector own b e w some none =
         o.is_own ∙ sym (some more o.stood o.stands)
 
 -- the goal, at its number, with its values or below a horizon that tells that it isn't passed
-pub goal_there : (cuts : Bool) (g : Game) (n : ℕ) (h : Option ℕ) → n ≡ length g.scopes → IsValid g → (box : Box) → list_all is_number (position g n box) ≡ true → is_horizon h n ≡ false → (had : ℕ) (old new : List Line) (joins : Joins) (v : Verdict) (b : Bool) →
-    b ≡ allows g (length g.scopes) (position g (length g.scopes) box) → v ≡ goal_verdict g b (demands g (length g.scopes)) (position g (length g.scopes) box) → new ≡ old ++ GoalLine ∷ [] → NodeTold cuts g n box h v had had old new joins
-goal_there cuts g n h here valid box numbers apart had old new joins v b e f q =
+pub goal_there : (cuts : Bool) (above : ℤ → Bool) (g : Game) (n : ℕ) (h : Option ℕ) → n ≡ length g.scopes → IsValid g → (box : Box) → list_all is_number (position g n box) ≡ true → is_horizon h n ≡ false → (had : ℕ) (old new : List Line) (joins : Joins) (v : Verdict) (b : Bool) →
+    b ≡ allows g (length g.scopes) (position g (length g.scopes) box) → v ≡ goal_verdict g b (demands g (length g.scopes)) (position g (length g.scopes) box) → new ≡ old ++ GoalLine ∷ [] → NodeTold cuts above g n box h v had had old new joins
+goal_there cuts above g n h here valid box numbers apart had old new joins v b e f q =
     let m = length g.scopes in
-    subst (λ k. NodeTold cuts g k box h v had had old new joins) (sym here)
-    (plain_node cuts g m box h v had had old new joins
-    (goal_told cuts g h valid box (subst (λ k. list_all is_number (position g k box) ≡ true) here numbers) (subst (λ k. is_horizon h k ≡ false) here apart) had old new joins v b e f q))
+    subst (λ k. NodeTold cuts above g k box h v had had old new joins) (sym here)
+    (plain_node cuts above g m box h v had had old new joins
+    (goal_told cuts above g h valid box (subst (λ k. list_all is_number (position g k box) ≡ true) here numbers) (subst (λ k. is_horizon h k ≡ false) here apart) had old new joins v b e f q))
 
-pub lost_there : (cuts : Bool) (g : Game) (n : ℕ) (h : Option ℕ) → n ≡ length g.scopes → IsValid g → (box : Box) → list_all is_number (position g n box) ≡ true → is_horizon h n ≡ true → (had : ℕ) (old new : List Line) (joins : Joins) → new ≡ old ++ StuckLine ∷ [] → NodeTold cuts g n box h lost had had old new joins
-lost_there cuts g n h here valid box numbers f had old new joins q =
-    plain_node cuts g n box h lost had had old new joins
-    (stuck_told cuts g n h valid box numbers f had old new joins lost (sym (ap (λ ss. stuck_of ss g (demands g n) (position g n box)) (drop_of_length-le g.scopes (omega (arith, here))))) q (λ s. absurd (omega (arith, here, s))))
+pub lost_there : (cuts : Bool) (above : ℤ → Bool) (g : Game) (n : ℕ) (h : Option ℕ) → n ≡ length g.scopes → IsValid g → (box : Box) → list_all is_number (position g n box) ≡ true → is_horizon h n ≡ true → (had : ℕ) (old new : List Line) (joins : Joins) → new ≡ old ++ StuckLine ∷ [] → NodeTold cuts above g n box h lost had had old new joins
+lost_there cuts above g n h here valid box numbers f had old new joins q =
+    plain_node cuts above g n box h lost had had old new joins
+    (stuck_told cuts above g n h valid box numbers f had old new joins lost (sym (ap (λ ss. stuck_of ss g (demands g n) (position g n box)) (drop_of_length-le g.scopes (omega (arith, here))))) q (λ s. absurd (omega (arith, here, s))))

@@ -18,7 +18,7 @@ use Rattle.proof_tree.specs.Order.{settles}
 use Rattle.qc_joins.specs.Sizes.{EachHas}
 use Rattle.qc_joins.specs.Verdicts.{scope_verdict, kind_verdict, scope_settled, kind_settled, scope_own, kind_own, scope_wishes, kind_wishes}
 use Rattle.game_search.specs.Beaten.{firsts, are_beaten}
-use Rattle.game_search.specs.Settled.{is_settled, is_vague, is_vague_verdict}
+use Rattle.game_search.specs.Settled.{is_settled, is_vague_verdict}
 use Rattle.game_search.proofs.Beating.{best_beats, some_beats, each_long}
 
 pub seen-append : (ks ls : List Leaf) → map seen_of (ks ++ ls) ≡ map seen_of ks ++ map seen_of ls
@@ -58,12 +58,12 @@ settled-append later d xs ys = some-append (settles later d) xs ys
 pub settled_from : (later : List Scope) (d : List Condition) (xs ys : List Seen) → is_settled later d xs ≡ false → is_settled later d (xs ++ ys) ≡ is_settled later d ys
 settled_from later d xs ys e = settled-append later d xs ys ∙ ap (λ b. b || is_settled later d ys) e
 
-pub vague-append : (xs ys : List Seen) → is_vague (xs ++ ys) ≡ (is_vague xs || is_vague ys)
-vague-append [] ys = refl
-vague-append (seen_barred ∷ xs) ys = vague-append xs ys
-vague-append (seen_skipped ∷ xs) ys = refl
-vague-append (seen_bound m ∷ xs) ys = vague-append xs ys
-vague-append (seen_node v ∷ xs) ys = ap (λ b. is_vague_verdict v || b) (vague-append xs ys) ∙ or_assoc (is_vague_verdict v) (is_vague xs) (is_vague ys)
+pub open-append : (xs ys : List Seen) → some_open (xs ++ ys) ≡ (some_open xs || some_open ys)
+open-append [] ys = refl
+open-append (seen_barred ∷ xs) ys = open-append xs ys
+open-append (seen_skipped ∷ xs) ys = refl
+open-append (seen_bound m ∷ xs) ys = open-append xs ys
+open-append (seen_node v ∷ xs) ys = ap (λ b. is_unknown v || b) (open-append xs ys) ∙ or_assoc (is_unknown v) (some_open xs) (some_open ys)
 
 pub any_leaf : (p : Verdict → Bool) (ls : List Leaf) → list_any (comes_to p) ls ≡ some_node p (map seen_of ls)
 any_leaf p [] = refl
@@ -109,91 +109,87 @@ settled_is g (s ∷ later) d a xs e = by s.kind s.condition e
     by Exists own e = exactly own (demands_after g Exists own d) e
     by Forall own e = ap (λ b. cond b lost (cond (each_node is_exact xs) (exact (entry_values g d a (numbers_for d (exact_vectors xs)))) (bounded_forall g d xs))) e
 
-settled_known : (later : List Scope) → is_goal later ≡ false → is_vague_verdict (settled_verdict later) ≡ false
-settled_known [] e = cc
-settled_known (s ∷ later) e = by s.kind
+pub settled_known : (above : ℤ → Bool) (later : List Scope) → is_goal later ≡ false → is_vague_verdict above (settled_verdict later) ≡ false
+settled_known above [] e = cc
+settled_known above (s ∷ later) e = by s.kind
   where
-    by : (k : Kind) → is_vague_verdict (settled_kind k) ≡ false
+    by : (k : Kind) → is_vague_verdict above (settled_kind k) ≡ false
     by Exists = refl
     by Forall = refl
 
--- where nothing stays open, it is known what the scope comes to
+-- where no leaf is open, and an exact leaf is among them wherever bounds are, it is known what the scope comes to
 record Plain (xs : List Seen) : Type 0 where
-  pub none_open : some_open xs ≡ false
-  pub some : each_node is_lost xs ≡ false → is_none_of (exact_vectors xs) ≡ false
-  pub each : some_node is_lost xs ≡ false → each_node is_exact xs ≡ true
+  pub some : each_node is_lost xs ≡ false → is_none_of (bounds xs) ≡ true → is_none_of (exact_vectors xs) ≡ false
+  pub each : some_node is_lost xs ≡ false → is_none_of (bounds xs) ≡ true → each_node is_exact xs ≡ true
 
-plain : (xs : List Seen) → is_vague xs ≡ false → Plain xs
-plain [] e = record { none_open = refl; some = λ f. cc; each = λ f. refl }
-plain (seen_barred ∷ xs) e = let p = plain xs e in record { none_open = p.none_open; some = p.some; each = p.each }
+plain : (xs : List Seen) → some_open xs ≡ false → Plain xs
+plain [] e = record { some = λ f b. cc; each = λ f b. refl }
+plain (seen_barred ∷ xs) e = let p = plain xs e in record { some = p.some; each = p.each }
 plain (seen_skipped ∷ xs) e = cc
-plain (seen_bound m ∷ xs) e = let p = plain xs e in record { none_open = p.none_open; some = p.some; each = p.each }
-plain (seen_node lost ∷ xs) e = let p = plain xs e in record { none_open = p.none_open; some = p.some; each = λ f. cc }
-plain (seen_node (exact v) ∷ xs) e = let p = plain xs e in record { none_open = p.none_open; some = λ f. refl; each = p.each }
-plain (seen_node (at_most n) ∷ xs) e = cc
+plain (seen_bound m ∷ xs) e = record { some = λ f b. cc; each = λ f b. cc }
+plain (seen_node lost ∷ xs) e = let p = plain xs e in record { some = p.some; each = λ f b. cc }
+plain (seen_node (exact v) ∷ xs) e = let p = plain xs e in record { some = λ f b. refl; each = p.each }
+plain (seen_node (at_most n) ∷ xs) e = record { some = λ f b. cc; each = λ f b. cc }
 plain (seen_node unknown ∷ xs) e = cc
 
-pub known : (g : Game) (later : List Scope) (d : List Condition) (a : List ℤ) (xs : List Seen) → is_goal later ≡ false → is_vague xs ≡ false → EachHas (list_after g later d) xs → are_beaten (scope_wishes later g d) (firsts xs) (bounds xs) ≡ true →
-    is_vague_verdict (scope_verdict later g d a xs) ≡ false
-known g [] d a xs e f l b = cc
-known g (s ∷ later) d a xs e f l b = by s.kind s.condition l b
+-- where nothing is demanded, nothing is beaten: so there is no bound
+pub no_bounds : (ns ms : List ℤ) → are_beaten [] ns ms ≡ true → is_none_of ms ≡ true
+no_bounds ns [] h = refl
+no_bounds ns (m ∷ ms) h = cc
+
+pub known : (above : ℤ → Bool) (g : Game) (later : List Scope) (d : List Condition) (a : List ℤ) (xs : List Seen) → is_goal later ≡ false → some_open xs ≡ false → EachHas (list_after g later d) xs → are_beaten (scope_wishes later g d) (firsts xs) (bounds xs) ≡ true →
+    is_vague_verdict above (scope_verdict later g d a xs) ≡ false
+known above g [] d a xs e f l b = cc
+known above g (s ∷ later) d a xs e f l b = by s.kind s.condition l b
   where
     p : Plain xs
     p = plain xs f
 
-    plainly : (b c : Bool) → each_node is_lost xs ≡ b → some_node is_exact xs ≡ c → is_vague_verdict (cond c (exact []) (cond b lost unknown)) ≡ false
-    plainly b true q r = refl
-    plainly true false q r = refl
-    plainly false false q r = absurd (none_exact xs f q r)
+    plainly : is_none_of (bounds xs) ≡ true → (b c : Bool) → each_node is_lost xs ≡ b → some_node is_exact xs ≡ c → is_vague_verdict above (cond c (exact []) (cond b lost unknown)) ≡ false
+    plainly n b true q r = refl
+    plainly n true false q r = refl
+    plainly n false false q r = absurd (none_exact xs f n q r)
       where
-        none_exact : (ys : List Seen) → is_vague ys ≡ false → each_node is_lost ys ≡ false → some_node is_exact ys ≡ false → ⊥
-        none_exact [] e f h = cc
-        none_exact (seen_barred ∷ ys) e f h = none_exact ys e f h
-        none_exact (seen_skipped ∷ ys) e f h = cc
-        none_exact (seen_bound m ∷ ys) e f h = none_exact ys e f h
-        none_exact (seen_node lost ∷ ys) e f h = none_exact ys e f h
-        none_exact (seen_node (exact v) ∷ ys) e f h = cc
-        none_exact (seen_node (at_most n) ∷ ys) e f h = cc
-        none_exact (seen_node unknown ∷ ys) e f h = cc
+        none_exact : (ys : List Seen) → some_open ys ≡ false → is_none_of (bounds ys) ≡ true → each_node is_lost ys ≡ false → some_node is_exact ys ≡ false → ⊥
+        none_exact [] e n f h = cc
+        none_exact (seen_barred ∷ ys) e n f h = none_exact ys e n f h
+        none_exact (seen_skipped ∷ ys) e n f h = cc
+        none_exact (seen_bound m ∷ ys) e n f h = cc
+        none_exact (seen_node lost ∷ ys) e n f h = none_exact ys e n f h
+        none_exact (seen_node (exact v) ∷ ys) e n f h = cc
+        none_exact (seen_node (at_most m) ∷ ys) e n f h = cc
+        none_exact (seen_node unknown ∷ ys) e n f h = cc
 
     -- the tests of a bounded existential scope: all lost, no bound, some open, no exact leaf, the best beats the bounds
-    tests : (lost_all no_bound open_any none_any beaten : Bool) (v : List ℤ) (w : Verdict) → open_any ≡ false → (lost_all ≡ false → none_any ≡ false) → (no_bound ≡ false → none_any ≡ false) → beaten ≡ true →
-        is_vague_verdict (cond (lost_all && no_bound) lost (cond open_any unknown (cond (not none_any && beaten) (exact v) w))) ≡ false
+    tests : (lost_all no_bound open_any none_any beaten : Bool) (v : List ℤ) (w : Verdict) → open_any ≡ false → (lost_all ≡ false → no_bound ≡ true → none_any ≡ false) → (no_bound ≡ false → none_any ≡ false) → beaten ≡ true →
+        is_vague_verdict above (cond (lost_all && no_bound) lost (cond open_any unknown (cond (not none_any && beaten) (exact v) w))) ≡ false
     tests true true o n b v w q r u t = refl
     tests true false true n b v w q r u t = cc
     tests true false false true b v w q r u t = let k = u refl in cc
     tests true false false false true v w q r u t = refl
     tests true false false false false v w q r u t = cc
     tests false m true n b v w q r u t = cc
-    tests false m false true b v w q r u t = let k = r refl in cc
+    tests false true false true b v w q r u t = let k = r refl refl in cc
+    tests false false false true b v w q r u t = let k = u refl in cc
     tests false m false false true v w q r u t = refl
     tests false m false false false v w q r u t = cc
 
-    existing : (own : Option Condition) (dd : List Condition) → EachHas dd xs → are_beaten dd (firsts xs) (bounds xs) ≡ true → is_vague_verdict (exists_verdict own dd xs) ≡ false
-    existing own [] l b = plainly (each_node is_lost xs) (some_node is_exact xs) refl refl
+    existing : (own : Option Condition) (dd : List Condition) → EachHas dd xs → are_beaten dd (firsts xs) (bounds xs) ≡ true → is_vague_verdict above (exists_verdict own dd xs) ≡ false
+    existing own [] l b = plainly (no_bounds (firsts xs) (bounds xs) b) (each_node is_lost xs) (some_node is_exact xs) refl refl
     existing own (c ∷ dd) l b =
         let v = best_vector (c ∷ dd) (exact_vectors xs) in
         tests (each_node is_lost xs) (is_none_of (bounds xs)) (some_open xs) (is_none_of (exact_vectors xs)) (list_all (beats c.sense (is_none_of dd) (first_value v)) (bounds xs)) (without_own own v)
-        (cond (is_none own) (at_most (best_number c.sense (map first_value (exact_vectors xs) ++ bounds xs))) unknown) p.none_open p.some (some_beats (c ∷ dd) (exact_vectors xs) (bounds xs) b)
+        (cond (is_none own) (at_most (best_number c.sense (map first_value (exact_vectors xs) ++ bounds xs))) unknown) f p.some (some_beats (c ∷ dd) (exact_vectors xs) (bounds xs) b)
         (best_beats c dd (exact_vectors xs) (bounds xs) (each_long (c ∷ dd) xs l) b)
 
-    universal : (b c : Bool) (v : List ℤ) (w : Verdict) → (b ≡ false → c ≡ true) → is_vague_verdict (cond b lost (cond c (exact v) w)) ≡ false
+    universal : (b c : Bool) (v : List ℤ) (w : Verdict) → (b ≡ false → c ≡ true) → is_vague_verdict above (cond b lost (cond c (exact v) w)) ≡ false
     universal true c v w q = refl
     universal false true v w q = refl
     universal false false v w q = let r = q refl in cc
 
-    by : (k : Kind) (own : Option Condition) → EachHas (demands_after g k own d) xs → are_beaten (kind_wishes k own g d) (firsts xs) (bounds xs) ≡ true → is_vague_verdict (kind_verdict k own g d a xs) ≡ false
+    by : (k : Kind) (own : Option Condition) → EachHas (demands_after g k own d) xs → are_beaten (kind_wishes k own g d) (firsts xs) (bounds xs) ≡ true → is_vague_verdict above (kind_verdict k own g d a xs) ≡ false
     by Exists own l b = existing own (demands_after g Exists own d) l b
-    by Forall own l b = universal (some_node is_lost xs) (each_node is_exact xs) (entry_values g d a (numbers_for d (exact_vectors xs))) (bounded_forall g d xs) p.each
-
--- nothing stays open and all bounds are beaten, or the scope is settled
-pub decided : (g : Game) (later : List Scope) (d : List Condition) (a : List ℤ) (xs : List Seen) → is_goal later ≡ false → (is_settled later (list_after g later d) xs ≡ false → is_vague xs ≡ false) → EachHas (list_after g later d) xs →
-    are_beaten (scope_wishes later g d) (firsts xs) (bounds xs) ≡ true → is_vague_verdict (scope_verdict later g d a xs) ≡ false
-decided g later d a xs e f l b = by (is_settled later (list_after g later d) xs) refl
-  where
-    by : (b : Bool) → is_settled later (list_after g later d) xs ≡ b → is_vague_verdict (scope_verdict later g d a xs) ≡ false
-    by true q = ap is_vague_verdict (settled_is g later d a xs q) ∙ settled_known later e
-    by false q = known g later d a xs e (f q) l b
+    by Forall own l b = universal (some_node is_lost xs) (each_node is_exact xs) (entry_values g d a (numbers_for d (exact_vectors xs))) (bounded_forall g d xs) (λ q. p.each q (no_bounds (firsts xs) (bounds xs) b))
 
 -- bounds speak of nothing in a scope that a leaf settles
 pub settled_wishes : (g : Game) (later : List Scope) (d : List Condition) (xs : List Seen) → is_settled later (list_after g later d) xs ≡ true → scope_wishes later g d ≡ []
@@ -208,14 +204,11 @@ settled_wishes g (s ∷ later) d xs e = by s.kind s.condition e
     by Exists own e = asks_nothing (demands_after g Exists own d) e
     by Forall own e = refl
 
-pub not_unknown : (v : Verdict) → is_vague_verdict v ≡ false → is_unknown v ≡ false
-not_unknown lost e = refl
-not_unknown (exact v) e = refl
-not_unknown (at_most p) e = refl
-not_unknown unknown e = cc
-
-pub settled_sure : (g : Game) (later : List Scope) (d : List Condition) (a : List ℤ) (xs : List Seen) → is_goal later ≡ false → is_settled later (list_after g later d) xs ≡ true → is_unknown (scope_verdict later g d a xs) ≡ false
-settled_sure g later d a xs e f = not_unknown (scope_verdict later g d a xs) (ap is_vague_verdict (settled_is g later d a xs f) ∙ settled_known later e)
+pub not_unknown : (above : ℤ → Bool) (v : Verdict) → is_vague_verdict above v ≡ false → is_unknown v ≡ false
+not_unknown above lost e = refl
+not_unknown above (exact v) e = refl
+not_unknown above (at_most p) e = refl
+not_unknown above unknown e = cc
 
 -- the words of joins say the same
 pub settled_so : (g : Game) (later : List Scope) (d : List Condition) (xs : List Seen) → scope_settled later g d xs ≡ is_settled later (list_after g later d) xs

@@ -17,3 +17,5 @@ pub mod Marks
 pub mod Beating
 pub mod Ruling
 pub mod Losing
+pub mod Outdone
+pub mod Rivals

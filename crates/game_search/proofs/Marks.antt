@@ -2,11 +2,11 @@
 use Rattle.std.proofs.Common.{◌≡◌, ◌∙◌, refl, ap, Bool, List, [], ◌∷◌, ◌++◌, map, ℤ}
 use Rattle.std.proofs.lemmas.List.{append-nil}
 use Rattle.qc_model.specs.declared.problem.Condition.{Condition}
+use Rattle.qc_model.specs.ExistsVerdict.{some_open}
 use Rattle.qc_model.specs.Verdict.{Verdict, lost, exact, at_most, unknown, Seen, seen_barred, seen_skipped, seen_bound, seen_node, some_node, bounds, first_value}
 use Rattle.proof_tree.specs.Finding.{leaf_bound, seen_of}
 use Rattle.qc_joins.specs.Sizes.{EachHas}
 use Rattle.game_search.specs.Beaten.{firsts, seen_bounds}
-use Rattle.game_search.specs.Settled.{is_vague}
 
 -- the marks of steps, as leaves, are seen so
 pub seen_marks : (ms : List ℤ) → map seen_of (map leaf_bound ms) ≡ seen_bounds ms
@@ -45,9 +45,9 @@ pub bounds_marks : (ms : List ℤ) (xs : List Seen) → bounds (seen_bounds ms +
 bounds_marks [] xs = refl
 bounds_marks (m ∷ ms) xs = ap (λ ns. m ∷ ns) (bounds_marks ms xs)
 
-pub vague_marks : (ms : List ℤ) (xs : List Seen) → is_vague (seen_bounds ms ++ xs) ≡ is_vague xs
-vague_marks [] xs = refl
-vague_marks (m ∷ ms) xs = vague_marks ms xs
+pub open_marks : (ms : List ℤ) (xs : List Seen) → some_open (seen_bounds ms ++ xs) ≡ some_open xs
+open_marks [] xs = refl
+open_marks (m ∷ ms) xs = open_marks ms xs
 
 pub some_marks : (p : Verdict → Bool) (ms : List ℤ) (xs : List Seen) → some_node p (seen_bounds ms ++ xs) ≡ some_node p xs
 some_marks p [] xs = refl

@@ -20,7 +20,7 @@ use Rattle.proof_tree.specs.declared.tree.Step.{Step}
 use Rattle.qc_joins.specs.Sizes.{HasSizes}
 use Rattle.game_search.specs.Beaten.{firsts, AreAmong}
 use Rattle.qc_joins.proofs.Sizing.{sizes_both}
-use Rattle.game_search.specs.Settled.{is_settled}
+use Rattle.game_search.specs.Settled.{is_settled, is_ended}
 use Rattle.game_search.specs.Uppers.{upto_all}
 use Rattle.game_search.specs.Made.{CasesMade}
 use Rattle.game_search.specs.Written.{CasesWritten, PartWritten}
@@ -65,7 +65,7 @@ regroup old None steps e bs = append_assoc old (Skip ∷ (map step_line steps ++
 regroup old (Some high) steps e bs = append_assoc old (Range high ∷ Skip ∷ (map step_line steps ++ ending_lines e)) (branches_lines bs)
 
 -- cases for the values here are owed; what was seen, the turns and the lines are at seen, left and now
-pub record Progress (cuts : Bool) (g : Game) (later : List Scope) (i : ℕ) (d : List Condition) (box : Box) (h : Option ℕ) (x : ℕ) (vs : Values) (before : List Seen) (had : ℕ) (old : List Line)
+pub record Progress (cuts : Bool) (above : ℤ → Bool) (g : Game) (later : List Scope) (i : ℕ) (d : List Condition) (box : Box) (h : Option ℕ) (x : ℕ) (vs : Values) (before : List Seen) (had : ℕ) (old : List Line)
     (here : Values) (seen : List Seen) (left : ℕ) (now : List Line) : Type 0 where
   -- the turns only fall, and what was seen is no larger than those used can make it
   pub used : ℕ
@@ -74,22 +74,25 @@ pub record Progress (cuts : Bool) (g : Game) (later : List Scope) (i : ℕ) (d :
   -- the lines are those before and more
   pub written : List Line
   pub now_is : now ≡ old ++ written
-  pub ends : (bs : Branches) (rest : List Seen) (last : ℕ) (new : List Line) → CasesMade cuts g later i d box h x here (is_settled later (list_after g later d) seen) (before ++ seen) rest left last bs → new ≡ now ++ branches_lines bs →
-      CasesWritten cuts g later i d box h x vs before (seen ++ rest) had last old new
+  pub ends : (bs : Branches) (rest : List Seen) (last : ℕ) (new : List Line) → CasesMade cuts above g later i d box h x here (is_settled later (list_after g later d) seen) (before ++ seen) rest left last bs → new ≡ now ++ branches_lines bs →
+      CasesWritten cuts above g later i d box h x vs before (seen ++ rest) had last old new
 
-module _ (cuts : Bool) (g : Game) (later : List Scope) (i : ℕ) (d : List Condition) (box : Box) (h : Option ℕ) (x : ℕ) (vs : Values) (before : List Seen) (had : ℕ) (old : List Line) where
+module _ (cuts : Bool) (above : ℤ → Bool) (g : Game) (later : List Scope) (i : ℕ) (d : List Condition) (box : Box) (h : Option ℕ) (x : ℕ) (vs : Values) (before : List Seen) (had : ℕ) (old : List Line) where
   abbrev At : Values → List Seen → ℕ → List Line → Type 0
-  At here seen left now = Progress cuts g later i d box h x vs before had old here seen left now
+  At here seen left now = Progress cuts above g later i d box h x vs before had old here seen left now
 
   abbrev Whole : List Seen → ℕ → List Line → Type 0
-  Whole seen last new = CasesWritten cuts g later i d box h x vs before seen had last old new
+  Whole seen last new = CasesWritten cuts above g later i d box h x vs before seen had last old new
 
   abbrev Settled : List Seen → Bool
   Settled seen = is_settled later (list_after g later d) seen
 
+  abbrev Ended : List Seen → Bool
+  Ended seen = is_ended above later (list_after g later d) seen
+
   -- a part in a case of x that is gone into, after what was seen; it has the marks ms, and more is seen in it
   abbrev Part : ℤ → List Seen → List ℤ → List Seen → ℕ → ℕ → List Line → List Line → Type 0
-  Part v seen ms more left last now new = PartWritten cuts g later i d (box_to box x (v ∷ [])) h (before ++ seen) ms more left last now new
+  Part v seen ms more left last now new = PartWritten cuts above g later i d (box_to box x (v ∷ [])) h (before ++ seen) ms more left last now new
 
   pub start : At vs [] had old
   start = record {
@@ -98,11 +101,11 @@ module _ (cuts : Bool) (g : Game) (later : List Scope) (i : ℕ) (d : List Condi
     sizes = sizes_none 0;
     written = [];
     now_is = sym (append-nil old);
-    ends = λ bs rest last new m e. record { cases = bs; lines = e; made = subst (λ xs. CasesMade cuts g later i d box h x vs false xs rest had last bs) (append-nil before) m };
+    ends = λ bs rest last new m e. record { cases = bs; lines = e; made = subst (λ xs. CasesMade cuts above g later i d box h x vs false xs rest had last bs) (append-nil before) m };
   }
 
   sizes_in : (v : ℤ) (seen : List Seen) (ms : List ℤ) (more : List Seen) (left last : ℕ) (now new : List Line) → (w : Part v seen ms more left last now new) → HasSizes (2 * suc (ending_turns w.ending)) more
-  sizes_in v seen ms more left last now new w = part_sizes cuts g later i d (box_to box x (v ∷ [])) h (before ++ seen) ms more left last w.steps w.ending w.made
+  sizes_in v seen ms more left last now new w = part_sizes cuts above g later i d (box_to box x (v ∷ [])) h (before ++ seen) ms more left last w.steps w.ending w.made
 
   sizes_with : (m n : ℕ) (xs ys : List Seen) → HasSizes (2 * m) xs → HasSizes (2 * n) ys → HasSizes (2 * (m + n)) (xs ++ ys)
   sizes_with m n xs ys a b = subst (λ k. HasSizes k (xs ++ ys)) (twice m n) (sizes_both (2 * m) (2 * n) xs ys a b)
@@ -120,13 +123,13 @@ module _ (cuts : Bool) (g : Game) (later : List Scope) (i : ℕ) (d : List Condi
     written = p.written ++ (map step_line w.steps ++ ending_lines w.ending);
     now_is = w.lines ∙ (ap (λ ls. ls ++ (map step_line w.steps ++ ending_lines w.ending)) p.now_is ∙ append_assoc old p.written (map step_line w.steps ++ ending_lines w.ending));
     ends = λ bs others last new m e.
-        let known = subst (λ xs. CasesMade cuts g later i d box h x rest (Settled (seen ++ more)) xs others next_left last bs) (sym (append_assoc before seen more)) m in
-        let after = subst (λ b. CasesMade cuts g later i d box h x rest b ((before ++ seen) ++ more) others next_left last bs) (settled_from later (list_after g later d) seen more not_yet) known in
-        let here = go_made cuts g later i d box h x v rest (before ++ seen) ms more others left next_left last w.steps w.ending bs many w.made after in
+        let known = subst (λ xs. CasesMade cuts above g later i d box h x rest (Settled (seen ++ more)) xs others next_left last bs) (sym (append_assoc before seen more)) m in
+        let after = subst (λ b. CasesMade cuts above g later i d box h x rest b ((before ++ seen) ++ more) others next_left last bs) (settled_from later (list_after g later d) seen more not_yet) known in
+        let here = go_made cuts above g later i d box h x v rest (before ++ seen) ms more others left next_left last w.steps w.ending bs many w.made after in
         let same : (seen ++ more) ++ others ≡ seen ++ (more ++ others) = append_assoc seen more others in
         subst (λ xs. Whole xs last new) (sym same)
         (p.ends (piece None (go w.steps w.ending) bs) (more ++ others) last new
-        (subst (λ b. CasesMade cuts g later i d box h x (v ∷ rest) b (before ++ seen) (more ++ others) (1 + left) last (piece None (go w.steps w.ending) bs)) (sym not_yet) here)
+        (subst (λ b. CasesMade cuts above g later i d box h x (v ∷ rest) b (before ++ seen) (more ++ others) (1 + left) last (piece None (go w.steps w.ending) bs)) (sym not_yet) here)
         (e ∙ (ap (λ ls. ls ++ branches_lines bs) w.lines ∙ append_assoc now (map step_line w.steps ++ ending_lines w.ending) (branches_lines bs))));
   }
 
@@ -134,17 +137,16 @@ module _ (cuts : Bool) (g : Game) (later : List Scope) (i : ℕ) (d : List Condi
   pub none : (seen : List Seen) (left : ℕ) (now : List Line) → At [] seen left now → Whole seen left now
   none seen left now p =
       subst (λ xs. Whole xs left now) (append-nil seen)
-      (p.ends no_more [] left now (none_made cuts g later i d box h x (Settled seen) (before ++ seen) left) (sym (append-nil now)))
+      (p.ends no_more [] left now (none_made cuts above g later i d box h x (Settled seen) (before ++ seen) left) (sym (append-nil now)))
 
-  -- the scope is settled
-  pub skipped : (here : Values) (seen : List Seen) (left : ℕ) (now new : List Line) → is_none_left here ≡ false → list_all is_number here ≡ true → Settled seen ≡ true → At here seen left now → new ≡ now ++ (upto_lines (upto_all here) ++ Skip ∷ []) →
+  -- no further leaf counts
+  pub skipped : (here : Values) (seen : List Seen) (left : ℕ) (now new : List Line) → is_none_left here ≡ false → list_all is_number here ≡ true → Ended (before ++ seen) ≡ true → At here seen left now → new ≡ now ++ (upto_lines (upto_all here) ++ Skip ∷ []) →
       Whole (seen ++ seen_skipped ∷ []) left new
   skipped [] seen left now new some numbers e p q = cc
   skipped (v ∷ rest) seen left now new some numbers e p q =
       let u = upto_all (v ∷ rest) in
       p.ends (piece u skip no_more) (seen_skipped ∷ []) left new
-      (subst (λ b. CasesMade cuts g later i d box h x (v ∷ rest) b (before ++ seen) (seen_skipped ∷ []) left left (piece u skip no_more)) (sym e)
-      (skip_made cuts g later i d box h x v rest (before ++ seen) left (upper_fits u (v ∷ rest) numbers (covers_all v rest).is_case)))
+      (skip_made cuts above g later i d box h x (Settled seen) v rest (before ++ seen) left e (upper_fits u (v ∷ rest) numbers (covers_all v rest).is_case))
       (then_lines now new (upto_lines u ++ Skip ∷ []) (branches_lines (piece u skip no_more)) q (skip_lines u))
 
   -- no turn is left
@@ -153,7 +155,7 @@ module _ (cuts : Bool) (g : Game) (later : List Scope) (i : ℕ) (d : List Condi
   opened [] seen left now new some numbers e p q = cc
   opened (v ∷ rest) seen left now new some numbers e p q =
       let u = upto_all (v ∷ rest) in
-      p.ends (piece u left_open no_more) (seen_skipped ∷ []) left new (open_made cuts g later i d box h x (Settled seen) v rest (before ++ seen) left e (upper_fits u (v ∷ rest) numbers (covers_all v rest).is_case))
+      p.ends (piece u left_open no_more) (seen_skipped ∷ []) left new (open_made cuts above g later i d box h x (Settled seen) v rest (before ++ seen) left e (upper_fits u (v ∷ rest) numbers (covers_all v rest).is_case))
       (then_lines now new (upto_lines u ++ Open ∷ []) (branches_lines (piece u left_open no_more)) q (open_lines u))
 
   -- a case is gone into with the turns that are left
@@ -179,7 +181,7 @@ module _ (cuts : Bool) (g : Game) (later : List Scope) (i : ℕ) (d : List Condi
       let nothing = settled_wishes g later d more settled in
       let fewer = among_as (firsts skipped) (firsts before ++ firsts seen) (firsts (before ++ seen)) (sym (firsts-append before seen))
       (subst (λ ns. AreAmong ns (firsts before ++ firsts seen)) (sym (firsts-append before (seen_skipped ∷ []) ∙ append-nil (firsts before))) (among_more (firsts before) (firsts before) (firsts seen) (among_self (firsts before)))) in
-      let made = part_after_less cuts g later i d (box_to box x (v ∷ [])) h (before ++ seen) skipped ms more (left - 1) next_left w.steps w.ending nothing fewer w.made in
+      let made = part_after_less cuts above g later i d (box_to box x (v ∷ [])) h (before ++ seen) skipped ms more (left - 1) next_left w.steps w.ending nothing settled fewer w.made in
       record {
         used = 0 + suc (ending_turns w.ending);
         fell = omega (arith, one_less, w.made.ended.spent);
@@ -188,14 +190,14 @@ module _ (cuts : Bool) (g : Game) (later : List Scope) (i : ℕ) (d : List Condi
         now_is = new_is;
         ends = λ bs others last after_new m f.
             let cs = piece None (go w.steps w.ending) bs in
-            let known = subst (λ xs. CasesMade cuts g later i d box h x rest (Settled more) xs others next_left last bs) (sym (append_assoc before (seen_skipped ∷ []) more)) m in
-            let gone = go_made cuts g later i d box h x v rest skipped ms more others (left - 1) next_left last w.steps w.ending bs many made known in
+            let known = subst (λ xs. CasesMade cuts above g later i d box h x rest (Settled more) xs others next_left last bs) (sym (append_assoc before (seen_skipped ∷ []) more)) m in
+            let gone = go_made cuts above g later i d box h x v rest skipped ms more others (left - 1) next_left last w.steps w.ending bs many made known in
             let all_settled : Settled (more ++ others) ≡ true = settled-append later (list_after g later d) more others ∙ or_first (Settled more) (Settled others) settled in
             record {
               cases = piece u skip cs;
               lines = f ∙ (ap (λ ls. ls ++ branches_lines bs) new_is ∙ regroup old u w.steps w.ending bs);
-              made = cut_more cuts g later i d box h x vs false before (seen_skipped ∷ (more ++ others)) (1 + (left - 1)) had last (piece u skip cs) cut one_less
-                  (first_skipped cuts g later i d box h x u vs (v ∷ rest) before (more ++ others) (1 + (left - 1)) last cs case leaves numbers all_settled refl gone);
+              made = cut_more cuts above g later i d box h x vs false before (seen_skipped ∷ (more ++ others)) (1 + (left - 1)) had last (piece u skip cs) cut one_less
+                  (first_skipped cuts above g later i d box h x u vs (v ∷ rest) before (more ++ others) (1 + (left - 1)) last cs case leaves numbers all_settled refl gone);
             };
       }
     where
@@ -224,5 +226,5 @@ module _ (cuts : Bool) (g : Game) (later : List Scope) (i : ℕ) (d : List Condi
     sizes = p.sizes;
     written = p.written;
     now_is = p.now_is;
-    ends = λ bs rest last new m e. p.ends bs rest last new (cut_more cuts g later i d box h x here (Settled seen) (before ++ seen) rest less left last bs cut l m) e;
+    ends = λ bs rest last new m e. p.ends bs rest last new (cut_more cuts above g later i d box h x here (Settled seen) (before ++ seen) rest less left last bs cut l m) e;
   }

@@ -63,7 +63,7 @@ wishes_so g (s ∷ later) own c d e = by s.kind e
     by Exists e = e
     by Forall e = cc
 
-wishes_are : (g : Game) (i : ℕ) (c : Condition) (d : List Condition) → i < length g.scopes → wishes_at g i ≡ c ∷ d → demands g (suc i) ≡ c ∷ d
+pub wishes_are : (g : Game) (i : ℕ) (c : Condition) (d : List Condition) → i < length g.scopes → wishes_at g i ≡ c ∷ d → demands g (suc i) ≡ c ∷ d
 wishes_are g i c d h e = sym (demands_next g g.scopes i [] h) ∙ wishes_so g (drop i g.scopes) (demands g i) c d e
 
 -- ---- what is visible is a variable of the game
@@ -107,7 +107,7 @@ aim_is g i c d a v b e f h q r s alone there = record {
 }
 
 -- ---- the incumbent
-incumbent_so : (g : Game) (ss : List Scope) (own : List Condition) (c : Condition) (d : List Condition) (xs : List Seen) → scope_wishes ss g own ≡ c ∷ d → scope_incumbent ss g own xs ≡ incumbent_by (some_node is_exact xs) (best_vector (c ∷ d) (exact_vectors xs))
+pub incumbent_so : (g : Game) (ss : List Scope) (own : List Condition) (c : Condition) (d : List Condition) (xs : List Seen) → scope_wishes ss g own ≡ c ∷ d → scope_incumbent ss g own xs ≡ incumbent_by (some_node is_exact xs) (best_vector (c ∷ d) (exact_vectors xs))
 incumbent_so g [] own c d xs e = cc
 incumbent_so g (s ∷ later) own c d xs e = by s.kind e
   where
@@ -125,7 +125,7 @@ no_vectors (seen_node (exact v) ∷ xs) e = cc
 no_vectors (seen_node (at_most p) ∷ xs) e = no_vectors xs e
 no_vectors (seen_node unknown ∷ xs) e = no_vectors xs e
 
-some_vectors : (xs : List Seen) → some_node is_exact xs ≡ true → is_none_of (exact_vectors xs) ≡ false
+pub some_vectors : (xs : List Seen) → some_node is_exact xs ≡ true → is_none_of (exact_vectors xs) ≡ false
 some_vectors [] e = cc
 some_vectors (seen_barred ∷ xs) e = some_vectors xs e
 some_vectors (seen_skipped ∷ xs) e = some_vectors xs e

@@ -40,7 +40,7 @@ use Rattle.strategy_arena.specs.Certificate.{line_fits}
 use Rattle.game_search.specs.Attempted.{Attempted}
 use Rattle.game_search.specs.Made.{NodeMade}
 use Rattle.game_search.specs.Own.{IsOwnSized}
-use Rattle.game_search.specs.Settled.{is_vague_verdict}
+use Rattle.game_search.specs.Settled.{beats_none, is_vague_verdict}
 use Rattle.game_search.specs.Solution.{Solution, SolutionLines, OpenMeans, outcome_by}
 use Rattle.game_search.specs.Written.{NodeWritten}
 use Rattle.game_search.proofs.Bools.{two, both, is_below}
@@ -137,16 +137,16 @@ own_says g (tree z (cases steps end)) (s ∷ later) i d box h e = by s.kind s.co
     by Forall c = record { known = λ f. refl; none = λ f. refl }
 
 -- a root, of which nothing is demanded, never comes to a bound
-sure : (g : Game) (t : Tree) (later : List Scope) (i : ℕ) (box : Box) → is_vague_verdict (read g t later i [] box).verdict ≡ true → is_unknown (read g t later i [] box).verdict ≡ true
+sure : (g : Game) (t : Tree) (later : List Scope) (i : ℕ) (box : Box) → is_vague_verdict beats_none (read g t later i [] box).verdict ≡ true → is_unknown (read g t later i [] box).verdict ≡ true
 sure g (tree z stuck) [] i box e = cc
 sure g (tree z stuck) (s ∷ later) i box e = by s.kind e
   where
-    by : (k : Kind) → is_vague_verdict (kind_stuck k g [] (position g i box)).verdict ≡ true → is_unknown (kind_stuck k g [] (position g i box)).verdict ≡ true
+    by : (k : Kind) → is_vague_verdict beats_none (kind_stuck k g [] (position g i box)).verdict ≡ true → is_unknown (kind_stuck k g [] (position g i box)).verdict ≡ true
     by Exists e = cc
     by Forall e = cc
 sure g (tree z goal) later i box e = by (allows g i (position g i box)) e
   where
-    by : (b : Bool) → is_vague_verdict (goal_verdict g b [] (position g i box)) ≡ true → is_unknown (goal_verdict g b [] (position g i box)) ≡ true
+    by : (b : Bool) → is_vague_verdict beats_none (goal_verdict g b [] (position g i box)) ≡ true → is_unknown (goal_verdict g b [] (position g i box)) ≡ true
     by true e = cc
     by false e = cc
 sure g (tree z (cases steps end)) [] i box e = refl
@@ -155,18 +155,18 @@ sure g (tree z (cases steps end)) (s ∷ later) i box e = by s.kind s.condition 
     ls : List Leaf
     ls = marks g (s ∷ later) i [] steps box ++ leaves g end (s ∷ later) i [] (after_steps steps box)
 
-    two_tests : (a b : Bool) (v w : Verdict) → is_vague_verdict v ≡ false → is_vague_verdict w ≡ false → is_vague_verdict (cond a v (cond b w unknown)) ≡ true → is_unknown (cond a v (cond b w unknown)) ≡ true
+    two_tests : (a b : Bool) (v w : Verdict) → is_vague_verdict beats_none v ≡ false → is_vague_verdict beats_none w ≡ false → is_vague_verdict beats_none (cond a v (cond b w unknown)) ≡ true → is_unknown (cond a v (cond b w unknown)) ≡ true
     two_tests true b v w p q e = cc
     two_tests false true v w p q e = cc
     two_tests false false v w p q e = refl
 
-    three_tests : (a b c : Bool) (w : List ℤ) → is_vague_verdict (cond a lost (cond b unknown (cond c (exact w) unknown))) ≡ true → is_unknown (cond a lost (cond b unknown (cond c (exact w) unknown))) ≡ true
+    three_tests : (a b c : Bool) (w : List ℤ) → is_vague_verdict beats_none (cond a lost (cond b unknown (cond c (exact w) unknown))) ≡ true → is_unknown (cond a lost (cond b unknown (cond c (exact w) unknown))) ≡ true
     three_tests true b c w e = cc
     three_tests false true c w e = refl
     three_tests false false true w e = cc
     three_tests false false false w e = refl
 
-    by : (k : Kind) (c : Option Condition) → is_vague_verdict (kind_finding k c g i [] (position g i box) ls).verdict ≡ true → is_unknown (kind_finding k c g i [] (position g i box) ls).verdict ≡ true
+    by : (k : Kind) (c : Option Condition) → is_vague_verdict beats_none (kind_finding k c g i [] (position g i box) ls).verdict ≡ true → is_unknown (kind_finding k c g i [] (position g i box) ls).verdict ≡ true
     by Exists None e = two_tests (some_node is_exact (map seen_of ls)) (each_node is_lost (map seen_of ls)) (exact []) lost refl refl e
     by Exists (Some c) e =
         let xs = map seen_of ls in
@@ -176,7 +176,7 @@ sure g (tree z (cases steps end)) (s ∷ later) i box e = by s.kind s.condition 
 
 module _ (cuts : Bool) (g : Game) (turns : ℕ) (some : 1 ≤ turns) (small : turns ≤ 10000000) (few : HasFewCases g) (meanings : HasMeanings g) (fitting : HaveFits) where
   -- a certificate of the second version that proves the outcome
-  whole : (outcome : Outcome) (v : Verdict) (own : Option ℤ) (left : ℕ) (t : Tree) → NodeMade cuts g g.scopes 0 [] (declared_box g) None v turns left t → IsTrue (proves g outcome own t) → outcome_fits outcome own ≡ true → OpenMeans outcome g turns t →
+  whole : (outcome : Outcome) (v : Verdict) (own : Option ℤ) (left : ℕ) (t : Tree) → NodeMade cuts beats_none g g.scopes 0 [] (declared_box g) None v turns left t → IsTrue (proves g outcome own t) → outcome_fits outcome own ≡ true → OpenMeans outcome g turns t →
       Solution g turns outcome own t
   whole outcome v own left t m shown fits spent = record {
     proves = shown;
@@ -189,7 +189,7 @@ module _ (cuts : Bool) (g : Game) (turns : ℕ) (some : 1 ≤ turns) (small : tu
     has_text = two _ _ fits m.fits;
   }
 
-  pub solved : (v : Verdict) (own : Option ℤ) (left : ℕ) (lines : List Line) → (is_vague_verdict v ≡ true → cuts ≡ false) → (w : NodeWritten cuts g g.scopes 0 [] (declared_box g) None v turns left [] lines) → (root_finding g w.tree).own ≡ own →
+  pub solved : (v : Verdict) (own : Option ℤ) (left : ℕ) (lines : List Line) → (is_vague_verdict beats_none v ≡ true → cuts ≡ false) → (w : NodeWritten cuts beats_none g g.scopes 0 [] (declared_box g) None v turns left [] lines) → (root_finding g w.tree).own ≡ own →
       SolutionLines g turns (outcome_by v turns) own lines
   solved v own left lines surely w has_own = record {
     tree = w.tree;
@@ -216,21 +216,21 @@ module _ (cuts : Bool) (g : Game) (turns : ℕ) (some : 1 ≤ turns) (small : tu
       fits_true None e q = refl
       fits_true (Some o) e q = at_least _ _ (omega (arith, e, q, small))
 
-      left_open : (v : Verdict) (own : Option ℤ) → is_vague_verdict v ≡ true → own ≡ None → cuts ≡ false → NodeMade cuts g g.scopes 0 [] (declared_box g) None v turns left w.tree → Solution g turns (Open turns) own w.tree
+      left_open : (v : Verdict) (own : Option ℤ) → is_vague_verdict beats_none v ≡ true → own ≡ None → cuts ≡ false → NodeMade cuts beats_none g g.scopes 0 [] (declared_box g) None v turns left w.tree → Solution g turns (Open turns) own w.tree
       left_open v own q e uncut m =
           let some_open : ¬ (opens_of w.tree ≡ 0) = λ o. let r : false ≡ true = sym (m.gap o) ∙ q in absurd cc in
           let none_left : left ≡ 0 = spent_all m.opens some_open in
           let least = m.exact uncut in
           let all : turns_of w.tree ≡ turns = omega (arith, m.spent, least, none_left) in
           let cases_more = tree_cases w.tree in
-          let unknown_there = sure g w.tree g.scopes 0 (declared_box g) (ap is_vague_verdict m.verdict ∙ q) in
+          let unknown_there = sure g w.tree g.scopes 0 (declared_box g) (ap (is_vague_verdict beats_none) m.verdict ∙ q) in
           subst (λ o. Solution g turns (Open turns) o w.tree) (sym e)
           (whole (Open turns) v None left w.tree m
           (two _ _ m.placed (two _ _ (two _ _ unknown_there (same_number (turns_of w.tree) turns all)) (is_below 0 (opens_of w.tree) (omega (arith, some_open)))))
           (two _ _ (at_least 1 turns some) (at_least turns 10000000 small))
           (record { all = refl; taken = all; below = below_full (length g.variables * value_product g.variables) turns (cases_of w.tree) small (omega (arith, all, some_open, cases_more)) (few w.tree m.placed m.ones) }))
 
-      by : (v : Verdict) (own : Option ℤ) → (is_vague_verdict v ≡ true → cuts ≡ false) → NodeMade cuts g g.scopes 0 [] (declared_box g) None v turns left w.tree → OwnSays (optimises_first g.scopes) v own → IsOwnSized (suc (2 * turns_of w.tree)) own → f.own ≡ own →
+      by : (v : Verdict) (own : Option ℤ) → (is_vague_verdict beats_none v ≡ true → cuts ≡ false) → NodeMade cuts beats_none g g.scopes 0 [] (declared_box g) None v turns left w.tree → OwnSays (optimises_first g.scopes) v own → IsOwnSized (suc (2 * turns_of w.tree)) own → f.own ≡ own →
           Solution g turns (outcome_by v turns) own w.tree
       by (exact u) own surely m o sized h = whole True (exact u) own left w.tree m (two _ _ m.placed (shown_true own (o.known refl) (ap is_exact m.verdict) h)) (fits_true own sized m.spent) tt
       by lost own surely m o sized h =
@@ -238,7 +238,7 @@ module _ (cuts : Bool) (g : Game) (turns : ℕ) (some : 1 ≤ turns) (small : tu
       by (at_most p) own surely m o sized h = left_open (at_most p) own refl (o.none refl) (surely refl) m
       by unknown own surely m o sized h = left_open unknown own refl (o.none refl) (surely refl) m
 
-  pub solution_of : (found : Found) (own : Option ℤ) (outcome : Outcome) (optimum : Option ℤ) (shown lines : List Line) → ((v : List ℤ) → is_vague_verdict (verdict_of found v) ≡ true → cuts ≡ false) → Attempted cuts g turns found own shown →
+  pub solution_of : (found : Found) (own : Option ℤ) (outcome : Outcome) (optimum : Option ℤ) (shown lines : List Line) → ((v : List ℤ) → is_vague_verdict beats_none (verdict_of found v) ≡ true → cuts ≡ false) → Attempted cuts g turns found own shown →
       ((v : List ℤ) → outcome ≡ outcome_by (verdict_of found v) turns) → optimum ≡ own → lines ≡ shown → SolutionLines g turns outcome optimum lines
   solution_of found own outcome optimum shown lines surely a e f h =
       let v = verdict_of found a.vector in

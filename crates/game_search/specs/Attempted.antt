@@ -6,6 +6,7 @@ use Rattle.proof_tree.specs.Read.{root_finding}
 use Rattle.proof_tree.specs.declared.line.Line.{Line}
 use Rattle.qc_levels.specs.Seen.{verdict_of}
 use Rattle.qc_levels.specs.declared.leaves.Found.{Found}
+use Rattle.game_search.specs.Settled.{beats_none}
 use Rattle.game_search.specs.Written.{NodeWritten}
 
 -- the lines are a root that came to this within the turns, and own is the value of the first scope's condition
@@ -13,5 +14,5 @@ pub record Attempted (cuts : Bool) (g : Game) (turns : ℕ) (found : Found) (own
   pub left : ℕ
   -- the vector, where it is exact
   pub vector : List ℤ
-  pub root : NodeWritten cuts g g.scopes 0 [] (declared_box g) None (verdict_of found vector) turns left [] lines
+  pub root : NodeWritten cuts beats_none g g.scopes 0 [] (declared_box g) None (verdict_of found vector) turns left [] lines
   pub has_own : (root_finding g root.tree).own ≡ own

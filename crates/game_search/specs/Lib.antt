@@ -11,3 +11,4 @@ pub mod Beaten
 pub mod Aims
 pub mod Props
 pub mod Narrowed
+pub mod Rivals

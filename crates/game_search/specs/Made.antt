@@ -5,6 +5,7 @@ use Rattle.qc_model.specs.declared.problem.Scope.{Scope}
 use Rattle.qc_model.specs.Content.{Game}
 use Rattle.qc_model.specs.Domains.{Values, Box}
 use Rattle.qc_model.specs.Verdict.{Verdict, Seen, bounds}
+use Rattle.qc_model.specs.ExistsVerdict.{some_open}
 use Rattle.proof_tree.specs.Tree.{Tree, Ending, Branches}
 use Rattle.proof_tree.specs.Pieces.{each_case, ending_each, branches_each, goes_at_one}
 use Rattle.proof_tree.specs.Counts.{turns_of, ending_turns, branch_turns, opens_of, ending_opens, branch_opens}
@@ -24,13 +25,13 @@ use Rattle.qc_joins.specs.Joins.{IsLong}
 use Rattle.qc_joins.specs.Sizes.{AreLong, IsSized, HasSizes}
 use Rattle.qc_joins.specs.Verdicts.{scope_wishes}
 use Rattle.game_search.specs.Beaten.{firsts, seen_bounds, are_beaten, AreAmong}
-use Rattle.game_search.specs.Settled.{is_settled, is_vague, is_vague_verdict}
+use Rattle.game_search.specs.Settled.{is_ended, is_vague_verdict}
 use Rattle.game_search.specs.Own.{IsOwnSized}
 
--- a node of scope i with the list d, in this box and below this horizon, where later has the scopes from i on; it
--- came to v, and the turns that were left fell from had to left, by those of the tree and, where settled nodes are cut, of what
+-- a node of scope i with the list d, in this box and below this horizon, where later has the scopes from i on, and above
+-- says which bounds the scope right above beats; it came to v, and the turns that were left fell from had to left, by those of the tree and, where settled nodes are cut, of what
 -- was cut
-pub record NodeMade (cuts : Bool) (g : Game) (later : List Scope) (i : ℕ) (d : List Condition) (box : Box) (h : Option ℕ) (v : Verdict) (had left : ℕ) (t : Tree) : Type 0 where
+pub record NodeMade (cuts : Bool) (above : ℤ → Bool) (g : Game) (later : List Scope) (i : ℕ) (d : List Condition) (box : Box) (h : Option ℕ) (v : Verdict) (had left : ℕ) (t : Tree) : Type 0 where
   pub placed : IsTrue (in_place g t later i d box h)
   pub verdict : (read g t later i d box).verdict ≡ v
   pub settled : IsTrue (settled_last g t later i d box)
@@ -43,8 +44,8 @@ pub record NodeMade (cuts : Bool) (g : Game) (later : List Scope) (i : ℕ) (d :
   pub exact : cuts ≡ false → had ≤ turns_of t + left
   -- a case is open only where no turn is left
   pub opens : (opens_of t ≡ 0) ⊎ (left ≡ 0)
-  -- something stays open only where a case is open
-  pub gap : opens_of t ≡ 0 → is_vague_verdict v ≡ false
+  -- something stays open only where a case is open, or the scope right above beats it
+  pub gap : opens_of t ≡ 0 → is_vague_verdict above v ≡ false
   -- an exact vector has a value for each entry, and its numbers are at most 10^9 for each leaf and each bound, of which a
   -- turn brings one more
   pub long : IsLong g i v
@@ -57,7 +58,7 @@ pub record NodeMade (cuts : Bool) (g : Game) (later : List Scope) (i : ℕ) (d :
   pub foreseen : Foresees g t later i box h
 
 -- a part of the own tree of scope i, after what was seen before; seen is what its leaves and marks say
-pub record EndingMade (cuts : Bool) (g : Game) (later : List Scope) (i : ℕ) (d : List Condition) (box : Box) (h : Option ℕ) (before seen : List Seen) (had left : ℕ) (e : Ending) : Type 0 where
+pub record EndingMade (cuts : Bool) (above : ℤ → Bool) (g : Game) (later : List Scope) (i : ℕ) (d : List Condition) (box : Box) (h : Option ℕ) (before seen : List Seen) (had left : ℕ) (e : Ending) : Type 0 where
   pub placed : IsTrue (ending_in_place g e later i d box h)
   pub says : seen ≡ map seen_of (leaves g e later i d box)
   pub settled : IsTrue (ending_settled_last g e later i d box)
@@ -68,10 +69,10 @@ pub record EndingMade (cuts : Bool) (g : Game) (later : List Scope) (i : ℕ) (d
   pub spent : ending_turns e + left ≤ had
   pub exact : cuts ≡ false → had ≤ ending_turns e + left
   pub opens : (ending_opens e ≡ 0) ⊎ (left ≡ 0)
-  -- something stays open only where a case is open, or the scope is settled
-  pub gap : ending_opens e ≡ 0 → is_settled later (list_after g later d) seen ≡ false → is_vague seen ≡ false
-  -- a case is skipped only where the scope is settled
-  pub skips : skips e ≡ true → is_settled later (list_after g later d) seen ≡ true
+  -- something stays open only where a case is open, or no further leaf counts
+  pub gap : ending_opens e ≡ 0 → is_ended above later (list_after g later d) (before ++ seen) ≡ false → some_open seen ≡ false
+  -- a case is skipped only where no further leaf counts
+  pub skips : skips e ≡ true → is_ended above later (list_after g later d) (before ++ seen) ≡ true
   -- each bound is beaten, where no case is open
   pub beaten : ending_opens e ≡ 0 → IsTrue (are_beaten (scope_wishes later g d) (firsts (before ++ seen)) (bounds seen))
   -- it keeps the incumbents among those before, and its own
@@ -88,18 +89,18 @@ pub record StepsMade (g : Game) (later : List Scope) (i : ℕ) (d : List Conditi
   pub fits : IsTrue (list_all step_fits steps)
 
 -- steps with the marks ms and then a part of the scope's own tree, as at a node and at a case that is taken
-pub record PartMade (cuts : Bool) (g : Game) (later : List Scope) (i : ℕ) (d : List Condition) (box : Box) (h : Option ℕ) (before : List Seen) (ms : List ℤ) (seen : List Seen) (had left : ℕ) (steps : List Step) (e : Ending) : Type 0 where
+pub record PartMade (cuts : Bool) (above : ℤ → Bool) (g : Game) (later : List Scope) (i : ℕ) (d : List Condition) (box : Box) (h : Option ℕ) (before : List Seen) (ms : List ℤ) (seen : List Seen) (had left : ℕ) (steps : List Step) (e : Ending) : Type 0 where
   pub last : List Seen
   pub both : seen ≡ seen_bounds ms ++ last
   pub stepped : StepsMade g later i d box ms steps
   -- what was seen before beats the marks, of which there is one at most
   pub marks_beaten : IsTrue (are_beaten (scope_wishes later g d) (firsts before) ms)
   pub one : HasSizes 1 (seen_bounds ms)
-  pub ended : EndingMade cuts g later i d (after_steps steps box) h (before ++ seen_bounds ms) last had left e
+  pub ended : EndingMade cuts above g later i d (after_steps steps box) h (before ++ seen_bounds ms) last had left e
 
 -- the cases of a branch for the values vs of x, which no earlier case covers; was_settled says whether the scope was
 -- settled before them
-pub record CasesMade (cuts : Bool) (g : Game) (later : List Scope) (i : ℕ) (d : List Condition) (box : Box) (h : Option ℕ) (x : ℕ) (vs : Values) (was_settled : Bool) (before seen : List Seen) (had left : ℕ) (bs : Branches) : Type 0 where
+pub record CasesMade (cuts : Bool) (above : ℤ → Bool) (g : Game) (later : List Scope) (i : ℕ) (d : List Condition) (box : Box) (h : Option ℕ) (x : ℕ) (vs : Values) (was_settled : Bool) (before seen : List Seen) (had left : ℕ) (bs : Branches) : Type 0 where
   pub placed : IsTrue (branches_in_place g bs x vs later i d box h)
   pub says : seen ≡ map seen_of (branch_leaves g bs x vs later i d box)
   pub settled : IsTrue (branches_settled_last g bs x vs later i d box)
@@ -110,8 +111,8 @@ pub record CasesMade (cuts : Bool) (g : Game) (later : List Scope) (i : ℕ) (d 
   pub spent : branch_turns bs + left ≤ had
   pub exact : cuts ≡ false → had ≤ branch_turns bs + left
   pub opens : (branch_opens bs ≡ 0) ⊎ (left ≡ 0)
-  pub gap : branch_opens bs ≡ 0 → was_settled ≡ false → is_settled later (list_after g later d) seen ≡ false → is_vague seen ≡ false
-  pub skips : branches_skip bs ≡ true → was_settled ≡ false → is_settled later (list_after g later d) seen ≡ true
+  pub gap : branch_opens bs ≡ 0 → is_ended above later (list_after g later d) (before ++ seen) ≡ false → some_open seen ≡ false
+  pub skips : branches_skip bs ≡ true → is_ended above later (list_after g later d) (before ++ seen) ≡ true
   -- where the scope was settled before, no case is taken
   pub rests : was_settled ≡ true → has_go bs ≡ false
   pub beaten : branch_opens bs ≡ 0 → IsTrue (are_beaten (scope_wishes later g d) (firsts (before ++ seen)) (bounds seen))

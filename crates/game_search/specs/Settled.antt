@@ -1,25 +1,31 @@
--- What was seen in a scope's own tree so far: whether it settles the scope, and whether something stays open.
-use Rattle.std.specs.Prelude.{Bool, true, false, ◌||◌, List, [], ◌∷◌}
+-- What was seen in a scope's own tree so far: whether further leaves count.
+use Rattle.std.specs.Prelude.{Bool, true, false, not, ◌||◌, List, ℤ}
+use Rattle.std.specs.List.{list_any}
 use Rattle.qc_model.specs.declared.problem.Condition.{Condition}
 use Rattle.qc_model.specs.declared.problem.Scope.{Scope}
-use Rattle.qc_model.specs.Verdict.{Verdict, lost, exact, at_most, unknown, Seen, seen_barred, seen_skipped, seen_bound, seen_node, some_node}
+use Rattle.qc_model.specs.Verdict.{Verdict, lost, exact, at_most, unknown, Seen, some_node}
+use Rattle.qc_model.specs.ForallVerdict.{known_numbers}
 use Rattle.proof_tree.specs.Order.{settles}
 
 -- some leaf settles the scope, where d is the list after it
 abbrev pub is_settled : List Scope → List Condition → List Seen → Bool
 is_settled later d xs = some_node (settles later d) xs
 
--- neither lost nor exact
-abbrev pub is_vague_verdict : Verdict → Bool
-is_vague_verdict lost = false
-is_vague_verdict (exact v) = false
-is_vague_verdict (at_most p) = true
-is_vague_verdict unknown = true
+-- some known number is one of those that the scope right above beats
+abbrev pub is_outdone : (ℤ → Bool) → List Seen → Bool
+is_outdone above xs = list_any above (known_numbers xs)
 
--- a leaf that is skipped or vague. A bound isn't, where the scope's exact leaves beat it
-abbrev pub is_vague : List Seen → Bool
-is_vague [] = false
-is_vague (seen_barred ∷ xs) = is_vague xs
-is_vague (seen_skipped ∷ xs) = true
-is_vague (seen_bound m ∷ xs) = is_vague xs
-is_vague (seen_node v ∷ xs) = is_vague_verdict v || is_vague xs
+-- no further leaf counts
+abbrev pub is_ended : (ℤ → Bool) → List Scope → List Condition → List Seen → Bool
+is_ended above later d xs = is_settled later d xs || is_outdone above xs
+
+-- neither lost nor exact, nor a bound that the scope right above beats
+abbrev pub is_vague_verdict : (ℤ → Bool) → Verdict → Bool
+is_vague_verdict above lost = false
+is_vague_verdict above (exact v) = false
+is_vague_verdict above (at_most p) = not (above p)
+is_vague_verdict above unknown = true
+
+-- where nothing is above
+abbrev pub beats_none : ℤ → Bool
+beats_none n = false

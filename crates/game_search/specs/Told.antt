@@ -49,9 +49,9 @@ pub record IsBack (g : Game) (i : ℕ) (old new : Walk) : Type 0 where
   pub lines : length old.lines ≤ length new.lines
 
 -- the lines are those of an end of scope i's own tree in this box, below the horizon h, after what was seen before
-pub record EndingTold (cuts : Bool) (g : Game) (i : ℕ) (box : Box) (h : Option ℕ) (before : List Seen) (had left : ℕ) (old new : List Line) (joins : Joins) : Type 0 where
+pub record EndingTold (cuts : Bool) (above : ℤ → Bool) (g : Game) (i : ℕ) (box : Box) (h : Option ℕ) (before : List Seen) (had left : ℕ) (old new : List Line) (joins : Joins) : Type 0 where
   pub seen : List Seen
-  pub written : EndingWritten cuts g (drop i g.scopes) i (demands g i) box h before seen had left old new
+  pub written : EndingWritten cuts above g (drop i g.scopes) i (demands g i) box h before seen had left old new
   pub told : IsTold g i joins (before ++ seen)
 
 -- steps from the box to what is left, with the marks ms: what was seen before beats these, of which there is one at most,
@@ -64,20 +64,20 @@ pub record StepsTold (g : Game) (i : ℕ) (box left : Box) (before : List Seen) 
   pub worse : IsTrue (has_no_worse (tracked_at g i) (firsts before) left)
 
 -- the lines are those of steps with these marks and an end
-pub record PartTold (cuts : Bool) (g : Game) (i : ℕ) (box : Box) (h : Option ℕ) (before : List Seen) (ms : List ℤ) (had left : ℕ) (old new : List Line) (joins : Joins) : Type 0 where
+pub record PartTold (cuts : Bool) (above : ℤ → Bool) (g : Game) (i : ℕ) (box : Box) (h : Option ℕ) (before : List Seen) (ms : List ℤ) (had left : ℕ) (old new : List Line) (joins : Joins) : Type 0 where
   pub seen : List Seen
-  pub written : PartWritten cuts g (drop i g.scopes) i (demands g i) box h before ms seen had left old new
+  pub written : PartWritten cuts above g (drop i g.scopes) i (demands g i) box h before ms seen had left old new
   pub told : IsTold g i joins (before ++ seen)
 
 -- so in a case that is taken
-pub record CaseTold (cuts : Bool) (g : Game) (i : ℕ) (box : Box) (h : Option ℕ) (before : List Seen) (had left : ℕ) (old new : List Line) (joins : Joins) : Type 0 where
+pub record CaseTold (cuts : Bool) (above : ℤ → Bool) (g : Game) (i : ℕ) (box : Box) (h : Option ℕ) (before : List Seen) (had left : ℕ) (old new : List Line) (joins : Joins) : Type 0 where
   pub ms : List ℤ
-  pub part : PartTold cuts g i box h before ms had left old new joins
+  pub part : PartTold cuts above g i box h before ms had left old new joins
 
 -- the lines are those of the cases of a branch on x, for the values vs
-pub record CasesTold (cuts : Bool) (g : Game) (i : ℕ) (box : Box) (h : Option ℕ) (x : ℕ) (vs : Values) (before : List Seen) (had left : ℕ) (old new : List Line) (joins : Joins) : Type 0 where
+pub record CasesTold (cuts : Bool) (above : ℤ → Bool) (g : Game) (i : ℕ) (box : Box) (h : Option ℕ) (x : ℕ) (vs : Values) (before : List Seen) (had left : ℕ) (old new : List Line) (joins : Joins) : Type 0 where
   pub seen : List Seen
-  pub written : CasesWritten cuts g (drop i g.scopes) i (demands g i) box h x vs before seen had left old new
+  pub written : CasesWritten cuts above g (drop i g.scopes) i (demands g i) box h x vs before seen had left old new
   pub told : IsTold g i joins (before ++ seen)
 
 -- the join of scope i tells the value of the scope's own condition
@@ -87,13 +87,13 @@ pub record TellsOwn (g : Game) (i : ℕ) (joins : Joins) (own : Option ℤ) : Ty
   pub is_own : own ≡ own_at g i stood
 
 -- the lines are what stands at a node of scope i, or of the goal, below the horizon h in force there; it came to v
-pub record BodyTold (cuts : Bool) (g : Game) (i : ℕ) (box : Box) (h : Option ℕ) (v : Verdict) (had left : ℕ) (old new : List Line) (joins : Joins) : Type 0 where
+pub record BodyTold (cuts : Bool) (above : ℤ → Bool) (g : Game) (i : ℕ) (box : Box) (h : Option ℕ) (v : Verdict) (had left : ℕ) (old new : List Line) (joins : Joins) : Type 0 where
   pub body : Body
   pub lines : new ≡ old ++ body_lines body
-  pub made : NodeMade cuts g (drop i g.scopes) i (demands g i) box h v had left (tree None body)
+  pub made : NodeMade cuts above g (drop i g.scopes) i (demands g i) box h v had left (tree None body)
   pub own : i < length g.scopes → TellsOwn g i joins (read_body g body (drop i g.scopes) i (demands g i) box).own
 
 -- the lines are those of a node of scope i, or of the goal, below the horizon h, which came to v
-pub record NodeTold (cuts : Bool) (g : Game) (i : ℕ) (box : Box) (h : Option ℕ) (v : Verdict) (had left : ℕ) (old new : List Line) (joins : Joins) : Type 0 where
-  pub written : NodeWritten cuts g (drop i g.scopes) i (demands g i) box h v had left old new
+pub record NodeTold (cuts : Bool) (above : ℤ → Bool) (g : Game) (i : ℕ) (box : Box) (h : Option ℕ) (v : Verdict) (had left : ℕ) (old new : List Line) (joins : Joins) : Type 0 where
+  pub written : NodeWritten cuts above g (drop i g.scopes) i (demands g i) box h v had left old new
   pub own : i < length g.scopes → TellsOwn g i joins (read g written.tree (drop i g.scopes) i (demands g i) box).own

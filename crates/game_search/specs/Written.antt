@@ -11,23 +11,23 @@ use Rattle.proof_tree.specs.Lines.{step_line, tree_lines, ending_lines, branches
 use Rattle.game_search.specs.Made.{NodeMade, EndingMade, PartMade, CasesMade}
 use Rattle.proof_tree.specs.declared.tree.Step.{Step}
 
-pub record NodeWritten (cuts : Bool) (g : Game) (later : List Scope) (i : ℕ) (d : List Condition) (box : Box) (h : Option ℕ) (v : Verdict) (had left : ℕ) (old new : List Line) : Type 0 where
+pub record NodeWritten (cuts : Bool) (above : ℤ → Bool) (g : Game) (later : List Scope) (i : ℕ) (d : List Condition) (box : Box) (h : Option ℕ) (v : Verdict) (had left : ℕ) (old new : List Line) : Type 0 where
   pub tree : Tree
   pub lines : new ≡ old ++ tree_lines tree
-  pub made : NodeMade cuts g later i d box h v had left tree
+  pub made : NodeMade cuts above g later i d box h v had left tree
 
-pub record EndingWritten (cuts : Bool) (g : Game) (later : List Scope) (i : ℕ) (d : List Condition) (box : Box) (h : Option ℕ) (before seen : List Seen) (had left : ℕ) (old new : List Line) : Type 0 where
+pub record EndingWritten (cuts : Bool) (above : ℤ → Bool) (g : Game) (later : List Scope) (i : ℕ) (d : List Condition) (box : Box) (h : Option ℕ) (before seen : List Seen) (had left : ℕ) (old new : List Line) : Type 0 where
   pub ending : Ending
   pub lines : new ≡ old ++ ending_lines ending
-  pub made : EndingMade cuts g later i d box h before seen had left ending
+  pub made : EndingMade cuts above g later i d box h before seen had left ending
 
-pub record PartWritten (cuts : Bool) (g : Game) (later : List Scope) (i : ℕ) (d : List Condition) (box : Box) (h : Option ℕ) (before : List Seen) (ms : List ℤ) (seen : List Seen) (had left : ℕ) (old new : List Line) : Type 0 where
+pub record PartWritten (cuts : Bool) (above : ℤ → Bool) (g : Game) (later : List Scope) (i : ℕ) (d : List Condition) (box : Box) (h : Option ℕ) (before : List Seen) (ms : List ℤ) (seen : List Seen) (had left : ℕ) (old new : List Line) : Type 0 where
   pub steps : List Step
   pub ending : Ending
   pub lines : new ≡ old ++ (map step_line steps ++ ending_lines ending)
-  pub made : PartMade cuts g later i d box h before ms seen had left steps ending
+  pub made : PartMade cuts above g later i d box h before ms seen had left steps ending
 
-pub record CasesWritten (cuts : Bool) (g : Game) (later : List Scope) (i : ℕ) (d : List Condition) (box : Box) (h : Option ℕ) (x : ℕ) (vs : Values) (before seen : List Seen) (had left : ℕ) (old new : List Line) : Type 0 where
+pub record CasesWritten (cuts : Bool) (above : ℤ → Bool) (g : Game) (later : List Scope) (i : ℕ) (d : List Condition) (box : Box) (h : Option ℕ) (x : ℕ) (vs : Values) (before seen : List Seen) (had left : ℕ) (old new : List Line) : Type 0 where
   pub cases : Branches
   pub lines : new ≡ old ++ branches_lines cases
-  pub made : CasesMade cuts g later i d box h x vs false before seen had left cases
+  pub made : CasesMade cuts above g later i d box h x vs false before seen had left cases

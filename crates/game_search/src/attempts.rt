@@ -4,7 +4,7 @@ ghost use Rattle.qc_model.specs.Verdict.{Seen};
 ghost use Rattle.qc_levels.specs.Seen.{verdict_of};
 ghost use Rattle.qc_joins.specs.Joins.{game_of, StandsAt};
 ghost use Rattle.qc_joins.specs.Verdicts.{own_at};
-ghost use Rattle.game_search.specs.Settled.{is_vague_verdict};
+ghost use Rattle.game_search.specs.Settled.{beats_none, is_vague_verdict};
 ghost use Rattle.game_search.specs.Solution.{SolutionLines, outcome_by};
 ghost use Rattle.game_search.specs.Attempted.{Attempted};
 
@@ -124,7 +124,7 @@ fn first_own(problem: &Problem, joins: &Joins) -> Option<i64>
 
 /// Whether the node is lost or exact.
 fn is_decided(found: Found) -> bool
-    ensures { (v : List ℤ) → result ≡ not (is_vague_verdict (verdict_of found v)) }
+    ensures { (v : List ℤ) → result ≡ not (is_vague_verdict beats_none (verdict_of found v)) }
 {
     match found {
         Found::Lost => true,

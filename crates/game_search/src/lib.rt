@@ -17,6 +17,7 @@ mod aim;
 mod attempts;
 mod certify;
 mod narrowing;
+mod rival;
 mod search;
 mod stage;
 #[cfg(test)]

@@ -11,7 +11,8 @@
 //! by a bound where a case is gone into. So what the bounds leave out is beaten by what was found.
 //!
 //! Where a leaf settles its scope, so that no other leaf changes what the node comes to, the cases after it are left
-//! out, and the join isn't told of them. Where no turn is left the cases that remain are left open.
+//! out, and the join isn't told of them. They are left out too where the leaves of a scope of the opponent give a bound that
+//! the incumbent of the scope right above beats. Where no turn is left the cases that remain are left open.
 ghost use Rattle.std.specs.Prelude.{◌≡◌, ◌≤◌, ◌<◌, ◌∷◌, ◌++◌, ◌+◌, ◌*◌, ℤ, suc, Bool, Option, ℕ, [], List, length, drop, true, false, IfOk, IfSome, OnOk, IsTrue};
 ghost use Rattle.qc_model.specs.Domains.{Box, has_value, is_single, values_left};
 ghost use Rattle.qc_model.specs.Game.{is_of_scope};
@@ -29,10 +30,12 @@ ghost use Rattle.search_box.specs.Looking.{scope_number};
 ghost use Rattle.game_search.specs.Aims.{tracked_at};
 ghost use Rattle.game_search.specs.Beaten.{firsts, seen_bounds};
 ghost use Rattle.game_search.specs.Going.{IsGoing, GoesOn};
+ghost use Rattle.game_search.specs.Rivals.{above_at, StandsAbove, outdoes};
 ghost use Rattle.game_search.specs.Told.{IsReady, IsBack, EndingTold, StepsTold, PartTold, CaseTold, CasesTold, BodyTold, NodeTold};
 
 use crate::aim::aim_of;
 use crate::narrowing::narrow;
+use crate::rival::{is_outdone, rival_of};
 use crate::stage::Stage;
 use crate::walk::Walk;
 use crate::writing::{drop_before, last_to_drop, leave_out, put_horizon, put_steps};
@@ -57,7 +60,7 @@ pub(crate) fn node(
     requires horizon { IfSome horizon (λ h. h.0 ≤ length levels.now.problem.now.scopes) }
     requires here { IsEntered levels.now.problem.now number walk.old.remains }
     requires joins { game_of walk.old.joins ≡ levels.now.problem.now }
-    ensures told { IfOk result (λ found. walk.old.left < 2147483648 → NodeTold cuts levels.now.problem.now number walk.old.remains.store.box (scope_number horizon) (verdict_of found (out_of walk.new.joins)) walk.old.left walk.new.left walk.old.lines walk.new.lines walk.new.joins) }
+    ensures told { IfOk result (λ found. walk.old.left < 2147483648 → (up : List Seen) → StandsAbove walk.old.joins number up → NodeTold cuts (above_at levels.now.problem.now number up) levels.now.problem.now number walk.old.remains.store.box (scope_number horizon) (verdict_of found (out_of walk.new.joins)) walk.old.left walk.new.left walk.old.lines walk.new.lines walk.new.joins) }
     ensures back { OnOk result (IsBack levels.now.problem.now number walk.old walk.new) }
 {
     levels.problem.known();
@@ -76,6 +79,7 @@ pub(crate) fn node(
         horizon: below,
         cuts,
         aim: aim_of(levels.problem, &walk.joins, ScopeId(number)),
+        rival: rival_of(&walk.joins, ScopeId(number)),
     };
     own_tree(&stage, walk)
 }
@@ -99,7 +103,7 @@ fn at_goal(
     requires scope { number ≡ length levels.now.problem.now.scopes }
     requires here { IsEntered levels.now.problem.now number walk.old.remains }
     requires joins { game_of walk.old.joins ≡ levels.now.problem.now }
-    ensures told { IfOk result (λ found. (cuts : Bool) → NodeTold cuts levels.now.problem.now number walk.old.remains.store.box (scope_number horizon) (verdict_of found (out_of walk.new.joins)) walk.old.left walk.new.left walk.old.lines walk.new.lines walk.new.joins) }
+    ensures told { IfOk result (λ found. (cuts : Bool) (above : ℤ → Bool) → NodeTold cuts above levels.now.problem.now number walk.old.remains.store.box (scope_number horizon) (verdict_of found (out_of walk.new.joins)) walk.old.left walk.new.left walk.old.lines walk.new.lines walk.new.joins) }
     ensures back { OnOk result (IsBack levels.now.problem.now number walk.old walk.new) }
 {
     levels.problem.known();
@@ -118,7 +122,7 @@ fn at_goal(
 fn stuck(level: &Level, walk: &mut Walk) -> Result<Found, AllocError>
     requires here { IsEntered level.now.problem.now level.now.number walk.old.remains }
     requires joins { game_of walk.old.joins ≡ level.now.problem.now }
-    ensures told { IfOk result (λ found. (cuts : Bool) (h : Option ℕ) → is_horizon h level.now.number ≡ true → BodyTold cuts level.now.problem.now level.now.number walk.old.remains.store.box h (verdict_of found (out_of walk.new.joins)) walk.old.left walk.new.left walk.old.lines walk.new.lines walk.new.joins) }
+    ensures told { IfOk result (λ found. (cuts : Bool) (above : ℤ → Bool) (h : Option ℕ) → is_horizon h level.now.number ≡ true → BodyTold cuts above level.now.problem.now level.now.number walk.old.remains.store.box h (verdict_of found (out_of walk.new.joins)) walk.old.left walk.new.left walk.old.lines walk.new.lines walk.new.joins) }
     ensures back { OnOk result (IsBack level.now.problem.now level.now.number walk.old walk.new) }
 {
     level.problem.known();
@@ -137,7 +141,7 @@ fn stuck(level: &Level, walk: &mut Walk) -> Result<Found, AllocError>
 fn own_tree(stage: &Stage, walk: &mut Walk) -> Result<Found, AllocError>
     requires here { IsEntered stage.now.level.now.problem.now stage.now.level.now.number walk.old.remains }
     requires joins { game_of walk.old.joins ≡ stage.now.level.now.problem.now }
-    ensures told { IfOk result (λ found. walk.old.left < 2147483648 → SeesAhead stage.now.level.now.problem.now (drop stage.now.level.now.number stage.now.level.now.problem.now.scopes) stage.now.level.now.number walk.old.remains.store.box (scope_number stage.now.horizon) → BodyTold stage.now.cuts stage.now.level.now.problem.now stage.now.level.now.number walk.old.remains.store.box (scope_number stage.now.horizon) (verdict_of found (out_of walk.new.joins)) walk.old.left walk.new.left walk.old.lines walk.new.lines walk.new.joins) }
+    ensures told { IfOk result (λ found. walk.old.left < 2147483648 → SeesAhead stage.now.level.now.problem.now (drop stage.now.level.now.number stage.now.level.now.problem.now.scopes) stage.now.level.now.number walk.old.remains.store.box (scope_number stage.now.horizon) → BodyTold stage.now.cuts (outdoes stage.now.level.now.problem.now stage.now.level.now.number stage.now.rival) stage.now.level.now.problem.now stage.now.level.now.number walk.old.remains.store.box (scope_number stage.now.horizon) (verdict_of found (out_of walk.new.joins)) walk.old.left walk.new.left walk.old.lines walk.new.lines walk.new.joins) }
     ensures back { OnOk result (IsBack stage.now.level.now.problem.now stage.now.level.now.number walk.old walk.new) }
 {
     let level = stage.level;
@@ -179,7 +183,7 @@ fn part(
 ) -> Result<(), AllocError>
     requires goes { GoesOn closed stage.now.level.now.problem.now stage.now.level.now.number x walk.old.remains }
     requires joins { game_of walk.old.joins ≡ stage.now.level.now.problem.now }
-    ensures told { OnOk result ((box : Box) (before : List Seen) (ms : List ℤ) → StepsTold stage.now.level.now.problem.now stage.now.level.now.number box walk.old.remains.store.box before ms steps.now → IsReady stage.now.level.now.problem.now stage.now.level.now.number walk.old.joins (suc (2 * walk.old.left)) (before ++ seen_bounds ms) → PartTold stage.now.cuts stage.now.level.now.problem.now stage.now.level.now.number box (scope_number stage.now.horizon) before ms walk.old.left walk.new.left walk.old.lines walk.new.lines walk.new.joins) }
+    ensures told { OnOk result ((box : Box) (before : List Seen) (ms : List ℤ) → StepsTold stage.now.level.now.problem.now stage.now.level.now.number box walk.old.remains.store.box before ms steps.now → IsReady stage.now.level.now.problem.now stage.now.level.now.number walk.old.joins (suc (2 * walk.old.left)) (before ++ seen_bounds ms) → PartTold stage.now.cuts (outdoes stage.now.level.now.problem.now stage.now.level.now.number stage.now.rival) stage.now.level.now.problem.now stage.now.level.now.number box (scope_number stage.now.horizon) before ms walk.old.left walk.new.left walk.old.lines walk.new.lines walk.new.joins) }
     ensures back { OnOk result (IsBack stage.now.level.now.problem.now stage.now.level.now.number walk.old walk.new) }
 {
     put_steps(&mut walk.lines, steps)?;
@@ -195,7 +199,7 @@ fn part(
 fn within(stage: &Stage, x: usize, walk: &mut Walk) -> Result<(), AllocError>
     requires going { IsGoing stage.now.level.now.problem.now stage.now.level.now.number x walk.old.remains }
     requires joins { game_of walk.old.joins ≡ stage.now.level.now.problem.now }
-    ensures told { OnOk result ((before : List Seen) → IsReady stage.now.level.now.problem.now stage.now.level.now.number walk.old.joins (suc (2 * walk.old.left)) before → IsTrue (has_no_worse (tracked_at stage.now.level.now.problem.now stage.now.level.now.number) (firsts before) walk.old.remains.store.box) → EndingTold stage.now.cuts stage.now.level.now.problem.now stage.now.level.now.number walk.old.remains.store.box (scope_number stage.now.horizon) before walk.old.left walk.new.left walk.old.lines walk.new.lines walk.new.joins) }
+    ensures told { OnOk result ((before : List Seen) → IsReady stage.now.level.now.problem.now stage.now.level.now.number walk.old.joins (suc (2 * walk.old.left)) before → IsTrue (has_no_worse (tracked_at stage.now.level.now.problem.now stage.now.level.now.number) (firsts before) walk.old.remains.store.box) → EndingTold stage.now.cuts (outdoes stage.now.level.now.problem.now stage.now.level.now.number stage.now.rival) stage.now.level.now.problem.now stage.now.level.now.number walk.old.remains.store.box (scope_number stage.now.horizon) before walk.old.left walk.new.left walk.old.lines walk.new.lines walk.new.joins) }
     ensures back { OnOk result (IsBack stage.now.level.now.problem.now stage.now.level.now.number walk.old walk.new) }
 {
     stage.level.problem.known();
@@ -211,7 +215,7 @@ fn within(stage: &Stage, x: usize, walk: &mut Walk) -> Result<(), AllocError>
 fn after_tuple(stage: &Stage, walk: &mut Walk) -> Result<(), AllocError>
     requires going { IsGoing stage.now.level.now.problem.now stage.now.level.now.number stage.now.level.now.stop walk.old.remains }
     requires joins { game_of walk.old.joins ≡ stage.now.level.now.problem.now }
-    ensures told { OnOk result ((before : List Seen) → IsReady stage.now.level.now.problem.now stage.now.level.now.number walk.old.joins (suc (2 * walk.old.left)) before → IsTrue (has_no_worse (tracked_at stage.now.level.now.problem.now stage.now.level.now.number) (firsts before) walk.old.remains.store.box) → EndingTold stage.now.cuts stage.now.level.now.problem.now stage.now.level.now.number walk.old.remains.store.box (scope_number stage.now.horizon) before walk.old.left walk.new.left walk.old.lines walk.new.lines walk.new.joins) }
+    ensures told { OnOk result ((before : List Seen) → IsReady stage.now.level.now.problem.now stage.now.level.now.number walk.old.joins (suc (2 * walk.old.left)) before → IsTrue (has_no_worse (tracked_at stage.now.level.now.problem.now stage.now.level.now.number) (firsts before) walk.old.remains.store.box) → EndingTold stage.now.cuts (outdoes stage.now.level.now.problem.now stage.now.level.now.number stage.now.rival) stage.now.level.now.problem.now stage.now.level.now.number walk.old.remains.store.box (scope_number stage.now.horizon) before walk.old.left walk.new.left walk.old.lines walk.new.lines walk.new.joins) }
     ensures back { OnOk result (IsBack stage.now.level.now.problem.now stage.now.level.now.number walk.old walk.new) }
 {
     stage.level.problem.known();
@@ -241,7 +245,7 @@ fn over_values(stage: &Stage, x: VarId, walk: &mut Walk) -> Result<(), AllocErro
     requires own { IsTrue (is_of_scope stage.now.level.now.problem.now stage.now.level.now.number x.0) }
     requires free { is_single (values_left walk.old.remains.store.box x.0) ≡ false }
     requires joins { game_of walk.old.joins ≡ stage.now.level.now.problem.now }
-    ensures told { OnOk result ((before : List Seen) → IsReady stage.now.level.now.problem.now stage.now.level.now.number walk.old.joins (suc (2 * walk.old.left)) before → IsTrue (has_no_worse (tracked_at stage.now.level.now.problem.now stage.now.level.now.number) (firsts before) walk.old.remains.store.box) → EndingTold stage.now.cuts stage.now.level.now.problem.now stage.now.level.now.number walk.old.remains.store.box (scope_number stage.now.horizon) before walk.old.left walk.new.left walk.old.lines walk.new.lines walk.new.joins) }
+    ensures told { OnOk result ((before : List Seen) → IsReady stage.now.level.now.problem.now stage.now.level.now.number walk.old.joins (suc (2 * walk.old.left)) before → IsTrue (has_no_worse (tracked_at stage.now.level.now.problem.now stage.now.level.now.number) (firsts before) walk.old.remains.store.box) → EndingTold stage.now.cuts (outdoes stage.now.level.now.problem.now stage.now.level.now.number stage.now.rival) stage.now.level.now.problem.now stage.now.level.now.number walk.old.remains.store.box (scope_number stage.now.horizon) before walk.old.left walk.new.left walk.old.lines walk.new.lines walk.new.joins) }
     ensures back { OnOk result (IsBack stage.now.level.now.problem.now stage.now.level.now.number walk.old walk.new) }
 {
     stage.level.problem.known();
@@ -257,7 +261,7 @@ fn cases(stage: &Stage, x: VarId, walk: &mut Walk) -> Result<(), AllocError>
     requires going { IsGoing stage.now.level.now.problem.now stage.now.level.now.number x.0 walk.old.remains }
     requires free { is_single (values_left walk.old.remains.store.box x.0) ≡ false }
     requires joins { game_of walk.old.joins ≡ stage.now.level.now.problem.now }
-    ensures told { OnOk result ((before : List Seen) → IsReady stage.now.level.now.problem.now stage.now.level.now.number walk.old.joins (suc (2 * walk.old.left)) before → CasesTold stage.now.cuts stage.now.level.now.problem.now stage.now.level.now.number walk.old.remains.store.box (scope_number stage.now.horizon) x.0 (values_left walk.old.remains.store.box x.0) before walk.old.left walk.new.left walk.old.lines walk.new.lines walk.new.joins) }
+    ensures told { OnOk result ((before : List Seen) → IsReady stage.now.level.now.problem.now stage.now.level.now.number walk.old.joins (suc (2 * walk.old.left)) before → CasesTold stage.now.cuts (outdoes stage.now.level.now.problem.now stage.now.level.now.number stage.now.rival) stage.now.level.now.problem.now stage.now.level.now.number walk.old.remains.store.box (scope_number stage.now.horizon) x.0 (values_left walk.old.remains.store.box x.0) before walk.old.left walk.new.left walk.old.lines walk.new.lines walk.new.joins) }
     ensures back { OnOk result (IsBack stage.now.level.now.problem.now stage.now.level.now.number walk.old walk.new) }
 {
     stage.level.problem.known();
@@ -270,6 +274,10 @@ fn cases(stage: &Stage, x: VarId, walk: &mut Walk) -> Result<(), AllocError>
     let mut value = first;
     'values: loop {
         if walk.joins.is_settled(number) {
+            return leave_out(&mut walk.lines, value, last, Line::Skip);
+        }
+        if is_outdone(stage.rival, &walk.joins, number) {
+            walk.joins.add_skipped(number);
             return leave_out(&mut walk.lines, value, last, Line::Skip);
         }
         if walk.left == 0 {
@@ -296,7 +304,7 @@ fn with_value(stage: &Stage, x: VarId, value: i64, walk: &mut Walk) -> Result<()
     requires going { IsGoing stage.now.level.now.problem.now stage.now.level.now.number x.0 walk.old.remains }
     requires value { IsTrue (has_value (values_left walk.old.remains.store.box x.0) value) }
     requires joins { game_of walk.old.joins ≡ stage.now.level.now.problem.now }
-    ensures told { OnOk result ((before : List Seen) → IsReady stage.now.level.now.problem.now stage.now.level.now.number walk.old.joins (2 + 2 * walk.old.left) before → CaseTold stage.now.cuts stage.now.level.now.problem.now stage.now.level.now.number (box_to walk.old.remains.store.box x.0 (value ∷ [])) (scope_number stage.now.horizon) before walk.old.left walk.new.left walk.old.lines walk.new.lines walk.new.joins) }
+    ensures told { OnOk result ((before : List Seen) → IsReady stage.now.level.now.problem.now stage.now.level.now.number walk.old.joins (2 + 2 * walk.old.left) before → CaseTold stage.now.cuts (outdoes stage.now.level.now.problem.now stage.now.level.now.number stage.now.rival) stage.now.level.now.problem.now stage.now.level.now.number (box_to walk.old.remains.store.box x.0 (value ∷ [])) (scope_number stage.now.horizon) before walk.old.left walk.new.left walk.old.lines walk.new.lines walk.new.joins) }
     ensures back { OnOk result (IsBack stage.now.level.now.problem.now stage.now.level.now.number walk.old walk.new) }
 {
     let mark = walk.remains.mark();

@@ -4,9 +4,11 @@ ghost use Rattle.std.proofs.Props.{props};
 ghost use Rattle.proof_tree.specs.InPlace.{is_horizon};
 ghost use Rattle.search_box.specs.Looking.{scope_number};
 ghost use Rattle.game_search.specs.Aims.{IsAimed};
-ghost use Rattle.game_search.specs.Props.{aimed_prop};
+ghost use Rattle.game_search.specs.Props.{aimed_prop, rival_prop};
+ghost use Rattle.game_search.specs.Rivals.{IsRival};
 
 use crate::aim::Aim;
+use crate::rival::Rival;
 use qc_model::ScopeId;
 use qc_rules::{Level, Levels};
 
@@ -20,8 +22,11 @@ pub(crate) struct Stage<'a, 'p> {
     pub(crate) cuts: bool,
     /// What the scope's own tree is bounded by.
     pub(crate) aim: Option<Aim>,
+    /// What it has to keep up with.
+    pub(crate) rival: Option<Rival>,
     ghost same: { level.now.problem.now ≡ levels.now.problem.now },
     ghost within: { IfSome horizon (λ h. h.0 ≤ length levels.now.problem.now.scopes) } by { Prim.hlevel props },
     ghost ahead: { is_horizon (scope_number horizon) level.now.number ≡ false },
     ghost aimed: { IsAimed level.now.problem.now level.now.number aim } by { aimed_prop level.now.problem.now level.now.number aim },
+    ghost rivalled: { IsRival level.now.problem.now level.now.number rival } by { rival_prop level.now.problem.now level.now.number rival },
 }

@@ -20,7 +20,7 @@ use Rattle.qc_levels.proofs.DemandSteps.{demands_short}
 use Rattle.qc_joins.specs.declared.joins.Joins.{Joins}
 use Rattle.qc_joins.specs.declared.scope_join.ScopeJoin.{ScopeJoin}
 use Rattle.qc_joins.specs.declared.scope_join.ScopeJoin.TheVariants.{Exists, Forall}
-use Rattle.qc_joins.specs.Verdicts.{kind_verdict, scope_verdict, verdict_at, stuck_of, kind_own, scope_own, own_at, kind_settled, scope_settled, settled_at, kind_wishes, scope_wishes, wishes_at, kind_incumbent, scope_incumbent, incumbent_at}
+use Rattle.qc_joins.specs.Verdicts.{kind_verdict, scope_verdict, verdict_at, stuck_of, kind_own, scope_own, own_at, kind_settled, scope_settled, settled_at, kind_wishes, scope_wishes, wishes_at, kind_incumbent, scope_incumbent, incumbent_at, kind_side, scope_side, side_at}
 use Rattle.qc_joins.specs.ScopeJoins.{StandsFor, StandsIn, JoinsScope, IsTaken, HasRoom, HasEach, AreJoins}
 use Rattle.qc_joins.specs.Joins.{LeafFits}
 use Rattle.qc_joins.proofs.Placed.{scope_read, stands_read, stands_here}
@@ -50,6 +50,9 @@ wishes_is g i s e = let l = scopes_from g.scopes i s e in ap (λ (ss : List Scop
 
 incumbent_is : (g : Game) (i : ℕ) (s : Scope) (xs : List Seen) → slice_get g.scopes i ≡ Some s → kind_incumbent s.kind s.condition g (demands g i) xs ≡ incumbent_at g i xs
 incumbent_is g i s xs e = let l = scopes_from g.scopes i s e in ap (λ (ss : List Scope). scope_incumbent ss g (demands g i) xs) (sym l.1)
+
+side_is : (g : Game) (i : ℕ) (s : Scope) (xs : List Seen) → slice_get g.scopes i ≡ Some s → kind_side s.kind g (demands g i) xs ≡ side_at g i xs
+side_is g i s xs e = let l = scopes_from g.scopes i s e in ap (λ (ss : List Scope). scope_side ss g (demands g i) xs) (sym l.1)
 
 stuck_is : (g : Game) (i : ℕ) (s : Scope) (d : List Condition) (a : List ℤ) → slice_get g.scopes i ≡ Some s → stuck_verdict g s.kind d a ≡ stuck_of (drop i g.scopes) g d a
 stuck_is g i s d a e = let l = scopes_from g.scopes i s e in ap (λ (ss : List Scope). stuck_of ss g d a) (sym l.1)
@@ -117,6 +120,13 @@ pub incumbent_read : (g : Game) (js : List ScopeJoin) (i : ℕ) (x : ScopeJoin) 
 incumbent_read g js i x xs o p h e f t =
     let s = some_scope g.scopes i h in
     f g i s.0 xs (scope_read g js i x s.0 p h e s.1) (stands_read g js i x xs p h e t) ∙ incumbent_is g i s.0 xs s.1
+
+pub side_read : (g : Game) (js : List ScopeJoin) (i : ℕ) (x : ScopeJoin) (xs : List Seen) (o : Option ℤ) → AreJoins g js → i < length g.scopes → x ≡ get_or js i x →
+    ((h : Game) (k : ℕ) (s : Scope) (ys : List Seen) → JoinsScope h k s x → StandsFor x ys → o ≡ kind_side s.kind h (demands h k) ys) →
+    StandsIn (slice_get js i) xs → o ≡ side_at g i xs
+side_read g js i x xs o p h e f t =
+    let s = some_scope g.scopes i h in
+    f g i s.0 xs (scope_read g js i x s.0 p h e s.1) (stands_read g js i x xs p h e t) ∙ side_is g i s.0 xs s.1
 
 pub wishes_read : (g : Game) (js : List ScopeJoin) (i : ℕ) (x : ScopeJoin) (d : List Condition) → AreJoins g js → i < length g.scopes → x ≡ get_or js i x →
     ((h : Game) (k : ℕ) (s : Scope) → JoinsScope h k s x → d ≡ kind_wishes s.kind s.condition h (demands h k)) → d ≡ wishes_at g i

@@ -8,8 +8,9 @@ use Rattle.qc_model.specs.Content.{Game}
 use Rattle.qc_model.specs.Demands.{demands, demands_after}
 use Rattle.qc_model.specs.Verdict.{Verdict, lost, unknown, Seen, is_lost, is_exact, some_node, is_none_of, exact_vectors}
 use Rattle.qc_model.specs.ExistsVerdict.{exists_verdict, exists_own, best_vector}
-use Rattle.qc_model.specs.ForallVerdict.{forall_verdict, stuck_verdict}
+use Rattle.qc_model.specs.ForallVerdict.{forall_verdict, stuck_verdict, known_numbers}
 use Rattle.qc_levels.specs.Bests.{incumbent_by}
+use Rattle.qc_levels.specs.Columns.{side_bound}
 
 -- what a scope comes to, by what was seen in its own tree
 abbrev pub kind_verdict : Kind → Option Condition → Game → List Condition → List ℤ → List Seen → Verdict
@@ -77,3 +78,15 @@ scope_incumbent (s ∷ later) g d xs = kind_incumbent s.kind s.condition g d xs
 
 abbrev pub incumbent_at : Game → ℕ → List Seen → Option ℤ
 incumbent_at g i xs = scope_incumbent (drop i g.scopes) g (demands g i) xs
+
+-- the bound that the leaves so far of a scope of the opponent give by themselves, whatever the others come to
+abbrev pub kind_side : Kind → Game → List Condition → List Seen → Option ℤ
+kind_side Exists g d xs = None
+kind_side Forall g d xs = side_bound g d (known_numbers xs)
+
+abbrev pub scope_side : List Scope → Game → List Condition → List Seen → Option ℤ
+scope_side [] g d xs = None
+scope_side (s ∷ later) g d xs = kind_side s.kind g d xs
+
+abbrev pub side_at : Game → ℕ → List Seen → Option ℤ
+side_at g i xs = scope_side (drop i g.scopes) g (demands g i) xs

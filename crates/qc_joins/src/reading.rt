@@ -1,7 +1,7 @@
 //! What is known of a scope before all its leaves are.
 ghost use Rattle.std.specs.Prelude.{◌≡◌, ◌<◌, List, length};
 ghost use Rattle.qc_model.specs.Verdict.{Seen};
-ghost use Rattle.qc_joins.specs.Verdicts.{own_at, settled_at, wishes_at, incumbent_at};
+ghost use Rattle.qc_joins.specs.Verdicts.{own_at, settled_at, wishes_at, incumbent_at, side_at};
 
 use crate::joins::Joins;
 use qc_model::{Condition, ScopeId};
@@ -33,6 +33,17 @@ impl Joins<'_> {
         ensures { (xs : List Seen) → StandsAt self.now i.0 xs → result ≡ incumbent_at (game_of self.now) i.0 xs }
     {
         self.joins[i.0 as usize].incumbent()
+    }
+
+    /// The bound that the leaves so far of scope i, a scope of the opponent, give by themselves: whatever the others come to,
+    /// the scope is lost, or its first value is no better. None comes exactly where no number is known, the scope's list
+    /// doesn't begin with an aggregate that folds by the greatest where less is better or by the least where more is, or the
+    /// scope is one of the player.
+    pub fn side_bound(&self, i: ScopeId) -> Option<i64>
+        requires { i.0 < length (game_of self.now).scopes }
+        ensures { (xs : List Seen) → StandsAt self.now i.0 xs → result ≡ side_at (game_of self.now) i.0 xs }
+    {
+        self.joins[i.0 as usize].side_bound()
     }
 
     /// Whether no further leaf changes what scope i comes to: in a scope of the player some leaf is exact

@@ -8,7 +8,7 @@ ghost use Rattle.qc_model.specs.Verdict.{Seen, seen_barred, seen_skipped, seen_b
 ghost use Rattle.qc_levels.specs.Seen.{verdict_of, seen_of, IsAsLong};
 ghost use Rattle.qc_levels.specs.Columns.{IsSmall, StaySmall};
 ghost use Rattle.qc_joins.specs.ScopeJoins.{HasEach};
-ghost use Rattle.qc_joins.specs.Verdicts.{kind_verdict, kind_own, kind_settled, kind_wishes, kind_incumbent};
+ghost use Rattle.qc_joins.specs.Verdicts.{kind_verdict, kind_own, kind_settled, kind_wishes, kind_incumbent, kind_side};
 
 use qc_levels::{ExistsJoin, ForallJoin, Found, Leaf, Value};
 use qc_model::Condition as Wish;
@@ -131,6 +131,16 @@ impl ScopeJoin {
         match self {
             ScopeJoin::Exists(join) => join.incumbent(),
             ScopeJoin::Forall(_join) => None,
+        }
+    }
+
+    /// The bound that the leaves so far of a scope of the opponent give by themselves.
+    pub(crate) fn side_bound(&self) -> Option<i64>
+        ensures { (g : Game) (i : ℕ) (s : OneScope) (xs : List Seen) → JoinsScope g i s self.now → StandsFor self.now xs → result ≡ kind_side s.kind g (demands_of g i) xs }
+    {
+        match self {
+            ScopeJoin::Exists(_join) => None,
+            ScopeJoin::Forall(join) => join.side_bound(),
         }
     }
 

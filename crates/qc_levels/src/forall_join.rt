@@ -91,7 +91,11 @@ fn side_number(sense: Sense, source: Source, any_known: bool, known: i64) -> Opt
     match source {
         Source::Variable(_) => None,
         Source::Folded(fold, _) => {
-            if any_known && is_one_sided(sense, fold) { Some(known) } else { None }
+            if any_known && is_one_sided(sense, fold) {
+                Some(known)
+            } else {
+                None
+            }
         }
         Source::Missing => None,
     }

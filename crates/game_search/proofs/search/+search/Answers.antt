@@ -1,4 +1,4 @@
-use Rattle.std.proofs.Common.{◌≡◌, ◌∙◌, sym, ap, refl, subst, ◌+◌, ◌-◌, ◌*◌, rules, length, drop, w64, to_z, of_z, arith, true, [], ◌∷◌, ◌++◌}
+use Rattle.std.proofs.Common.{add-one, List, ℤ, ◌≡◌, ◌∙◌, sym, ap, refl, subst, ◌+◌, ◌-◌, ◌*◌, rules, length, drop, w64, to_z, of_z, arith, true, [], ◌∷◌, ◌++◌}
 use Rattle.std.specs.List.{list_all}
 use Rattle.std.proofs.lemmas.Int.{to_z-of_z}
 use Rattle.std.proofs.lemmas.Result.{on_ok_weaker, IfOk-weaker}
@@ -19,24 +19,29 @@ use Rattle.proof_tree.specs.InPlace.{is_horizon}
 use Rattle.proof_tree.specs.Lines.{upto_lines}
 use Rattle.proof_tree.specs.declared.line.Line.TheVariants.{Skip, Open}
 use Rattle.proof_tree.specs.Place.{is_fixed_to, position}
+use Rattle.qc_model.specs.Verdict.{Seen}
 use Rattle.qc_levels.specs.Seen.{verdict_of}
-use Rattle.qc_joins.specs.Joins.{LeafFits, out_of}
+use Rattle.qc_joins.specs.Joins.{LeafFits, StandsAt, out_of}
 use Rattle.search_box.specs.Closes.{IsPruned}
 use Rattle.search_box.specs.Looking.{scope_number}
 use Rattle.search_box.specs.Rests.{IsFirst, IsAfter}
 use Rattle.search_box.proofs.Goings.{follows_on}
 use Rattle.search_box.proofs.Places.{read_numbers}
 use Rattle.game_search.specs.Going.{GoesOn}
-use Rattle.game_search.specs.Aims.{tracked_at}
+use Rattle.game_search.specs.Aims.{tracked_at, IsAimed}
 use Rattle.game_search.specs.Beaten.{seen_bounds}
 use Rattle.game_search.specs.Narrowed.{NarrowTold}
+use Rattle.game_search.specs.Rivals.{above_at, StandsAbove, outdoes, IsRival}
+use Rattle.game_search.specs.Settled.{is_outdone}
 use Rattle.game_search.specs.Told.{IsReady, StepsTold, PartTold, CaseTold, BodyTold, NodeTold}
 use Rattle.game_search.specs.Uppers.{upto_between, without_before}
 use Rattle.game_search.proofs.Covers.{covers_after, many_of, rest_of}
 use Rattle.game_search.proofs.Fitting.{number_among, place_fits}
-use Rattle.game_search.proofs.Here.{Passing, asked_here, started, ready_again, case_done, rest_skipped, rest_opened, rest_none, empty_told, barred_told, few_turns, next_told, pruned_told, part_told, branch_told, node_ended, whole_node}
+use Rattle.game_search.proofs.Here.{Passing, asked_here, started, ready_again, case_done, rest_skipped, rest_outdone, rest_opened, rest_none, empty_told, barred_told, few_turns, next_told, pruned_told, part_told, branch_told, node_ended, body_more, whole_node}
 use Rattle.game_search.proofs.Losing.{ready_after}
 use Rattle.game_search.proofs.Marks.{firsts_marks}
+use Rattle.game_search.proofs.Outdone.{rival_outdoes}
+use Rattle.game_search.proofs.Bools.{both}
 use Rattle.game_search.proofs.Remains.{back_after, back_below, back_more, case_back, longer}
 use Rattle.game_search.proofs.search.+search.Goals as goal
 
@@ -47,7 +52,7 @@ after_tuple-returns-then-not-tuple_allowed-clause-told t c =
     let b = c.args.walk.now.remains in
     let w = c.requires.going.within in
     let fixed = subst (λ n. is_fixed_to g l.number n b.store.box ≡ true) l.has_stop w.fixed in
-    λ xs ready worse. barred_told c.args.stage.now.cuts g l.number b.store.box (scope_number c.args.stage.now.horizon) xs c.args.walk.now.left c.args.walk.now.lines c.args.walk.now.joins ready c.put.new.self c.add_barred.new.self w.here.full fixed
+    λ xs ready worse. barred_told c.args.stage.now.cuts (outdoes g l.number c.args.stage.now.rival) g l.number b.store.box (scope_number c.args.stage.now.horizon) xs c.args.walk.now.left c.args.walk.now.lines c.args.walk.now.joins ready c.put.new.self c.add_barred.new.self w.here.full fixed
     (sym c.tuple_allowed.ensures.allowed ∙ c.if-not-tuple_allowed.true) c.add_barred.ensures.stands c.in_ok-put.ensures.put
 
 pub after_tuple-returns-clause-told : goal.after_tuple-returns-clause-told
@@ -60,10 +65,11 @@ after_tuple-returns-clause-told t c =
     let fixed = subst (λ n. is_fixed_to g l.number n b.store.box ≡ true) l.has_stop w.fixed in
     let v = verdict_of c.in_ok-below.below (out_of c.node.new.walk.joins) in
     λ xs ready worse.
-    let few = few_turns c.args.stage.now.cuts g l.number b.store.box h xs c.args.walk.now.left c.args.walk.now.lines c.args.walk.now.joins ready in
-    let below = subst (λ (f : Game). NodeTold c.args.stage.now.cuts f (l.number + 1) b.store.box h v c.args.walk.now.left c.node.new.walk.left c.put-2.new.self c.node.new.walk.lines c.node.new.walk.joins) (sym c.args.stage.now.same)
-    (subst (λ (s : Held). NodeTold c.args.stage.now.cuts c.args.stage.now.levels.now.problem.now (l.number + 1) s.box h v c.args.walk.now.left c.node.new.walk.left c.put-2.new.self c.node.new.walk.lines c.node.new.walk.joins) c.tuple_allowed.ensures.store (c.in_ok-below.ensures.told few)) in
-    next_told c.args.stage.now.cuts g l.number b.store.box h xs c.args.walk.now.left c.args.walk.now.lines c.args.walk.now.joins ready l.is_scope v c.node.new.walk.left c.put-2.new.self c.node.new.walk.lines c.node.new.walk.joins c.add_node.new.self w.here.full fixed
+    let few = few_turns c.args.stage.now.cuts (outdoes g l.number c.args.stage.now.rival) g l.number b.store.box h xs c.args.walk.now.left c.args.walk.now.lines c.args.walk.now.joins ready in
+    let up = subst (λ k. StandsAbove c.args.walk.now.joins k xs) (sym (add-one l.number)) ready.stands in
+    let below = subst (λ (f : Game). NodeTold c.args.stage.now.cuts (above_at f (l.number + 1) xs) f (l.number + 1) b.store.box h v c.args.walk.now.left c.node.new.walk.left c.put-2.new.self c.node.new.walk.lines c.node.new.walk.joins) (sym c.args.stage.now.same)
+    (subst (λ (s : Held). NodeTold c.args.stage.now.cuts (above_at c.args.stage.now.levels.now.problem.now (l.number + 1) xs) c.args.stage.now.levels.now.problem.now (l.number + 1) s.box h v c.args.walk.now.left c.node.new.walk.left c.put-2.new.self c.node.new.walk.lines c.node.new.walk.joins) c.tuple_allowed.ensures.store (c.in_ok-below.ensures.told few xs up)) in
+    next_told c.args.stage.now.cuts (outdoes g l.number c.args.stage.now.rival) g l.number b.store.box h xs c.args.walk.now.left c.args.walk.now.lines c.args.walk.now.joins ready l.is_scope v c.node.new.walk.left c.put-2.new.self c.node.new.walk.lines c.node.new.walk.joins c.add_node.new.self w.here.full fixed
     (sym c.tuple_allowed.ensures.allowed ∙ c.if-not-tuple_allowed.false) worse c.in_ok-put-2.ensures.put below (c.in_ok-below.ensures.back.joins l.number xs (omega arith))
     (λ ys s fits. c.add_node.ensures.stands ys s (subst (λ (f : Game). LeafFits f l.number ys v) (sym (c.in_ok-below.ensures.back.game ∙ c.requires.joins)) fits))
 
@@ -89,8 +95,8 @@ cases-values-init t c =
       back = record { problem = refl; box = refl; past = refl; kept = refl; game = refl; joins = λ j xs h s. s; lines = omega arith };
       left = subst (λ v. has_value vs v ≡ true) (sym first_is) c.first-first.ensures.left;
       after = all;
-      goes = λ xs ready. subst (λ us. Passing c.args.stage.now.cuts g l.number b.store.box (scope_number c.args.stage.now.horizon) x vs xs c.args.walk.now.left c.args.walk.now.lines us c.args.walk.now.left c.args.walk.now.lines c.args.walk.now.joins) (sym all)
-          (started c.args.stage.now.cuts g l.number b.store.box (scope_number c.args.stage.now.horizon) x vs xs c.args.walk.now.left c.args.walk.now.lines c.args.walk.now.joins ready);
+      goes = λ xs ready. subst (λ us. Passing c.args.stage.now.cuts (outdoes g l.number c.args.stage.now.rival) g l.number b.store.box (scope_number c.args.stage.now.horizon) x vs xs c.args.walk.now.left c.args.walk.now.lines us c.args.walk.now.left c.args.walk.now.lines c.args.walk.now.joins) (sym all)
+          (started c.args.stage.now.cuts (outdoes g l.number c.args.stage.now.rival) g l.number b.store.box (scope_number c.args.stage.now.horizon) x vs xs c.args.walk.now.left c.args.walk.now.lines c.args.walk.now.joins ready);
     }
 
 pub cases-returns-then-is_settled-clause-told : goal.cases-returns-then-is_settled-clause-told
@@ -111,7 +117,7 @@ cases-returns-then-is_settled-clause-told t c =
     let asked = asked_here g _ l.number c.values.walk.joins c.is_settled.result same c.is_settled.ensures in
     on_ok_weaker c.leave_out.result
     (λ e xs ready.
-    rest_skipped c.args.stage.now.cuts g l.number b.store.box (scope_number c.args.stage.now.horizon) x vs xs c.args.walk.now.left c.args.walk.now.lines c.args.walk.now.joins ready (values_from v vs) c.values.walk.left c.values.walk.lines c.leave_out.new.lines c.values.walk.joins c.is_settled.result r.some r.numbers asked
+    rest_skipped c.args.stage.now.cuts (outdoes g l.number c.args.stage.now.rival) g l.number b.store.box (scope_number c.args.stage.now.horizon) x vs xs c.args.walk.now.left c.args.walk.now.lines c.args.walk.now.joins ready (values_from v vs) c.values.walk.left c.values.walk.lines c.leave_out.new.lines c.values.walk.joins c.is_settled.result r.some r.numbers asked
     c.if-is_settled.true (c.values.invariant.goes xs ready) (e ∙ ap (λ o. c.values.walk.lines ++ (upto_lines o ++ Skip ∷ [])) upto))
     c.leave_out.ensures
 
@@ -119,6 +125,36 @@ pub cases-returns-then-is_settled-clause-back : goal.cases-returns-then-is_settl
 cases-returns-then-is_settled-clause-back t c =
     on_ok_weaker c.leave_out.result
     (λ e. back_more c.args.stage.now.level.now.problem.now c.args.stage.now.level.now.number c.args.walk.now c.values.walk _ c.values.invariant.back refl refl (λ j xs h s. s) (longer c.values.walk.lines c.leave_out.new.lines _ e)) c.leave_out.ensures
+
+pub cases-returns-then-is_outdone-clause-told : goal.cases-returns-then-is_outdone-clause-told
+cases-returns-then-is_outdone-clause-told t c =
+    let l = c.args.stage.now.level.now in
+    let g = l.problem.now in
+    let b = c.args.walk.now.remains in
+    let x = c.args.x.0 in
+    let vs = values_left b.store.box x in
+    let declared : is_box_of g b.store.box ≡ true = subst (λ (f : Game). is_box_of f b.store.box ≡ true) c.requires.going.within.here.game c.known-2.ensures.declared in
+    let numbers : list_all is_number vs ≡ true = left_small g b.store.box x c.known.ensures.domains declared in
+    let rises : is_ascending vs ≡ true = sub_ascending b.store.box (declared_box g) x declared in
+    let last_is : to_z w64 (of_z w64 c.last-last.result) ≡ c.last-last.result = passed c.last-last.result (number_among vs c.last-last.result numbers c.last-last.ensures.left) in
+    let v = to_z w64 c.values.value-bits in
+    let r = rest_of vs v c.last-last.result rises numbers c.values.invariant.left c.last-last.ensures in
+    let upto = ap (upto_between v) last_is ∙ sym r.upto in
+    let same = c.values.invariant.back.game ∙ c.requires.joins in
+    let asked = asked_here g _ l.number c.values.walk.joins c.is_settled.result same c.is_settled.ensures in
+    let outdone : (ys : List Seen) → StandsAt c.values.walk.joins l.number ys → is_outdone (outdoes g l.number c.args.stage.now.rival) ys ≡ true = λ ys s. subst (λ (f : Game). is_outdone (outdoes f l.number c.args.stage.now.rival) ys ≡ true) same (c.is_outdone.ensures c.if-is_outdone.true ys s) in
+    on_ok_weaker c.leave_out-then-is_outdone.result
+    (λ e xs ready.
+    rest_outdone c.args.stage.now.cuts (outdoes g l.number c.args.stage.now.rival) g l.number b.store.box (scope_number c.args.stage.now.horizon) x vs xs c.args.walk.now.left c.args.walk.now.lines c.args.walk.now.joins ready (values_from v vs) c.values.walk.left c.values.walk.lines c.leave_out-then-is_outdone.new.lines c.values.walk.joins c.add_skipped.new.self c.is_settled.result
+    r.some r.numbers asked c.if-is_settled.false outdone c.add_skipped.ensures.stands (c.values.invariant.goes xs ready) (e ∙ ap (λ o. c.values.walk.lines ++ (upto_lines o ++ Skip ∷ [])) upto))
+    c.leave_out-then-is_outdone.ensures
+
+pub cases-returns-then-is_outdone-clause-back : goal.cases-returns-then-is_outdone-clause-back
+cases-returns-then-is_outdone-clause-back t c =
+    on_ok_weaker c.leave_out-then-is_outdone.result
+    (λ e. back_more c.args.stage.now.level.now.problem.now c.args.stage.now.level.now.number c.args.walk.now c.values.walk _ c.values.invariant.back refl c.add_skipped.ensures.same (λ j xs h s. c.add_skipped.ensures.others j xs (λ q. absurd (omega arith)) s)
+    (longer c.values.walk.lines c.leave_out-then-is_outdone.new.lines _ e))
+    c.leave_out-then-is_outdone.ensures
 
 pub cases-returns-then-walk-eq0-clause-told : goal.cases-returns-then-walk-eq0-clause-told
 cases-returns-then-walk-eq0-clause-told t c =
@@ -138,14 +174,14 @@ cases-returns-then-walk-eq0-clause-told t c =
     let asked = asked_here g _ l.number c.values.walk.joins c.is_settled.result same c.is_settled.ensures in
     on_ok_weaker c.leave_out-then-walk-eq0.result
     (λ e xs ready.
-    rest_opened c.args.stage.now.cuts g l.number b.store.box (scope_number c.args.stage.now.horizon) x vs xs c.args.walk.now.left c.args.walk.now.lines c.args.walk.now.joins ready (values_from v vs) c.values.walk.left c.values.walk.lines c.leave_out-then-walk-eq0.new.lines c.values.walk.joins c.add_skipped.new.self c.is_settled.result
-    r.some r.numbers asked c.if-is_settled.false c.if-walk-eq0.true c.add_skipped.ensures.stands (c.values.invariant.goes xs ready) (e ∙ ap (λ o. c.values.walk.lines ++ (upto_lines o ++ Open ∷ [])) upto))
+    rest_opened c.args.stage.now.cuts (outdoes g l.number c.args.stage.now.rival) g l.number b.store.box (scope_number c.args.stage.now.horizon) x vs xs c.args.walk.now.left c.args.walk.now.lines c.args.walk.now.joins ready (values_from v vs) c.values.walk.left c.values.walk.lines c.leave_out-then-walk-eq0.new.lines c.values.walk.joins c.add_skipped-then-walk-eq0.new.self c.is_settled.result
+    r.some r.numbers asked c.if-is_settled.false c.if-walk-eq0.true c.add_skipped-then-walk-eq0.ensures.stands (c.values.invariant.goes xs ready) (e ∙ ap (λ o. c.values.walk.lines ++ (upto_lines o ++ Open ∷ [])) upto))
     c.leave_out-then-walk-eq0.ensures
 
 pub cases-returns-then-walk-eq0-clause-back : goal.cases-returns-then-walk-eq0-clause-back
 cases-returns-then-walk-eq0-clause-back t c =
     on_ok_weaker c.leave_out-then-walk-eq0.result
-    (λ e. back_more c.args.stage.now.level.now.problem.now c.args.stage.now.level.now.number c.args.walk.now c.values.walk _ c.values.invariant.back refl c.add_skipped.ensures.same (λ j xs h s. c.add_skipped.ensures.others j xs (λ q. absurd (omega arith)) s)
+    (λ e. back_more c.args.stage.now.level.now.problem.now c.args.stage.now.level.now.number c.args.walk.now c.values.walk _ c.values.invariant.back refl c.add_skipped-then-walk-eq0.ensures.same (λ j xs h s. c.add_skipped-then-walk-eq0.ensures.others j xs (λ q. absurd (omega arith)) s)
     (longer c.values.walk.lines c.leave_out-then-walk-eq0.new.lines _ e))
     c.leave_out-then-walk-eq0.ensures
 
@@ -177,11 +213,11 @@ cases-returns-in_default-clause-told t c =
     let at : values_from v vs ≡ v ∷ [] = subst (λ us. values_from v us ≡ v ∷ []) box_same c.in_default.ensures in
     λ xs ready.
     let p = c.values.invariant.goes xs ready in
-    let again = ready_again c.args.stage.now.cuts g l.number b.store.box h x vs xs c.args.walk.now.left c.args.walk.now.lines c.args.walk.now.joins ready (values_from v vs) c.values.walk.left c.values.walk.lines c.values.walk.joins c.is_settled.result asked c.if-is_settled.false c.if-walk-eq0.false p in
-    let part = subst (λ (d : Box). CaseTold c.args.stage.now.cuts g l.number (box_to d x (v ∷ [])) h (xs ++ p.seen) (c.values.walk.left - 1) c.with_value.new.walk.left c.values.walk.lines c.with_value.new.walk.lines c.with_value.new.walk.joins) back.box
+    let again = ready_again c.args.stage.now.cuts (outdoes g l.number c.args.stage.now.rival) g l.number b.store.box h x vs xs c.args.walk.now.left c.args.walk.now.lines c.args.walk.now.joins ready (values_from v vs) c.values.walk.left c.values.walk.lines c.values.walk.joins c.is_settled.result asked c.if-is_settled.false c.if-walk-eq0.false p in
+    let part = subst (λ (d : Box). CaseTold c.args.stage.now.cuts (outdoes g l.number c.args.stage.now.rival) g l.number (box_to d x (v ∷ [])) h (xs ++ p.seen) (c.values.walk.left - 1) c.with_value.new.walk.left c.values.walk.lines c.with_value.new.walk.lines c.with_value.new.walk.joins) back.box
     (c.in_ok-with_value.ensures.told (xs ++ p.seen) again) in
-    rest_none c.args.stage.now.cuts g l.number b.store.box h x vs xs c.args.walk.now.left c.args.walk.now.lines c.args.walk.now.joins ready c.with_value.new.walk.left c.drop_before.new.lines c.with_value.new.walk.joins
-    (case_done c.args.stage.now.cuts g l.number b.store.box h x vs xs c.args.walk.now.left c.args.walk.now.lines c.args.walk.now.joins ready numbers low c.values.before c.last_to_drop-dropped.result (values_from v vs) [] v c.values.walk.left c.with_value.new.walk.left
+    rest_none c.args.stage.now.cuts (outdoes g l.number c.args.stage.now.rival) g l.number b.store.box h x vs xs c.args.walk.now.left c.args.walk.now.lines c.args.walk.now.joins ready c.with_value.new.walk.left c.drop_before.new.lines c.with_value.new.walk.joins
+    (case_done c.args.stage.now.cuts (outdoes g l.number c.args.stage.now.rival) g l.number b.store.box h x vs xs c.args.walk.now.left c.args.walk.now.lines c.args.walk.now.joins ready numbers low c.values.before c.last_to_drop-dropped.result (values_from v vs) [] v c.values.walk.left c.with_value.new.walk.left
     c.values.walk.lines c.with_value.new.walk.lines c.drop_before.new.lines c.values.walk.joins c.with_value.new.walk.joins c.is_settled.result c.is_settled-in-values.result many at covers asked c.if-is_settled.false c.if-walk-eq0.false asked_then c.last_to_drop-dropped.ensures p part (c.in_ok-drop_before.ensures ∙ there))
 
 pub cases-returns-in_default-clause-back : goal.cases-returns-in_default-clause-back
@@ -225,10 +261,10 @@ cases-values-preserved t c =
       after = record { left = c.values.invariant.left; rest = at };
       goes = λ xs ready.
           let p = c.values.invariant.goes xs ready in
-          let again = ready_again c.args.stage.now.cuts g l.number b.store.box h x vs xs c.args.walk.now.left c.args.walk.now.lines c.args.walk.now.joins ready (values_from v vs) c.values.walk.left c.values.walk.lines c.values.walk.joins c.is_settled.result asked c.if-is_settled.false c.if-walk-eq0.false p in
-          let part = subst (λ (d : Box). CaseTold c.args.stage.now.cuts g l.number (box_to d x (v ∷ [])) h (xs ++ p.seen) (c.values.walk.left - 1) c.with_value.new.walk.left c.values.walk.lines c.with_value.new.walk.lines c.with_value.new.walk.joins) back.box
+          let again = ready_again c.args.stage.now.cuts (outdoes g l.number c.args.stage.now.rival) g l.number b.store.box h x vs xs c.args.walk.now.left c.args.walk.now.lines c.args.walk.now.joins ready (values_from v vs) c.values.walk.left c.values.walk.lines c.values.walk.joins c.is_settled.result asked c.if-is_settled.false c.if-walk-eq0.false p in
+          let part = subst (λ (d : Box). CaseTold c.args.stage.now.cuts (outdoes g l.number c.args.stage.now.rival) g l.number (box_to d x (v ∷ [])) h (xs ++ p.seen) (c.values.walk.left - 1) c.with_value.new.walk.left c.values.walk.lines c.with_value.new.walk.lines c.with_value.new.walk.joins) back.box
           (c.in_ok-with_value.ensures.told (xs ++ p.seen) again) in
-          (case_done c.args.stage.now.cuts g l.number b.store.box h x vs xs c.args.walk.now.left c.args.walk.now.lines c.args.walk.now.joins ready numbers low c.values.before c.last_to_drop-dropped.result (values_from v vs) (values_from next vs) v c.values.walk.left c.with_value.new.walk.left
+          (case_done c.args.stage.now.cuts (outdoes g l.number c.args.stage.now.rival) g l.number b.store.box h x vs xs c.args.walk.now.left c.args.walk.now.lines c.args.walk.now.joins ready numbers low c.values.before c.last_to_drop-dropped.result (values_from v vs) (values_from next vs) v c.values.walk.left c.with_value.new.walk.left
           c.values.walk.lines c.with_value.new.walk.lines c.drop_before.new.lines c.values.walk.joins c.with_value.new.walk.joins c.is_settled.result c.is_settled-in-values.result many at covers asked c.if-is_settled.false c.if-walk-eq0.false asked_then c.last_to_drop-dropped.ensures p part (c.in_ok-drop_before.ensures ∙ there));
     }
 
@@ -241,14 +277,15 @@ node-returns-then-is_here-clause-told t c =
     let ahead = c.in_ok-ahead.ensures.answer in
     let h = scope_number c.in_ok-below.below in
     IfOk-weaker c.stuck.result _ _
-    (λ found e few.
+    (λ found e few up stands.
+    let a = above_at g c.args.number up in
     let v = verdict_of found (out_of c.stuck.new.walk.joins) in
     let horizon : is_horizon h level.number ≡ true = ap (is_horizon h) c.level-level.ensures.number ∙ (sym c.is_here.ensures ∙ c.if-is_here.true) in
-    let body = e c.args.cuts h horizon in
-    let body_at = subst (λ (f : Game). BodyTold c.args.cuts f level.number c.look_ahead.new.self.store.box h v c.args.walk.now.left c.stuck.new.walk.left c.put_horizon.new.lines c.stuck.new.walk.lines c.stuck.new.walk.joins) c.level-level.ensures.problem body in
-    let body_here = subst (λ n. BodyTold c.args.cuts g n c.look_ahead.new.self.store.box h v c.args.walk.now.left c.stuck.new.walk.left c.put_horizon.new.lines c.stuck.new.walk.lines c.stuck.new.walk.joins) c.level-level.ensures.number body_at in
-    whole_node c.args.cuts g c.args.number box (scope_number c.args.horizon) h c.in_ok-ahead.ahead v c.args.walk.now.left c.stuck.new.walk.left c.args.walk.now.lines c.put_horizon.new.lines c.stuck.new.walk.lines c.stuck.new.walk.joins ahead.placed ahead.fits c.in_ok-below.ensures.below
-    c.in_ok-below.ensures.lines (subst (λ (u : Box). BodyTold c.args.cuts g c.args.number u h v c.args.walk.now.left c.stuck.new.walk.left c.put_horizon.new.lines c.stuck.new.walk.lines c.stuck.new.walk.joins) c.look_ahead.ensures.content body_here))
+    let body = e c.args.cuts a h horizon in
+    let body_at = subst (λ (f : Game). BodyTold c.args.cuts a f level.number c.look_ahead.new.self.store.box h v c.args.walk.now.left c.stuck.new.walk.left c.put_horizon.new.lines c.stuck.new.walk.lines c.stuck.new.walk.joins) c.level-level.ensures.problem body in
+    let body_here = subst (λ n. BodyTold c.args.cuts a g n c.look_ahead.new.self.store.box h v c.args.walk.now.left c.stuck.new.walk.left c.put_horizon.new.lines c.stuck.new.walk.lines c.stuck.new.walk.joins) c.level-level.ensures.number body_at in
+    whole_node c.args.cuts a g c.args.number box (scope_number c.args.horizon) h c.in_ok-ahead.ahead v c.args.walk.now.left c.stuck.new.walk.left c.args.walk.now.lines c.put_horizon.new.lines c.stuck.new.walk.lines c.stuck.new.walk.joins ahead.placed ahead.fits c.in_ok-below.ensures.below
+    c.in_ok-below.ensures.lines (subst (λ (u : Box). BodyTold c.args.cuts a g c.args.number u h v c.args.walk.now.left c.stuck.new.walk.left c.put_horizon.new.lines c.stuck.new.walk.lines c.stuck.new.walk.joins) c.look_ahead.ensures.content body_here))
     c.stuck.ensures.told
 
 pub node-returns-then-is_here-clause-back : goal.node-returns-then-is_here-clause-back
@@ -256,6 +293,20 @@ node-returns-then-is_here-clause-back t c =
     let look = c.in_ok-ahead.ensures in
     on_ok_weaker c.stuck.result
     (λ e. back_after c.args.levels.now.problem.now _ c.args.number _ c.level-level.ensures.problem c.level-level.ensures.number c.args.walk.now _ c.stuck.new.walk look.game look.content look.past look.values refl _ c.in_ok-below.ensures.lines e) c.stuck.ensures.back
+
+pub node-invariant_of-stage-clause-aimed : goal.node-invariant_of-stage-clause-aimed
+node-invariant_of-stage-clause-aimed t c =
+    let level = c.level-level.result.now in
+    let aim = c.aim_of.result in
+    let here = subst (λ (f : Game). IsAimed f c.args.number aim) (sym c.level-level.ensures.problem) c.aim_of.ensures in
+    subst (λ n. IsAimed level.problem.now n aim) (sym c.level-level.ensures.number) here
+
+pub node-invariant_of-stage-clause-rivalled : goal.node-invariant_of-stage-clause-rivalled
+node-invariant_of-stage-clause-rivalled t c =
+    let level = c.level-level.result.now in
+    let rival = c.rival_of.result in
+    let here = subst (λ (f : Game). IsRival f c.args.number rival) (c.requires.joins ∙ sym c.level-level.ensures.problem) c.rival_of.ensures.sense in
+    subst (λ n. IsRival level.problem.now n rival) (sym c.level-level.ensures.number) here
 
 pub node-returns-clause-told : goal.node-returns-clause-told
 node-returns-clause-told t c =
@@ -273,13 +324,17 @@ node-returns-clause-told t c =
     let sees_at = subst (λ n. SeesAhead g (drop n g.scopes) n now h) (sym c.level-level.ensures.number) sees_now in
     let sees_here = subst (λ (f : Game). SeesAhead f (drop level.number f.scopes) level.number now h) (sym c.level-level.ensures.problem) sees_at in
     IfOk-weaker c.own_tree.result _ _
-    (λ found e few.
+    (λ found e few up stands.
+    let a = above_at g i up in
     let v = verdict_of found (out_of c.own_tree.new.walk.joins) in
-    let body = e few sees_here in
-    let body_at = subst (λ (f : Game). BodyTold c.args.cuts f level.number now h v c.args.walk.now.left c.own_tree.new.walk.left c.put_horizon.new.lines c.own_tree.new.walk.lines c.own_tree.new.walk.joins) c.level-level.ensures.problem body in
-    let body_here = subst (λ n. BodyTold c.args.cuts g n now h v c.args.walk.now.left c.own_tree.new.walk.left c.put_horizon.new.lines c.own_tree.new.walk.lines c.own_tree.new.walk.joins) c.level-level.ensures.number body_at in
-    whole_node c.args.cuts g i box (scope_number c.args.horizon) h c.in_ok-ahead.ahead v c.args.walk.now.left c.own_tree.new.walk.left c.args.walk.now.lines c.put_horizon.new.lines c.own_tree.new.walk.lines c.own_tree.new.walk.joins ahead.placed ahead.fits c.in_ok-below.ensures.below c.in_ok-below.ensures.lines
-    (subst (λ (u : Box). BodyTold c.args.cuts g i u h v c.args.walk.now.left c.own_tree.new.walk.left c.put_horizon.new.lines c.own_tree.new.walk.lines c.own_tree.new.walk.joins) look.content body_here))
+    let rival = c.rival_of.result in
+    let own = outdoes k level.number rival in
+    let beats : (n : ℤ) → own n ≡ true → a n ≡ true = λ n q. subst (λ (f : Game). above_at f i up n ≡ true) c.requires.joins (c.rival_of.ensures.beats up stands n (both _ _ q).1) in
+    let body = body_more c.args.cuts own a k level.number now h v c.args.walk.now.left c.own_tree.new.walk.left c.put_horizon.new.lines c.own_tree.new.walk.lines c.own_tree.new.walk.joins beats (e few sees_here) in
+    let body_at = subst (λ (f : Game). BodyTold c.args.cuts a f level.number now h v c.args.walk.now.left c.own_tree.new.walk.left c.put_horizon.new.lines c.own_tree.new.walk.lines c.own_tree.new.walk.joins) c.level-level.ensures.problem body in
+    let body_here = subst (λ n. BodyTold c.args.cuts a g n now h v c.args.walk.now.left c.own_tree.new.walk.left c.put_horizon.new.lines c.own_tree.new.walk.lines c.own_tree.new.walk.joins) c.level-level.ensures.number body_at in
+    whole_node c.args.cuts a g i box (scope_number c.args.horizon) h c.in_ok-ahead.ahead v c.args.walk.now.left c.own_tree.new.walk.left c.args.walk.now.lines c.put_horizon.new.lines c.own_tree.new.walk.lines c.own_tree.new.walk.joins ahead.placed ahead.fits c.in_ok-below.ensures.below c.in_ok-below.ensures.lines
+    (subst (λ (u : Box). BodyTold c.args.cuts a g i u h v c.args.walk.now.left c.own_tree.new.walk.left c.put_horizon.new.lines c.own_tree.new.walk.lines c.own_tree.new.walk.joins) look.content body_here))
     c.own_tree.ensures.told
 
 pub node-returns-clause-back : goal.node-returns-clause-back
@@ -296,7 +351,7 @@ over_values-returns-clause-told t c =
     let x = c.args.x in
     on_ok_weaker c.put-2.result
     (λ q xs ready worse.
-    branch_told c.args.stage.now.cuts g l.number b.store.box (scope_number c.args.stage.now.horizon) xs c.args.walk.now.left c.cases.new.walk.left c.args.walk.now.lines c.put.new.self c.cases.new.walk.lines c.put-2.new.self c.cases.new.walk.joins x c.requires.going.within.here.full c.requires.own c.requires.free
+    branch_told c.args.stage.now.cuts (outdoes g l.number c.args.stage.now.rival) g l.number b.store.box (scope_number c.args.stage.now.horizon) xs c.args.walk.now.left c.cases.new.walk.left c.args.walk.now.lines c.put.new.self c.cases.new.walk.lines c.put-2.new.self c.cases.new.walk.joins x c.requires.going.within.here.full c.requires.own c.requires.free
     (place_fits x.0 l.stop (length g.variables) c.requires.var l.stop_within c.known.ensures.few_variables) c.requires.going.closed c.requires.going.within.fixed worse c.in_ok-put.ensures.put q (c.in_ok-cases.ensures.told xs ready))
     c.put-2.ensures.put
 
@@ -313,7 +368,7 @@ own_tree-returns-clause-told t c =
     let same = (c.undo_to.ensures.back b.store (sym c.mark-mark.ensures.at) follows).0 in
     let pruned = subst (λ ss. IsPruned g i b.store.box c.close.new.self.store.box [] ss) (sym c.items.ensures) (subst (λ ss. IsPruned g i b.store.box c.close.new.self.store.box ss c.close.new.steps) c.new-steps.ensures c.close.ensures.pruned) in
     λ few sees.
-    node_ended c.args.stage.now.cuts g i (scope_number c.args.stage.now.horizon) c.known.ensures l.is_scope b.store.box c.undo_to.new.self.store.box same numbers c.args.stage.now.ahead sees c.args.walk.now.left c.part.new.walk.left c.verdict.new.walk.left c.args.walk.now.lines c.part.new.walk.lines c.verdict.new.walk.lines
+    node_ended c.args.stage.now.cuts (outdoes g i c.args.stage.now.rival) g i (scope_number c.args.stage.now.horizon) c.known.ensures l.is_scope b.store.box c.undo_to.new.self.store.box same numbers c.args.stage.now.ahead (rival_outdoes g i c.args.stage.now.rival c.args.stage.now.rivalled) sees c.args.walk.now.left c.part.new.walk.left c.verdict.new.walk.left c.args.walk.now.lines c.part.new.walk.lines c.verdict.new.walk.lines
     c.clear.new.self c.part.new.walk.joins c.verdict.new.walk.joins _ c.clear.ensures.stands few (λ ready. c.in_ok-part.ensures.told b.store.box [] [] (pruned_told g i b.store.box c.close.new.self.store.box c.items.result.now pruned) ready) c.verdict.ensures.verdict c.verdict.ensures.joins c.verdict.ensures.lines c.verdict.ensures.left
 
 pub part-returns-in-Empty-clause-told : goal.part-returns-in-Empty-clause-told
@@ -325,8 +380,8 @@ part-returns-in-Empty-clause-told t c =
     let none_left : has_empty left_box ≡ true = subst (λ (a : Closed). GoesOn a g l.number c.args.x c.args.walk.now.remains) c.in-Empty.is c.requires.goes in
     on_ok_weaker c.put.result
     (λ q box before ms stepped ready.
-    part_told c.args.stage.now.cuts g l.number box left_box h before ms c.args.walk.now.left c.args.walk.now.left c.args.walk.now.lines c.put_steps.new.lines c.put.new.self c.args.walk.now.joins c.args.steps.now stepped c.in_ok-put_steps.ensures
-    (empty_told c.args.stage.now.cuts g l.number left_box h (before ++ seen_bounds ms) c.args.walk.now.left c.put_steps.new.lines c.args.walk.now.joins ready c.put.new.self none_left q))
+    part_told c.args.stage.now.cuts (outdoes g l.number c.args.stage.now.rival) g l.number box left_box h before ms c.args.walk.now.left c.args.walk.now.left c.args.walk.now.lines c.put_steps.new.lines c.put.new.self c.args.walk.now.joins c.args.steps.now stepped c.in_ok-put_steps.ensures
+    (empty_told c.args.stage.now.cuts (outdoes g l.number c.args.stage.now.rival) g l.number left_box h (before ++ seen_bounds ms) c.args.walk.now.left c.put_steps.new.lines c.args.walk.now.joins ready c.put.new.self none_left q))
     c.put.ensures.put
 
 pub part-returns-in-Open-clause-told : goal.part-returns-in-Open-clause-told
@@ -338,7 +393,7 @@ part-returns-in-Open-clause-told t c =
     on_ok_weaker c.within.result
     (λ told box before ms stepped ready.
     let worse = subst (λ ns. has_no_worse (tracked_at g l.number) ns left_box ≡ true) (sym (firsts_marks before ms)) stepped.worse in
-    part_told c.args.stage.now.cuts g l.number box left_box h before ms c.args.walk.now.left c.within.new.walk.left c.args.walk.now.lines c.put_steps.new.lines c.within.new.walk.lines c.within.new.walk.joins c.args.steps.now stepped c.in_ok-put_steps.ensures
+    part_told c.args.stage.now.cuts (outdoes g l.number c.args.stage.now.rival) g l.number box left_box h before ms c.args.walk.now.left c.within.new.walk.left c.args.walk.now.lines c.put_steps.new.lines c.within.new.walk.lines c.within.new.walk.joins c.args.steps.now stepped c.in_ok-put_steps.ensures
     (told (before ++ seen_bounds ms) ready worse))
     c.within.ensures.told
 
@@ -364,5 +419,5 @@ with_value-returns-clause-told t c =
     let left = subst (λ m. IsReady g l.number c.args.walk.now.joins (2 + 2 * m) before) (sym c.narrow.ensures.left) ready in
     let again = ready_after g l.number box c.narrow.new.walk.remains.store.box c.args.walk.now.joins joins c.narrow.new.walk.left before c.narrow.new.steps n left in
     let part = c.in_ok-part.ensures.told box before n.ms stepped again in
-    let turns = subst (λ m. PartTold c.args.stage.now.cuts g l.number box h before n.ms m c.part.new.walk.left c.narrow.new.walk.lines c.part.new.walk.lines c.part.new.walk.joins) c.narrow.ensures.left part in
-    record { ms = n.ms; part = subst (λ ls. PartTold c.args.stage.now.cuts g l.number box h before n.ms c.args.walk.now.left c.part.new.walk.left ls c.part.new.walk.lines c.part.new.walk.joins) c.narrow.ensures.lines turns }
+    let turns = subst (λ m. PartTold c.args.stage.now.cuts (outdoes g l.number c.args.stage.now.rival) g l.number box h before n.ms m c.part.new.walk.left c.narrow.new.walk.lines c.part.new.walk.lines c.part.new.walk.joins) c.narrow.ensures.left part in
+    record { ms = n.ms; part = subst (λ ls. PartTold c.args.stage.now.cuts (outdoes g l.number c.args.stage.now.rival) g l.number box h before n.ms c.args.walk.now.left c.part.new.walk.left ls c.part.new.walk.lines c.part.new.walk.joins) c.narrow.ensures.lines turns }

@@ -18,7 +18,7 @@ returns-then-is_here-clause-told c =
     let b = c.args.walk.now.remains in
     let declared = subst (λ (f : Game). is_box_of f b.store.box ≡ true) c.requires.here.game c.known-2.ensures.declared in
     let numbers : list_all is_number (position g c.args.number b.store.box) ≡ true = read_numbers g b.store.box (before g c.args.number) c.known.ensures.domains declared c.requires.here.full in
-    λ cuts. lost_there cuts g c.args.number _ c.requires.scope c.known.ensures b.store.box numbers (sym c.is_here.ensures ∙ c.if-is_here.true) c.args.walk.now.left c.args.walk.now.lines c.put.new.self c.args.walk.now.joins c.in_ok-put.ensures.put
+    λ cuts above. lost_there cuts above g c.args.number _ c.requires.scope c.known.ensures b.store.box numbers (sym c.is_here.ensures ∙ c.if-is_here.true) c.args.walk.now.left c.args.walk.now.lines c.put.new.self c.args.walk.now.joins c.in_ok-put.ensures.put
 
 pub returns-clause-told : goal.returns-clause-told
 returns-clause-told c =
@@ -29,4 +29,4 @@ returns-clause-told c =
     let numbers : list_all is_number (position g c.args.number b.store.box) ≡ true = read_numbers g b.store.box (before g c.args.number) c.known.ensures.domains declared c.requires.here.full in
     let holds = c.goal_holds-holds.result in
     let v = c.goal.ensures.verdict ∙ (ap (λ (f : Game). goal_verdict f holds (demands f (length f.scopes)) c.all_values-values.result.now) c.requires.joins ∙ ap (goal_verdict g holds (demands g n)) (c.all_values-values.ensures g (subst (λ k. IsEntered g k b) c.requires.scope c.requires.here))) in
-    λ cuts. goal_there cuts g c.args.number _ c.requires.scope c.known.ensures b.store.box numbers (sym c.is_here.ensures ∙ c.if-is_here.false) c.args.walk.now.left c.args.walk.now.lines c.put-2.new.self c.goal.new.self _ holds c.goal_holds-holds.ensures v c.in_ok-put-2.ensures.put
+    λ cuts above. goal_there cuts above g c.args.number _ c.requires.scope c.known.ensures b.store.box numbers (sym c.is_here.ensures ∙ c.if-is_here.false) c.args.walk.now.left c.args.walk.now.lines c.put-2.new.self c.goal.new.self _ holds c.goal_holds-holds.ensures v c.in_ok-put-2.ensures.put

@@ -20,4 +20,4 @@ returns-clause-told c =
     let declared = subst (λ (f : Game). is_box_of f b.store.box ≡ true) c.requires.here.game c.known-2.ensures.declared in
     let numbers : list_all is_number (position g i b.store.box) ≡ true = read_numbers g b.store.box (before g i) c.known.ensures.domains declared c.requires.here.full in
     let v = c.stuck-found.ensures.verdict ∙ (ap (λ (f : Game). stuck_of (drop i f.scopes) f (demands f i) c.values_before-values.result.now) c.requires.joins ∙ ap (stuck_of (drop i g.scopes) g (demands g i)) c.values_before-values.ensures) in
-    λ cuts h f. stuck_told cuts g i h c.known.ensures b.store.box numbers f c.args.walk.now.left c.args.walk.now.lines c.put.new.self c.clear.new.self _ (ap (verdict_of c.stuck-found.result) c.clear.ensures.out ∙ v) c.in_ok-put.ensures.put (λ s. c.clear.ensures.stands)
+    λ cuts above h f. stuck_told cuts above g i h c.known.ensures b.store.box numbers f c.args.walk.now.left c.args.walk.now.lines c.put.new.self c.clear.new.self _ (ap (verdict_of c.stuck-found.result) c.clear.ensures.out ∙ v) c.in_ok-put.ensures.put (λ s. c.clear.ensures.stands)
