@@ -244,7 +244,8 @@ fn against(alloc: Global, fold: Fold, sense: Sense) -> Result<Option<Problem>, A
 fn folds_over_an_opponent(rt: HostRuntime) -> Result<(), Fail> {
     let alloc = rt.alloc();
     // z is x and x + 1 in the two branches. The sum is largest at x = 2: 2 + 3; so is the least: 2. The greatest is
-    // smallest at x = 0: 1. All cases are gone into: 3 of x, 2 of y for each; closing leaves one z: 9.
+    // smallest at x = 0: 1. There are 3 cases of x, 2 of y for each, and closing leaves one z: 9. For the greatest fewer do,
+    // since from x = 1 on the first y alone gives no better than x = 0 has.
     let rows = [
         (Fold::Sum, Sense::Max, 5),
         (Fold::Least(9), Sense::Max, 2),
