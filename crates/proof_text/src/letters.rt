@@ -185,6 +185,7 @@ fn open_two(nesting: u16, byte: u8) -> Opened
     case_letter(Version::Two, nesting, byte)
 }
 
+#[inline(always)]
 pub(crate) fn open_branch(version: Version, nesting: u16, byte: u8) -> Opened
     requires limit { nesting ≤ 1000 }
     requires goes_on { byte ≡ 46 → ⊥ }

@@ -68,6 +68,7 @@ fn optimum(text: &[u8]) -> Result<(Option<i64>, &[u8]), PartFault>
 }
 
 // A variable and a range of its values.
+#[inline(always)]
 pub(crate) fn removed(text: &[u8], end: u8) -> Result<((VarId, i64, i64), &[u8]), PartFault>
     requires { end < 48 }
     ensures ok { IfOk result (λ r. (text.now ≡ 32 ∷ (place_text r.0.0.0 ++ 32 ∷ (signed_decimal r.0.1 ++ 32 ∷ (signed_decimal r.0.2 ++ end ∷ r.1.now))))

@@ -67,6 +67,7 @@ fn digits(text: &[u8], first: u64, most: u64, end: u8) -> Result<(u64, &[u8]), P
 }
 
 // A number from 1, and the byte after it.
+#[inline(always)]
 pub(crate) fn number(text: &[u8], most: u64, end: u8) -> Result<(u64, &[u8]), PartFault>
     requires { (9 ≤ most) × (most ≤ 2 ^ 62) × (end < 48) }
     ensures ok { IfOk result (λ r. (text.now ≡ decimal r.0 ++ end ∷ r.1.now) × (1 ≤ r.0) × (r.0 ≤ most) × Passes (a_number most end ∷ []) text.now r.1.now) }
@@ -89,6 +90,7 @@ pub(crate) fn place(text: &[u8], most: u64, end: u8) -> Result<(u16, &[u8]), Par
 }
 
 // A number at most so far from 0, and the byte after it.
+#[inline(always)]
 pub(crate) fn signed(text: &[u8], most: u64, end: u8) -> Result<(i64, &[u8]), PartFault>
     requires { (9 ≤ most) × (most ≤ 2 ^ 62) × (end < 48) }
     ensures ok { IfOk result (λ r. (text.now ≡ signed_decimal r.0 ++ end ∷ r.1.now) × IsTrue (nat_le (unsigned_abs r.0) most) × Passes (a_signed most end ∷ []) text.now r.1.now) }

@@ -141,6 +141,7 @@ pub(crate) fn go_in(tree: &mut Nested, branch: bool)
 }
 
 // Opens a line by its letter. Of the tree the nesting alone may change.
+#[inline(always)]
 pub(crate) fn open_letter(tree: &mut Nested, place: Place, byte: u8) -> Opened
     requires nesting { tree.old.nesting ≤ 1000 }
     ensures opens { OpensTree tree.new (tree_owes tree.old.version tree.old.levels.marks tree.old.nesting place) byte result }
@@ -158,6 +159,7 @@ pub(crate) fn open_letter(tree: &mut Nested, place: Place, byte: u8) -> Opened
 }
 
 // The letter after a part that has ended: of the deepest open branch, its next case or its end.
+#[inline(always)]
 fn open_after(tree: &mut Nested, byte: u8) -> Opened
     requires nesting { tree.old.nesting ≤ 1000 }
     ensures opens { OpensTree tree.new (tree_owes tree.old.version tree.old.levels.marks tree.old.nesting ClosedPlace) byte result }
