@@ -119,6 +119,33 @@ fn tells_places_in_long_numbers(rt: HostRuntime) -> Result<(), Fail> {
     Ok(())
 }
 
+// How many bytes are left where the first ones are read one by one, and then so many lines whole.
+fn left(text: &[u8], first: usize, count: usize) -> usize {
+    let mut reader = LineReader::new();
+    let mut rest = text;
+    for _ in 0..first {
+        if let Some((byte, after)) = rest.split_first() {
+            let _ = reader.byte(*byte);
+            rest = after;
+        }
+    }
+    for _ in 0..count {
+        if let Some((_, size)) = reader.line(rest) {
+            rest = &rest[size..];
+        }
+    }
+    rest.len()
+}
+
+// Each line of a tree is read whole, but for one whose letter was read or that is cut.
+#[test]
+fn reads_lines_whole(rt: HostRuntime) {
+    assert_eq!(rt; left(EACH, 16, 15), 0);
+    assert_eq!(rt; left(RANGES, 14, 11), 0);
+    assert_eq!(rt; left(EACH, 17, 15), EACH.len() - 17);
+    assert_eq!(rt; left(b"qcert 1\nfalse\nv 1\nb 3 1 1", 14, 2), 7);
+}
+
 // How the bytes of a text are answered.
 #[derive(Drop)]
 struct Answered {
