@@ -1,15 +1,9 @@
 -- A leaf that goes on, as the join and the gathering take it.
-use Rattle.std.proofs.Common.{◌≡◌, ℕ, suc, ◌+◌, ◌≤◌, true, List, [], ◌∷◌, ◌++◌, length, map, sym, ap, ◌∙◌, subst, arith, ℤ}
-use Rattle.std.specs.Prelude.{IsTrue}
-use Rattle.qc_model.specs.declared.problem.Condition.{Condition}
+use Rattle.std.proofs.Common.{◌≡◌, ℕ, suc, ◌+◌, ◌≤◌, List, [], ◌∷◌, ◌++◌, map, sym, subst, arith, ℤ}
 use Rattle.qc_model.specs.Content.{Game}
-use Rattle.qc_model.specs.Verdict.{Verdict, seen_node, is_exact}
-use Rattle.qc_levels.specs.declared.leaves.Found.{Found}
-use Rattle.qc_levels.specs.declared.leaves.Found.TheVariants.{Lost, Exact, AtMost, Unknown}
-use Rattle.qc_levels.specs.Seen.{verdict_of}
+use Rattle.qc_model.specs.Verdict.{Verdict, seen_node}
 use Rattle.qc_joins.specs.declared.joins.Joins.{Joins}
 use Rattle.qc_joins.specs.Joins.{IsLong, LeafFits, StandsAt}
-use Rattle.qc_joins.specs.ScopeJoins.{HasEach}
 use Rattle.qc_joins.specs.Sizes.{IsSized}
 use Rattle.qc_joins.proofs.Sizing.{leaf_fits}
 use Rattle.proof_tree.specs.Finding.{Finding, Leaf, leaf_node, seen_of}
@@ -18,16 +12,6 @@ use Rattle.qc_play.specs.Gathers.{Gathers, IsSameScope}
 use Rattle.qc_play.specs.Walk.{HasSeen}
 use Rattle.qc_play.proofs.Tellings.{seen_more}
 use Rattle.qc_play.proofs.TreeSizes.{node_leaf}
-
--- a vector that was handed out has a value for each entry
-pub exact_each : (f : Found) (v : List ℤ) (d : List Condition) (u : Verdict) → verdict_of f v ≡ u → HasEach d u → IsTrue (is_exact u) → length v ≡ length d
-exact_each f v d u e h k = by f (subst (HasEach d) (sym e) h) (ap is_exact e ∙ k)
-  where
-    by : (f : Found) → HasEach d (verdict_of f v) → is_exact (verdict_of f v) ≡ true → length v ≡ length d
-    by Lost h k = cc
-    by Exact h k = h
-    by (AtMost n) h k = cc
-    by Unknown h k = cc
 
 pub leaf_told : (g : Game) (i : ℕ) (js ks : Joins) (x y : Gathering) (w : List ℤ) (f : Finding) (u : Verdict) (lines n : ℕ) (ls : List Leaf) → HasSeen g i js x n ls → n + suc lines ≤ 4294967296 → IsSameScope x y → IsLong g (suc i) f.verdict → IsSized lines f.verdict → u ≡ f.verdict →
     (LeafFits g i (map seen_of ls) u → StandsAt ks i (map seen_of ls ++ seen_node u ∷ [])) → Gathers y (ls ++ leaf_node w f ∷ []) → HasSeen g i ks y (n + suc lines) (ls ++ leaf_node w f ∷ [])

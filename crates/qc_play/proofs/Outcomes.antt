@@ -6,6 +6,11 @@ pub on_ok : {X E P Q : Type 0} (r : Result X E) → (P → Q) → OnOk r P → O
 on_ok (Ok x) f h = f h
 on_ok (Err e) f h = tt
 
+-- a fact that holds either way
+pub on_each : {X E P : Type 0} (r : Result X E) → P → OnOk r P
+on_each (Ok x) h = h
+on_each (Err e) h = tt
+
 pub if_ok : {X E : Type 0} {P Q : X → Type 0} (r : Result X E) → ((x : X) → P x → Q x) → IfOk r P → IfOk r Q
 if_ok (Ok x) f h = f x h
 if_ok (Err e) f h = tt

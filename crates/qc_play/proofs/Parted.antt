@@ -1,6 +1,7 @@
 -- What is told of a part of a scope's own tree: its removals, and what follows them.
 use Rattle.std.proofs.Common.{◌≡◌, ℕ, suc, ◌+◌, ◌<◌, true, List, [], ◌∷◌, ◌++◌, length, map, drop, refl, sym, subst, arith, Some, length-append}
 use Rattle.std.proofs.lemmas.List.{length-map}
+use Rattle.qc_model.specs.declared.problem.Kind.TheVariants.{Exists}
 use Rattle.qc_model.specs.declared.problem.VarId.{VarId}
 use Rattle.qc_model.specs.Content.{Game}
 use Rattle.qc_model.specs.Demands.{demands}
@@ -23,13 +24,14 @@ use Rattle.proof_tree.specs.Tree.{Tree, Ending, empty, barred, next, branch, Bra
 use Rattle.line_check.specs.Tracking.{tracked_at}
 use Rattle.line_check.proofs.LedgerTurns.{map_both}
 use Rattle.qc_play.specs.declared.gathering.Gathering.{Gathering}
-use Rattle.qc_play.specs.Gathers.{Gathers}
+use Rattle.qc_play.specs.Gathers.{Gathers, owner_of, wishes_of, count_before}
 use Rattle.qc_play.specs.Walk.{node_finding, end_leaves, part_leaves, pieces_leaves, taken_leaves, marks_seen, HasSeen, Tells}
-use Rattle.qc_play.proofs.Tellings.{tells_none, tells_then, tells_as, tells_alone, gathers_barred, gathers_skipped, gathers_marks}
+use Rattle.qc_play.proofs.QuietLeaves.{gathers_barred, gathers_skipped, gathers_marks}
+use Rattle.qc_play.proofs.Tellings.{tells_none, tells_then, tells_as, tells_alone}
 use Rattle.qc_play.proofs.TreeSizes.{box_numbers, marks_fit, node_next}
 
 -- no leaf so far
-pub seen_none : (g : Game) (i : ℕ) (js : Joins) (x : Gathering) → StandsAt js i [] → Gathers x [] → kind_at g i ≡ Some x.kind → x.wishes.now ≡ demands g (suc i) → x.before ≡ before g i → HasSeen g i js x 0 []
+pub seen_none : (g : Game) (i : ℕ) (js : Joins) (x : Gathering) → StandsAt js i [] → Gathers x [] → kind_at g i ≡ Some (owner_of x) → (owner_of x ≡ Exists → wishes_of x ≡ demands g (suc i)) → count_before x ≡ before g i → HasSeen g i js x 0 []
 seen_none g i js x stands gathers kind wishes place = record { stands = stands; gathers = gathers; sizes = λ k. omega arith; kind = kind; wishes = wishes; place = place }
 
 -- other joins that stand for the same

@@ -1,7 +1,8 @@
 -- What is shown where a scope's own tree ends.
-use Rattle.std.proofs.Common.{◌≡◌, ℕ, suc, ◌<◌, arith, true, List, length, map, take, drop, sym, ap, ◌∙◌, subst, ℤ, Some, Option}
+use Rattle.std.proofs.Common.{◌≡◌, ℕ, suc, ◌<◌, arith, true, List, length, map, take, drop, refl, sym, ap, ◌∙◌, subst, ℤ, Some, ◌∷◌}
 use Rattle.std.proofs.lemmas.List.{length-map, length-take-le}
-use Rattle.qc_model.specs.declared.problem.Condition.{Condition}
+use Rattle.qc_model.specs.declared.problem.Kind.TheVariants.{Exists}
+use Rattle.qc_model.specs.declared.problem.Scope.{Scope}
 use Rattle.qc_model.specs.Content.{Game}
 use Rattle.qc_model.specs.Demands.{demands, demands_after}
 use Rattle.qc_model.specs.Domains.{Box, declared_box, least_value}
@@ -19,11 +20,12 @@ use Rattle.proof_tree.specs.Place.{list_after, position}
 use Rattle.qc_meaning.specs.Answered.{IsAnswered}
 use Rattle.line_check.proofs.LedgerClosing.{scope_is}
 use Rattle.qc_play.specs.declared.gathering.Gathering.{Gathering}
-use Rattle.qc_play.specs.declared.gathering.Trees.{Trees}
+use Rattle.qc_play.specs.declared.gathering.Gathering.TheVariants.{Player, Opponent}
 use Rattle.qc_play.specs.declared.shown.Shown.{Shown}
-use Rattle.qc_play.specs.Gathers.{Gathers, IsOver, ShowsTrees}
+use Rattle.qc_play.specs.Gathers.{Gathers, IsAtScope, owner_of, wishes_of, count_before}
 use Rattle.qc_play.specs.Shown.{Shows}
 use Rattle.qc_play.proofs.AtLevels.{first_scope}
+use Rattle.qc_play.proofs.Finished.{IsShown}
 use Rattle.qc_play.proofs.TreeSizes.{list_next}
 
 -- as many values as variables
@@ -33,23 +35,20 @@ position_length g i box d =
     let most = before-le g i in
     length-map (take (before g i) box) least_value ∙ length-take-le (before g i) box (omega (arith, size, most))
 
-module _ (g : Game) (i : ℕ) (x : Gathering) (found : Found) (trees : Trees) (a v : List ℤ) (ls : List Leaf) (valid : IsValid g) (inside : i < length g.scopes) (kind : kind_at g i ≡ Some x.kind) where
-  pub scope_shows : Gathers x ls → length a ≡ x.before → x.wishes.now ≡ demands g (suc i) → verdict_of found v ≡ verdict_at g i a (map seen_of ls) → IsAnswered (drop i g.scopes) g i a ls →
-      ((own : Option Condition) (d : List Condition) → IsOver x found g i own d a ls v → ShowsTrees (kind_finding x.kind own g i d a ls) trees) →
-      Shows (scope_finding (drop i g.scopes) g i (demands g i) a ls) v (record { found = found; plan = trees.plan; counter = trees.counter })
-  scope_shows gathers place wishes verdict answered shows =
-      let s : Shown = record { found = found; plan = trees.plan; counter = trees.counter } in
-      let f = first_scope g.scopes i x.kind kind in
+module _ (g : Game) (i : ℕ) (x : Gathering) (a : List ℤ) (ls : List Leaf) (valid : IsValid g) (inside : i < length g.scopes) (kind : kind_at g i ≡ Some (owner_of x)) (wishes : owner_of x ≡ Exists → wishes_of x ≡ demands g (suc i)) (answered : IsAnswered (drop i g.scopes) g i a ls) where
+  -- the gathering was made for this scope
+  at_scope : (y : Gathering) → y ≡ x → (s : Scope) (later : List Scope) → drop i g.scopes ≡ s ∷ later → s.kind ≡ owner_of y → IsAtScope y g s.condition i (demands g i) a ls
+  at_scope (Player p) e s later split q =
+      ap (λ k. demands_after g k s.condition (demands g i)) (sym q)
+      ∙ (ap (λ ss. list_after g ss (demands g i)) (sym split) ∙ (list_next g i inside ∙ (sym (wishes (sym (ap owner_of e))) ∙ sym (ap wishes_of e))))
+  at_scope (Opponent p) e s later split q = (valid, subst (λ ss. IsAnswered ss g i a ls) split answered q)
+
+  -- so it shows what the scope comes to
+  pub scope_shows : (s : Shown) (found : Found) (v : List ℤ) → length a ≡ count_before x → Gathers x ls → verdict_of found v ≡ verdict_at g i a (map seen_of ls) → IsShown x found s → Shows (scope_finding (drop i g.scopes) g i (demands g i) a ls) v s
+  scope_shows s found v place gathers verdict shown =
+      let f = first_scope g.scopes i (owner_of x) kind in
       let own = f.scope.condition in
       let d = demands g i in
-      let e : scope_finding (drop i g.scopes) g i d a ls ≡ kind_finding x.kind own g i d a ls = ap (λ ss. scope_finding ss g i d a ls) f.split ∙ ap (λ k. kind_finding k own g i d a ls) f.kind in
-      let right : verdict_of found v ≡ (kind_finding x.kind own g i d a ls).verdict = verdict ∙ (scope_is (drop i g.scopes) g i d a ls ∙ ap (λ (h : Finding). h.verdict) e) in
-      let t = shows own d (record {
-        valid = valid;
-        gathers = gathers;
-        place = place;
-        wishes = ap (λ k. demands_after g k own d) (sym f.kind) ∙ (ap (λ ss. list_after g ss d) (sym f.split) ∙ (list_next g i inside ∙ sym wishes));
-        verdict = right;
-        answered = λ q. subst (λ ss. IsAnswered ss g i a ls) f.split answered (f.kind ∙ q);
-      }) in
-      subst (λ h. Shows h v s) (sym e) (record { verdict = right; plan = t.plan; counter = t.counter })
+      let e : scope_finding (drop i g.scopes) g i d a ls ≡ kind_finding (owner_of x) own g i d a ls = ap (λ ss. scope_finding ss g i d a ls) f.split ∙ ap (λ k. kind_finding k own g i d a ls) f.kind in
+      let right : verdict_of found v ≡ (kind_finding (owner_of x) own g i d a ls).verdict = verdict ∙ (scope_is (drop i g.scopes) g i d a ls ∙ ap (λ (h : Finding). h.verdict) e) in
+      subst (λ u. Shows u v s) (sym e) (shown g own i d a v ls place (at_scope x refl f.scope f.later f.split f.kind) gathers right)

@@ -1,6 +1,5 @@
--- What is read at a root that is stuck, or the goal.
-use Rattle.std.proofs.Common.{◌≡◌, ◌∙◌, [], ◌∷◌, List, ap, refl, Some, ℤ}
-use Rattle.std.specs.Prelude.{slice_get}
+-- What is shown where a scope's owner is stuck.
+use Rattle.std.proofs.Common.{◌≡◌, [], ◌∷◌, List, refl, ℤ}
 use Rattle.qc_model.specs.declared.problem.Kind.{Kind}
 use Rattle.qc_model.specs.declared.problem.Kind.TheVariants.{Exists, Forall}
 use Rattle.qc_model.specs.declared.problem.Condition.{Condition}
@@ -24,13 +23,3 @@ plan_is (s ∷ ss) g d a = kind_plan s.kind g d a
 pub counter_is : (ss : List Scope) (g : Game) (d : List Condition) (a : List ℤ) → stuck_counterstrategy ss ≡ (stuck_finding ss g d a).counter
 counter_is [] g d a = refl
 counter_is (s ∷ ss) g d a = kind_counter s.kind g d a
-
-first_is : (ss : List Scope) (s : Scope) → slice_get ss 0 ≡ Some s → (later : List Scope) × (ss ≡ s ∷ later)
-first_is [] s e = cc
-first_is (x ∷ ss) s e = let h : x ≡ s = cc in (ss, ap (λ y. y ∷ ss) h)
-
-pub first_plan : (ss : List Scope) (s : Scope) (k : Kind) → slice_get ss 0 ≡ Some s → s.kind ≡ k → stuck_strategy ss ≡ nothing_answered Forall k
-first_plan ss s k e q = let f = first_is ss s e in ap stuck_strategy f.1 ∙ ap (nothing_answered Forall) q
-
-pub first_counter : (ss : List Scope) (s : Scope) (k : Kind) → slice_get ss 0 ≡ Some s → s.kind ≡ k → stuck_counterstrategy ss ≡ nothing_answered Exists k
-first_counter ss s k e q = let f = first_is ss s e in ap stuck_counterstrategy f.1 ∙ ap (nothing_answered Exists) q

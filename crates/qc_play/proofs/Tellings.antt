@@ -1,12 +1,12 @@
 -- What is told of leaves, one part after the other.
-use Rattle.std.proofs.Common.{◌≡◌, ℕ, ◌+◌, ◌≤◌, List, [], ◌∷◌, ◌++◌, map, refl, sym, ap, ◌∙◌, subst, arith, ℤ, Some, append_assoc, append-nil, add-zero}
+use Rattle.std.proofs.Common.{◌≡◌, ℕ, ◌+◌, ◌≤◌, List, [], ◌++◌, map, refl, sym, ap, ◌∙◌, subst, arith, Some, append_assoc, append-nil, add-zero}
 use Rattle.qc_model.specs.Content.{Game}
 use Rattle.qc_model.specs.Verdict.{Seen}
 use Rattle.qc_joins.specs.Joins.{StandsAt}
 use Rattle.qc_joins.specs.Sizes.{HasSizes}
 use Rattle.qc_joins.proofs.Sizing.{sizes_both}
 use Rattle.qc_joins.specs.declared.joins.Joins.{Joins}
-use Rattle.proof_tree.specs.Finding.{Leaf, leaf_barred, leaf_skipped, leaf_bound, seen_of}
+use Rattle.proof_tree.specs.Finding.{Leaf, seen_of}
 use Rattle.line_check.proofs.Leaves.{seen-append}
 use Rattle.qc_play.specs.declared.gathering.Gathering.{Gathering}
 use Rattle.qc_play.specs.Gathers.{Gathers, IsSameScope}
@@ -48,31 +48,14 @@ seen_more g i js ks x y n k ls ms h same stands gathers fits = record {
   stands = subst (StandsAt ks i) (sym (seen-append ls ms)) stands;
   gathers = gathers;
   sizes = subst (HasSizes (n + k)) (sym (seen-append ls ms)) (sizes_both n k (map seen_of ls) (map seen_of ms) h.sizes fits.sizes);
-  kind = h.kind ∙ ap Some (sym same.kind);
-  wishes = same.wishes ∙ h.wishes;
+  kind = h.kind ∙ ap Some (sym same.owner);
+  wishes = λ e. same.wishes ∙ h.wishes (sym same.owner ∙ e);
   place = same.before ∙ h.place;
 }
 
 same_scope : (x : Gathering) → IsSameScope x x
-same_scope x = record { kind = refl; wishes = refl; before = refl }
+same_scope x = record { owner = refl; wishes = refl; before = refl }
 
 -- leaves that don't go on
 pub tells_alone : (g : Game) (i : ℕ) (js ks : Joins) (x : Gathering) (k : ℕ) (ms : List Leaf) → ((xs : List Seen) → StandsAt js i xs → StandsAt ks i (xs ++ map seen_of ms)) → ((ls : List Leaf) → Gathers x ls → Gathers x (ls ++ ms)) → LeavesFit g i k ms → Tells g i js x ks x k ms
 tells_alone g i js ks x k ms stands gathers fits n ls few h = seen_more g i js ks x x n k ls ms h (same_scope x) (stands (map seen_of ls) h.stands) (gathers ls h.gathers) fits
-
--- STUB: these three come with the gathering
-pub gathers_barred : (x : Gathering) (ls : List Leaf) → Gathers x ls → Gathers x (ls ++ leaf_barred ∷ [])
-unfolding Gathers
-gathers_barred x ls h = tt
-
-pub gathers_skipped : (x : Gathering) (ls : List Leaf) → Gathers x ls → Gathers x (ls ++ leaf_skipped ∷ [])
-unfolding Gathers
-gathers_skipped x ls h = tt
-
-pub gathers_bound : (x : Gathering) (ls : List Leaf) (m : ℤ) → Gathers x ls → Gathers x (ls ++ leaf_bound m ∷ [])
-unfolding Gathers
-gathers_bound x ls m h = tt
-
-pub gathers_marks : (x : Gathering) (ls : List Leaf) (ms : List ℤ) → Gathers x ls → Gathers x (ls ++ map leaf_bound ms)
-gathers_marks x ls [] h = subst (Gathers x) (sym (append-nil ls)) h
-gathers_marks x ls (m ∷ ms) h = subst (Gathers x) (append_assoc ls (leaf_bound m ∷ []) (map leaf_bound ms)) (gathers_marks x (ls ++ leaf_bound m ∷ []) ms (gathers_bound x ls m h))

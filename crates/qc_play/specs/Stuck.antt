@@ -1,4 +1,4 @@
--- What is read where the first of the scopes has an owner who is stuck.
+-- What is shown where the first of the scopes has an owner who is stuck.
 use Rattle.std.specs.Prelude.{List, [], ◌∷◌}
 use Rattle.qc_model.specs.declared.problem.Kind.{Kind}
 use Rattle.qc_model.specs.declared.problem.Kind.TheVariants.{Exists, Forall}

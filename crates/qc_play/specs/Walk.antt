@@ -1,6 +1,7 @@
 -- A walk over a certificate's tree: where it stands, which trees it may read, and what it tells of their leaves.
 use Rattle.std.specs.Prelude.{◌≡◌, ◌+◌, ◌≤◌, ◌<◌, ◌&&◌, ℕ, suc, Bool, true, false, Some, Option, List, ◌++◌, length, map, drop}
 use Rattle.std.specs.List.{list_all}
+use Rattle.qc_model.specs.declared.problem.Kind.TheVariants.{Exists}
 use Rattle.qc_model.specs.Content.{Game}
 use Rattle.qc_model.specs.Demands.{demands}
 use Rattle.qc_model.specs.Domains.{Box, Values, has_empty}
@@ -25,7 +26,7 @@ use Rattle.qc_meaning.specs.Answered.{Answered, EndingAnswered, BranchesAnswered
 use Rattle.qc_play.specs.declared.gathering.Gathering.{Gathering}
 use Rattle.qc_play.specs.declared.tables.Tables.{Tables}
 use Rattle.qc_play.specs.declared.walk.Walk.{Walk}
-use Rattle.qc_play.specs.Gathers.{Gathers}
+use Rattle.qc_play.specs.Gathers.{Gathers, owner_of, wishes_of, count_before}
 
 abbrev pub game_of : Tables → Game
 game_of t = t.levels.problem.now
@@ -116,9 +117,9 @@ pub record HasSeen (g : Game) (i : ℕ) (js : Joins) (x : Gathering) (n : ℕ) (
   pub stands : StandsAt js i (map seen_of ls)
   pub gathers : Gathers x ls
   pub sizes : HasSizes n (map seen_of ls)
-  pub kind : kind_at g i ≡ Some x.kind
-  pub wishes : x.wishes.now ≡ demands g (suc i)
-  pub place : x.before ≡ before g i
+  pub kind : kind_at g i ≡ Some (owner_of x)
+  pub wishes : owner_of x ≡ Exists → wishes_of x ≡ demands g (suc i)
+  pub place : count_before x ≡ before g i
 
 -- so many lines more were walked, and these leaves seen
 abbrev pub Tells : Game → ℕ → Joins → Gathering → Joins → Gathering → ℕ → List Leaf → Type 0

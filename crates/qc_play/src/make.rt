@@ -6,9 +6,9 @@ ghost use Rattle.qc_play.specs.Made.{MakesPlan, MakesCounter};
 use crate::counter::Counter;
 use crate::judged::{judged, shows_lost, shows_won};
 use crate::plan::Plan;
-use crate::reading::{read_counter, read_plan};
+use crate::root::{counter_of_root, plan_of_root};
 use proof_tree::{Certificate, Outcome};
-use qc_meaning::outcomes_are_true;
+use qc_meaning::{outcomes_are_true, trees_answer_all_tuples};
 use qc_model::Problem;
 use std::alloc::{AllocError, Global};
 
@@ -23,13 +23,14 @@ fn won_plan(
 {
     problem.known();
     outcomes_are_true();
+    trees_answer_all_tuples();
     let Some(answer) = judged(alloc, problem, &cert.root)? else {
         return Ok(None);
     };
     if !shows_won(problem, answer, cert.optimum) {
         return Ok(None);
     }
-    let plan = read_plan(alloc, problem, &cert.root)?;
+    let plan = plan_of_root(alloc, problem, &cert.root)?;
     Ok(Some(plan))
 }
 
@@ -44,22 +45,22 @@ fn lost_counter(
 {
     problem.known();
     outcomes_are_true();
+    trees_answer_all_tuples();
     let Some(answer) = judged(alloc, problem, &cert.root)? else {
         return Ok(None);
     };
     if !shows_lost(answer, cert.optimum) {
         return Ok(None);
     }
-    let counter = read_counter(alloc, problem, &cert.root)?;
+    let counter = counter_of_root(alloc, problem, &cert.root)?;
     Ok(Some(counter))
 }
 
 /// The strategy that a certificate shows, which is optimal. None comes exactly where the certificate doesn't prove what
 /// it states, or doesn't state that the game is won.
 ///
-/// It fails where memory runs out, and as if it had: for trees of more than 2^32 lines, for one with a horizon at a scope
-/// that no game has, and, since a scope's own tree isn't read yet, wherever there is a strategy and the tree's root is no
-/// goal and not stuck.
+/// It fails only where memory runs out, and as if it had for a tree of more than 2^32 lines, or with a horizon at a scope
+/// that no game has.
 pub fn make_plan(
     alloc: Global,
     problem: &Problem,

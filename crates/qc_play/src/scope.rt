@@ -1,5 +1,6 @@
 //! Where a scope's own tree begins and ends, and where it goes on with a tuple.
 ghost use Rattle.std.specs.Prelude.{◌≡◌, ◌<◌, ◌∷◌, [], ℕ, suc, List, Some, true, false, length, drop, OnOk, IfOk};
+ghost use Rattle.qc_model.specs.declared.problem.Kind.TheVariants.{Exists as ByPlayer};
 ghost use Rattle.qc_model.specs.Demands.{demands};
 ghost use Rattle.qc_model.specs.Domains.{declared_box, has_empty};
 ghost use Rattle.qc_model.specs.Game.{before};
@@ -10,7 +11,7 @@ ghost use Rattle.qc_joins.specs.Sizes.{IsSized};
 ghost use Rattle.proof_tree.specs.Finding.{Finding, Leaf, leaf_node, scope_finding};
 ghost use Rattle.proof_tree.specs.Place.{is_fixed, position};
 ghost use Rattle.qc_meaning.specs.Answered.{IsAnswered};
-ghost use Rattle.qc_play.specs.Gathers.{Gathers};
+ghost use Rattle.qc_play.specs.Gathers.{Gathers, owner_of, wishes_of, count_before};
 ghost use Rattle.qc_play.specs.Shown.{Shows};
 ghost use Rattle.qc_play.specs.Walk.{game_of, IsWithin, IsBack, HasSeen, Tells};
 
@@ -29,9 +30,9 @@ impl<'p> Tables<'p> {
         requires lists { HasLists (game_of self.now) self.now.demands }
         requires scope { i.0 < length (game_of self.now).scopes }
         ensures none { Gathers result [] }
-        ensures kind { kind_at (game_of self.now) i.0 ≡ Some result.kind }
-        ensures wishes { result.wishes.now ≡ demands (game_of self.now) (suc i.0) }
-        ensures place { result.before ≡ before (game_of self.now) i.0 }
+        ensures kind { kind_at (game_of self.now) i.0 ≡ Some (owner_of result) }
+        ensures wishes { owner_of result ≡ ByPlayer → wishes_of result ≡ demands (game_of self.now) (suc i.0) }
+        ensures place { count_before result ≡ before (game_of self.now) i.0 }
     {
         self.levels.problem.known();
         let level = self.levels.level(i);
@@ -73,12 +74,7 @@ impl<'p> Walk<'p> {
         tables.levels.problem.known();
         let level = tables.levels.level(i);
         let found = self.joins.finish(i, &self.values[..level.from]);
-        let trees = leaves.finish(found)?;
-        Ok(Shown {
-            found,
-            plan: trees.plan,
-            counter: trees.counter,
-        })
+        leaves.finish(found)
     }
 
     /// Reads the tuple of scope i, of which each variable has one value left.

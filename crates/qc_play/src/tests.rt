@@ -103,6 +103,43 @@ fn too_much_asked(alloc: Global) -> Result<Option<Problem>, AllocError> {
     Ok(build(draft))
 }
 
+fn zero_or_one(alloc: Global, name: &str, scope: ScopeId) -> Result<Variable, AllocError> {
+    Ok(Variable {
+        name: Name::new(alloc, name)?,
+        scope,
+        domain: Domain::Range(0, 1),
+    })
+}
+
+/// One chooses x from 0 and 1, and then one chooses y; in the end they have to be equal.
+fn equal(alloc: Global, first: Kind, second: Kind) -> Result<Option<Problem>, AllocError> {
+    let mut draft = Draft {
+        scopes: Vec::new(alloc),
+        variables: Vec::new(alloc),
+        aggregates: Vec::new(alloc),
+        constraints: Vec::new(alloc),
+    };
+    draft.scopes.push(Scope {
+        kind: first,
+        condition: None,
+    })?;
+    draft.scopes.push(Scope {
+        kind: second,
+        condition: None,
+    })?;
+    draft.variables.push(zero_or_one(alloc, "x", ScopeId(0))?)?;
+    draft.variables.push(zero_or_one(alloc, "y", ScopeId(1))?)?;
+    let mut args = Vec::new(alloc);
+    args.push(Argument::One(Arg::Var(VarId(0))))?;
+    args.push(Argument::One(Arg::Var(VarId(1))))?;
+    draft.constraints.push(Constraint {
+        owner: ScopeId(2),
+        pred: Pred::IntEq,
+        args,
+    })?;
+    Ok(build(draft))
+}
+
 fn play_plan(
     alloc: Global,
     problem: &Problem,
@@ -173,5 +210,40 @@ fn a_player_who_is_stuck(rt: HostRuntime) -> Result<(), Fail> {
     ))?;
     let other = play_counter(alloc, &problem, &unproved, &[]);
     assert!(rt; is_none(other));
+    Ok(())
+}
+
+// Where the opponent begins, the player takes the same; where the player begins, the opponent takes the other.
+const ANSWERED: [(&[i64], &[u8]); 2] = [
+    (&[0], b"1 forall 0\n2 exists 0\ngoal true\nunused 0\n"),
+    (&[1], b"1 forall 1\n2 exists 1\ngoal true\nunused 0\n"),
+];
+
+const REPLIED: [(&[i64], &[u8]); 2] = [
+    (&[0], b"1 exists 0\n2 forall 1\ngoal false\nunused 0\n"),
+    (&[1], b"1 exists 1\n2 forall 0\ngoal false\nunused 0\n"),
+];
+
+#[test]
+fn choices_stand_in_branches(rt: HostRuntime) -> Result<(), Fail> {
+    let alloc = rt.alloc();
+    let won = equal(alloc, Kind::Forall, Kind::Exists)?.ok_or("no game")?;
+    let same = read_cert(
+        alloc,
+        b"qcert 2\ntrue\nv 1\nn\nv 2\nn\ng\ns\n.\nn\nv 2\ns\nn\ng\n.\n.\n",
+    )
+    .map_err(|_| Fail::from("no certificate"))?;
+    for (moves, text) in ANSWERED {
+        assert!(rt; is_text(play_plan(alloc, &won, &same, moves), text));
+    }
+    let lost = equal(alloc, Kind::Exists, Kind::Forall)?.ok_or("no game")?;
+    let other = read_cert(
+        alloc,
+        b"qcert 2\nfalse\nv 1\nn\nv 2\ns\nn\ng\n.\nn\nv 2\nn\ng\ns\n.\n.\n",
+    )
+    .map_err(|_| Fail::from("no certificate"))?;
+    for (moves, text) in REPLIED {
+        assert!(rt; is_text(play_counter(alloc, &lost, &other, moves), text));
+    }
     Ok(())
 }

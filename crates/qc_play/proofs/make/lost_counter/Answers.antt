@@ -19,11 +19,17 @@ shown c =
     let cert = c.args.cert.now in
     does_lose c.args.problem.now cert.optimum (tree_of cert.root) cert.outcome f (c.in_ok-answer.ensures.right f c.in-Some.is) (sym c.shows_lost.ensures ∙ c.if-not-shows_lost.false)
 
-pub read_counter-requires-clause-placed : goal.read_counter-requires-clause-placed
-read_counter-requires-clause-placed c = (c.in_ok-answer.ensures.right c.in-Some.answer c.in-Some.is).in_place
+pub counter_of_root-requires-clause-placed : goal.counter_of_root-requires-clause-placed
+counter_of_root-requires-clause-placed c = (c.in_ok-answer.ensures.right c.in-Some.answer c.in-Some.is).in_place
 
-pub read_counter-requires-clause-lost : goal.read_counter-requires-clause-lost
-read_counter-requires-clause-lost c = lost_lost c.args.problem.now c.args.cert.now.optimum (tree_of c.args.cert.now.root) c.args.cert.now.outcome (shown c)
+pub counter_of_root-requires-clause-answered : goal.counter_of_root-requires-clause-answered
+counter_of_root-requires-clause-answered c = c.trees_answer_all_tuples.ensures c.args.problem.now (tree_of c.args.cert.now.root) c.known.ensures (c.in_ok-answer.ensures.right c.in-Some.answer c.in-Some.is).in_place
+
+pub counter_of_root-requires-clause-few : goal.counter_of_root-requires-clause-few
+counter_of_root-requires-clause-few c = c.in_ok-answer.ensures.few
+
+pub counter_of_root-requires-clause-lost : goal.counter_of_root-requires-clause-lost
+counter_of_root-requires-clause-lost c = lost_lost c.args.problem.now c.args.cert.now.optimum (tree_of c.args.cert.now.root) c.args.cert.now.outcome (shown c)
 
 pub returns : goal.returns
 returns c =

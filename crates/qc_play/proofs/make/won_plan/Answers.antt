@@ -19,11 +19,17 @@ shown c =
     let cert = c.args.cert.now in
     does_win c.args.problem.now cert.optimum (tree_of cert.root) cert.outcome f (c.in_ok-answer.ensures.right f c.in-Some.is) (sym c.shows_won.ensures ∙ c.if-not-shows_won.false)
 
-pub read_plan-requires-clause-placed : goal.read_plan-requires-clause-placed
-read_plan-requires-clause-placed c = (c.in_ok-answer.ensures.right c.in-Some.answer c.in-Some.is).in_place
+pub plan_of_root-requires-clause-placed : goal.plan_of_root-requires-clause-placed
+plan_of_root-requires-clause-placed c = (c.in_ok-answer.ensures.right c.in-Some.answer c.in-Some.is).in_place
 
-pub read_plan-requires-clause-exact : goal.read_plan-requires-clause-exact
-read_plan-requires-clause-exact c = won_exact c.args.problem.now c.args.cert.now.optimum (tree_of c.args.cert.now.root) c.args.cert.now.outcome (shown c)
+pub plan_of_root-requires-clause-answered : goal.plan_of_root-requires-clause-answered
+plan_of_root-requires-clause-answered c = c.trees_answer_all_tuples.ensures c.args.problem.now (tree_of c.args.cert.now.root) c.known.ensures (c.in_ok-answer.ensures.right c.in-Some.answer c.in-Some.is).in_place
+
+pub plan_of_root-requires-clause-few : goal.plan_of_root-requires-clause-few
+plan_of_root-requires-clause-few c = c.in_ok-answer.ensures.few
+
+pub plan_of_root-requires-clause-exact : goal.plan_of_root-requires-clause-exact
+plan_of_root-requires-clause-exact c = won_exact c.args.problem.now c.args.cert.now.optimum (tree_of c.args.cert.now.root) c.args.cert.now.outcome (shown c)
 
 pub returns : goal.returns
 returns c =

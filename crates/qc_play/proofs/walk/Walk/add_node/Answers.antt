@@ -1,5 +1,4 @@
 use Rattle.std.proofs.Common.{◌≡◌, ◌∙◌, sym, ap, subst, suc, length, map, take, ◌++◌, ◌∷◌, []}
-use Rattle.qc_model.specs.Demands.{demands}
 use Rattle.qc_joins.specs.Joins.{out_of, LeafFits}
 use Rattle.qc_levels.specs.Seen.{verdict_of}
 use Rattle.proof_tree.specs.Finding.{leaf_node, seen_of}
@@ -10,7 +9,7 @@ use Rattle.qc_play.specs.Shown.{Shows}
 use Rattle.qc_play.specs.Walk.{game_of}
 use Rattle.qc_play.proofs.AtLevels.{level_stop}
 use Rattle.qc_play.proofs.Backs.{back_join, within_fewer}
-use Rattle.qc_play.proofs.Leafing.{exact_each, leaf_told}
+use Rattle.qc_play.proofs.Leafing.{leaf_told}
 use Rattle.qc_play.proofs.walk.Walk.add_node.Goals as goal
 
 pub returns-clause-back : goal.returns-clause-back
@@ -33,8 +32,7 @@ returns-clause-tells c = λ f lines shows long sized n ls few seen.
     let values : take l.result.now.stop c.deref.result.now ≡ a =
     ap (take l.result.now.stop) c.deref.ensures.value
     ∙ (ap (λ k. take k w.values.items) (level_stop l.result.now g i l.ensures.problem l.ensures.number) ∙ sym (position_placed g (suc i) w.values.items w.remains.box (h.placed c.requires.full))) in
-    let gathered = c.in_ok-add.ensures.gathers ls f seen.gathers (subst (λ v. Shows f v c.args.shown) (sym handed) shows)
-    (λ e. ap length handed ∙ (exact_each c.args.shown.found (out_of w.joins) (demands g (suc i)) f.verdict shows.verdict long e ∙ sym (ap length seen.wishes))) in
-    leaf_told g i w.joins ks c.args.leaves.now c.add.new.self a f u lines n ls seen few c.in_ok-add.ensures.same long sized shows.verdict
+    let gathered = c.in_ok-add.ensures.leaf ls f seen.gathers (subst (λ v. Shows f v c.args.shown) (sym handed) shows) in
+    leaf_told g i w.joins ks c.args.leaves.now c.add.new.self a f u lines n ls seen few c.add.ensures.scope long sized shows.verdict
     (λ fits. c.add_node.ensures.stands (map seen_of ls) seen.stands (subst (λ v. LeafFits v i (map seen_of ls) u) (sym h.joined) fits))
     (subst (λ v. Gathers c.add.new.self (ls ++ leaf_node v f ∷ [])) values gathered)

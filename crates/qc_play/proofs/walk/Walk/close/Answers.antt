@@ -8,14 +8,15 @@ use Rattle.line_check.proofs.Placing.{position_placed}
 use Rattle.qc_play.specs.Walk.{game_of}
 use Rattle.qc_play.proofs.AtLevels.{level_from}
 use Rattle.qc_play.proofs.Backs.{back_all}
+use Rattle.qc_play.proofs.Outcomes.{on_each, if_ok}
 use Rattle.qc_play.proofs.ScopeEnds.{position_length, scope_shows}
 use Rattle.qc_play.proofs.walk.Walk.close.Goals as goal
 
 pub returns-clause-back : goal.returns-clause-back
-returns-clause-back c = back_all (game_of c.args.tables.now) c.args.i.0 c.args.self.now c.finish-found.new.self c.requires.within c.finish-found.ensures.same c.finish-found.ensures.all
+returns-clause-back c = on_each c.finish.result (back_all (game_of c.args.tables.now) c.args.i.0 c.args.self.now c.finish-found.new.self c.requires.within c.finish-found.ensures.same c.finish-found.ensures.all)
 
 pub returns-clause-shows : goal.returns-clause-shows
-returns-clause-shows c = λ n ls seen answered.
+returns-clause-shows c = if_ok c.finish.result (λ s shown n ls seen answered.
     let g = game_of c.args.tables.now in
     let w = c.args.self.now in
     let i = c.args.i.0 in
@@ -29,5 +30,5 @@ returns-clause-shows c = λ n ls seen answered.
     let verdict =
     c.finish-found.ensures.verdict (map seen_of ls) seen.stands
     ∙ (ap (λ (u : Game). verdict_at u i (take l.result.now.from c.deref.result.now) (map seen_of ls)) h.joined ∙ ap (λ b. verdict_at g i b (map seen_of ls)) values) in
-    scope_shows g i c.args.leaves c.finish-found.result c.in_ok-trees.trees a v ls c.known.ensures c.requires.scope seen.kind seen.gathers (position_length g i w.remains.box h.declared ∙ sym seen.place) seen.wishes verdict answered
-    (λ own d over. c.in_ok-trees.ensures g i own d a ls v over)
+    scope_shows g i c.args.leaves a ls c.known.ensures c.requires.scope seen.kind seen.wishes answered s c.finish-found.result v (position_length g i w.remains.box h.declared ∙ sym seen.place) seen.gathers verdict shown)
+    c.finish.ensures
