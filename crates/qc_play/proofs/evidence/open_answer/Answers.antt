@@ -1,6 +1,5 @@
-use Rattle.std.proofs.Common.{◌≡◌, ◌<◌, ◌-◌, ◌^◌, ◌∙◌, sym, arith}
+use Rattle.std.proofs.Common.{◌<◌, ◌-◌, ◌^◌, ◌∙◌, sym, arith}
 use Rattle.proof_tree.specs.Shape.{tree_of}
-use Rattle.qc_play.proofs.Making.{out_of_place}
 use Rattle.qc_play.proofs.Opened.{not_open, left_open}
 use Rattle.qc_play.proofs.evidence.open_answer.Goals as goal
 

@@ -1,4 +1,4 @@
-use Rattle.std.proofs.Common.{◌≡◌, ◌∙◌, sym, ap, subst, suc, length, map, take, ◌++◌, ◌∷◌, []}
+use Rattle.std.proofs.Common.{◌≡◌, ◌∙◌, sym, ap, subst, suc, map, take, ◌++◌, ◌∷◌, []}
 use Rattle.qc_joins.specs.Joins.{out_of, LeafFits}
 use Rattle.qc_levels.specs.Seen.{verdict_of}
 use Rattle.proof_tree.specs.Finding.{leaf_node, seen_of}
