@@ -22,12 +22,6 @@ module _ (g : Game) (i : ℕ) (w : Walk) (h : IsWithin g w i) where
     pub own_back : IsBack g i w (record b { remains = t })
     own_back = back_then g i w (record w { joins = js }) (record b { remains = t }) (back_join g i w js h same others) (on_undone g i (record w { joins = js }) b t n at on undone content)
 
-    pub own_within : IsWithin g (record b { remains = t }) i
-    own_within = within_back g i w (record b { remains = t }) h own_back
-
-    pub own_full : has_empty w.remains.box ≡ false → has_empty t.box ≡ false
-    own_full f = ap has_empty own_back.box ∙ f
-
   -- a case is walked, and the walk goes back to the branch's box
   module _ (x : ℕ) (first last : ℤ) (s : Held) (kept : s.box ≡ box_within w.remains.box x first last) (follows : Follows w.remains s) (b : Walk) (on : LeadsOn g i (record w { remains = s }) b) where
     pub taken_on : LeadsOn g i w b

@@ -54,9 +54,6 @@ module _ (g : Game) (i : ℕ) where
 
   -- ends
   module _ (js ks : Joins) (x y : Gathering) (e : Ending) (box : Box) where
-    pub empty_told : e ≡ empty → Tells g i js x js x (length (ending_lines e)) (end_leaves g e i box)
-    empty_told q = subst (λ u. Tells g i js x js x (length (ending_lines u)) (end_leaves g u i box)) (sym q) (tells_as g i js js x x 0 1 [] [] (omega arith) refl (tells_none g i js x))
-
     pub barred_told : e ≡ barred → ((xs : List Seen) → StandsAt js i xs → StandsAt ks i (xs ++ seen_barred ∷ [])) → Tells g i js x ks x (length (ending_lines e)) (end_leaves g e i box)
     barred_told q stands =
         subst (λ u. Tells g i js x ks x (length (ending_lines u)) (end_leaves g u i box)) (sym q)

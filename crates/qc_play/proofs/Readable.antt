@@ -74,21 +74,6 @@ module _ (g : Game) (z : Option Horizon) (steps : List Step) (e : Ending) (i : �
   pub own_answered : IsAnswered (drop i g.scopes) g i (position g i box) (part_leaves g steps e i box)
   own_answered = h.answered.0
 
--- its lines are those of the node, without the horizon's
-pub own_lines : (z : Option Horizon) (steps : List Step) (e : Ending) (n : ℕ) → length (tree_lines (tree z (cases steps e))) ≤ n → length steps + length (ending_lines e) ≤ n
-own_lines z steps e n h =
-    let a = length-append (horizon_lines z) (map step_line steps ++ ending_lines e) in
-    let b = length-append (map step_line steps) (ending_lines e) in
-    let c = length-map steps step_line in
-    omega (arith, h, a, b, c)
-
--- a part
-pub part_steps : (g : Game) (steps : List Step) (e : Ending) (i : ℕ) (box : Box) → CanReadPart g steps e i box → steps_fit g steps i box ≡ true
-part_steps g steps e i box h = (both (steps_fit g steps i box) (ending_in_place g e (drop i g.scopes) i (demands g i) (after_steps steps box) h.horizon) h.placed).0
-
-pub part_end : (g : Game) (steps : List Step) (e : Ending) (i : ℕ) (box new : Box) → CanReadPart g steps e i box → new ≡ after_steps steps box → CanReadEnd g e i new
-part_end g steps e i box new h q = subst (CanReadEnd g e i) (sym q) (record { horizon = h.horizon; placed = (both (steps_fit g steps i box) (ending_in_place g e (drop i g.scopes) i (demands g i) (after_steps steps box) h.horizon) h.placed).1; answered = h.answered })
-
 -- the node after a tuple
 module _ (g : Game) (t : Tree) (i : ℕ) (box : Box) (h : CanReadEnd g (next t) i box) where
   next_parts : (has_empty box ≡ false) × (is_fixed g i box ≡ true) × (in_place g t (next_scopes (drop i g.scopes)) (suc i) (list_after g (drop i g.scopes) (demands g i)) box h.horizon ≡ true)

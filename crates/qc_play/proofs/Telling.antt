@@ -52,9 +52,6 @@ abbrev pub play_at : Game → Kind → ℕ → List ℤ → Plan → List ℤ �
 play_at g own i a s ms = play_from g own (drop i g.scopes) i a s ms
 
 module _ (g : Game) (own : Kind) (i : ℕ) (a : List ℤ) (s : Plan) (ms : List ℤ) where
-  pub reaches_goal : i ≡ length g.scopes → play_at g own i a s ms ≡ ends (at_goal (allows g (length g.scopes) a)) ms
-  reaches_goal e = subst (λ k. play_at g own k a s ms ≡ ends (at_goal (allows g (length g.scopes) a)) ms) (sym e) (ap (λ ss. play_from g own ss (length g.scopes) a s ms) (drop_none g.scopes))
-
   at_scope : (k : Kind) → kind_at g i ≡ Some k → play_at g own i a s ms ≡ turn g own k i a s ms (rest_of g own i)
   at_scope k e =
       let r = kind_there (slice_get g.scopes i) k e in
