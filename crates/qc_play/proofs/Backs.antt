@@ -1,5 +1,5 @@
 -- Where a walk is after one that led on, or came back.
-use Rattle.std.proofs.Common.{◌≡◌, ℕ, suc, ◌≤◌, ◌-◌, true, false, refl, sym, ap, ◌∙◌, subst, arith, ℤ}
+use Rattle.std.proofs.Common.{◌≡◌, ℕ, suc, ◌-◌, true, false, refl, sym, ap, ◌∙◌, subst, arith, ℤ}
 use Rattle.qc_model.specs.Content.{Game}
 use Rattle.qc_model.specs.Domains.{box_within, has_empty, is_within}
 use Rattle.qc_arguments.specs.Asked.{is_box_of}

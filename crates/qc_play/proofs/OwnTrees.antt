@@ -1,8 +1,8 @@
 -- A scope's own tree from its beginning to its end, and a case.
-use Rattle.std.proofs.Common.{◌≡◌, ℕ, ◌+◌, ◌≤◌, false, List, [], drop, sym, ap, ◌∙◌, subst, arith, ℤ}
+use Rattle.std.proofs.Common.{◌≡◌, ℕ, ◌+◌, ◌≤◌, List, [], drop, sym, subst, arith, ℤ}
 use Rattle.qc_model.specs.Content.{Game}
 use Rattle.qc_model.specs.Demands.{demands}
-use Rattle.qc_model.specs.Domains.{Box, box_within, has_empty}
+use Rattle.qc_model.specs.Domains.{Box, box_within}
 use Rattle.qc_joins.specs.declared.joins.Joins.{Joins}
 use Rattle.qc_joins.specs.Joins.{game_of as game_joined, KeepsOthers}
 use Rattle.fd_store.specs.Held.{Held, trail_len, past_box, Follows, IsUndone}
@@ -14,7 +14,7 @@ use Rattle.qc_play.specs.declared.shown.Shown.{Shown}
 use Rattle.qc_play.specs.declared.walk.Walk.{Walk}
 use Rattle.qc_play.specs.Shown.{Shows}
 use Rattle.qc_play.specs.Walk.{IsWithin, LeadsOn, IsBack, HasSeen, Tells}
-use Rattle.qc_play.proofs.Backs.{back_then, back_join, on_then, on_undone, within_back, keeps_store}
+use Rattle.qc_play.proofs.Backs.{back_then, back_join, on_then, on_undone, keeps_store}
 
 module _ (g : Game) (i : ℕ) (w : Walk) (h : IsWithin g w i) where
   -- the own tree is walked, and the walk goes back to the node's box

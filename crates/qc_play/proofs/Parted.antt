@@ -20,14 +20,14 @@ use Rattle.proof_tree.specs.Lines.{step_line, tree_lines, ending_lines, branches
 use Rattle.proof_tree.specs.Place.{position}
 use Rattle.proof_tree.specs.Read.{marks}
 use Rattle.proof_tree.specs.Steps.{after_steps, step_marks}
-use Rattle.proof_tree.specs.Tree.{Tree, Ending, empty, barred, next, branch, Branches, Case, skip, left_open, go}
+use Rattle.proof_tree.specs.Tree.{Tree, Ending, barred, next, branch, Branches, Case, skip, left_open, go}
 use Rattle.line_check.specs.Tracking.{tracked_at}
 use Rattle.line_check.proofs.LedgerTurns.{map_both}
 use Rattle.qc_play.specs.declared.gathering.Gathering.{Gathering}
 use Rattle.qc_play.specs.Gathers.{Gathers, owner_of, wishes_of, count_before}
 use Rattle.qc_play.specs.Walk.{node_finding, end_leaves, part_leaves, pieces_leaves, taken_leaves, marks_seen, HasSeen, Tells}
 use Rattle.qc_play.proofs.QuietLeaves.{gathers_barred, gathers_skipped, gathers_marks}
-use Rattle.qc_play.proofs.Tellings.{tells_none, tells_then, tells_as, tells_alone}
+use Rattle.qc_play.proofs.Tellings.{tells_then, tells_as, tells_alone}
 use Rattle.qc_play.proofs.TreeSizes.{box_numbers, marks_fit, node_next}
 
 -- no leaf so far

@@ -1,6 +1,5 @@
 -- What stands in place below a part that does.
-use Rattle.std.proofs.Common.{◌≡◌, ℕ, zero, suc, ◌+◌, ◌<◌, ◌≤◌, Bool, true, false, not, ◌&&◌, List, [], ◌∷◌, ◌++◌, length, map, drop, refl, sym, ap, ◌∙◌, subst, arith, Option, length-append}
-use Rattle.std.proofs.lemmas.List.{length-map}
+use Rattle.std.proofs.Common.{◌≡◌, ℕ, zero, suc, ◌<◌, ◌≤◌, Bool, true, false, not, ◌&&◌, List, [], ◌∷◌, length, drop, refl, ap, ◌∙◌, subst, arith, Option}
 use Rattle.qc_model.specs.declared.problem.Scope.{Scope}
 use Rattle.qc_model.specs.declared.problem.VarId.{VarId}
 use Rattle.qc_model.specs.Content.{Game}
@@ -11,7 +10,6 @@ use Rattle.qc_arguments.specs.Asked.{is_box_of}
 use Rattle.proof_tree.specs.declared.tree.Horizon.{Horizon}
 use Rattle.proof_tree.specs.declared.tree.Step.{Step}
 use Rattle.proof_tree.specs.InPlace.{in_place, body_in_place, ending_in_place, branches_in_place, horizon_below, horizon_in_place, is_horizon}
-use Rattle.proof_tree.specs.Lines.{step_line, horizon_lines, tree_lines, ending_lines}
 use Rattle.proof_tree.specs.Place.{position, is_fixed, is_goal, next_scopes, list_after}
 use Rattle.proof_tree.specs.Steps.{after_steps}
 use Rattle.proof_tree.specs.Tree.{Tree, tree, goal, cases, Ending, next, branch, Branches}

@@ -6,12 +6,12 @@ use Rattle.qc_model.specs.declared.problem.Kind.{Kind}
 use Rattle.qc_model.specs.declared.problem.Kind.TheVariants.{Exists, Forall}
 use Rattle.qc_model.specs.declared.problem.Scope.{Scope}
 use Rattle.qc_model.specs.Content.{Game}
-use Rattle.qc_model.specs.Game.{allows, scope_domains}
+use Rattle.qc_model.specs.Game.{scope_domains}
 use Rattle.qc_model.specs.Plan.{Plan, finish, choose, answer, Entries, no_entries, entry}
 use Rattle.qc_model.specs.Counter.{opposite}
 use Rattle.qc_play.specs.declared.fault.PlayFault.{PlayFault}
 use Rattle.qc_play.specs.declared.fault.PlayFault.TheVariants.{Missing, NotAllowed, Memory}
-use Rattle.qc_play.specs.Play.{Ending, at_goal, stuck_at, hopeless_at, missing_at, not_allowed_at, Play, ends, after_turn, is_move, reply_to, Rest, own_turn, replied, moved, answered, answers_of, turn, play_from}
+use Rattle.qc_play.specs.Play.{Ending, stuck_at, hopeless_at, missing_at, not_allowed_at, Play, ends, after_turn, is_move, reply_to, Rest, own_turn, replied, moved, answered, answers_of, turn, play_from}
 use Rattle.qc_play.specs.PlayText.{turn_line, ending_line, unused_line, text_from}
 use Rattle.qc_play.specs.Playing.{is_played, IsFaultOf, IsToldAfter, IsWant}
 use Rattle.qc_play.specs.Sides.{HasNoChoice, has_entries, is_same}
