@@ -1,5 +1,5 @@
 -- Where a walk is after one that led on, or came back.
-use Rattle.std.proofs.Common.{◌≡◌, ℕ, suc, ◌≤◌, ◌-◌, true, false, refl, sym, ap, ◌∙◌, subst, arith, ℤ}
+use Rattle.std.proofs.Common.{◌≡◌, ℕ, suc, ◌-◌, true, false, refl, sym, ap, ◌∙◌, subst, arith, ℤ}
 use Rattle.qc_model.specs.Content.{Game}
 use Rattle.qc_model.specs.Domains.{box_within, has_empty, is_within}
 use Rattle.qc_arguments.specs.Asked.{is_box_of}
@@ -93,9 +93,6 @@ back_join g i w js h e k = record { keeps = keeps_join g i w js h e k; past = un
 pub on_then : (g : Game) (i : ℕ) (a b c : Walk) → LeadsOn g i a b → LeadsOn g i b c → LeadsOn g i a c
 on_then g i a b c f h = record { keeps = keeps_then g i a b c f.keeps h.keeps; past = follows_then a.remains b.remains c.remains f.past h.past }
 
-pub back_on : (g : Game) (i : ℕ) (a b : Walk) → IsBack g i a b → LeadsOn g i a b
-back_on g i a b h = record { keeps = h.keeps; past = undone_follows a.remains b.remains h.past }
-
 -- the walk goes back
 pub on_undone : (g : Game) (i : ℕ) (a b : Walk) (t : Held) (n : ℕ) → n ≡ trail_len a.remains → LeadsOn g i a b → IsUndone n b.remains t → t.box ≡ past_box b.remains n → IsBack g i a (record b { remains = t })
 on_undone g i a b t n e f u q = record {
@@ -132,9 +129,6 @@ within_fewer g i w h = record {
 }
 
 -- where a join changes, or the store
-pub within_join : (g : Game) (i : ℕ) (w : Walk) (js : Joins) → IsWithin g w i → game_joined js ≡ game_joined w.joins → IsWithin g (record w { joins = js }) i
-within_join g i w js h e = record { joined = e ∙ h.joined; each = h.each; numbers = h.numbers; declared = h.declared; placed = h.placed }
-
 pub within_kept_box : (g : Game) (i : ℕ) (w : Walk) (t : Held) (x : ℕ) (lo hi : ℤ) → IsWithin g w i → t.box ≡ box_within w.remains.box x lo hi → is_box_of g t.box ≡ true → IsWithin g (record w { remains = t }) i
 within_kept_box g i w t x lo hi h e d = record {
   joined = h.joined;
@@ -143,10 +137,3 @@ within_kept_box g i w t x lo hi h e d = record {
   declared = d;
   placed = at_filtered g i w.values.items w.remains.box t.box x (is_within lo hi) e h.placed;
 }
-
--- undoing leads to the box before
-pub full_before : (g : Game) (i : ℕ) (a b : Walk) (n : ℕ) → n ≡ trail_len a.remains → LeadsOn g i a b → has_empty a.remains.box ≡ false → has_empty (past_box b.remains n) ≡ false
-full_before g i a b n e f h = ap has_empty (past_before a.remains b.remains n e f.past) ∙ h
-
-pub mark_inside : (g : Game) (i : ℕ) (a b : Walk) (n : ℕ) → n ≡ trail_len a.remains → LeadsOn g i a b → n ≤ trail_len b.remains
-mark_inside g i a b n e f = let l = f.past.longer in omega (arith, l, e)

@@ -48,9 +48,6 @@ module _ (g : Game) (i : ℕ) (box : Box) (x : ℕ) (from : ℤ) (upto : Option 
       three (is_cover upto from_on) (case_in_place g c x (covered upto from_on) (drop i g.scopes) i (demands g i) box h.horizon) (branches_in_place g rest x (uncovered upto from_on) (drop i g.scopes) i (demands g i) box h.horizon)
       h.placed
 
-  pub piece_begins : is_cover upto from_on ≡ true
-  piece_begins = parts.0
-
   module _ (start end : ℤ) (case : IsCase (values_left box x) from upto start end) where
     covers : box_to box x (covered upto from_on) ≡ box_within box x start end
     covers = ap (box_to box x) case.covers

@@ -29,10 +29,6 @@ differ : true ≡ false → ⊥
 differ e = cc
 
 module _ (g : Game) (p : Option ℤ) (t : Tree) (o : Outcome) where
-  -- a tree that isn't in place proves nothing
-  pub out_of_place : (root_in_place g t ≡ true → ⊥) → IsTrue (proves g o p t) → ⊥
-  out_of_place n e = n (both (root_in_place g t) (shows g t (root_finding g t) o p) e).0
-
   module _ (f : Answer) (a : IsAnswer g t f) where
     pub not_won : o ≡ True → answer_wins g.scopes f p ≡ false → IsTrue (proves g o p t) → ⊥
     not_won q n e = differ (sym (subst (λ x. IsTrue (proves g x p t)) q e) ∙ (proves_true g t f a p ∙ n))

@@ -1,8 +1,8 @@
 -- A scope's own tree from its beginning to its end, and a case.
-use Rattle.std.proofs.Common.{◌≡◌, ℕ, ◌+◌, ◌≤◌, false, List, [], drop, sym, ap, ◌∙◌, subst, arith, ℤ}
+use Rattle.std.proofs.Common.{◌≡◌, ℕ, ◌+◌, ◌≤◌, List, [], drop, sym, subst, arith, ℤ}
 use Rattle.qc_model.specs.Content.{Game}
 use Rattle.qc_model.specs.Demands.{demands}
-use Rattle.qc_model.specs.Domains.{Box, box_within, has_empty}
+use Rattle.qc_model.specs.Domains.{Box, box_within}
 use Rattle.qc_joins.specs.declared.joins.Joins.{Joins}
 use Rattle.qc_joins.specs.Joins.{game_of as game_joined, KeepsOthers}
 use Rattle.fd_store.specs.Held.{Held, trail_len, past_box, Follows, IsUndone}
@@ -14,19 +14,13 @@ use Rattle.qc_play.specs.declared.shown.Shown.{Shown}
 use Rattle.qc_play.specs.declared.walk.Walk.{Walk}
 use Rattle.qc_play.specs.Shown.{Shows}
 use Rattle.qc_play.specs.Walk.{IsWithin, LeadsOn, IsBack, HasSeen, Tells}
-use Rattle.qc_play.proofs.Backs.{back_then, back_join, on_then, on_undone, within_back, keeps_store}
+use Rattle.qc_play.proofs.Backs.{back_then, back_join, on_then, on_undone, keeps_store}
 
 module _ (g : Game) (i : ℕ) (w : Walk) (h : IsWithin g w i) where
   -- the own tree is walked, and the walk goes back to the node's box
   module _ (js : Joins) (same : game_joined js ≡ game_joined w.joins) (others : KeepsOthers i w.joins js) (b : Walk) (on : LeadsOn g i (record w { joins = js }) b) (t : Held) (n : ℕ) (at : n ≡ trail_len w.remains) (undone : IsUndone n b.remains t) (content : t.box ≡ past_box b.remains n) where
     pub own_back : IsBack g i w (record b { remains = t })
     own_back = back_then g i w (record w { joins = js }) (record b { remains = t }) (back_join g i w js h same others) (on_undone g i (record w { joins = js }) b t n at on undone content)
-
-    pub own_within : IsWithin g (record b { remains = t }) i
-    own_within = within_back g i w (record b { remains = t }) h own_back
-
-    pub own_full : has_empty w.remains.box ≡ false → has_empty t.box ≡ false
-    own_full f = ap has_empty own_back.box ∙ f
 
   -- a case is walked, and the walk goes back to the branch's box
   module _ (x : ℕ) (first last : ℤ) (s : Held) (kept : s.box ≡ box_within w.remains.box x first last) (follows : Follows w.remains s) (b : Walk) (on : LeadsOn g i (record w { remains = s }) b) where

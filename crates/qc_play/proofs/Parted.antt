@@ -20,14 +20,14 @@ use Rattle.proof_tree.specs.Lines.{step_line, tree_lines, ending_lines, branches
 use Rattle.proof_tree.specs.Place.{position}
 use Rattle.proof_tree.specs.Read.{marks}
 use Rattle.proof_tree.specs.Steps.{after_steps, step_marks}
-use Rattle.proof_tree.specs.Tree.{Tree, Ending, empty, barred, next, branch, Branches, Case, skip, left_open, go}
+use Rattle.proof_tree.specs.Tree.{Tree, Ending, barred, next, branch, Branches, Case, skip, left_open, go}
 use Rattle.line_check.specs.Tracking.{tracked_at}
 use Rattle.line_check.proofs.LedgerTurns.{map_both}
 use Rattle.qc_play.specs.declared.gathering.Gathering.{Gathering}
 use Rattle.qc_play.specs.Gathers.{Gathers, owner_of, wishes_of, count_before}
 use Rattle.qc_play.specs.Walk.{node_finding, end_leaves, part_leaves, pieces_leaves, taken_leaves, marks_seen, HasSeen, Tells}
 use Rattle.qc_play.proofs.QuietLeaves.{gathers_barred, gathers_skipped, gathers_marks}
-use Rattle.qc_play.proofs.Tellings.{tells_none, tells_then, tells_as, tells_alone}
+use Rattle.qc_play.proofs.Tellings.{tells_then, tells_as, tells_alone}
 use Rattle.qc_play.proofs.TreeSizes.{box_numbers, marks_fit, node_next}
 
 -- no leaf so far
@@ -54,9 +54,6 @@ module _ (g : Game) (i : ℕ) where
 
   -- ends
   module _ (js ks : Joins) (x y : Gathering) (e : Ending) (box : Box) where
-    pub empty_told : e ≡ empty → Tells g i js x js x (length (ending_lines e)) (end_leaves g e i box)
-    empty_told q = subst (λ u. Tells g i js x js x (length (ending_lines u)) (end_leaves g u i box)) (sym q) (tells_as g i js js x x 0 1 [] [] (omega arith) refl (tells_none g i js x))
-
     pub barred_told : e ≡ barred → ((xs : List Seen) → StandsAt js i xs → StandsAt ks i (xs ++ seen_barred ∷ [])) → Tells g i js x ks x (length (ending_lines e)) (end_leaves g e i box)
     barred_told q stands =
         subst (λ u. Tells g i js x ks x (length (ending_lines u)) (end_leaves g u i box)) (sym q)

@@ -170,10 +170,6 @@ pub lies_step : (f : Variable → Values) (k : ℕ) (t : List ℤ) (xs : List Va
     lies_in (drop (k + 1) t) (map f (drop (k + 1) xs)) ≡ lies_in (drop k t) (map f (drop k xs))
 lies_step f k t xs x v d h e p q r = rw add-one (sym (lies_here f k t xs x v d h e p q ∙ ap (λ b. b && lies_in (drop (suc k) t) (map f (drop (suc k) xs))) r))
 
-pub lies_not : (f : Variable → Values) (k : ℕ) (t : List ℤ) (xs : List Variable) (x : Variable) (v d : ℤ) → k < length t → length t ≡ length xs → v ≡ get_or t k d → x ≡ get_or xs k x → has_value (f x) v ≡ false →
-    lies_in (drop k t) (map f (drop k xs)) ≡ false
-lies_not f k t xs x v d h e p q r = lies_here f k t xs x v d h e p q ∙ ap (λ b. b && lies_in (drop (suc k) t) (map f (drop (suc k) xs))) r
-
 pub one_of : {X : Type 0} (p : X → Bool) (xs : List X) (k : ℕ) (d : X) → k < length xs → list_all p xs ≡ true → p (get_or xs k d) ≡ true
 one_of p [] k d h e = absurd (omega arith)
 one_of p (x ∷ xs) zero d h e = (both (p x) (list_all p xs) e).0

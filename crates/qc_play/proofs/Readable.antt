@@ -1,6 +1,5 @@
 -- What stands in place below a part that does.
-use Rattle.std.proofs.Common.{◌≡◌, ℕ, zero, suc, ◌+◌, ◌<◌, ◌≤◌, Bool, true, false, not, ◌&&◌, List, [], ◌∷◌, ◌++◌, length, map, drop, refl, sym, ap, ◌∙◌, subst, arith, Option, length-append}
-use Rattle.std.proofs.lemmas.List.{length-map}
+use Rattle.std.proofs.Common.{◌≡◌, ℕ, zero, suc, ◌<◌, ◌≤◌, Bool, true, false, not, ◌&&◌, List, [], ◌∷◌, length, drop, refl, ap, ◌∙◌, subst, arith, Option}
 use Rattle.qc_model.specs.declared.problem.Scope.{Scope}
 use Rattle.qc_model.specs.declared.problem.VarId.{VarId}
 use Rattle.qc_model.specs.Content.{Game}
@@ -11,7 +10,6 @@ use Rattle.qc_arguments.specs.Asked.{is_box_of}
 use Rattle.proof_tree.specs.declared.tree.Horizon.{Horizon}
 use Rattle.proof_tree.specs.declared.tree.Step.{Step}
 use Rattle.proof_tree.specs.InPlace.{in_place, body_in_place, ending_in_place, branches_in_place, horizon_below, horizon_in_place, is_horizon}
-use Rattle.proof_tree.specs.Lines.{step_line, horizon_lines, tree_lines, ending_lines}
 use Rattle.proof_tree.specs.Place.{position, is_fixed, is_goal, next_scopes, list_after}
 use Rattle.proof_tree.specs.Steps.{after_steps}
 use Rattle.proof_tree.specs.Tree.{Tree, tree, goal, cases, Ending, next, branch, Branches}
@@ -73,21 +71,6 @@ module _ (g : Game) (z : Option Horizon) (steps : List Step) (e : Ending) (i : �
 
   pub own_answered : IsAnswered (drop i g.scopes) g i (position g i box) (part_leaves g steps e i box)
   own_answered = h.answered.0
-
--- its lines are those of the node, without the horizon's
-pub own_lines : (z : Option Horizon) (steps : List Step) (e : Ending) (n : ℕ) → length (tree_lines (tree z (cases steps e))) ≤ n → length steps + length (ending_lines e) ≤ n
-own_lines z steps e n h =
-    let a = length-append (horizon_lines z) (map step_line steps ++ ending_lines e) in
-    let b = length-append (map step_line steps) (ending_lines e) in
-    let c = length-map steps step_line in
-    omega (arith, h, a, b, c)
-
--- a part
-pub part_steps : (g : Game) (steps : List Step) (e : Ending) (i : ℕ) (box : Box) → CanReadPart g steps e i box → steps_fit g steps i box ≡ true
-part_steps g steps e i box h = (both (steps_fit g steps i box) (ending_in_place g e (drop i g.scopes) i (demands g i) (after_steps steps box) h.horizon) h.placed).0
-
-pub part_end : (g : Game) (steps : List Step) (e : Ending) (i : ℕ) (box new : Box) → CanReadPart g steps e i box → new ≡ after_steps steps box → CanReadEnd g e i new
-part_end g steps e i box new h q = subst (CanReadEnd g e i) (sym q) (record { horizon = h.horizon; placed = (both (steps_fit g steps i box) (ending_in_place g e (drop i g.scopes) i (demands g i) (after_steps steps box) h.horizon) h.placed).1; answered = h.answered })
 
 -- the node after a tuple
 module _ (g : Game) (t : Tree) (i : ℕ) (box : Box) (h : CanReadEnd g (next t) i box) where

@@ -6,12 +6,12 @@ use Rattle.qc_model.specs.declared.problem.Kind.{Kind}
 use Rattle.qc_model.specs.declared.problem.Kind.TheVariants.{Exists, Forall}
 use Rattle.qc_model.specs.declared.problem.Scope.{Scope}
 use Rattle.qc_model.specs.Content.{Game}
-use Rattle.qc_model.specs.Game.{allows, scope_domains}
+use Rattle.qc_model.specs.Game.{scope_domains}
 use Rattle.qc_model.specs.Plan.{Plan, finish, choose, answer, Entries, no_entries, entry}
 use Rattle.qc_model.specs.Counter.{opposite}
 use Rattle.qc_play.specs.declared.fault.PlayFault.{PlayFault}
 use Rattle.qc_play.specs.declared.fault.PlayFault.TheVariants.{Missing, NotAllowed, Memory}
-use Rattle.qc_play.specs.Play.{Ending, at_goal, stuck_at, hopeless_at, missing_at, not_allowed_at, Play, ends, after_turn, is_move, reply_to, Rest, own_turn, replied, moved, answered, answers_of, turn, play_from}
+use Rattle.qc_play.specs.Play.{Ending, stuck_at, hopeless_at, missing_at, not_allowed_at, Play, ends, after_turn, is_move, reply_to, Rest, own_turn, replied, moved, answered, answers_of, turn, play_from}
 use Rattle.qc_play.specs.PlayText.{turn_line, ending_line, unused_line, text_from}
 use Rattle.qc_play.specs.Playing.{is_played, IsFaultOf, IsToldAfter, IsWant}
 use Rattle.qc_play.specs.Sides.{HasNoChoice, has_entries, is_same}
@@ -52,9 +52,6 @@ abbrev pub play_at : Game → Kind → ℕ → List ℤ → Plan → List ℤ �
 play_at g own i a s ms = play_from g own (drop i g.scopes) i a s ms
 
 module _ (g : Game) (own : Kind) (i : ℕ) (a : List ℤ) (s : Plan) (ms : List ℤ) where
-  pub reaches_goal : i ≡ length g.scopes → play_at g own i a s ms ≡ ends (at_goal (allows g (length g.scopes) a)) ms
-  reaches_goal e = subst (λ k. play_at g own k a s ms ≡ ends (at_goal (allows g (length g.scopes) a)) ms) (sym e) (ap (λ ss. play_from g own ss (length g.scopes) a s ms) (drop_none g.scopes))
-
   at_scope : (k : Kind) → kind_at g i ≡ Some k → play_at g own i a s ms ≡ turn g own k i a s ms (rest_of g own i)
   at_scope k e =
       let r = kind_there (slice_get g.scopes i) k e in
