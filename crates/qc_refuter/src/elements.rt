@@ -1,5 +1,5 @@
 //! Items of arrays by their places, and rows of tables.
-ghost use Rattle.std.specs.Prelude.{◌≡◌, ◌≤◌, ◌<◌, ◌+◌, ◌&&◌, not, IsTrue, length, map, pos};
+ghost use Rattle.std.specs.Prelude.{◌≡◌, ◌≤◌, ◌<◌, ◌+◌, ◌&&◌, ℕ, not, IsTrue, IsFalse, length, map, pos};
 ghost use Rattle.std.specs.List.{list_any, list_all};
 ghost use Rattle.qc_model.specs.Domains.{has_value, misses};
 ghost use Rattle.qc_model.specs.Holds.{rows};
@@ -10,8 +10,34 @@ ghost use Rattle.qc_refuter.specs.Met.{seen, lefts, are_met, is_open};
 
 use crate::common::meet;
 use crate::reading::{arg_met, items_met, numbers_met};
-use crate::view::{View, has};
+use crate::view::{View, greatest, has, least};
 use qc_model::{Arg, Argument};
+
+// The first of so many places, counted from 0, that b may name, whose numbers count from 1.
+fn first_place(b: Arg, count: usize, view: &View) -> usize
+    requires b { IsTrue (is_open (seen view.now) b) }
+    ensures most { result ≤ count }
+    ensures missed { (j : ℕ) → j < result → IsFalse (has_value (left_to (seen view.now) b) (pos (j + 1))) }
+{
+    let low = least(b, view);
+    if low <= 1 {
+        return 0;
+    }
+    count.min(low as usize - 1)
+}
+
+// The place past the last that b may name.
+fn end_place(b: Arg, count: usize, view: &View) -> usize
+    requires b { IsTrue (is_open (seen view.now) b) }
+    ensures most { result ≤ count }
+    ensures missed { (j : ℕ) → result ≤ j → j < count → IsFalse (has_value (left_to (seen view.now) b) (pos (j + 1))) }
+{
+    let high = greatest(b, view);
+    if high <= 0 {
+        return 0;
+    }
+    count.min(high as usize)
+}
 
 // Whether the place and the item both are left.
 fn place_fits(b: Arg, k: usize, c: Arg, number: i64, view: &View) -> bool
@@ -29,7 +55,7 @@ fn some_number(b: Arg, numbers: &[i64], c: Arg, view: &View) -> bool
     requires c { IsTrue (is_open (seen view.now) c) }
     ensures { result ≡ some_item_in (pos 1) (left_to (seen view.now) b) numbers.now (left_to (seen view.now) c) }
 {
-    for k in 0..numbers.len() {
+    for k in first_place(b, numbers.len(), view)..end_place(b, numbers.len(), view) {
         if place_fits(b, k, c, numbers[k], view) {
             return true;
         }
@@ -63,7 +89,7 @@ fn some_item(b: Arg, items: &[Arg], c: Arg, view: &View) -> bool
     requires c { IsTrue (is_open (seen view.now) c) }
     ensures { result ≡ some_item_meets (pos 1) (left_to (seen view.now) b) (map (left_to (seen view.now)) items.now) (left_to (seen view.now) c) }
 {
-    for k in 0..items.len() {
+    for k in first_place(b, items.len(), view)..end_place(b, items.len(), view) {
         if place_meets(b, k as i64 + 1, items[k], c, view) {
             return true;
         }
