@@ -94,6 +94,19 @@ pub few_counted : (p : Values → Bool) (box : Box) (items : List Arg) (k : ℕ)
 few_counted p box items k =
     omega (arith, count_by-le-length p (map (left_to box) (take k items)), length-map (take k items) (left_to box), length-take k items)
 
+-- and the first ones are no more than all
+counted_first : (p : Values → Bool) (box : Box) (items : List Arg) (k : ℕ) → count_by p (map (left_to box) (take k items)) ≤ count_by p (map (left_to box) items)
+counted_first p box [] zero = omega arith
+counted_first p box [] (suc k) = omega arith
+counted_first p box (a ∷ items) zero = omega arith
+counted_first p box (a ∷ items) (suc k) =
+    omega (arith, sum_by-cons (λ z. cond (p z) 1 0) (left_to box a) (map (left_to box) (take k items)), sum_by-cons (λ z. cond (p z) 1 0) (left_to box a) (map (left_to box) items), counted_first p box items k)
+
+-- the item at a place passes, and some before it do
+pub passed_before : (p : Values → Bool) (box : Box) (items : List Arg) (k n : ℕ) (x : Arg) → k < length items → p (left_to box (get_or items k x)) ≡ true → n ≤ count_by p (map (left_to box) (take k items)) →
+    n < count_by p (map (left_to box) (take (k + 1) items))
+passed_before p box items k n x h e m = omega (arith, counted_take p box items k x h, ap {B = ℕ} (λ b. cond b 1 0) e, m)
+
 -- more items than numbers are a crowd
 pub crowd_of_held : (ds : List Values) (l : ℤ) (n : ℕ) → n < held ds l n → has_crowd ds ≡ true
 crowd_of_held ds l zero h = absurd (omega (arith, held_none ds l))
@@ -112,6 +125,12 @@ crowd_of_held ds l (suc m) h =
 
     by : (c : ℕ) → suc m < c → (int_le l (l +ℤ pos m) && int_lt (((l +ℤ pos m) -ℤ l) +ℤ pos 1) (pos c)) ≡ true
     by c k = ap (λ b. b && int_lt (((l +ℤ pos m) -ℤ l) +ℤ pos 1) (pos c)) starts ∙ above c k
+
+-- two items that lie in one number
+pub crowd_of_two : (box : Box) (items : List Arg) (l : ℤ) (k : ℕ) (x : Arg) → k < length items → lies_in l 1 (left_to box (get_or items k x)) ≡ true → 1 ≤ count_by (lies_in l 1) (map (left_to box) (take k items)) →
+    has_crowd (map (left_to box) items) ≡ true
+crowd_of_two box items l k x h e m =
+    crowd_of_held (map (left_to box) items) l 1 (omega (arith, passed_before (lies_in l 1) box items k 1 x h e m, counted_first (lies_in l 1) box items (k + 1)))
 
 -- and a crowd is more items than numbers
 pub held_of_crowd : (ds : List Values) (l h : ℤ) → is_crowded ds l h ≡ true → (m : ℕ) × (suc m < held ds l (suc m))

@@ -5,12 +5,12 @@ ghost use Rattle.qc_model.specs.Domains.{least_value};
 ghost use Rattle.qc_model.specs.Left.{has_crowd as has_crowd_in};
 ghost use Rattle.qc_model.specs.Meaning.{all_different as AllDifferent};
 ghost use Rattle.qc_model.specs.Refuted.{left_to, refuted_as};
-ghost use Rattle.qc_refuter.specs.Full.{IsUncrowdedNext};
+ghost use Rattle.qc_refuter.specs.Full.{lies_in, IsUncrowdedNext};
 ghost use Rattle.qc_refuter.specs.Met.{seen, lefts, are_met, is_open};
 
 use crate::full::widest_seen;
 use crate::reading::items_met;
-use crate::view::{View, least};
+use crate::view::{View, greatest, least};
 use qc_model::{Arg, Argument};
 
 /// As many items as an array of a constraint can have.
@@ -67,10 +67,48 @@ fn has_crowd(items: &[Arg], view: &View) -> bool
     false
 }
 
+// Whether the first number of the view is all that is left to the item.
+fn has_first_alone(item: Arg, view: &View) -> bool
+    requires { IsTrue (is_open (seen view.now) item) }
+    ensures { result ≡ true → IsTrue (lies_in view.now.lo 1 (left_to (seen view.now) item)) }
+{
+    least(item, view) == view.lo && greatest(item, view) == view.lo
+}
+
+// Whether two items have the first number of the view alone, as where it was removed since another item has it. No other
+// reason is as common, and this takes one pass.
+fn two_have_first(items: &[Arg], view: &View) -> bool
+    requires { IsTrue (list_all (is_open (seen view.now)) items.now) }
+    ensures { result ≡ true → IsTrue (has_crowd_in (map (left_to (seen view.now)) items.now)) }
+{
+    let mut met = false;
+    for item in items {
+        if !has_first_alone(*item, view) {
+            continue;
+        }
+        if met {
+            return true;
+        }
+        met = true;
+    }
+    false
+}
+
+fn is_refuted(items: &[Arg], view: &View) -> bool
+    requires items { IsTrue (list_all (is_open (seen view.now)) items.now) }
+    requires few { length items.now ≤ 1000 }
+    ensures { result ≡ has_crowd_in (map (left_to (seen view.now)) items.now) }
+{
+    if view.lo == view.hi && two_have_first(items, view) {
+        return true;
+    }
+    has_crowd(items, view)
+}
+
 // A few walks over the items for each least value.
 pub(crate) fn all_different_refuted(args: &[Argument], view: &View) -> bool
     requires { IsTrue (are_met (seen view.now) args.now) }
     ensures { result ≡ refuted_as AllDifferent (lefts (seen view.now) args.now) }
 {
-    has_crowd(items_met(args, 0, view), view)
+    is_refuted(items_met(args, 0, view), view)
 }
