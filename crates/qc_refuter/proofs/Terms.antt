@@ -1,9 +1,10 @@
 -- Sums of terms, one by one.
-use Rattle.std.proofs.Common.{◌≡◌, ◌⊎◌, inl, inr, ℕ, ◌+◌, ◌<◌, ◌≤◌, Bool, true, false, not, ◌&&◌, List, [], ◌∷◌, length, map, drop, get_or, min, leb, refl, sym, ap, ◌∙◌, arith, ℤ}
+use Rattle.std.proofs.Common.{◌≡◌, ◌⊎◌, inl, inr, ℕ, ◌+◌, ◌<◌, ◌≤◌, ◌^◌, Bool, true, false, not, ◌&&◌, List, [], ◌∷◌, length, map, drop, get_or, min, leb, refl, sym, ap, ◌∙◌, arith, ℤ}
 use Rattle.std.specs.Prelude.{pos, ◌+ℤ◌, ◌*ℤ◌, unsigned_abs}
 use Rattle.std.specs.List.{list_all}
 use Rattle.std.specs.Int.{int_min, int_max}
-use Rattle.std.proofs.lemmas.Int.{ints}
+use Rattle.std.proofs.Math.Nat.{mul-le-mul}
+use Rattle.std.proofs.lemmas.Int.{ints, unsigned_abs-mul}
 use Rattle.std.proofs.lemmas.List.{at_drop_more, at_drop_all, get_or-map}
 use Rattle.std.proofs.lemmas.List.Recursion.{and_at}
 use Rattle.std.proofs.lemmas.Bool.{leb-true}
@@ -30,6 +31,12 @@ hull p q = by (int_min p (int_min q (int_min p q))) (int_min p q) (int_max p (in
 
     by : (a b c d : ℤ) → a ≡ b → c ≡ d → range_of a c ≡ range_of b d
     by a b c d e f = ap (λ z. range_of z c) e ∙ ap (range_of b) f
+
+-- factors and values are small, so their product fits into 64 bits
+pub product_small : (a b : ℤ) → is_number a ≡ true → is_number b ≡ true → unsigned_abs (a *ℤ b) ≤ 10 ^ 18
+product_small a b h k =
+    let m = mul-le-mul (leb-true (unsigned_abs a) 1000000000 h) (leb-true (unsigned_abs b) 1000000000 k) in
+    omega (arith, unsigned_abs-mul a b, m)
 
 -- a term between its two products
 pub term_range : (n u v p q : ℤ) (r : Range) (d : Values) → u ≡ least_value d → v ≡ greatest_value d → p ≡ n *ℤ u → q ≡ n *ℤ v → r ≡ range_of (int_min p q) (int_max p q) →

@@ -1,4 +1,4 @@
-//! Sums of products, in 128 bits.
+//! Sums of products, in 128 bits. A product alone fits into 64.
 ghost use Rattle.std.specs.Prelude.{◌≡◌, ◌≤◌, ◌<◌, ◌^◌, IsTrue, length, map, ◌*ℤ◌, unsigned_abs};
 ghost use Rattle.std.specs.Int.{int_min, int_max};
 ghost use Rattle.std.specs.List.{list_all};
@@ -11,12 +11,13 @@ ghost use Rattle.qc_model.specs.Valid.{is_number};
 ghost use Rattle.qc_arguments.specs.Asked.{IsAsked};
 ghost use Rattle.qc_refuter.specs.Met.{seen, lefts, are_met, is_open};
 
+use crate::ends::Reach;
 use crate::reading::{greatest_at, items_met, least_at, numbers_met};
-use crate::view::{View, greatest, least, whole};
+use crate::view::{View, greatest, least};
 use fd_store::Store;
 use qc_model::{Arg, Argument, Constraint, Problem};
 
-/// The least and the greatest number that a term or a sum can be.
+/// The least and the greatest number that a sum can be.
 #[derive(Clone, Copy)]
 pub struct Extent {
     pub from: i128,
@@ -24,17 +25,17 @@ pub struct Extent {
 }
 
 // The product of two numbers within the limit.
-fn product(a: i64, b: i64) -> i128
+fn product(a: i64, b: i64) -> i64
     requires a { IsTrue (is_number a) }
     requires b { IsTrue (is_number b) }
     ensures value { result ≡ (a *ℤ b) }
     ensures small { unsigned_abs result ≤ 10 ^ 18 }
 {
-    a as i128 * b as i128
+    a * b
 }
 
 // The two numbers in their order.
-fn ordered(p: i128, q: i128) -> Extent
+fn ordered(p: i64, q: i64) -> Reach
     requires p { unsigned_abs p ≤ 10 ^ 18 }
     requires q { unsigned_abs q ≤ 10 ^ 18 }
     ensures value { range_of result.from result.to ≡ range_of (int_min p q) (int_max p q) }
@@ -42,14 +43,14 @@ fn ordered(p: i128, q: i128) -> Extent
     ensures small_to { unsigned_abs result.to ≤ 10 ^ 18 }
 {
     if q < p {
-        Extent { from: q, to: p }
+        Reach { from: q, to: p }
     } else {
-        Extent { from: p, to: q }
+        Reach { from: p, to: q }
     }
 }
 
-// What a factor times an argument can be.
-fn term(factor: i64, arg: Arg, view: &View) -> Extent
+// What a factor times an argument can be, as a view shows it.
+fn term(factor: i64, arg: Arg, view: &View) -> Reach
     requires factor { IsTrue (is_number factor) }
     requires open { IsTrue (is_open (seen view.now) arg) }
     ensures value { range_of result.from result.to ≡ product_of (point factor) (span (left_to (seen view.now) arg)) }
@@ -60,6 +61,26 @@ fn term(factor: i64, arg: Arg, view: &View) -> Extent
         product(factor, least(arg, view)),
         product(factor, greatest(arg, view)),
     )
+}
+
+// What it can be on the box of a store.
+fn term_left(factor: i64, arg: Arg, store: &Store) -> Reach
+    requires factor { IsTrue (is_number factor) }
+    requires open { IsTrue (is_open store.now.box arg) }
+    ensures value { range_of result.from result.to ≡ product_of (point factor) (span (left_to store.now.box arg)) }
+    ensures small_from { unsigned_abs result.from ≤ 10 ^ 18 }
+    ensures small_to { unsigned_abs result.to ≤ 10 ^ 18 }
+{
+    match arg {
+        Arg::Num(n) => {
+            let only = product(factor, n);
+            Reach {
+                from: only,
+                to: only,
+            }
+        }
+        Arg::Var(x) => ordered(product(factor, store.min(x)), product(factor, store.max(x))),
+    }
 }
 
 // At most 1,000 terms.
@@ -76,8 +97,8 @@ pub(crate) fn sum_of(factors: &[i64], items: &[Arg], view: &View) -> Extent
     let mut to: i128 = 0;
     for k in 0..count {
         let one = term(factors[k], items[k], view);
-        from += one.from;
-        to += one.to;
+        from += one.from as i128;
+        to += one.to as i128;
     }
     Extent { from, to }
 }
@@ -154,6 +175,13 @@ pub fn sum_extent(
 {
     problem.known();
     let _ = rule.pred;
-    let view = whole(store);
-    sum_of(factors, items, &view)
+    let count = factors.len().min(items.len());
+    let mut from: i128 = 0;
+    let mut to: i128 = 0;
+    for k in 0..count {
+        let one = term_left(factors[k], items[k], store);
+        from += one.from as i128;
+        to += one.to as i128;
+    }
+    Extent { from, to }
 }

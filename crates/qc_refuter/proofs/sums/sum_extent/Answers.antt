@@ -1,19 +1,54 @@
-use Rattle.std.proofs.Common.{◌≡◌, ◌∙◌, sym, ap, subst, true, map}
-use Rattle.std.specs.List.{list_all}
-use Rattle.qc_model.specs.Domains.{Box}
-use Rattle.qc_model.specs.Left.{sum_range}
+use Rattle.std.proofs.Common.{◌≡◌, ◌<◌, ◌+◌, rules, arith, length, map, drop, get_or, [], sym, ap, ◌∙◌}
+use Rattle.std.specs.Prelude.{pos, ◌+ℤ◌}
+use Rattle.std.proofs.lemmas.Int.{to_z-of_z, fits_signed_from_abs}
+use Rattle.std.proofs.lemmas.List.{length-map}
+use mir.Val.{SFits, to_z}
+use mir.Syntax.{w64, w128}
+use Rattle.qc_model.specs.declared.problem.Arg.TheVariants.{Var}
+use Rattle.qc_model.specs.Left.{span, sum_range}
+use Rattle.qc_model.specs.Ranges.{point, product}
 use Rattle.qc_model.specs.Refuted.{left_to}
-use Rattle.qc_arguments.proofs.Boxes.{within_all}
-use Rattle.qc_refuter.specs.Met.{is_open}
+use Rattle.qc_refuter.proofs.Terms.{sum_step, sum_end, sum_more, sum_none, item_left, abs_sum, at_end}
 use Rattle.qc_refuter.proofs.sums.sum_extent.Goals as goal
 
-pub sum_of-requires-clause-items : goal.sum_of-requires-clause-items
-sum_of-requires-clause-items c =
-    let same = c.whole-view.ensures ∙ within_all c.args.problem.now c.args.store.now.box 0 c.known.ensures.domains c.requires.asked.declared in
-    let P : Box → Type 0 = λ b. list_all (is_open b) c.args.items.now ≡ true in
-    subst P (sym same) c.requires.items
+pub loop-k-preserved : goal.loop-k-preserved
+loop-k-preserved c =
+    let k = c.loop-k.k in
+    let ns = c.args.factors.now in
+    let items = c.args.items.now in
+    let box = c.args.store.now.box in
+    let ds = map (left_to box) items in
+    let few : k < 1000 = omega (arith, c.requires.few, c.min-count.ensures) in
+    let a_fits : SFits w64 c.term_left-one.result.from = search rules in
+    let a_wide : SFits w128 c.term_left-one.result.from = fits_signed_from_abs w128 c.term_left-one.result.from (omega (arith, c.term_left-one.ensures.small_from)) in
+    let b_fits : SFits w64 c.term_left-one.result.to = search rules in
+    let b_wide : SFits w128 c.term_left-one.result.to = fits_signed_from_abs w128 c.term_left-one.result.to (omega (arith, c.term_left-one.ensures.small_to)) in
+    let from = to_z w128 c.loop-k.from-bits in
+    let to = to_z w128 c.loop-k.to-bits in
+    let s = abs_sum from c.term_left-one.result.from in
+    let t = abs_sum to c.term_left-one.result.to in
+    let from_fits : SFits w128 (from +ℤ c.term_left-one.result.from) = fits_signed_from_abs w128 (from +ℤ c.term_left-one.result.from) (omega (arith, s, c.loop-k.invariant.small_from, c.term_left-one.ensures.small_from)) in
+    let to_fits : SFits w128 (to +ℤ c.term_left-one.result.to) = fits_signed_from_abs w128 (to +ℤ c.term_left-one.result.to) (omega (arith, t, c.loop-k.invariant.small_to, c.term_left-one.ensures.small_to)) in
+    let as_many : length ds ≡ length items = length-map items (left_to box) in
+    let step = sum_step ns ds k (omega (arith, c.min-count.ensures)) (omega (arith, c.min-count.ensures, as_many)) in
+    let item = item_left box items k (Var (record { 0 = 0 })) (omega (arith, c.min-count.ensures)) in
+    let n_fits : SFits w64 (get_or ns k (pos 0)) = search rules in
+    let one = simp to_z-of_z at c.term_left-one.ensures.value in
+    let value = one ∙ sym (ap (λ d. product (point (get_or ns k (pos 0))) (span d)) item) in
+    simp to_z-of_z
+    (record {
+      small_from = omega (arith, s, c.loop-k.invariant.small_from, c.term_left-one.ensures.small_from);
+      small_to = omega (arith, t, c.loop-k.invariant.small_to, c.term_left-one.ensures.small_to);
+      sum = sum_more from to c.term_left-one.result.from c.term_left-one.result.to (sum_range (drop k ns) (drop k ds)) (sum_range (drop (k + 1) ns) (drop (k + 1) ds)) (sum_range ns ds) (product (point (get_or ns k (pos 0))) (span (get_or ds k []))) c.loop-k.invariant.sum step value;
+    })
 
 pub returns-clause-value : goal.returns-clause-value
 returns-clause-value c =
-    let same = c.whole-view.ensures ∙ within_all c.args.problem.now c.args.store.now.box 0 c.known.ensures.domains c.requires.asked.declared in
-    c.sum_of.ensures.value ∙ ap (λ b. sum_range c.args.factors.now (map (left_to b) c.args.items.now)) same
+    let k = c.loop-k.k in
+    let ns = c.args.factors.now in
+    let items = c.args.items.now in
+    let box = c.args.store.now.box in
+    let ds = map (left_to box) items in
+    let as_many : length ds ≡ length items = length-map items (left_to box) in
+    let end = sum_end ns ds k (at_end (length ns) (length ds) k (omega (arith, c.min-count.ensures, as_many))) in
+    sum_none (to_z w128 c.loop-k.from-bits) (to_z w128 c.loop-k.to-bits) (sum_range (drop k ns) (drop k ds)) (sum_range ns ds) c.loop-k.invariant.sum end

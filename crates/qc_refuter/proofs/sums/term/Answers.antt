@@ -1,7 +1,7 @@
 use Rattle.std.proofs.Common.{◌≡◌, rules, subst, sym, true}
 use Rattle.std.proofs.lemmas.Int.{to_z-of_z}
 use mir.Val.{SFits}
-use mir.Syntax.{w64, w128}
+use mir.Syntax.{w64}
 use Rattle.qc_model.specs.Ranges.{range_of}
 use Rattle.qc_model.specs.Refuted.{left_to}
 use Rattle.qc_model.specs.Valid.{is_number}
@@ -24,10 +24,10 @@ returns-clause-value c =
     let n_fits : SFits w64 c.args.factor = search rules in
     let u_fits : SFits w64 c.least.result = search rules in
     let v_fits : SFits w64 c.greatest.result = search rules in
-    let p_fits : SFits w128 c.product.result = search rules in
-    let q_fits : SFits w128 c.product-2.result = search rules in
-    let from_fits : SFits w128 c.ordered.result.from = search rules in
-    let to_fits : SFits w128 c.ordered.result.to = search rules in
+    let p_fits : SFits w64 c.product.result = search rules in
+    let q_fits : SFits w64 c.product-2.result = search rules in
+    let from_fits : SFits w64 c.ordered.result.from = search rules in
+    let to_fits : SFits w64 c.ordered.result.to = search rules in
     let p = simp to_z-of_z at c.product.ensures.value in
     let q = simp to_z-of_z at c.product-2.ensures.value in
     let e = simp to_z-of_z at c.ordered.ensures.value in
