@@ -25,7 +25,8 @@ use Rattle.prop_compare.specs.Telling.{truth_of}
 use Rattle.prop_compare.specs.Untold.{RefutesNone, IsGrown, after}
 use Rattle.prop_compare.proofs.Told.{one_within, one_without, small_truth}
 
-place : (box : Box) (x : ℕ) → values_left box x ≡ pos 0 ∷ pos 1 ∷ [] → x < length box
+-- a variable that has both truth values left is one of the box
+pub place : (box : Box) (x : ℕ) → values_left box x ≡ pos 0 ∷ pos 1 ∷ [] → x < length box
 place [] x h = cc
 place (vs ∷ box) zero h = omega arith
 place (vs ∷ box) (suc x) h = omega (arith, place box x h)

@@ -7,7 +7,8 @@
 //!
 //! A third argument may tell whether the comparison holds. Once it has one value, the comparison or its contrary is
 //! filtered. Before that, nothing goes but a value of its own, where the comparison can't hold or can't fail any more.
-//! `tell` does the latter for whatever a last argument tells of, by two questions to the refuter.
+//! `tell` does the latter for whatever a last argument tells of, by two questions to the refuter. Who can answer both at
+//! once calls `tell_other`.
 //!
 //! What is left to one argument, and to two in common, is read here for the crates above too.
 #![tactic(auto)]
@@ -33,5 +34,5 @@ pub use filtering::filter_comparison;
 pub use reading::{greatest, has, is_fixed, least, next_of, previous_of};
 pub use reified::filter_reified;
 pub use table::Table;
-pub use truths::what_is_told;
-pub use untold::{joined, tell};
+pub use truths::{loose, what_is_told};
+pub use untold::{joined, tell, tell_other};

@@ -13,8 +13,8 @@ use fd_store::Store;
 use prop_base::Cut;
 use qc_model::{Arg, VarId};
 
-/// The variable, where it has more than one value.
-pub(crate) fn loose(r: Arg, store: &Store) -> Option<VarId>
+/// The variable, where the argument is one that has more than one value left.
+pub fn loose(r: Arg, store: &Store) -> Option<VarId>
     requires { IsTrue (is_open store.now.box r) }
     ensures none { IfNone result (IsTrue (is_single (left_to store.now.box r))) }
     ensures variable { IfSome result (λ x. r ≡ Var x) }

@@ -43,8 +43,9 @@ fn can_not_tell(problem: &Problem, rule: &Constraint, x: VarId, told: bool, stor
     table.refutes_in(problem, rule, store, cut.x, cut.lo, cut.hi)
 }
 
-// x can't tell this. It tells the other from now on.
-fn tell_other(
+/// Takes a truth value from x, to which both are left, where the constraint refutes that value: x tells the other from
+/// now on.
+pub fn tell_other(
     problem: &Problem,
     c: ConId,
     rule: &Constraint,
