@@ -14,3 +14,4 @@ pub mod Hits
 pub mod Last
 pub mod Sided
 pub mod Told
+pub mod Missed

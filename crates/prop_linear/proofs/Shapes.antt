@@ -176,13 +176,16 @@ above_filled c box n l =
     ap (λ d. int_lt (greatest_value d) (sum_at (lefts box c.args)).from) (last_filled c box n l)
     ∙ ap (λ (r : Range). int_lt n r.from) (range_filled c box)
 
+pub covered_filled : (c : Rule) (box : Box) (n : ℤ) → arg_at c.args 2 ≡ Num n → entailed_as sum_at_most (lefts box c.args) ≡ int_le (greatest_sum (ints_at c.args 0) (args_at c.args 1) box) n
+covered_filled c box n l =
+    ap (λ d. int_le (sum_at (lefts box c.args)).to (least_value d)) (last_filled c box n l)
+    ∙ ap (λ (r : Range). int_le r.to n) (range_filled c box)
+
 pub upto_filled : (c : Rule) (box : Box) (n : ℤ) → arg_at c.args 2 ≡ Num n → entailed_as sum_at_most (lefts box c.args) ≡ int_lt (opposite n -ℤ pos 1) (least_sum (signed true (ints_at c.args 0)) (args_at c.args 1) box)
 upto_filled c box n l =
     let ns = ints_at c.args 0 in
     let xs = args_at c.args 1 in
-    ap (λ d. int_le (sum_at (lefts box c.args)).to (least_value d)) (last_filled c box n l)
-    ∙ (ap (λ (r : Range). int_le r.to n) (range_filled c box)
-    ∙ same_side (greatest_sum ns xs box) n (least_sum (signed true ns) xs box) (sum_opposite ns xs box))
+    covered_filled c box n l ∙ same_side (greatest_sum ns xs box) n (least_sum (signed true ns) xs box) (sum_opposite ns xs box)
   where
     same_side : (g n m : ℤ) → m ≡ pos 0 -ℤ g → int_le g n ≡ int_lt ((pos 0 -ℤ n) -ℤ pos 1) m
     same_side g n m h = by (int_le g n) (int_lt ((pos 0 -ℤ n) -ℤ pos 1) m) refl refl

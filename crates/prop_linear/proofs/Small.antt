@@ -3,24 +3,17 @@ use Rattle.std.proofs.Common.{◌≡◌, ◌*◌, ◌^◌, ◌≤◌, true, List
 use Rattle.std.specs.Prelude.{◌*ℤ◌, unsigned_abs}
 use Rattle.std.specs.Int.{int_max}
 use Rattle.std.specs.List.{list_all}
-use Rattle.std.proofs.Math.Nat.{mul-le-mul}
-use Rattle.std.proofs.lemmas.Int.{ints, clamps, unsigned_abs-mul}
-use Rattle.std.proofs.lemmas.Bool.{leb-true}
+use Rattle.std.proofs.lemmas.Int.{ints, clamps}
 use Rattle.qc_model.specs.declared.problem.Arg.{Arg}
 use Rattle.qc_model.specs.Domains.{Values, Box, least_value, greatest_value}
 use Rattle.qc_model.specs.Refuted.{left_to}
 use Rattle.qc_model.specs.Valid.{is_number}
 use Rattle.qc_model.proofs.Readable.{first, second}
 use Rattle.qc_refuter.specs.Met.{is_domain_left, is_open}
-use Rattle.qc_refuter.proofs.Terms.{least_small, greatest_small, abs_sum}
+use Rattle.qc_refuter.proofs.Terms.{product_small, least_small, greatest_small, abs_sum}
 use Rattle.prop_linear.specs.Tightening.{term_of}
 use Rattle.prop_linear.specs.Sides.{greatest_sum}
 use Rattle.prop_linear.proofs.Spread.{high_of}
-
-product_small : (a b : ℤ) → is_number a ≡ true → is_number b ≡ true → unsigned_abs (a *ℤ b) ≤ 10 ^ 18
-product_small a b h k =
-    let m = mul-le-mul (leb-true (unsigned_abs a) 1000000000 h) (leb-true (unsigned_abs b) 1000000000 k) in
-    omega (arith, unsigned_abs-mul a b, m)
 
 term_small : (a : ℤ) (d : Values) → is_number a ≡ true → is_domain_left d ≡ true → unsigned_abs (term_of a d).to ≤ 10 ^ 18
 term_small a d h o =

@@ -128,7 +128,7 @@ own_told xs c start n r t h e l w =
     ∙ ap (λ b. b && true) (keeps_fixed c box s.r (truth_of t) here u))))
 
 -- what is told of a meaning decides
-told_as : (c : Rule) (box : Box) (m : Meaning) (t : Bool) → meaning_of c.pred ≡ reified m → left_to box (last_arg c.args) ≡ truth_of t ∷ [] → refuted_by c box ≡ cond t (refuted_as m (lefts box c.args)) (entailed_as m (lefts box c.args))
+pub told_as : (c : Rule) (box : Box) (m : Meaning) (t : Bool) → meaning_of c.pred ≡ reified m → left_to box (last_arg c.args) ≡ truth_of t ∷ [] → refuted_by c box ≡ cond t (refuted_as m (lefts box c.args)) (entailed_as m (lefts box c.args))
 told_as c box m t e h =
     let args = lefts box c.args in
     ap (λ z. refuted_as z args) e

@@ -1,8 +1,9 @@
 -- What a sum is to be, beside a number.
-use Rattle.std.specs.Prelude.{◌≡◌, ◌⊎◌, Bool, true, false, List, [], ◌∷◌, ℤ, pos, ◌-ℤ◌}
+use Rattle.std.specs.Prelude.{◌≡◌, ◌⊎◌, Bool, true, false, List, [], ◌∷◌, ℤ, pos, ◌-ℤ◌, int_lt, int_le}
 use Rattle.qc_model.specs.declared.problem.Arg.{Arg}
 use Rattle.qc_model.specs.Content.{Rule}
 use Rattle.qc_model.specs.Domains.{Box}
+use Rattle.qc_model.specs.Ranges.{Range, point, is_point, ranges_miss}
 use Rattle.qc_model.specs.Refuted.{left_to}
 use Rattle.qc_arguments.specs.Written.{last_arg}
 use Rattle.prop_compare.specs.Telling.{truth_of}
@@ -30,6 +31,13 @@ IsDemanded UpTo c box ns xs n = IsBounded c box ns xs n
 IsDemanded Over c box ns xs n = IsBounded c box (signed true ns) xs (opposite n -ℤ pos 1)
 IsDemanded Exactly c box ns xs n = IsBalanced c box ns xs n
 IsDemanded Off c box ns xs n = IsUnequal c box ns xs n
+
+-- no number of the range is what is demanded, beside n
+abbrev pub is_missed : Demand → Range → ℤ → Bool
+is_missed UpTo r n = int_lt n r.from
+is_missed Over r n = int_le r.to n
+is_missed Exactly r n = ranges_miss r (point n)
+is_missed Off r n = is_point n r
 
 -- whether the relation holds is said by the predicate, or by the last argument, which has one value
 abbrev pub IsSaid : Relation → Bool → Rule → Box → Type 0

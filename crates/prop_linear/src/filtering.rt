@@ -14,12 +14,11 @@ use crate::different::filter_sum_different;
 use crate::equal::filter_sum_equal;
 use crate::relation::{Demand, Relation, demanded};
 use crate::signs::under_opposite;
+use crate::telling::tell_sum;
 use fd_store::Store;
 use proof_tree::StepList;
 use prop_base::{Filtered, filter_by_ends};
-use prop_compare::{
-    Comparison, Table, filter_comparison, filter_reified, joined, tell, what_is_told,
-};
+use prop_compare::{Comparison, Table, filter_comparison, filter_reified, joined, what_is_told};
 use qc_arguments::{arguments, items_at, last_one, numbers_at, one_at};
 use qc_model::{Arg, ConId, Constraint, Pred, Problem};
 use std::alloc::{AllocError, Global};
@@ -124,7 +123,7 @@ fn filter_told_sum(
     ensures answer { IfOk result (λ f. IsFiltered f rule.now store.new.box steps.old steps.new) }
 {
     problem.known();
-    let changed = tell(problem, c, rule, store, steps)?;
+    let changed = tell_sum(problem, c, rule, relation, store, steps)?;
     match what_is_told(last_one(arguments(rule)), store) {
         None => Ok(Filtered::Stable),
         Some(holds) => {

@@ -1,7 +1,7 @@
 //! The filter of comparisons and linear sums, plain and reified.
 //!
-//! A sum that a last argument tells of goes by two questions to the refuter while that can tell both. Once it tells one, the
-//! sum is filtered as a plain one, or as its contrary.
+//! A sum that a last argument tells of is read once while that can tell both: what it can be says whether the relation can
+//! hold and whether it can fail. Once the argument tells one, the sum is filtered as a plain one, or as its contrary.
 //!
 //! A sum that is to be at most a number takes one pass over its places. A sum that is to be one number takes rounds over
 //! both sides until one removes nothing; `filter_sum_equal` does this for any constraint that says no more than that. A sum
@@ -18,6 +18,7 @@ mod relation;
 mod rounds;
 mod signs;
 mod slacks;
+mod telling;
 mod tighten;
 
 pub use equal::filter_sum_equal;

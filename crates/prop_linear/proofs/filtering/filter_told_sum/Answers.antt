@@ -7,23 +7,17 @@ use Rattle.prop_base.specs.Pruning.{is_just}
 use Rattle.prop_base.proofs.Steps.{pruning_more, pruning_sub}
 use Rattle.prop_compare.proofs.Lasts.{IsTruthLast, truth_last}
 use Rattle.prop_compare.proofs.Settled.{joined_filtered}
-use Rattle.prop_linear.proofs.Told.{told_none, told_truth}
+use Rattle.prop_linear.proofs.Told.{told_truth}
 use Rattle.prop_linear.proofs.filtering.filter_told_sum.Goals as goal
-
-pub tell-requires-clause-truth : goal.tell-requires-clause-truth
-tell-requires-clause-truth c = told_truth c.args.rule.now c.args.relation c.requires.pred
-
-pub tell-requires-clause-none : goal.tell-requires-clause-none
-tell-requires-clause-none c = told_none c.args.rule.now c.args.store.now.box c.args.relation c.requires.pred
 
 pub what_is_told-requires-clause-open : goal.what_is_told-requires-clause-open
 what_is_told-requires-clause-open c =
     let g = c.args.problem.now in
     let r = c.args.rule.now in
-    let box = c.tell.new.store.box in
+    let box = c.tell_sum.new.store.box in
     let asked : IsAsked g r box = record {
       rule = c.requires.asked.rule;
-      declared = pruning_sub (is_just c.args.c.0) g _ _ _ _ (declared_box g) c.tell.ensures.pruning c.requires.asked.declared;
+      declared = pruning_sub (is_just c.args.c.0) g _ _ _ _ (declared_box g) c.tell_sum.ensures.pruning c.requires.asked.declared;
       full = c.in_ok-changed.ensures.full;
     } in
     let last = c.last_one.ensures ∙ ap last_arg c.arguments.ensures in
@@ -33,10 +27,10 @@ pub what_is_told-requires-clause-truths : goal.what_is_told-requires-clause-trut
 what_is_told-requires-clause-truths c =
     let g = c.args.problem.now in
     let r = c.args.rule.now in
-    let box = c.tell.new.store.box in
+    let box = c.tell_sum.new.store.box in
     let asked : IsAsked g r box = record {
       rule = c.requires.asked.rule;
-      declared = pruning_sub (is_just c.args.c.0) g _ _ _ _ (declared_box g) c.tell.ensures.pruning c.requires.asked.declared;
+      declared = pruning_sub (is_just c.args.c.0) g _ _ _ _ (declared_box g) c.tell_sum.ensures.pruning c.requires.asked.declared;
       full = c.in_ok-changed.ensures.full;
     } in
     let last = c.last_one.ensures ∙ ap last_arg c.arguments.ensures in
@@ -45,31 +39,31 @@ what_is_told-requires-clause-truths c =
 pub returns-in-None-clause-answer : goal.returns-in-None-clause-answer
 returns-in-None-clause-answer c =
     let r = c.args.rule.now in
-    let box = c.tell.new.store.box in
+    let box = c.tell_sum.new.store.box in
     let last = c.last_one.ensures ∙ ap last_arg c.arguments.ensures in
     let o = c.in_ok-changed.ensures.open (ap (λ a. is_single (left_to box a)) (sym last) ∙ c.in-None.ensures.none) in
     (c.in_ok-changed.ensures.full, c.in_ok-changed.ensures.grown.1 o.0, o.1)
 
 pub filter_said-requires-clause-said : goal.filter_said-requires-clause-said
 filter_said-requires-clause-said c =
-    let box = c.tell.new.store.box in
+    let box = c.tell_sum.new.store.box in
     let last = c.last_one.ensures ∙ ap last_arg c.arguments.ensures in
     inr (c.requires.pred, ap (left_to box) (sym last) ∙ c.in-Some.ensures.some)
 
 pub filter_said-requires-clause-asked : goal.filter_said-requires-clause-asked
 filter_said-requires-clause-asked c = record {
   rule = c.requires.asked.rule;
-  declared = pruning_sub (is_just c.args.c.0) c.args.problem.now _ _ _ _ (declared_box c.args.problem.now) c.tell.ensures.pruning c.requires.asked.declared;
+  declared = pruning_sub (is_just c.args.c.0) c.args.problem.now _ _ _ _ (declared_box c.args.problem.now) c.tell_sum.ensures.pruning c.requires.asked.declared;
   full = c.in_ok-changed.ensures.full;
 }
 
 pub returns-in_err-later-in-Some-clause-pruning : goal.returns-in_err-later-in-Some-clause-pruning
 returns-in_err-later-in-Some-clause-pruning c =
-    pruning_more (is_just c.args.c.0) c.args.problem.now _ _ _ _ _ _ c.tell.ensures.pruning c.filter_said.ensures.pruning
+    pruning_more (is_just c.args.c.0) c.args.problem.now _ _ _ _ _ _ c.tell_sum.ensures.pruning c.filter_said.ensures.pruning
 
 pub returns-in_ok-later-in-Some-clause-pruning : goal.returns-in_ok-later-in-Some-clause-pruning
 returns-in_ok-later-in-Some-clause-pruning c =
-    pruning_more (is_just c.args.c.0) c.args.problem.now _ _ _ _ _ _ c.tell.ensures.pruning c.filter_said.ensures.pruning
+    pruning_more (is_just c.args.c.0) c.args.problem.now _ _ _ _ _ _ c.tell_sum.ensures.pruning c.filter_said.ensures.pruning
 
 pub returns-in_ok-later-in-Some-clause-answer : goal.returns-in_ok-later-in-Some-clause-answer
 returns-in_ok-later-in-Some-clause-answer c =
