@@ -15,3 +15,4 @@ pub mod Last
 pub mod Sided
 pub mod Told
 pub mod Missed
+pub mod Lows

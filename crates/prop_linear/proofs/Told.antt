@@ -25,7 +25,7 @@ use Rattle.prop_linear.specs.declared.relation.Relation.TheVariants.{AtMost, Equ
 use Rattle.prop_linear.specs.Relations.{told_pred}
 use Rattle.prop_linear.proofs.Loose.{sum_order}
 
-ends_order : (d : Values) → least_value d ≤ℤ greatest_value d
+pub ends_order : (d : Values) → least_value d ≤ℤ greatest_value d
 ends_order [] = omega (arith, ints)
 ends_order (v ∷ d) = ordered (v ∷ d) refl
 

@@ -1,15 +1,15 @@
 //! The filter of a constraint that says no more than that a sum, or its negative, is at most a number, while nothing but
 //! its items changes.
-ghost use Rattle.std.specs.Prelude.{◌≡◌, ◌≤◌, ◌^◌, IsTrue, IfOk, length, slice_get, Some, unsigned_abs};
+ghost use Rattle.std.specs.Prelude.{◌≡◌, ◌≤◌, IsTrue, IfOk, length, slice_get, Some};
 ghost use Rattle.std.specs.List.{list_all};
 ghost use Rattle.qc_model.specs.Valid.{arg_sees, is_number};
 ghost use Rattle.qc_arguments.specs.Asked.{IsAsked};
 ghost use Rattle.qc_refuter.specs.Met.{is_open};
 ghost use Rattle.prop_base.specs.Pruning.{IsPruning, IsFiltered, is_just};
 ghost use Rattle.prop_linear.specs.Sides.{signed};
-ghost use Rattle.prop_linear.specs.Tightening.{IsBounded, least_sum};
+ghost use Rattle.prop_linear.specs.Tightening.{IsBounded};
 
-use crate::signs::turned;
+use crate::least::least_of;
 use crate::slacks::slack;
 use crate::tighten::tighten_all;
 use fd_store::Store;
@@ -18,28 +18,7 @@ use prop_base::{Filtered, empty_first, filter_by_ends};
 use prop_compare::Table;
 use qc_arguments::is_repeated;
 use qc_model::{Arg, ConId, Constraint, Problem};
-use qc_refuter::sum_extent;
 use std::alloc::AllocError;
-
-// The least that the sum, or its negative, can be.
-fn least_of(
-    problem: &Problem,
-    rule: &Constraint,
-    factors: &[i64],
-    items: &[Arg],
-    negative: bool,
-    store: &Store,
-) -> i128
-    requires asked { IsAsked problem.now rule.now store.now.box }
-    requires factors { IsTrue (list_all is_number factors.now) }
-    requires open { IsTrue (list_all (is_open store.now.box) items.now) }
-    requires few { length items.now ≤ 1000 }
-    ensures value { result ≡ least_sum (signed negative factors.now) items.now store.now.box }
-    ensures small { unsigned_abs result ≤ 10 ^ 21 }
-{
-    let sum = sum_extent(problem, rule, factors, items, store);
-    if negative { turned(sum.to) } else { sum.from }
-}
 
 /// One pass over the sum, or over its negative, where no variable stands twice; end by end otherwise. Where the bound is
 /// passed already, a variable loses all its values.
@@ -68,7 +47,7 @@ pub(crate) fn filter_at_most(
     if is_repeated(items) {
         return filter_by_ends(&Table {}, problem, c, rule, store, steps);
     }
-    let least = least_of(problem, rule, factors, items, negative, store);
+    let least = least_of(factors, items, negative, store);
     if (bound as i128) < least {
         return empty_first(problem, c, rule, store, steps);
     }

@@ -12,6 +12,7 @@ mod at_most;
 mod different;
 mod equal;
 mod filtering;
+mod least;
 mod missing;
 mod places;
 mod relation;

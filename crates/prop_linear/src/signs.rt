@@ -1,5 +1,5 @@
 //! A sum, and its negative.
-ghost use Rattle.std.specs.Prelude.{◌≡◌, ◌<◌, ◌≤◌, ◌^◌, IsTrue, length, get_or, pos, ◌-ℤ◌, unsigned_abs};
+ghost use Rattle.std.specs.Prelude.{◌≡◌, ◌<◌, IsTrue, length, get_or, pos, ◌-ℤ◌};
 ghost use Rattle.std.specs.List.{list_all};
 ghost use Rattle.qc_model.specs.Valid.{is_number};
 ghost use Rattle.prop_linear.specs.Sides.{opposite, signed};
@@ -9,14 +9,6 @@ fn negated(factor: i64) -> i64
     ensures { result ≡ opposite factor }
 {
     -factor
-}
-
-/// The opposite of an end of a sum.
-pub(crate) fn turned(end: i128) -> i128
-    requires { unsigned_abs end ≤ 10 ^ 21 }
-    ensures { result ≡ opposite end }
-{
-    -end
 }
 
 /// The greatest number below the opposite of another: a sum is more than a number where its negative is at most this.

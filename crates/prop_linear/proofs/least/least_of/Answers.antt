@@ -1,0 +1,48 @@
+use Rattle.std.proofs.Common.{◌≡◌, ◌<◌, rules, arith, length, map, get_or, [], true, sym, subst, ℤ}
+use Rattle.std.specs.Prelude.{pos, ◌+ℤ◌}
+use Rattle.std.proofs.lemmas.Int.{to_z-of_z, fits_signed_from_abs}
+use Rattle.std.proofs.lemmas.List.{length-map}
+use mir.Val.{SFits, to_z}
+use mir.Syntax.{w64, w128}
+use Rattle.qc_model.specs.declared.problem.Arg.TheVariants.{Var}
+use Rattle.qc_model.specs.Domains.{Values}
+use Rattle.qc_model.specs.Refuted.{left_to}
+use Rattle.qc_model.specs.Valid.{is_number}
+use Rattle.qc_refuter.proofs.Terms.{item_left, abs_sum}
+use Rattle.prop_linear.specs.Sides.{signed}
+use Rattle.prop_linear.specs.Tightening.{least_sum, term_of}
+use Rattle.prop_linear.proofs.Lows.{signed_number, least_more}
+use Rattle.prop_linear.proofs.Sides.{signed_length}
+use Rattle.prop_linear.proofs.least.least_of.Goals as goal
+
+pub least_term-requires-clause-factor : goal.least_term-requires-clause-factor
+least_term-requires-clause-factor c =
+    let f : SFits w64 c.factor_at.result = search rules in
+    let k = c.loop-k.k in
+    simp to_z-of_z (subst (λ z. is_number z ≡ true) (sym c.factor_at.ensures) (signed_number c.args.negative c.args.factors.now k (omega (arith, c.requires.equal, c.loop-k-test.true)) c.requires.factors))
+
+pub loop-k-preserved : goal.loop-k-preserved
+loop-k-preserved c =
+    let k = c.loop-k.k in
+    let ns = signed c.args.negative c.args.factors.now in
+    let items = c.args.items.now in
+    let box = c.args.store.now.box in
+    let ds = map (left_to box) items in
+    let term = c.least_term.result in
+    let least = to_z w128 c.loop-k.least-bits in
+    let n_fits : SFits w64 c.factor_at.result = search rules in
+    let fits : SFits w64 term = search rules in
+    let wide : SFits w128 term = fits_signed_from_abs w128 term (omega (arith, c.least_term.ensures.small)) in
+    let s = abs_sum least term in
+    let few : k < 1000 = omega (arith, c.requires.few, c.loop-k-test.true) in
+    let sum_fits : SFits w128 (least +ℤ term) = fits_signed_from_abs w128 (least +ℤ term) (omega (arith, s, few, c.loop-k.invariant.small, c.least_term.ensures.small)) in
+    let as_many : length ds ≡ length items = length-map items (left_to box) in
+    let item = item_left box items k (Var (record { 0 = 0 })) (omega (arith, c.loop-k-test.true)) in
+    let value = simp to_z-of_z at c.least_term.ensures.value in
+    let T : ℤ → Values → Type 0 = λ n d. term ≡ (term_of n d).from in
+    let read : term ≡ (term_of (get_or ns k (pos 0)) (get_or ds k [])).from = subst (T (get_or ns k (pos 0))) (sym item) (subst (λ n. T n (left_to box (get_or items k (Var (record { 0 = 0 }))))) c.factor_at.ensures value) in
+    simp to_z-of_z
+    (record {
+      small = omega (arith, s, c.loop-k.invariant.small, c.least_term.ensures.small);
+      sum = least_more ns ds k least term (least_sum ns items box) (omega (arith, signed_length c.args.negative c.args.factors.now, c.requires.equal, c.loop-k-test.true)) (omega (arith, as_many, c.loop-k-test.true)) read c.loop-k.invariant.sum;
+    })
