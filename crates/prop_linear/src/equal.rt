@@ -16,7 +16,7 @@ use fd_store::Store;
 use proof_tree::StepList;
 use prop_base::{Filtered, empty_first, filter_by_ends};
 use prop_compare::Table;
-use qc_arguments::is_repeated;
+use qc_arguments::{is_repeated, is_same};
 use qc_model::{Arg, ConId, Constraint, Problem};
 use qc_refuter::sum_extent;
 use std::alloc::AllocError;
@@ -62,6 +62,16 @@ fn run_round(
     }
 }
 
+// Whether a variable stands twice. Three items, as a sum of two numbers has them, are asked one by one.
+fn stands_twice(items: &[Arg]) -> bool
+    ensures { result ≡ has_repeat items.now }
+{
+    if let [a, b, c] = items {
+        return is_same(*a, *b) || (is_same(*a, *c) || is_same(*b, *c));
+    }
+    is_repeated(items)
+}
+
 // What to answer where a round removed nothing.
 fn ended(changed: bool) -> Filtered
     ensures { result ≡ cond changed Changed Stable }
@@ -97,7 +107,7 @@ pub fn filter_sum_equal(
     ensures answer { IfOk result (λ f. IsFiltered f rule.now store.new.box steps.old steps.new) }
 {
     problem.known();
-    if is_repeated(items) {
+    if stands_twice(items) {
         return filter_by_ends(&Table {}, problem, c, rule, store, steps);
     }
     let mut changed = false;
