@@ -15,7 +15,7 @@ use Rattle.qc_model.specs.Refuted.{left_to}
 use Rattle.qc_model.proofs.Sound.{lo_of, hi_of, both}
 use Rattle.qc_table.proofs.Crowded.{ends_within}
 use Rattle.qc_table.proofs.CrowdEnds.{crowd_of_ends}
-use Rattle.qc_refuter.specs.Full.{lies_in, held, ends_past, first_sum, IsWidest, AreWidest, IsRoomy, IsUncrowded}
+use Rattle.qc_refuter.specs.Full.{lies_in, held, ends_past, first_sum, IsWidest, AreWidest, IsRoomy}
 
 count_both : {X : Type 0} (p q r : X → Bool) (xs : List X) → ((x : X) → cond (p x) 1 0 ≡ cond (q x) 1 0 + cond (r x) 1 0) → count_by p xs ≡ count_by q xs + count_by r xs
 count_both p q r [] f = omega arith
@@ -147,13 +147,9 @@ held_of_crowd ds l h e =
     wide : (m c : ℕ) → h ≡ l +ℤ pos m → int_lt ((h -ℤ l) +ℤ pos 1) (pos c) ≡ true → suc m < c
     wide m c far k = omega (arith, ints, far, k)
 
--- without such there is no crowd from l on
-not_crowded : (ds : List Values) (l h : ℤ) → IsRoomy ds l → is_crowded ds l h ≡ false
-not_crowded ds l h room = by (is_crowded ds l h) refl
-  where
-    by : (b : Bool) → is_crowded ds l h ≡ b → b ≡ false
-    by true e = let q = held_of_crowd ds l h e in absurd (omega (arith, q.1, room (suc q.0)))
-    by false e = refl
+-- no crowd begins at the least value of the item at a place
+abbrev pub IsUncrowded : List Values → ℕ → Type 0
+IsUncrowded ds k = list_any (λ e. is_crowded ds (least_value (get_or ds k [])) (greatest_value e)) ds ≡ false
 
 pub uncrowded : (ds : List Values) → ((k : ℕ) → k < length ds → IsUncrowded ds k) → has_crowd ds ≡ false
 uncrowded ds f = none_at (λ d. list_any (λ e. is_crowded ds (least_value d) (greatest_value e)) ds) ds f
@@ -162,12 +158,9 @@ uncrowded ds f = none_at (λ d. list_any (λ e. is_crowded ds (least_value d) (g
     none_at p [] f = refl
     none_at p (e ∷ es) f = ap (λ b. b || list_any p es) (f 0 (omega arith)) ∙ none_at p es (λ k h. f (suc k) (omega (arith, h)))
 
-none_any : {X : Type 0} (p : X → Bool) (xs : List X) → ((x : X) → p x ≡ false) → list_any p xs ≡ false
+pub none_any : {X : Type 0} (p : X → Bool) (xs : List X) → ((x : X) → p x ≡ false) → list_any p xs ≡ false
 none_any p [] f = refl
 none_any p (x ∷ xs) f = ap (λ b. b || list_any p xs) (f x) ∙ none_any p xs f
-
-pub none_crowded : (ds : List Values) (l : ℤ) → IsRoomy ds l → list_any (λ e. is_crowded ds l (greatest_value e)) ds ≡ false
-none_crowded ds l room = none_any (λ e. is_crowded ds l (greatest_value e)) ds (λ e. not_crowded ds l (greatest_value e) room)
 
 widest_most : (f : ℕ → ℕ) (k j : ℕ) → IsWidest f k j → f k ≤ k
 widest_most f k j v = by (k - j) refl

@@ -8,3 +8,6 @@ pub mod Results
 pub mod Fill
 pub mod Domains
 pub mod Commons
+pub mod Taken
+pub mod Seated
+pub mod EndsRead

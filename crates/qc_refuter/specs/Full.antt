@@ -1,9 +1,7 @@
 -- How many items lie among the first n numbers from one on, and for which n these numbers are full.
-use Rattle.std.specs.Prelude.{◌≡◌, ◌≤◌, ◌<◌, ℕ, Bool, ◌&&◌, IsFalse, List, [], length, take, sum, get_or, count_by, ℤ, pos, ◌+ℤ◌, int_le, int_lt}
+use Rattle.std.specs.Prelude.{◌≡◌, ◌≤◌, ◌<◌, ℕ, Bool, ◌&&◌, List, length, take, sum, get_or, count_by, ℤ, pos, ◌+ℤ◌, int_le, int_lt}
 use Rattle.std.specs.Ordering.{int_eq}
-use Rattle.std.specs.List.{list_any}
 use Rattle.qc_model.specs.Domains.{Values, least_value, greatest_value}
-use Rattle.qc_model.specs.Left.{is_crowded}
 
 -- all that is left to an item lies among the n numbers from l on
 abbrev pub lies_in : ℤ → ℕ → Values → Bool
@@ -36,10 +34,3 @@ pub record AreWidest (f : ℕ → ℕ) (widest : List ℕ) (last : ℕ) : Type 0
 -- no first numbers hold more items than they are
 abbrev pub IsRoomy : List Values → ℤ → Type 0
 IsRoomy ds l = (n : ℕ) → held ds l n ≤ n
-
--- no crowd begins at the least value of the item at a place, and none if none begins at those of the items before it
-abbrev pub IsUncrowded : List Values → ℕ → Type 0
-IsUncrowded ds k = IsFalse (list_any (λ e. is_crowded ds (least_value (get_or ds k [])) (greatest_value e)) ds)
-
-abbrev pub IsUncrowdedNext : List Values → ℕ → Type 0
-IsUncrowdedNext ds k = ((j : ℕ) → j < k → IsUncrowded ds j) → IsUncrowded ds k

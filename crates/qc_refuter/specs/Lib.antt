@@ -2,3 +2,4 @@ pub mod Met
 pub mod Spanned
 pub mod Full
 pub mod Commons
+pub mod Stretches

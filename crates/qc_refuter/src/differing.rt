@@ -1,70 +1,79 @@
 //! Items that are to differ, and too many of them within a few numbers.
 ghost use Rattle.std.specs.Prelude.{◌≡◌, ◌≤◌, ◌<◌, ℕ, [], IsTrue, length, map, get_or, true, false};
 ghost use Rattle.std.specs.List.{list_all};
-ghost use Rattle.qc_model.specs.Domains.{least_value};
+ghost use Rattle.std.specs.List.Sorted.{IsPermutation, IsNonDecreasingBy};
 ghost use Rattle.qc_model.specs.Left.{has_crowd as has_crowd_in};
 ghost use Rattle.qc_model.specs.Meaning.{all_different as AllDifferent};
 ghost use Rattle.qc_model.specs.Refuted.{left_to, refuted_as};
-ghost use Rattle.qc_refuter.specs.Full.{lies_in, IsUncrowdedNext};
+ghost use Rattle.qc_refuter.specs.Full.{lies_in};
 ghost use Rattle.qc_refuter.specs.Met.{seen, lefts, are_met, is_open};
+ghost use Rattle.qc_refuter.specs.Stretches.{AreEndsOf};
 
-use crate::full::widest_seen;
 use crate::reading::items_met;
+use crate::stretches::{Ends, MOST_ITEMS, are_too_many};
 use crate::view::{View, greatest, least};
+use qc_arguments::width;
 use qc_model::{Arg, Argument};
 
-/// As many items as an array of a constraint can have.
-const MOST_ITEMS: usize = 1000;
+/// The least number that there is.
+const LEAST: i64 = -1_000_000_000;
 
-// Whether an item before the place has the same least value, so that the same ranges begin there. To miss one would cost
-// time alone.
-fn begins_before(items: &[Arg], place: usize, view: &View) -> bool
-    requires items { IsTrue (list_all (is_open (seen view.now)) items.now) }
-    requires place { place < length items.now }
-    ensures { result ≡ true → (j : ℕ) × (j < place) × (least_value (get_or (map (left_to (seen view.now)) items.now) j []) ≡ least_value (get_or (map (left_to (seen view.now)) items.now) place [])) }
+fn ends_of(item: Arg, view: &View) -> Ends
+    requires { IsTrue (is_open (seen view.now) item) }
+    ensures { AreEndsOf (left_to (seen view.now) item) result }
 {
-    let low = least(items[place], view);
-    for j in 0..place {
-        if least(items[j], view) == low {
-            return true;
-        }
-    }
-    false
-}
-
-// Whether some range from the least value of the item at a place holds more items than numbers, unless the ranges that
-// begin there had their turn.
-fn some_crowded(items: &[Arg], place: usize, view: &View, room: &mut [u16]) -> bool
-    requires items { IsTrue (list_all (is_open (seen view.now)) items.now) }
-    requires few { length items.now ≤ 1000 }
-    requires place { place < length items.now }
-    requires room { length room.old ≡ length items.now }
-    ensures length { length room.new ≡ length items.now }
-    ensures crowd { result ≡ true → IsTrue (has_crowd_in (map (left_to (seen view.now)) items.now)) }
-    ensures none { result ≡ false → IsUncrowdedNext (map (left_to (seen view.now)) items.now) place }
-{
-    if begins_before(items, place, view) {
-        return false;
-    }
-    match widest_seen(items, items[place], view, room) {
-        None => true,
-        Some(_) => false,
+    Ends {
+        low: width(LEAST, least(item, view)),
+        high: width(LEAST, greatest(item, view)),
     }
 }
 
+fn read_ends(items: &[Arg], view: &View, ends: &mut [Ends], lows: &mut [u32])
+    requires items { IsTrue (list_all (is_open (seen view.now)) items.now) }
+    requires ends { length ends.old ≡ length items.now }
+    requires lows { length lows.old ≡ length items.now }
+    ensures length_ends { length ends.new ≡ length items.now }
+    ensures length_lows { length lows.new ≡ length items.now }
+    ensures ends { (k : ℕ) (e : Ends) → k < length items.now → AreEndsOf (get_or (map (left_to (seen view.now)) items.now) k []) (get_or ends.new k e) }
+    ensures lows { (k : ℕ) (e : Ends) → k < length items.now → get_or lows.new k 0 ≡ (get_or ends.new k e).low }
+{
+    for k in 0..items.len() {
+        let item = ends_of(items[k], view);
+        ends[k] = item;
+        lows[k] = item.low;
+    }
+}
+
+fn sort_ends(ends: &mut [Ends])
+    ensures length { length ends.new ≡ length ends.old }
+    ensures same { IsPermutation ends.old ends.new }
+    ensures sorted { IsNonDecreasingBy (λ (e : Ends). e.high) ends.new }
+{
+    ends.sort_unstable_by_key(|item| item.high);
+}
+
+fn sort_lows(lows: &mut [u32])
+    ensures length { length lows.new ≡ length lows.old }
+    ensures same { IsPermutation lows.old lows.new }
+    ensures sorted { IsNonDecreasingBy (λ (low : ℕ). low) lows.new }
+{
+    lows.sort_unstable();
+}
+
+// In the order of n log n for n items.
 fn has_crowd(items: &[Arg], view: &View) -> bool
     requires items { IsTrue (list_all (is_open (seen view.now)) items.now) }
     requires few { length items.now ≤ 1000 }
     ensures { result ≡ has_crowd_in (map (left_to (seen view.now)) items.now) }
 {
-    let mut buffer = [0u16; MOST_ITEMS];
-    let room = &mut buffer[..items.len()];
-    for k in 0..items.len() {
-        if some_crowded(items, k, view, room) {
-            return true;
-        }
-    }
-    false
+    let mut buffer = [Ends { low: 0, high: 0 }; MOST_ITEMS];
+    let mut starts = [0u32; MOST_ITEMS];
+    let ends = &mut buffer[..items.len()];
+    let lows = &mut starts[..items.len()];
+    read_ends(items, view, ends, lows);
+    sort_ends(ends);
+    sort_lows(lows);
+    are_too_many(ends, lows)
 }
 
 // Whether the first number of the view is all that is left to the item.
@@ -105,7 +114,6 @@ fn is_refuted(items: &[Arg], view: &View) -> bool
     has_crowd(items, view)
 }
 
-// A few walks over the items for each least value.
 pub(crate) fn all_different_refuted(args: &[Argument], view: &View) -> bool
     requires { IsTrue (are_met (seen view.now) args.now) }
     ensures { result ≡ refuted_as AllDifferent (lefts (seen view.now) args.now) }

@@ -13,6 +13,7 @@ mod full;
 mod members;
 mod reading;
 mod spans;
+mod stretches;
 mod sums;
 mod table;
 mod truths;
