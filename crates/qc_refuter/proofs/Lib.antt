@@ -11,3 +11,4 @@ pub mod Commons
 pub mod Taken
 pub mod Seated
 pub mod EndsRead
+pub mod Listed

@@ -43,8 +43,11 @@ none_of p (u ∷ us) g = or_none (p u) (list_any p us) (g u (inl refl)) (none_of
     or_none true b h k = cc
     or_none false b h k = k
 
+pub none_passes : (p : ℤ → Bool) (d : Values) → ((w : ℤ) → has_value d w ≡ true → p w ≡ false) → false ≡ list_any p d
+none_passes p d f = none_of p d (λ w a. f w (has_it d w a))
+
 pub none_walked : (p : ℤ → Bool) (d : Values) (v : ℤ) → IsWalked p d v → None ≡ least_of (values_from v d) → false ≡ list_any p d
-none_walked p d v f h = none_of p d (λ w a. let k = has_it d w a in f w k (less_of w v (λ l. from_none d v w h k l)))
+none_walked p d v f h = none_passes p d (λ w k. f w k (less_of w v (λ l. from_none d v w h k l)))
 
 pub none_before : (p : ℤ → Bool) (d : Values) (v : ℤ) → v ≡ least_value d → IsWalked p d v
 none_before p d v e w h m = absurd (apart w v m (subst (λ z. z ≤ℤ w) (sym e) (low_end d w h)))

@@ -3,3 +3,4 @@ pub mod Spanned
 pub mod Full
 pub mod Commons
 pub mod Stretches
+pub mod Members

@@ -117,9 +117,10 @@ fn refutes_view(rule: &Constraint, view: &View) -> bool
 }
 
 /// Whether a constraint of the problem refutes the box in which x keeps only its values from lo to hi. It takes no
-/// memory, and time in the order of the constraint's size. Where values in common are asked for (`int_eq`, `int_ne_reif`,
-/// `set_in` and their like, and each place of an element constraint's array of variables) it takes time in the order of
-/// the values left up to the first that is found, and for `all_different_int` of n items in the order of n log n.
+/// memory, and time in the order of the constraint's size. Where values in common are asked for (`int_eq`, `int_ne_reif`
+/// and their like, and each place of an element constraint's array of variables) it takes time in the order of the values
+/// left up to the first that is found. A set is searched at most about as often as it has numbers, and a range twice; for
+/// `all_different_int` of n items it takes time in the order of n log n.
 pub fn rule_refutes_in(
     problem: &Problem,
     rule: &Constraint,
