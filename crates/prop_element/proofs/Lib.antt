@@ -9,3 +9,4 @@ pub mod Supports
 pub mod Told
 pub mod Rows
 pub mod ChosenItems
+pub mod Beyond

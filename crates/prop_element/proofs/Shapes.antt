@@ -1,42 +1,47 @@
 -- The arguments of the predicates that are filtered by what each variable may keep.
-use Rattle.std.proofs.Common.{map, ◌≡◌, ◌⊎◌, inl, inr, ℕ, ◌<◌, ◌≤◌, true, false, not, ◌&&◌, List, [], ◌∷◌, Option, None, Some, length, refl, sym, ap, ◌∙◌, subst, arith, ℤ}
-use Rattle.std.specs.Prelude.{nat_le, nat_lt, pos}
+use Rattle.std.proofs.Common.{map, ◌≡◌, ◌⊎◌, inl, inr, ℕ, ◌<◌, ◌≤◌, ◌==◌, Bool, true, false, not, ◌&&◌, ◌||◌, cond, List, [], ◌∷◌, Option, None, Some, length, refl, sym, ap, ◌∙◌, subst, arith, ℤ}
+use Rattle.std.specs.Prelude.{nat_le, nat_lt, pos, slice_get}
 use Rattle.std.specs.List.{list_any, list_all}
 use Rattle.std.proofs.lemmas.List.{length-map}
 use Rattle.std.proofs.lemmas.Bool.{leb-true}
 use Rattle.std.proofs.lemmas.Bool.Decides.{nat_tests}
 use Rattle.qc_model.specs.declared.problem.Arg.{Arg}
+use Rattle.qc_model.specs.declared.problem.Arg.TheVariants.{Var, Num}
 use Rattle.qc_model.specs.declared.problem.Argument.{Argument}
 use Rattle.qc_model.specs.declared.problem.Argument.TheVariants.{One, Many, Numbers, Members}
 use Rattle.qc_model.specs.declared.problem.Pred.{Pred}
-use Rattle.qc_model.specs.declared.problem.Pred.TheVariants.{SetIn, ArrayIntMinimum, ArrayIntMaximum, ArrayIntElement, ArrayBoolElement, ArrayVarIntElement, ArrayVarBoolElement, TableInt}
+use Rattle.qc_model.specs.declared.problem.Pred.TheVariants.{SetIn, SetInReif, ArrayIntMinimum, ArrayIntMaximum, ArrayIntElement, ArrayBoolElement, ArrayVarIntElement, ArrayVarBoolElement, TableInt}
 use Rattle.qc_model.specs.declared.problem.Set.{Set}
 use Rattle.qc_model.specs.declared.problem.Variable.{Variable}
 use Rattle.qc_model.specs.declared.signature.ArgKind.{ArgKind}
 use Rattle.qc_model.specs.declared.signature.ArgKind.TheVariants.{Integer as integer, Boolean as boolean, Integers as integers, Booleans as booleans, Numbers as numbers, Truths as truths, Members as members}
 use Rattle.qc_model.specs.Closed.{keeps_ends}
 use Rattle.qc_model.specs.Content.{Game, Rule}
-use Rattle.qc_model.specs.Domains.{Box, least_value, greatest_value}
+use Rattle.qc_model.specs.Domains.{Values, Box, has_value, set_has, least_value, greatest_value}
+use Rattle.qc_model.specs.Entailed.{entailed_as}
 use Rattle.qc_model.specs.Arguments.{numbers as numbers_in}
 use Rattle.qc_model.specs.Left.{left_at, lefts_at, some_item_in, some_item_meets, row_fits}
 use Rattle.qc_model.specs.Holds.{rows}
-use Rattle.qc_model.specs.Meaning.{element, variable_element, meaning_of}
-use Rattle.qc_model.specs.Refuted.{left_to, refuted_as}
+use Rattle.qc_model.specs.Meaning.{member, element, variable_element, meaning_of}
+use Rattle.qc_model.specs.Refuted.{left_to, refuted_as, refuted_by}
 use Rattle.qc_model.specs.Signature.{arg_kinds_of}
-use Rattle.qc_model.specs.Valid.{is_number, is_truth, is_domain, is_set, is_of_sort, are_of_sorts, have_lengths, argument_sees, is_constraint}
+use Rattle.qc_model.specs.Valid.{is_number, is_truth, is_bits, is_boolean, is_integer, is_integer_domain, is_variable_with, is_domain, is_set, is_of_sort, are_of_sorts, have_lengths, argument_sees, is_constraint}
 use Rattle.qc_model.proofs.Readable.{first, second, together}
 use Rattle.qc_arguments.specs.Asked.{IsAsked}
-use Rattle.qc_arguments.specs.Written.{arg_at, args_at, ints_at, set_at}
-use Rattle.qc_arguments.proofs.Written.{left_written, lefts_written, numbers_written}
+use Rattle.qc_arguments.specs.Written.{arg_at, args_at, ints_at, set_at, last_arg}
+use Rattle.qc_arguments.proofs.Written.{left_written, lefts_written, numbers_written, last_written}
 use Rattle.qc_refuter.specs.Met.{lefts, is_open, is_met, are_met}
+use Rattle.qc_arguments.proofs.Bools.{never}
 use Rattle.qc_refuter.proofs.Ready.{rule_met}
+use Rattle.qc_refuter.proofs.Walks.{all_passed}
+use Rattle.prop_compare.specs.Telling.{truth_of}
 use Rattle.prop_base.specs.Closed.{keeps_arg, keeps_argument}
 use Rattle.prop_base.proofs.Keeps.{keeps_all}
 use Rattle.qc_arguments.specs.Repeats.{same_variable, has_repeat}
 use Rattle.prop_element.specs.Choices.{IsChoice}
 use Rattle.prop_element.specs.Elements.{IsElement}
 use Rattle.prop_element.specs.Tables.{IsTable}
-use Rattle.prop_element.specs.Members.{IsMembership}
+use Rattle.prop_element.specs.Members.{IsMembership, IsToldMember, is_wanted}
 use Rattle.prop_element.specs.Extremes.{IsLeast, IsGreatest}
 use Rattle.prop_element.proofs.ItemTests.{least_tests, greatest_tests}
 
@@ -250,6 +255,101 @@ one_boolean xs (One a) h = record { it = a; is = refl }
 one_boolean xs (Many items) h = cc
 one_boolean xs (Numbers ns) h = cc
 one_boolean xs (Members s) h = cc
+
+-- an integer, a set and the truth value that tells of them
+record IsToldSet (xs : List Variable) (args : List Argument) : Type 0 where
+  arg : Arg
+  set : Set
+  last : Arg
+  is : args ≡ One arg ∷ Members set ∷ One last ∷ []
+  arg_is : is_integer xs arg ≡ true
+  last_is : is_boolean xs last ≡ true
+  ordered : is_set set ≡ true
+
+told_set_of : (xs : List Variable) (c : Rule) → is_constraint xs c ≡ true → c.pred ≡ SetInReif → IsToldSet xs c.args
+told_set_of xs c h e =
+    let t = three_of xs integer members boolean c.args (sorts_of xs c SetInReif h e) in
+    let a = one_integer xs t.left t.left_is in
+    let s = some_members xs t.middle t.middle_is in
+    let r = one_boolean xs t.right t.right_is in
+    record {
+      arg = a.it;
+      set = s.it;
+      last = r.it;
+      is = t.is ∙ (ap (λ z. z ∷ t.middle ∷ t.right ∷ []) a.is ∙ (ap (λ z. One a.it ∷ z ∷ t.right ∷ []) s.is ∙ ap (λ z. One a.it ∷ Members s.it ∷ z ∷ []) r.is));
+      arg_is = subst (λ z. is_of_sort xs integer z ≡ true) a.is t.left_is;
+      last_is = subst (λ z. is_of_sort xs boolean z ≡ true) r.is t.right_is;
+      ordered = subst (λ z. is_of_sort xs members z ≡ true) s.is t.middle_is;
+    }
+
+told_set_is : (xs : List Variable) (c : Rule) (s : Set) (t : IsToldSet xs c.args) → set_at c.args 1 ≡ Some s → t.set ≡ s
+told_set_is xs c s t h = ap (λ o. the_set o s) (sym (ap (λ l. set_at l 1) t.is) ∙ h)
+
+pub has_told_set : (xs : List Variable) (c : Rule) → is_constraint xs c ≡ true → c.pred ≡ SetInReif → set_at c.args 1 ≡ None → ⊥
+has_told_set xs c h e n = let t = told_set_of xs c h e in none (sym (ap (λ l. set_at l 1) t.is) ∙ n)
+  where
+    none : {s : Set} → Some s ≡ None → ⊥
+    none q = cc
+
+pub told_set_ordered : (xs : List Variable) (c : Rule) (s : Set) → is_constraint xs c ≡ true → c.pred ≡ SetInReif → set_at c.args 1 ≡ Some s → is_set s ≡ true
+told_set_ordered xs c s h e k = let t = told_set_of xs c h e in subst (λ z. is_set z ≡ true) (told_set_is xs c s t k) t.ordered
+
+pub told_set_open : (g : Game) (c : Rule) (box : Box) → list_all (λ x. is_domain x.domain) g.variables ≡ true → IsAsked g c box → c.pred ≡ SetInReif → is_open box (arg_at c.args 0) ≡ true
+told_set_open g c box d a e =
+    let t = told_set_of g.variables c a.rule e in
+    let u = ap (are_met box) (sym t.is) ∙ rule_met g box d a.declared a.full c a.rule in
+    ap (λ l. is_open box (arg_at l 0)) t.is ∙ first (is_open box t.arg) (is_set t.set && (is_open box t.last && true)) u
+
+-- an integer and a truth value are never the same variable
+pub sorts_apart : (xs : List Variable) (r a : Arg) → is_boolean xs r ≡ true → is_integer xs a ≡ true → same_variable r a ≡ false
+sorts_apart xs (Num n) a h k = refl
+sorts_apart xs (Var x) (Num n) h k = refl
+sorts_apart xs (Var x) (Var y) h k = never (y.0 == x.0) (λ e. no (slice_get xs x.0) h (ap (λ i. is_variable_with is_integer_domain (slice_get xs i)) (sym (same y.0 x.0 e)) ∙ k))
+  where
+    same : (a b : ℕ) → (a == b) ≡ true → a ≡ b
+    same a b h = grind (arith, nat_tests)
+
+    no : (o : Option Variable) → is_variable_with is_bits o ≡ true → is_variable_with is_integer_domain o ≡ true → ⊥
+    no None h k = cc
+    no (Some x) h k = by (is_bits x.domain) h k
+      where
+        by : (b : Bool) → b ≡ true → not b ≡ true → ⊥
+        by true h k = cc
+        by false h k = cc
+
+-- what it says, once one answer is left
+told_as : (c : Rule) (box : Box) (t : Bool) → c.pred ≡ SetInReif → left_to box (last_arg c.args) ≡ truth_of t ∷ [] → refuted_by c box ≡ cond t (refuted_as member (lefts box c.args)) (entailed_as member (lefts box c.args))
+told_as c box t e h =
+    let args = lefts box c.args in
+    ap (λ p. refuted_as (meaning_of p) args) e
+    ∙ (ap (λ d. (not (has_value d (pos 1)) || refuted_as member args) && (not (has_value d (pos 0)) || entailed_as member args)) (last_written box c.args ∙ h)
+    ∙ by t (refuted_as member args) (entailed_as member args))
+  where
+    by : (t p q : Bool) → ((not (has_value (truth_of t ∷ []) (pos 1)) || p) && (not (has_value (truth_of t ∷ []) (pos 0)) || q)) ≡ cond t p q
+    by true true q = refl
+    by true false q = refl
+    by false p q = refl
+
+pub told_member : (xs : List Variable) (c : Rule) (s : Set) → is_constraint xs c ≡ true → c.pred ≡ SetInReif → set_at c.args 1 ≡ Some s → IsToldMember c (arg_at c.args 0) s (last_arg c.args)
+told_member xs c s h e k =
+    let t = told_set_of xs c h e in
+    let set_is = told_set_is xs c s t k in
+    let arg = ap (λ l. arg_at l 0) t.is in
+    let last = ap last_arg t.is in
+    let A : Arg → Type 0 = λ z. IsToldMember c z s (last_arg c.args) in
+    let S : Set → Type 0 = λ z. IsToldMember c t.arg z (last_arg c.args) in
+    subst A (sym arg) (subst S set_is (record {
+      apart = subst (λ z. same_variable z t.arg ≡ false) (sym last) (sorts_apart xs t.last t.arg t.last_is t.arg_is);
+      told = λ box b h. told_as c box b e h ∙ (ap (λ l. cond b (refuted_as member (lefts box l)) (entailed_as member (lefts box l))) t.is ∙ answers b t.set (left_to box t.arg));
+      own = λ box p q.
+          keeps_all c box
+          (ap (list_all (keeps_argument c box)) t.is
+          ∙ together (keeps_arg c box t.arg) (keeps_arg c box t.last && true) p (together (keeps_arg c box t.last) true (subst (λ z. keeps_arg c box z ≡ true) last q) refl));
+    }))
+  where
+    answers : (b : Bool) (z : Set) (d : Values) → cond b (not (list_any (set_has z) d)) (list_all (set_has z) d) ≡ not (list_any (is_wanted b z) d)
+    answers true z d = refl
+    answers false z d = sym (all_passed (set_has z) d)
 
 record IsNumbers (a : Argument) : Type 0 where
   ns : List ℤ

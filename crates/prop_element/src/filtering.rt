@@ -1,6 +1,5 @@
 //! The filter.
 ghost use Rattle.std.specs.Prelude.{◌≡◌, ◌<◌, length, IfOk, slice_get, Some};
-ghost use Rattle.qc_model.specs.declared.problem.Pred.TheVariants.{SetInReif};
 ghost use Rattle.qc_model.specs.Content.{Rule};
 ghost use Rattle.qc_arguments.specs.Asked.{IsAsked};
 ghost use Rattle.prop_base.specs.Pruning.{IsPruning, IsFiltered, is_just};
@@ -9,29 +8,10 @@ use crate::forms::form_of;
 use fd_store::Store;
 use proof_tree::StepList;
 use prop_base::{Filtered, filter_by_cuts, filter_by_ends};
-use prop_compare::{Table, joined, tell};
+use prop_compare::Table;
 use prop_different::filter_different;
 use qc_model::{ConId, Constraint, Pred, Problem};
 use std::alloc::{AllocError, Global};
-
-// The last argument tells whether the first is a member of the set.
-fn filter_told_member(
-    problem: &Problem,
-    c: ConId,
-    rule: &Constraint,
-    store: &mut Store,
-    steps: &mut StepList,
-) -> Result<Filtered, AllocError>
-    requires pred { rule.now.pred ≡ SetInReif }
-    requires c { slice_get problem.now.constraints c.0 ≡ Some rule.now }
-    requires asked { IsAsked problem.now rule.now store.old.box }
-    ensures pruning { IsPruning (is_just c.0) problem.now store.old store.new steps.old steps.new }
-    ensures answer { IfOk result (λ f. IsFiltered f rule.now store.new.box steps.old steps.new) }
-{
-    let changed = tell(problem, c, rule, store, steps)?;
-    let later = filter_by_ends(&Table {}, problem, c, rule, store, steps)?;
-    Ok(joined(changed, later))
-}
 
 // No range says what to keep.
 fn filter_other(
@@ -48,7 +28,6 @@ fn filter_other(
 {
     match rule.pred {
         Pred::AllDifferentInt => filter_different(problem, c, rule, store, steps),
-        Pred::SetInReif => filter_told_member(problem, c, rule, store, steps),
         _ => filter_by_ends(&Table {}, problem, c, rule, store, steps),
     }
 }

@@ -12,6 +12,7 @@ use qc_model::{Constraint, Pred};
 #[derive(Clone, Copy)]
 pub enum Form {
     Member,
+    ToldMember,
     Least,
     Greatest,
     Element,
@@ -55,6 +56,7 @@ pub(crate) fn form_of(rule: &Constraint) -> Option<Form>
 {
     match rule.pred {
         Pred::SetIn => Some(Form::Member),
+        Pred::SetInReif => Some(Form::ToldMember),
         Pred::ArrayIntMinimum => Some(Form::Least),
         Pred::ArrayIntMaximum => Some(Form::Greatest),
         Pred::ArrayIntElement => element_form(rule),

@@ -15,16 +15,16 @@ use fd_store::Store;
 use prop_base::Cut;
 use qc_model::{Arg, Constraint, Problem, VarId};
 
-// The number before another.
-fn before(number: i64) -> i64
+/// The number before another.
+pub(crate) fn before(number: i64) -> i64
     requires { IsTrue (is_number number) }
     ensures { result ≡ number -ℤ pos 1 }
 {
     number - 1
 }
 
-// The number after another.
-fn after(number: i64) -> i64
+/// The number after another.
+pub(crate) fn after(number: i64) -> i64
     requires { IsTrue (is_number number) }
     ensures { result ≡ number +ℤ pos 1 }
 {

@@ -3,13 +3,13 @@ ghost use Rattle.std.specs.Prelude.{◌≡◌, ◌≤◌, ◌<◌, ℕ, IsTrue, 
 ghost use Rattle.qc_model.specs.declared.problem.Pred.TheVariants.{SetIn};
 ghost use Rattle.qc_model.specs.declared.problem.Set.TheVariants.{Range as SetRange, Listed as SetListed};
 ghost use Rattle.qc_model.specs.Closed.{keeps_ends};
-ghost use Rattle.qc_model.specs.Domains.{is_ascending};
+ghost use Rattle.qc_model.specs.Domains.{is_ascending, set_has};
 ghost use Rattle.qc_model.specs.Refuted.{left_to};
 ghost use Rattle.qc_model.specs.Valid.{is_set};
 ghost use Rattle.qc_arguments.specs.Asked.{IsAsked};
 ghost use Rattle.qc_refuter.specs.Met.{is_open};
 ghost use Rattle.prop_base.specs.Closed.{IsCut, keeps_arg};
-ghost use Rattle.prop_element.specs.Members.{IsMembership, IsFirstMember, IsLastMember, NoMember};
+ghost use Rattle.prop_element.specs.Members.{IsMembership, IsFirst, IsLast, NonePasses};
 
 use crate::hulls::{arg_cut, whole_cut};
 use fd_store::Store;
@@ -20,8 +20,8 @@ use qc_model::{Arg, Constraint, Problem, Set};
 
 fn first_in_range(low: i64, high: i64, a: Arg, store: &Store) -> Option<i64>
     requires open { IsTrue (is_open store.now.box a) }
-    ensures none { IfNone result (NoMember (SetRange low high) (left_to store.now.box a)) }
-    ensures some { IfSome result (λ v. IsFirstMember (SetRange low high) (left_to store.now.box a) v) }
+    ensures none { IfNone result (NonePasses (set_has (SetRange low high)) (left_to store.now.box a)) }
+    ensures some { IfSome result (λ v. IsFirst (set_has (SetRange low high)) (left_to store.now.box a) v) }
 {
     match next_of(a, low, store) {
         Some(v) if v <= high => Some(v),
@@ -31,8 +31,8 @@ fn first_in_range(low: i64, high: i64, a: Arg, store: &Store) -> Option<i64>
 
 fn last_in_range(low: i64, high: i64, a: Arg, store: &Store) -> Option<i64>
     requires open { IsTrue (is_open store.now.box a) }
-    ensures none { IfNone result (NoMember (SetRange low high) (left_to store.now.box a)) }
-    ensures some { IfSome result (λ v. IsLastMember (SetRange low high) (left_to store.now.box a) v) }
+    ensures none { IfNone result (NonePasses (set_has (SetRange low high)) (left_to store.now.box a)) }
+    ensures some { IfSome result (λ v. IsLast (set_has (SetRange low high)) (left_to store.now.box a) v) }
 {
     match previous_of(a, high, store) {
         Some(v) if low <= v => Some(v),
@@ -67,8 +67,8 @@ fn place_past(numbers: &[i64], v: i64) -> usize
 fn first_listed(numbers: &[i64], a: Arg, store: &Store) -> Option<i64>
     requires open { IsTrue (is_open store.now.box a) }
     requires ascending { IsTrue (is_ascending numbers.now) }
-    ensures none { IfNone result (NoMember (SetListed numbers.now) (left_to store.now.box a)) }
-    ensures some { IfSome result (λ v. IsFirstMember (SetListed numbers.now) (left_to store.now.box a) v) }
+    ensures none { IfNone result (NonePasses (set_has (SetListed numbers.now)) (left_to store.now.box a)) }
+    ensures some { IfSome result (λ v. IsFirst (set_has (SetListed numbers.now)) (left_to store.now.box a) v) }
 {
     let start = place_from(numbers, least(a, store));
     for k in start..numbers.len() {
@@ -82,8 +82,8 @@ fn first_listed(numbers: &[i64], a: Arg, store: &Store) -> Option<i64>
 fn last_listed(numbers: &[i64], a: Arg, store: &Store) -> Option<i64>
     requires open { IsTrue (is_open store.now.box a) }
     requires ascending { IsTrue (is_ascending numbers.now) }
-    ensures none { IfNone result (NoMember (SetListed numbers.now) (left_to store.now.box a)) }
-    ensures some { IfSome result (λ v. IsLastMember (SetListed numbers.now) (left_to store.now.box a) v) }
+    ensures none { IfNone result (NonePasses (set_has (SetListed numbers.now)) (left_to store.now.box a)) }
+    ensures some { IfSome result (λ v. IsLast (set_has (SetListed numbers.now)) (left_to store.now.box a) v) }
 {
     let mut k = place_past(numbers, greatest(a, store));
     while k > 0 {
@@ -95,11 +95,12 @@ fn last_listed(numbers: &[i64], a: Arg, store: &Store) -> Option<i64>
     None
 }
 
-fn first_member(set: &Set, a: Arg, store: &Store) -> Option<i64>
+/// The least value left that is a member.
+pub(crate) fn first_member(set: &Set, a: Arg, store: &Store) -> Option<i64>
     requires open { IsTrue (is_open store.now.box a) }
     requires set { IsTrue (is_set set.now) }
-    ensures none { IfNone result (NoMember set.now (left_to store.now.box a)) }
-    ensures some { IfSome result (λ v. IsFirstMember set.now (left_to store.now.box a) v) }
+    ensures none { IfNone result (NonePasses (set_has set.now) (left_to store.now.box a)) }
+    ensures some { IfSome result (λ v. IsFirst (set_has set.now) (left_to store.now.box a) v) }
 {
     match set {
         Set::Range(low, high) => first_in_range(*low, *high, a, store),
@@ -107,11 +108,12 @@ fn first_member(set: &Set, a: Arg, store: &Store) -> Option<i64>
     }
 }
 
-fn last_member(set: &Set, a: Arg, store: &Store) -> Option<i64>
+/// The greatest value left that is a member.
+pub(crate) fn last_member(set: &Set, a: Arg, store: &Store) -> Option<i64>
     requires open { IsTrue (is_open store.now.box a) }
     requires set { IsTrue (is_set set.now) }
-    ensures none { IfNone result (NoMember set.now (left_to store.now.box a)) }
-    ensures some { IfSome result (λ v. IsLastMember set.now (left_to store.now.box a) v) }
+    ensures none { IfNone result (NonePasses (set_has set.now) (left_to store.now.box a)) }
+    ensures some { IfSome result (λ v. IsLast (set_has set.now) (left_to store.now.box a) v) }
 {
     match set {
         Set::Range(low, high) => last_in_range(*low, *high, a, store),

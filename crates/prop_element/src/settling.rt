@@ -8,6 +8,7 @@ use crate::greatest::maximum_cut;
 use crate::least::minimum_cut;
 use crate::members::member_cut;
 use crate::tables::table_cut;
+use crate::told_members::told_member_cut;
 use fd_store::Store;
 use prop_base::{Cut, Cutter};
 use qc_model::{Constraint, Problem};
@@ -18,6 +19,7 @@ impl Cutter for Form {
     fn next_cut(&self, problem: &Problem, rule: &Constraint, store: &Store) -> Option<Cut> {
         match *self {
             Form::Member => member_cut(problem, rule, store),
+            Form::ToldMember => told_member_cut(problem, rule, store),
             Form::Least => minimum_cut(problem, rule, store),
             Form::Greatest => maximum_cut(problem, rule, store),
             Form::Element => element_cut(problem, rule, store),

@@ -2,7 +2,7 @@ use Rattle.std.proofs.Common.{rules}
 use Rattle.std.proofs.lemmas.Int.{to_z-of_z}
 use mir.Val.{SFits}
 use mir.Syntax.{w64}
-use Rattle.prop_element.proofs.Sets.{found_from, missed_from}
+use Rattle.qc_refuter.proofs.Listed.{found_from, missed_from}
 use Rattle.prop_element.proofs.members.place_from.Goals as goal
 
 pub returns-in-Ok-clause-before : goal.returns-in-Ok-clause-before

@@ -2,7 +2,7 @@ use Rattle.std.proofs.Common.{rules}
 use Rattle.std.proofs.lemmas.Int.{to_z-of_z}
 use mir.Val.{SFits}
 use mir.Syntax.{w64}
-use Rattle.prop_element.proofs.Sets.{found_past, missed_past}
+use Rattle.qc_refuter.proofs.Listed.{found_past, missed_past}
 use Rattle.prop_element.proofs.members.place_past.Goals as goal
 
 pub returns-in-Ok-clause-after : goal.returns-in-Ok-clause-after

@@ -3,9 +3,10 @@ use Rattle.std.proofs.lemmas.Int.{to_z-of_z}
 use mir.Val.{SFits}
 use mir.Syntax.{w64}
 use Rattle.qc_model.specs.declared.problem.Arg.{Arg}
+use Rattle.qc_model.specs.Domains.{set_has}
 use Rattle.qc_model.specs.Refuted.{left_to}
 use Rattle.qc_refuter.specs.Met.{is_open}
-use Rattle.prop_element.specs.Members.{IsMembership, IsFirstMember, IsLastMember}
+use Rattle.prop_element.specs.Members.{IsMembership, IsFirst, IsLast}
 use Rattle.prop_element.proofs.Sets.{none_refuted, members_hull}
 use Rattle.prop_element.proofs.members.set_cut.Goals as goal
 
@@ -23,6 +24,6 @@ arg_cut-requires-clause-hull c x q =
     let f = c.in-Some.ensures.some in
     let l = c.in-Some-last_member.ensures.some in
     let M : Arg → Type 0 = λ z. IsMembership r z s in
-    let F : Arg → Type 0 = λ z. IsFirstMember s (left_to box z) c.in-Some.first in
-    let L : Arg → Type 0 = λ z. IsLastMember s (left_to box z) c.in-Some-last_member.last in
+    let F : Arg → Type 0 = λ z. IsFirst (set_has s) (left_to box z) c.in-Some.first in
+    let L : Arg → Type 0 = λ z. IsLast (set_has s) (left_to box z) c.in-Some-last_member.last in
     simp to_z-of_z (members_hull r box x s c.in-Some.first c.in-Some-last_member.last (subst (λ z. is_open box z ≡ true) q c.requires.open) (subst M q c.requires.member) (subst F q f) (subst L q l))
