@@ -21,8 +21,6 @@ mod inner;
 mod reads;
 mod store;
 mod table;
-#[cfg(test)]
-mod tests;
 mod undo;
 mod words;
 

@@ -20,8 +20,6 @@ mod narrowing;
 mod rival;
 mod search;
 mod stage;
-#[cfg(test)]
-mod tests;
 mod walk;
 mod writing;
 

@@ -20,8 +20,6 @@ mod nesting;
 mod nodes;
 mod open;
 mod remains;
-#[cfg(test)]
-mod tests;
 mod tuple;
 mod turn;
 

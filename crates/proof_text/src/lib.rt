@@ -22,8 +22,6 @@ mod ranges;
 mod read;
 mod reader;
 mod scan;
-#[cfg(test)]
-mod tests;
 mod walk;
 mod whole_line;
 mod write;

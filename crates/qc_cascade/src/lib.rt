@@ -10,8 +10,6 @@ mod cascade;
 mod entered;
 mod entering;
 mod laws;
-#[cfg(test)]
-mod tests;
 
 pub use entered::Entered;
 pub use entering::{enter, enter_under};

@@ -27,6 +27,3 @@ pub use tree::{
     ArgumentList, ArgumentText, ConditionText, DomainText, FoldText, Item, Members, Number,
     NumberList, One, OneList, Word,
 };
-
-#[cfg(test)]
-mod tests;

@@ -21,6 +21,3 @@ mod scope_join;
 
 pub use joins::Joins;
 pub use laws::{leaves_fit, lengths_join, sizes_join, verdicts_are_long, verdicts_are_sized};
-
-#[cfg(test)]
-mod tests;

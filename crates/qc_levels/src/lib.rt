@@ -27,6 +27,3 @@ pub use leaves::{Found, Leaf};
 pub use order::compare;
 pub use qc_model::Condition as Entry;
 pub use values::Value;
-
-#[cfg(test)]
-mod tests;

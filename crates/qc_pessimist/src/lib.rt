@@ -17,6 +17,3 @@ mod reading;
 pub use laws::opposing_scopes_tell_the_worst;
 pub use made::pessimistic;
 pub use reading::{NoReading, Places};
-
-#[cfg(test)]
-mod tests;

@@ -40,8 +40,6 @@ mod shown;
 mod side;
 mod steps;
 mod tables;
-#[cfg(test)]
-mod tests;
 mod tuple;
 mod walk;
 

@@ -8,8 +8,6 @@ mod levels;
 mod places;
 mod rules;
 mod scopes;
-#[cfg(test)]
-mod tests;
 
 pub use level::Level;
 pub use levels::Levels;

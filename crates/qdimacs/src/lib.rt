@@ -36,6 +36,3 @@ mod tree;
 pub use fault::{QdimacsFault, QdimacsKind};
 pub use laws::{formulas_are_games, texts_get_one_answer};
 pub use read::read_qdimacs;
-
-#[cfg(test)]
-mod tests;

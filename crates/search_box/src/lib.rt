@@ -15,8 +15,6 @@ mod laws;
 mod reading;
 mod search_box;
 mod taking;
-#[cfg(test)]
-mod tests;
 mod tuple;
 
 pub use bounding::Bounded;

@@ -14,8 +14,6 @@ mod arena;
 mod laws;
 mod read;
 mod spell;
-#[cfg(test)]
-mod tests;
 mod write;
 
 pub use arena::Arena;

@@ -7,6 +7,3 @@
 mod solve;
 
 pub use solve::solve_worst;
-
-#[cfg(test)]
-mod tests;
