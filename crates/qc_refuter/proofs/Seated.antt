@@ -6,7 +6,11 @@ use Rattle.std.proofs.lemmas.Bool.Decides.{nat_tests}
 use Rattle.std.proofs.lemmas.List.{get_or_default}
 use Rattle.std.proofs.lemmas.List.Sums.{sum_by-cons, count_by_more_yes, count_by_more_no}
 use Rattle.qc_refuter.specs.declared.stretches.Ends.{Ends}
-use Rattle.qc_refuter.specs.Stretches.{begins, lies, IsPlaced, AreSkips, IsOneMore, HasRoom}
+use Rattle.qc_refuter.specs.Stretches.{lies, IsPlaced, AreSkips, IsOneMore, HasRoom}
+
+-- the item begins at l or after it
+abbrev pub begins : ℕ → Ends → Bool
+begins l e = nat_le l e.low
 
 -- how many of the first items begin at l or after it
 abbrev pub began : List Ends → ℕ → ℕ → ℕ

@@ -1,7 +1,16 @@
 -- What is free after an item took a number, and that a range is too full where it found none.
-use Rattle.std.proofs.Common.{◌≡◌, ◌⊎◌, inl, inr, ℕ, zero, suc, ◌+◌, ◌-◌, ◌<◌, ◌≤◌, cond, nat_lt, List, length, get_or, refl, ap, ◌∙◌, subst, arith}
+use Rattle.std.proofs.Common.{◌≡◌, ◌≢◌, ◌⊎◌, inl, inr, ℕ, zero, suc, ◌+◌, ◌-◌, ◌<◌, ◌≤◌, cond, nat_lt, List, length, get_or, refl, ap, ◌∙◌, subst, arith}
 use Rattle.std.proofs.lemmas.Bool.Decides.{nat_tests}
-use Rattle.qc_refuter.specs.Stretches.{IsStretch, IsOneMore, IsTaking, filled, HasRoom}
+use Rattle.qc_refuter.specs.Stretches.{IsStretch, IsOneMore, filled, HasRoom}
+
+-- a number is taken from the stretch at a place, or past them all
+pub record IsTaking (lows free new : List ℕ) (place high top next : ℕ) : Type 0 where
+  pub other : (k : ℕ) → k ≢ place → get_or new k 0 ≡ get_or free k 0
+  pub here : place < length lows → get_or new place 0 + 1 ≡ get_or free place 0
+  pub fits : place < length lows → get_or lows place 0 ≤ high + get_or free place 0
+  pub same : place < length lows → next ≡ top
+  pub past : length lows ≤ place → next ≡ top + 1
+  pub past_fits : length lows ≤ place → top ≤ high
 
 pub side : (a b : ℕ) → (a < b) ⊎ (b ≤ a)
 side a b = by (b - a) refl

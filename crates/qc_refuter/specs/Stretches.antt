@@ -1,12 +1,9 @@
 -- Items that each take a number of their own: what is free, and how far those reach that took one.
-use Rattle.std.specs.Prelude.{◌≡◌, ◌≢◌, ◌≤◌, ◌<◌, ◌+◌, ℕ, max, Bool, ◌&&◌, nat_le, List, length, get_or, pos, ◌+ℤ◌}
+use Rattle.std.specs.Prelude.{◌≡◌, ◌≤◌, ◌<◌, ◌+◌, ℕ, max, Bool, ◌&&◌, nat_le, List, length, get_or, pos, ◌+ℤ◌}
 use Rattle.qc_model.specs.Domains.{Values, least_value, greatest_value}
 use Rattle.qc_refuter.specs.declared.stretches.Ends.{Ends}
 
--- the item begins at l or after it, and ends at h or before it
-abbrev pub begins : ℕ → Ends → Bool
-begins l e = nat_le l e.low
-
+-- the item lies among the numbers from l to h
 abbrev pub lies : ℕ → ℕ → Ends → Bool
 lies l h e = nat_le l e.low && nat_le e.high h
 
@@ -54,17 +51,9 @@ pub record IsOneMore (low : ℕ) (c more : ℕ → ℕ) : Type 0 where
 abbrev pub filled : List ℕ → (ℕ → ℕ) → ℕ → ℕ
 filled lows c k = get_or lows k 0 + c (get_or lows k 0)
 
--- a number is taken from the stretch at a place, or past them all
-pub record IsTaking (lows free new : List ℕ) (place high top next : ℕ) : Type 0 where
-  pub other : (k : ℕ) → k ≢ place → get_or new k 0 ≡ get_or free k 0
-  pub here : place < length lows → get_or new place 0 + 1 ≡ get_or free place 0
-  pub fits : place < length lows → get_or lows place 0 ≤ high + get_or free place 0
-  pub same : place < length lows → next ≡ top
-  pub past : length lows ≤ place → next ≡ top + 1
-  pub past_fits : length lows ≤ place → top ≤ high
-
--- what is free fits the items that took numbers, of which c l begin at l or after it, and none ends after last. Those
--- that begin at a least value or before it fill the numbers up to its reach, the farthest that they have to go
+-- what is free of each stretch once some items took numbers: c l of them begin at l or after it, and none ends after last.
+-- The reach of a place is the greatest of what is filled from the least values up to there. From place to place it goes on
+-- by what is free between them, at the last place it is top, and only a least value takes it past the last end
 pub record HasRoom (lows free : List ℕ) (c : ℕ → ℕ) (last top : ℕ) : Type 0 where
   pub reach : ℕ → ℕ
   pub steps : (k : ℕ) → k + 1 < length lows → reach (k + 1) ≡ reach k + get_or free (k + 1) 0
