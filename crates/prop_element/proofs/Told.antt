@@ -14,7 +14,7 @@ use Rattle.qc_model.specs.declared.signature.ArgKind.TheVariants.{Boolean}
 use Rattle.qc_model.specs.Arguments.{members, last_of}
 use Rattle.qc_model.specs.Closed.{keeps_ends, refutes_at}
 use Rattle.qc_model.specs.Content.{Game, Rule}
-use Rattle.qc_model.specs.Domains.{Values, Box, values_left, box_at, is_none_left, has_empty, set_has, least_value, greatest_value}
+use Rattle.qc_model.specs.Domains.{Values, Box, values_left, box_at, box_within, is_none_left, has_empty, set_has, least_value, greatest_value}
 use Rattle.qc_model.specs.Left.{left_at}
 use Rattle.qc_model.specs.Meaning.{member, meaning_of}
 use Rattle.qc_model.specs.Refuted.{left_to, refuted_by}
@@ -34,7 +34,7 @@ use Rattle.prop_base.specs.Closed.{IsCut, keeps_arg}
 use Rattle.prop_compare.specs.Telling.{truth_of}
 use Rattle.prop_compare.specs.Untold.{RefutesNone}
 use Rattle.prop_compare.proofs.Lasts.{refutes_none}
-use Rattle.prop_compare.proofs.Settled.{can_go, untold_keeps}
+use Rattle.prop_compare.proofs.Settled.{can_go, cut_place, truth_kept, untold_keeps}
 use Rattle.prop_compare.proofs.Sides.{set_to, with_other}
 use Rattle.prop_element.specs.Hulls.{IsHull}
 use Rattle.prop_element.specs.Members.{is_wanted, IsToldMember, IsFirst, IsLast, NonePasses}
@@ -102,18 +102,16 @@ pub told_kept : (c : Rule) (box : Box) (a : Arg) (s : Set) (r : Arg) (t : Bool) 
 told_kept c box a s r t v (Some x) m h f k = tt
 told_kept c box a s r t v None m h f k = m.own box k (keeps_fixed c box r (truth_of t) h (m.told box t h ∙ any_some (is_wanted t s) (left_to box a) v f.there f.passes))
 
--- while it can tell both
-at_answer : (c : Rule) (box : Box) (a : Arg) (s : Set) (x : VarId) (t : Bool) → IsToldMember c a s (Var x) → values_left box x.0 ≡ pos 0 ∷ pos 1 ∷ [] → refuted_by c (box_at box x.0 (truth_of t)) ≡ not (list_any (is_wanted t s) (left_to box a))
-at_answer c box a s x t m h =
-    m.told (box_at box x.0 (truth_of t)) t (set_to box x (truth_of t ∷ []) (ap is_none_left h))
-    ∙ ap (λ d. not (list_any (is_wanted t s) d)) (with_other box (Var x) a (truth_of t ∷ []) m.apart)
+-- while it can tell both: what was asked is what an answer alone leaves
+at_answer : (c : Rule) (box : Box) (x : VarId) (t b : Bool) → values_left box x.0 ≡ pos 0 ∷ pos 1 ∷ [] → b ≡ refuted_by c (box_within box x.0 (truth_of t) (truth_of t)) → refuted_by c (box_at box x.0 (truth_of t)) ≡ b
+at_answer c box x t b h e = sym (e ∙ ap (refuted_by c) (truth_kept box x.0 t h))
 
-pub answer_goes : (c : Rule) (box : Box) (a : Arg) (s : Set) (x : VarId) (t : Bool) → IsToldMember c a s (Var x) → values_left box x.0 ≡ pos 0 ∷ pos 1 ∷ [] → NonePasses (is_wanted t s) (left_to box a) → IsCut c box (record { x = x; lo = truth_of t; hi = truth_of t })
-answer_goes c box a s x t m h f = can_go c box x t (record { x = x; lo = truth_of t; hi = truth_of t }) h (at_answer c box a s x t m h ∙ any_none (is_wanted t s) (left_to box a) f) refl
+pub answer_there : (box : Box) (x : VarId) → values_left box x.0 ≡ pos 0 ∷ pos 1 ∷ [] → x.0 < length box
+answer_there box x h = cut_place box x true (record { x = x; lo = pos 1; hi = pos 1 }) h refl
 
-pub both_stay : (c : Rule) (box : Box) (a : Arg) (s : Set) (x : VarId) (v w : ℤ) → has_empty box ≡ false → IsToldMember c a s (Var x) → values_left box x.0 ≡ pos 0 ∷ pos 1 ∷ [] → RefutesNone c box (Var x) → IsFirst (is_wanted true s) (left_to box a) v → IsFirst (is_wanted false s) (left_to box a) w →
+pub answer_goes : (c : Rule) (box : Box) (x : VarId) (t b : Bool) → values_left box x.0 ≡ pos 0 ∷ pos 1 ∷ [] → b ≡ refuted_by c (box_within box x.0 (truth_of t) (truth_of t)) → b ≡ true → IsCut c box (record { x = x; lo = truth_of t; hi = truth_of t })
+answer_goes c box x t b h e k = can_go c box x t (record { x = x; lo = truth_of t; hi = truth_of t }) h (at_answer c box x t b h e ∙ k) refl
+
+pub both_stay : (c : Rule) (box : Box) (x : VarId) (p q : Bool) → has_empty box ≡ false → values_left box x.0 ≡ pos 0 ∷ pos 1 ∷ [] → RefutesNone c box (Var x) → p ≡ refuted_by c (box_within box x.0 (pos 1) (pos 1)) → p ≡ false → q ≡ refuted_by c (box_within box x.0 (pos 0) (pos 0)) → q ≡ false →
     keeps_ends box c ≡ true
-both_stay c box a s x v w e m h n f g =
-    untold_keeps c box x e h n
-    (at_answer c box a s x true m h ∙ any_some (is_wanted true s) (left_to box a) v f.there f.passes)
-    (at_answer c box a s x false m h ∙ any_some (is_wanted false s) (left_to box a) w g.there g.passes)
+both_stay c box x p q f h n d k e l = untold_keeps c box x f h n (at_answer c box x true p h d ∙ k) (at_answer c box x false q h e ∙ l)

@@ -1,12 +1,12 @@
 //! What is taken where an argument tells whether another one is a member of a set.
 //!
 //! What is told is read anew each time, so nothing has to be known of the boxes that earlier cuts left.
-ghost use Rattle.std.specs.Prelude.{◌≡◌, true, false, [], ◌∷◌, pos, IsTrue, IsFalse, IfNone, IfSome};
+ghost use Rattle.std.specs.Prelude.{◌≡◌, [], ◌∷◌, pos, IsTrue, IfNone, IfSome};
 ghost use Rattle.std.specs.List.{list_all};
 ghost use Rattle.qc_model.specs.declared.problem.Arg.TheVariants.{Var};
 ghost use Rattle.qc_model.specs.declared.problem.Pred.TheVariants.{SetInReif};
 ghost use Rattle.qc_model.specs.Closed.{keeps_ends};
-ghost use Rattle.qc_model.specs.Domains.{has_empty, values_left};
+ghost use Rattle.qc_model.specs.Domains.{values_left};
 ghost use Rattle.qc_model.specs.Refuted.{left_to};
 ghost use Rattle.qc_model.specs.Valid.{is_set, is_truth};
 ghost use Rattle.qc_arguments.specs.Asked.{IsAsked};
@@ -20,8 +20,8 @@ use crate::hulls::{any_cut, arg_cut};
 use crate::members::{first_member, last_member};
 use crate::others::{first_other, last_other};
 use fd_store::Store;
-use prop_base::Cut;
-use prop_compare::what_is_told;
+use prop_base::{Cut, Refuter};
+use prop_compare::{Table, what_is_told};
 use qc_arguments::{arguments, last_one, members_at, one_at};
 use qc_model::{Arg, Constraint, Problem, Set, VarId};
 
@@ -84,23 +84,20 @@ fn known_cut(
 }
 
 // Where both answers are left to x: 1 goes if no value of the argument is a member, and 0 if all of them are.
-fn answer_cut(rule: &Constraint, a: Arg, set: &Set, x: VarId, store: &Store) -> Option<Cut>
-    requires open { IsTrue (is_open store.now.box a) }
-    requires set { IsTrue (is_set set.now) }
-    requires full { IsFalse (has_empty store.now.box) }
-    requires member { IsToldMember rule.now a set.now (Var x) }
+fn answer_cut(problem: &Problem, rule: &Constraint, x: VarId, store: &Store) -> Option<Cut>
+    requires asked { IsAsked problem.now rule.now store.now.box }
     requires both { values_left store.now.box x.0 ≡ pos 0 ∷ pos 1 ∷ [] }
     requires none { RefutesNone rule.now store.now.box (Var x) }
     ensures none { IfNone result (IsTrue (keeps_ends store.now.box rule.now)) }
     ensures some { IfSome result (λ k. IsCut rule.now store.now.box k) }
 {
-    let _ = rule.pred;
-    let Some(_) = first_wanted(set, true, a, store) else {
+    let table = Table {};
+    if table.refutes_in(problem, rule, store, x, 1, 1) {
         return Some(Cut { x, lo: 1, hi: 1 });
-    };
-    let Some(_) = first_wanted(set, false, a, store) else {
+    }
+    if table.refutes_in(problem, rule, store, x, 0, 0) {
         return Some(Cut { x, lo: 0, hi: 0 });
-    };
+    }
     None
 }
 
@@ -126,7 +123,7 @@ fn told_set_cut(
         Some(told) => known_cut(problem, rule, a, set, r, told, store),
         None => match r {
             Arg::Num(_) => None,
-            Arg::Var(x) => answer_cut(rule, a, set, x, store),
+            Arg::Var(x) => answer_cut(problem, rule, x, store),
         },
     }
 }
