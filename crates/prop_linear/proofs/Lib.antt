@@ -16,3 +16,4 @@ pub mod Sided
 pub mod Told
 pub mod Missed
 pub mod Lows
+pub mod Order

@@ -3,3 +3,4 @@ pub mod Sides
 pub mod Relations
 pub mod Unequal
 pub mod Demands
+pub mod Rising

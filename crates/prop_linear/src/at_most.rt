@@ -10,13 +10,13 @@ ghost use Rattle.prop_linear.specs.Sides.{signed};
 ghost use Rattle.prop_linear.specs.Tightening.{IsBounded};
 
 use crate::least::least_of;
+use crate::repeats::stands_twice;
 use crate::slacks::slack;
 use crate::tighten::tighten_all;
 use fd_store::Store;
 use proof_tree::StepList;
 use prop_base::{Filtered, empty_first, filter_by_ends};
 use prop_compare::Table;
-use qc_arguments::is_repeated;
 use qc_model::{Arg, ConId, Constraint, Problem};
 use std::alloc::AllocError;
 
@@ -44,7 +44,7 @@ pub(crate) fn filter_at_most(
     ensures pruning { IsPruning (is_just c.0) problem.now store.old store.new steps.old steps.new }
     ensures answer { IfOk result (λ f. IsFiltered f rule.now store.new.box steps.old steps.new) }
 {
-    if is_repeated(items) {
+    if stands_twice(items) {
         return filter_by_ends(&Table {}, problem, c, rule, store, steps);
     }
     let least = least_of(factors, items, negative, store);

@@ -10,13 +10,13 @@ ghost use Rattle.prop_linear.specs.Sides.{IsBalanced, IsRound};
 ghost use Rattle.prop_linear.specs.Tightening.{AlikeOutside};
 ghost use Rattle.qc_arguments.specs.Repeats.{has_repeat};
 
+use crate::repeats::stands_twice;
 use crate::rounds::tighten_round;
 use crate::slacks::{excess, slack};
 use fd_store::Store;
 use proof_tree::StepList;
 use prop_base::{Filtered, empty_first, filter_by_ends};
 use prop_compare::Table;
-use qc_arguments::{is_repeated, is_same};
 use qc_model::{Arg, ConId, Constraint, Problem};
 use qc_refuter::sum_extent;
 use std::alloc::AllocError;
@@ -60,16 +60,6 @@ fn run_round(
     } else {
         Ok(Filtered::Stable)
     }
-}
-
-// Whether a variable stands twice. Three items, as a sum of two numbers has them, are asked one by one.
-fn stands_twice(items: &[Arg]) -> bool
-    ensures { result ≡ has_repeat items.now }
-{
-    if let [a, b, c] = items {
-        return is_same(*a, *b) || (is_same(*a, *c) || is_same(*b, *c));
-    }
-    is_repeated(items)
 }
 
 // What to answer where a round removed nothing.

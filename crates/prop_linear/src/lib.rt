@@ -16,6 +16,7 @@ mod least;
 mod missing;
 mod places;
 mod relation;
+mod repeats;
 mod rounds;
 mod signs;
 mod slacks;
