@@ -39,7 +39,7 @@ fn first_wanted(set: &Set, told: bool, a: Arg, store: &Store) -> Option<i64>
     }
 }
 
-// The greatest one.
+// The greatest such value.
 fn last_wanted(set: &Set, told: bool, a: Arg, store: &Store) -> Option<i64>
     requires open { IsTrue (is_open store.now.box a) }
     requires set { IsTrue (is_set set.now) }
@@ -101,6 +101,7 @@ fn answer_cut(problem: &Problem, rule: &Constraint, x: VarId, store: &Store) -> 
     None
 }
 
+// By what the last argument tells, if it tells one of both.
 fn told_set_cut(
     problem: &Problem,
     rule: &Constraint,
