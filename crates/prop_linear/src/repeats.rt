@@ -44,11 +44,11 @@ fn rise(items: &[Arg]) -> bool
 pub(crate) fn stands_twice(items: &[Arg]) -> bool
     ensures { result ≡ has_repeat items.now }
 {
-    if rise(items) {
-        return false;
-    }
     if let [a, b, c] = items {
         return is_same(*a, *b) || (is_same(*a, *c) || is_same(*b, *c));
+    }
+    if rise(items) {
+        return false;
     }
     is_repeated(items)
 }
