@@ -60,7 +60,8 @@ fn sort_lows(lows: &mut [u32])
     lows.sort_unstable();
 }
 
-// In the order of n log n for n items.
+// In the order of n log n for n items. Inlined, its buffers would be paid for at each question to the table.
+#[inline(never)]
 fn has_crowd(items: &[Arg], view: &View) -> bool
     requires items { IsTrue (list_all (is_open (seen view.now)) items.now) }
     requires few { length items.now ≤ 1000 }
