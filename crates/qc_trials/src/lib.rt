@@ -1,0 +1,30 @@
+//! Trials of the libraries: what no clause of theirs says, shown on small games and texts that were worked out by hand.
+//!
+//! Each module tries the public calls of one crate. They stand in a crate of their own, since a crate with tests is
+//! proved twice. It has nothing but tests.
+#![tactic(auto)]
+
+#[cfg(test)]
+mod drafts;
+#[cfg(test)]
+mod evaluation;
+#[cfg(test)]
+mod grammar;
+#[cfg(test)]
+mod joins;
+#[cfg(test)]
+mod judging;
+#[cfg(test)]
+mod levels;
+#[cfg(test)]
+mod model;
+#[cfg(test)]
+mod spans;
+#[cfg(test)]
+mod store;
+#[cfg(test)]
+mod sums;
+#[cfg(test)]
+mod texts;
+#[cfg(test)]
+mod trees;
