@@ -9,6 +9,8 @@ mod drafts;
 #[cfg(test)]
 mod evaluation;
 #[cfg(test)]
+mod formulas;
+#[cfg(test)]
 mod grammar;
 #[cfg(test)]
 mod joins;
@@ -17,7 +19,13 @@ mod judging;
 #[cfg(test)]
 mod levels;
 #[cfg(test)]
+mod lines;
+#[cfg(test)]
 mod model;
+#[cfg(test)]
+mod plays;
+#[cfg(test)]
+mod readings;
 #[cfg(test)]
 mod spans;
 #[cfg(test)]
