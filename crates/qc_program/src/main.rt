@@ -3,32 +3,11 @@
 
 ghost use Rattle.std.specs.Prelude.{◌≡◌, IfOk, drop, map, string_bytes};
 ghost use Rattle.std.specs.Vec.Iter.{into_iter_items};
-ghost use Rattle.qc_program.specs.Words.{asked_of};
+ghost use Rattle.qc_commands.specs.Words.{asked_of};
 ghost use Rattle.qc_program.specs.Edge.{EndsRight};
 
-mod certificate;
-mod certificate_file;
-mod check;
-mod file;
-mod formula;
-mod formula_file;
-mod gap;
-mod generate;
-mod moves;
-mod play;
-mod print;
-mod problem_file;
-mod refuse;
-mod run;
-mod solve;
-mod status;
-mod words;
-mod worst;
-mod writing;
-
+use qc_commands::{Status, run};
 use qc_io::{FolderShelf, OutSink};
-use run::run;
-use status::Status;
 use std::alloc::{AllocError, Global};
 use std::env;
 use std::io::ErrorKind;
@@ -77,6 +56,3 @@ fn answer<R: Files + Print + AllocGlobal>(rt: &R, words: &[String]) -> Result<St
     let mut out = OutSink::new(rt);
     Ok(run(alloc, texts.as_slice(), &mut shelf, &mut out))
 }
-
-#[cfg(test)]
-mod tests;

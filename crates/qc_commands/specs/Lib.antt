@@ -1,0 +1,15 @@
+pub mod Answers
+pub mod Certificates
+pub mod Certifies
+pub mod Complete
+pub mod Files
+pub mod Fed
+pub mod Formulas
+pub mod Gap
+pub mod Moves
+pub mod Plays
+pub mod Readings
+pub mod Refusals
+pub mod Summaries
+pub mod View
+pub mod Words
