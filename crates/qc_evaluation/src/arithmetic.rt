@@ -90,21 +90,3 @@ pub(crate) fn remainder(args: &[Argument], values: &[i64]) -> bool
     let y = one_value(args, 1, values);
     leaves(x, y, one_value(args, 2, values))
 }
-
-#[cfg(test)]
-mod tests {
-    use super::*;
-
-    #[test]
-    fn divides_toward_zero(rt: HostRuntime) {
-        assert!(rt; divides_to(7, 2, 3));
-        assert!(rt; divides_to(-7, 2, -3));
-        assert!(rt; divides_to(7, -2, -3));
-        assert!(rt; !divides_to(-7, 2, -4));
-        assert!(rt; !divides_to(0, 0, 0));
-        assert!(rt; leaves(7, -2, 1));
-        assert!(rt; leaves(-7, 2, -1));
-        assert!(rt; !leaves(-7, 2, 1));
-        assert!(rt; !leaves(5, 0, 5));
-    }
-}

@@ -81,20 +81,3 @@ pub(crate) fn all_different(args: &[Argument], values: &[i64]) -> bool
         sorted_differ(items, values)
     }
 }
-
-#[cfg(test)]
-mod tests {
-    use super::*;
-    use qc_model::VarId;
-
-    #[test]
-    fn pairs_and_sorted_values_agree(rt: HostRuntime) {
-        let items = [Arg::Num(5), Arg::Var(VarId(0)), Arg::Num(-3)];
-        for (value, want) in [(4, true), (5, false), (-3, false), (-4, true)] {
-            assert_eq!(rt; pairs_differ(&items, &[value]), want, "at {value}");
-            assert_eq!(rt; sorted_differ(&items, &[value]), want, "at {value}");
-        }
-        assert!(rt; pairs_differ(&[], &[]));
-        assert!(rt; sorted_differ(&[], &[]));
-    }
-}

@@ -21,6 +21,3 @@ mod sums;
 mod truths;
 
 pub use evaluate::{holds, satisfies};
-
-#[cfg(test)]
-mod tests;

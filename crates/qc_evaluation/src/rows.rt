@@ -47,25 +47,3 @@ pub(crate) fn table(args: &[Argument], values: &[i64]) -> bool
     let numbers = numbers_at(args, 1, values);
     has_row(items_at(args, 0, values), values, numbers)
 }
-
-#[cfg(test)]
-mod tests {
-    use super::*;
-    use qc_model::VarId;
-
-    #[test]
-    fn rows_of_two(rt: HostRuntime) {
-        let pair = [Arg::Var(VarId(0)), Arg::Var(VarId(1))];
-        let numbers = [1, 2, 3, 4];
-        for (values, want) in [
-            ([1, 2], true),
-            ([3, 4], true),
-            ([2, 3], false),
-            ([1, 4], false),
-        ] {
-            assert_eq!(rt; has_row(&pair, &values, &numbers), want);
-        }
-        assert!(rt; !has_row(&pair, &[1, 2], &[]));
-        assert!(rt; !has_row(&[], &[], &numbers));
-    }
-}

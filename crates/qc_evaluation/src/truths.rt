@@ -87,22 +87,3 @@ pub(crate) fn clause(args: &[Argument], values: &[i64]) -> bool
 {
     some_one(items_at(args, 0, values), values) || some_zero(items_at(args, 1, values), values)
 }
-
-#[cfg(test)]
-mod tests {
-    use super::*;
-    use qc_model::VarId;
-
-    #[test]
-    fn no_items_and_repeated_variables(rt: HostRuntime) {
-        let repeated = [Arg::Var(VarId(0)), Arg::Var(VarId(0)), Arg::Num(1)];
-        assert!(rt; all_ones(&[], &[]));
-        assert!(rt; !some_one(&[], &[]));
-        assert!(rt; !some_zero(&[], &[]));
-        assert!(rt; !odd_count(&[], &[]));
-        assert!(rt; odd_count(&repeated, &[1]));
-        assert!(rt; odd_count(&repeated, &[0]));
-        assert!(rt; !all_ones(&repeated, &[0]));
-        assert!(rt; some_zero(&repeated, &[0]));
-    }
-}

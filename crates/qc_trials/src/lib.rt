@@ -5,6 +5,10 @@
 #![tactic(auto)]
 
 #[cfg(test)]
+mod boxes;
+#[cfg(test)]
+mod cascade;
+#[cfg(test)]
 mod drafts;
 #[cfg(test)]
 mod evaluation;
@@ -27,6 +31,8 @@ mod plays;
 #[cfg(test)]
 mod readings;
 #[cfg(test)]
+mod search;
+#[cfg(test)]
 mod spans;
 #[cfg(test)]
 mod store;
@@ -36,3 +42,5 @@ mod sums;
 mod texts;
 #[cfg(test)]
 mod trees;
+#[cfg(test)]
+mod worst;
