@@ -130,6 +130,14 @@ impl<'p> SearchBox<'p> {
         self.store.min(x)
     }
 
+    /// Whether v is left to x.
+    pub fn has(&self, x: VarId, v: i64) -> bool
+        requires var { x.0 < length self.now.store.box }
+        ensures { result ≡ has_value (values_left self.now.store.box x.0) v }
+    {
+        self.store.has(x, v)
+    }
+
     /// The value left to x that comes after v, one of them. None comes exactly where there is none.
     pub fn next(&self, x: VarId, v: i64) -> Option<i64>
         requires var { x.0 < length self.now.store.box }
