@@ -12,7 +12,7 @@ use Rattle.qc_model.specs.Content.{Game}
 use Rattle.qc_model.specs.Block.{constraints_in_force}
 use Rattle.qc_model.specs.Closed.{is_closed}
 use Rattle.qc_model.specs.Demands.{demands, demands_from, demands_after}
-use Rattle.qc_model.specs.Domains.{Box, Values, declared_box, values_left, is_single, is_none_left, has_empty}
+use Rattle.qc_model.specs.Domains.{Box, Values, declared_box, values_left, has_value, is_ascending, is_single, is_none_left, has_empty}
 use Rattle.qc_model.specs.ExistsVerdict.{exists_own}
 use Rattle.qc_model.specs.Game.{allows, is_of_scope}
 use Rattle.qc_model.specs.ForallVerdict.{goal_verdict, stuck_verdict}
@@ -43,25 +43,28 @@ use Rattle.qc_joins.specs.Verdicts.{verdict_at, stuck_of, settled_at, own_at, ki
 use Rattle.qc_joins.specs.declared.joins.Joins.{Joins}
 use Rattle.qc_joins.proofs.Lengths.{verdict_long, goal_long, stuck_long}
 use Rattle.qc_joins.proofs.Sizing.{sizes_both, leaf_fits, verdict_sized, goal_sized, stuck_sized}
+use Rattle.fd_store.specs.Held.{values_from}
 use Rattle.search_box.specs.Closes.{IsPruned}
+use Rattle.search_box.specs.Rests.{IsFirst, IsLast, IsNext, IsPrevious}
 use Rattle.game_search.specs.Aims.{tracked_at}
 use Rattle.game_search.specs.Attempted.{Attempted}
 use Rattle.game_search.specs.Beaten.{firsts, seen_bounds}
 use Rattle.game_search.specs.Own.{IsOwnSized}
 use Rattle.game_search.specs.Rivals.{above_at}
 use Rattle.game_search.specs.Settled.{is_settled, is_outdone, is_vague_verdict, beats_none}
-use Rattle.game_search.specs.Uppers.{upto_all, upto_between, without_before}
+use Rattle.game_search.specs.Uppers.{upto_all, upto_between, skipped_between, without_before}
 use Rattle.game_search.specs.Made.{NodeMade, EndingMade, StepsMade}
-use Rattle.game_search.specs.Written.{NodeWritten}
+use Rattle.game_search.specs.Written.{NodeWritten, PartWritten}
 use Rattle.game_search.specs.Told.{IsReady, IsTold, EndingTold, StepsTold, PartTold, CaseTold, CasesTold, BodyTold, NodeTold}
 use Rattle.game_search.proofs.Beating.{no_worse_yet}
+use Rattle.game_search.proofs.Covers.{covers_before, rest_of}
 use Rattle.game_search.proofs.Joining.{settled_is, settled_so, own_so, own_none, settled-append, or_first, or_second, neither}
 use Rattle.game_search.proofs.Nodes.{goal_made, node_made, more_beaten, horizon_made, stuck_made, empty_made, next_made, barred_made, branch_made}
 use Rattle.game_search.proofs.Outdone.{Outdoes, ended_last}
 use Rattle.game_search.proofs.Places.{next_at}
-use Rattle.game_search.proofs.Progress.{Progress, start, taken_from, none, skipped, opened, cut_after}
+use Rattle.game_search.proofs.Progress.{Progress, start, taken_from, none, skipped, opened, cut_after, jump_after}
 use Rattle.game_search.proofs.Sizes.{sizes_none, own_sized}
-use Rattle.game_search.proofs.Stepping.{part_says, part_long}
+use Rattle.game_search.proofs.Stepping.{part_says, part_long, ending_more}
 
 some_scope : (n : ℕ) (ss : List Scope) → n < length ss → is_goal (drop n ss) ≡ false
 some_scope n [] h = absurd (omega arith)
@@ -132,6 +135,10 @@ Answers g i joins b = (ys : List Seen) → StandsAt joins i ys → b ≡ settled
 
 pub asked_here : (g h : Game) (i : ℕ) (joins : Joins) (b : Bool) → h ≡ g → ((ys : List Seen) → StandsAt joins i ys → b ≡ settled_at h i ys) → Answers g i joins b
 asked_here g h i joins b e f ys s = f ys s ∙ ap (λ k. settled_at k i ys) e
+
+-- a case may be gone into before all others
+pub case_ready : (g : Game) (i : ℕ) (joins : Joins) (xs : List Seen) (had : ℕ) → 0 < had → IsReady g i joins (suc (2 * had)) xs → IsReady g i joins (2 + 2 * (had - 1)) xs
+case_ready g i joins xs had some ready = record { stands = ready.stands; unsettled = ready.unsettled; size = ready.size; sizes = ready.sizes; room = omega (arith, ready.room, some) }
 
 module _ (cuts : Bool) (above : ℤ → Bool) (g : Game) (i : ℕ) (box : Box) (h : Option ℕ) (x : ℕ) (vs : Values) (xs : List Seen) (had : ℕ) (old : List Line) (first : Joins) (ready : IsReady g i first (suc (2 * had)) xs) where
   abbrev Goes : Values → ℕ → List Line → Joins → Type 0
@@ -243,6 +250,49 @@ module _ (cuts : Bool) (above : ℤ → Bool) (g : Game) (i : ℕ) (box : Box) (
     told = p.told;
   }
 
+  -- v is the first of the values, and was gone into before all others
+  tried_first : (rest : Values) (v : ℤ) (left : ℕ) (new : List Line) (joins : Joins) → 1 < length (values_left box x) → vs ≡ v ∷ rest → ¬ (had ≡ 0) → CaseTold cuts above g i (box_to box x (v ∷ [])) h xs (had - 1) left old new joins → Goes rest left new joins
+  tried_first rest v left new joins many at some w =
+      let none_yet : Settled g i [] ≡ false = refl in
+      let part = subst (λ ys. PartWritten cuts above g (drop i g.scopes) i (demands g i) (box_to box x (v ∷ [])) h ys w.ms w.part.seen (had - 1) left old new) (sym (append-nil xs)) w.part.written in
+      record {
+        seen = w.part.seen;
+        progress = taken_from cuts above g (drop i g.scopes) i (demands g i) box h x vs xs had old vs rest v [] w.ms w.part.seen had left old new many at none_yet some (start cuts above g (drop i g.scopes) i (demands g i) box h x vs xs had old) part;
+        told = w.part.told;
+      }
+
+  -- it isn't, and those before it were skipped: it settles the scope
+  tried_later : cuts ≡ true → list_all is_number vs ≡ true → (u : Option ℤ) (rest : Values) (v : ℤ) (left : ℕ) (new : List Line) (joins : Joins) (c : Bool) → 1 < length (values_left box x) → is_cover u vs ≡ true → uncovered u vs ≡ v ∷ rest → ¬ (had ≡ 0) → Answers g i joins c → c ≡ true →
+      CaseTold cuts above g i (box_to box x (v ∷ [])) h xs (had - 1) left (old ++ (upto_lines u ++ Skip ∷ [])) new joins → Goes rest left new joins
+  tried_later cut numbers u rest v left new joins c many case leaves some asked f w =
+      let all = settled_told g i joins (xs ++ w.part.seen) c asked f w.part.told in
+      let last : Settled g i w.part.seen ≡ true = settled_last g i xs w.part.seen ready.unsettled all.1 in
+      let part = subst (λ ys. PartWritten cuts above g (drop i g.scopes) i (demands g i) (box_to box x (v ∷ [])) h ys w.ms w.part.seen (had - 1) left (old ++ (upto_lines u ++ Skip ∷ [])) new) (sym (append-nil xs)) w.part.written in
+      record {
+        seen = seen_skipped ∷ w.part.seen;
+        progress = jump_after cuts above g (drop i g.scopes) i (demands g i) box h x vs xs had old cut numbers u rest v w.ms w.part.seen left new many case leaves last some part;
+        told = record { stood = w.part.told.stood; stands = w.part.told.stands; same = inr (all.0, settled_then g i xs (seen_skipped ∷ w.part.seen) last) };
+      }
+
+  -- either way
+  tried_here : cuts ≡ true → list_all is_number vs ≡ true → is_ascending vs ≡ true → (low v : ℤ) (before : Option ℤ) (rest : Values) (left : ℕ) (mid new : List Line) (joins : Joins) (c : Bool) → 1 < length (values_left box x) → IsFirst vs low → has_value vs v ≡ true → IsPrevious vs v before →
+      values_from v vs ≡ v ∷ rest → ¬ (had ≡ 0) → Answers g i joins c → c ≡ true → mid ≡ old ++ skipped_between (Some low) before → CaseTold cuts above g i (box_to box x (v ∷ [])) h xs (had - 1) left mid new joins → Goes rest left new joins
+  tried_here cut numbers rises low v None rest left mid new joins c many first has before at some asked f q w =
+      tried_first rest v left new joins many (sym before.all ∙ at) some (subst (λ ls. CaseTold cuts above g i (box_to box x (v ∷ [])) h xs (had - 1) left ls new joins) (q ∙ append-nil old) w)
+  tried_here cut numbers rises low v (Some p) rest left mid new joins c many first has before at some asked f q w =
+      let k = covers_before vs low p v rises first has (record { left = before.left; rest = before.after.rest }) in
+      tried_later cut numbers (upto_between low p) rest v left new joins c many k.is_case (k.leaves_rest ∙ at) some asked f (subst (λ ls. CaseTold cuts above g i (box_to box x (v ∷ [])) h xs (had - 1) left ls new joins) q w)
+
+  -- a case gone into before all others settles the scope, and all others are skipped
+  pub case_tried : cuts ≡ true → list_all is_number vs ≡ true → is_ascending vs ≡ true → (low v high : ℤ) (before following : Option ℤ) (left : ℕ) (mid new end : List Line) (joins : Joins) (c : Bool) → 1 < length (values_left box x) → IsFirst vs low → IsLast vs high → has_value vs v ≡ true →
+      IsPrevious vs v before → IsNext vs v following → ¬ (had ≡ 0) → Answers g i joins c → c ≡ true → mid ≡ old ++ skipped_between (Some low) before → end ≡ new ++ skipped_between following (Some high) → CaseTold cuts above g i (box_to box x (v ∷ [])) h xs (had - 1) left mid new joins → Done left end joins
+  case_tried cut numbers rises low v high before None left mid new end joins c many first last has previous after some asked f q e w =
+      subst (λ ls. Done left ls joins) (sym (e ∙ append-nil new)) (rest_none left new joins (tried_here cut numbers rises low v before [] left mid new joins c many first has previous after some asked f q w))
+  case_tried cut numbers rises low v high before (Some n) left mid new end joins c many first last has previous after some asked f q e w =
+      let r = rest_of vs n high rises numbers after.left last in
+      rest_skipped (values_from n vs) left new end joins c r.some r.numbers asked f (tried_here cut numbers rises low v before (values_from n vs) left mid new joins c many first has previous after.rest some asked f q w)
+      (e ∙ ap (λ o. new ++ (upto_lines o ++ Skip ∷ [])) (sym r.upto))
+
 -- the parts of a scope's own tree
 module _ (cuts : Bool) (above : ℤ → Bool) (g : Game) (i : ℕ) (box : Box) (h : Option ℕ) (xs : List Seen) (had : ℕ) (old : List Line) (first : Joins) (ready : IsReady g i first (suc (2 * had)) xs) where
   pub empty_told : (new : List Line) → has_empty box ≡ true → new ≡ old ++ Empty ∷ [] → EndingTold cuts above g i box h xs had had old new first
@@ -319,6 +369,28 @@ part_told cuts above g i box left_box h xs ms had left old mid new joins steps p
       told = subst (IsTold g i joins) (append_assoc xs (seen_bounds ms) w.seen) w.told;
     }
 
+-- more turns may have been done, whose lines were taken back
+pub part_more : (cuts : Bool) (above : ℤ → Bool) (g : Game) (i : ℕ) (box : Box) (h : Option ℕ) (xs : List Seen) (ms : List ℤ) (had more left : ℕ) (old new : List Line) (joins : Joins) → cuts ≡ true → had ≤ more → PartTold cuts above g i box h xs ms had left old new joins → PartTold cuts above g i box h xs ms more left old new joins
+part_more cuts above g i box h xs ms had more left old new joins cut l w =
+    let p = w.written.made in
+    record {
+      seen = w.seen;
+      written = record {
+        steps = w.written.steps;
+        ending = w.written.ending;
+        lines = w.written.lines;
+        made = record {
+          last = p.last;
+          both = p.both;
+          stepped = p.stepped;
+          marks_beaten = p.marks_beaten;
+          one = p.one;
+          ended = ending_more cuts above g (drop i g.scopes) i (demands g i) (after_steps w.written.steps box) h (xs ++ seen_bounds ms) p.last had more left w.written.ending cut l p.ended;
+        };
+      };
+      told = w.told;
+    }
+
 -- a branch, by its cases
 pub branch_told : (cuts : Bool) (above : ℤ → Bool) (g : Game) (i : ℕ) (box : Box) (h : Option ℕ) (xs : List Seen) (had left : ℕ) (old mid new last : List Line) (joins : Joins) (x : VarId) → has_empty box ≡ false → is_of_scope g i x.0 ≡ true → is_single (values_left box x.0) ≡ false → is_place 500 x.0 ≡ true →
     is_closed (constraints_in_force g (drop i g.scopes) i) box ≡ true → is_fixed_to g i x.0 box ≡ true → has_no_worse (tracked_at g i) (firsts xs) box ≡ true → mid ≡ old ++ BranchLine x ∷ [] → last ≡ new ++ Dot ∷ [] → CasesTold cuts above g i box h x.0 (values_left box x.0) xs had left mid new joins → EndingTold cuts above g i box h xs had left old last joins
@@ -381,18 +453,18 @@ module _ (cuts : Bool) (above : ℤ → Bool) (g : Game) (i : ℕ) (scope : i < 
 settled_none : (g : Game) (i : ℕ) → settled_at g i [] ≡ false
 settled_none g i = settled_here g i []
 
--- the node's own tree begins with nothing seen, and its join says at the end what it comes to
-pub node_ended : (cuts : Bool) (above : ℤ → Bool) (g : Game) (i : ℕ) (h : Option ℕ) → IsValid g → i < length g.scopes → (box last_box : Box) → last_box ≡ box → list_all is_number (position g i box) ≡ true → is_horizon h i ≡ false → Outdoes g (drop i g.scopes) (demands g i) above → SeesAhead g (drop i g.scopes) i box h → (had left last_left : ℕ) (old new last_new : List Line) (first mid joins : Joins) (v : Verdict) →
-    StandsAt first i [] → had < 2147483648 → (IsReady g i first (suc (2 * had)) [] → PartTold cuts above g i box h [] [] had left old new mid) → ((xs : List Seen) → StandsAt mid i xs → v ≡ verdict_at g i (position g i last_box) xs) → KeepsAll mid joins → last_new ≡ new → last_left ≡ left →
-    BodyTold cuts above g i box h v had last_left old last_new joins
-node_ended cuts above g i h valid scope box last_box b numbers apart outdoes ahead had left last_left old new last_new first mid joins v stands few told says kept e f =
+-- the node's own tree begins with nothing seen
+pub ready_first : (g : Game) (i had : ℕ) (joins : Joins) → StandsAt joins i [] → had < 2147483648 → IsReady g i joins (suc (2 * had)) []
+ready_first g i had joins stands few = record { stands = stands; unsettled = settled_none g i; size = 0; sizes = sizes_none 0; room = omega (arith, few) }
+
+-- and its join says at the end what it comes to
+pub node_ended : (cuts : Bool) (above : ℤ → Bool) (g : Game) (i : ℕ) (h : Option ℕ) → IsValid g → i < length g.scopes → (box last_box : Box) → last_box ≡ box → list_all is_number (position g i box) ≡ true → is_horizon h i ≡ false → Outdoes g (drop i g.scopes) (demands g i) above → SeesAhead g (drop i g.scopes) i box h → (had left last_left : ℕ) (old new last_new : List Line) (mid joins : Joins) (v : Verdict) →
+    PartTold cuts above g i box h [] [] had left old new mid → ((xs : List Seen) → StandsAt mid i xs → v ≡ verdict_at g i (position g i last_box) xs) → KeepsAll mid joins → last_new ≡ new → last_left ≡ left → BodyTold cuts above g i box h v had last_left old last_new joins
+node_ended cuts above g i h valid scope box last_box b numbers apart outdoes ahead had left last_left old new last_new mid joins v told says kept e f =
     subst (λ ls. BodyTold cuts above g i box h v had last_left old ls joins) (sym e)
     (subst (λ n. BodyTold cuts above g i box h v had n old new joins) (sym f)
-    (node_told cuts above g i scope box h apart outdoes ahead had left old new mid joins v (told ready) (λ xs s. subst (λ d. v ≡ verdict_at g i (position g i d) xs) b (says xs s)) (λ xs s. kept i xs s)
+    (node_told cuts above g i scope box h apart outdoes ahead had left old new mid joins v told (λ xs s. subst (λ d. v ≡ verdict_at g i (position g i d) xs) b (says xs s)) (λ xs s. kept i xs s)
     (λ xs s. verdict_long g i (position g i box) xs scope s) (λ xs n s l. verdict_sized g i (position g i box) xs n valid numbers s l)))
-  where
-    ready : IsReady g i first (suc (2 * had)) []
-    ready = record { stands = stands; unsettled = settled_none g i; size = 0; sizes = sizes_none 0; room = omega (arith, few) }
 
 -- a node that nobody passes
 stuck_own : (later : List Scope) (g : Game) (d : List Condition) (a : List ℤ) → (stuck_finding later g d a).own ≡ None

@@ -44,7 +44,7 @@ open_lines (Some high) = refl
 then_lines : (now new ls ms : List Line) → new ≡ now ++ ls → ls ≡ ms → new ≡ now ++ ms
 then_lines now new ls ms q e = q ∙ ap (λ us. now ++ us) e
 
-take_front : (xs ys : List Line) → take (length xs) (xs ++ ys) ≡ xs
+pub take_front : (xs ys : List Line) → take (length xs) (xs ++ ys) ≡ xs
 take_front [] ys = refl
 take_front (x ∷ xs) ys = ap (λ ls. x ∷ ls) (take_front xs ys)
 
@@ -168,14 +168,12 @@ module _ (cuts : Bool) (above : ℤ → Bool) (g : Game) (later : List Scope) (i
       positive : (m : ℕ) → ¬ (m ≡ 0) → m ≡ 1 + (m - 1)
       positive m h = omega arith
 
-  -- a case settles the scope, and those before it are cut, to which u is the upper value: written has the lines since the
-  -- branch began
+  -- a case settles the scope, and stands behind one that skips those before it, to which u is the upper value
   cut_here : cuts ≡ true → list_all is_number vs ≡ true → (u : Option ℤ) (rest : Values) (v : ℤ) (seen : List Seen) (ms : List ℤ) (more : List Seen) (left next_left : ℕ) (now next_now new : List Line) → 1 < length (values_left box x) →
-      is_cover u vs ≡ true → uncovered u vs ≡ v ∷ rest → Settled more ≡ true → ¬ (left ≡ 0) → left ≤ had → (written : List Line) → now ≡ old ++ written → (w : Part v seen ms more (left - 1) next_left now next_now) →
-      new ≡ take (length old) next_now ++ ((upto_lines u ++ Skip ∷ []) ++ drop (length now) next_now) → At rest (seen_skipped ∷ more) next_left new
-  cut_here cut numbers u rest v seen ms more left next_left now next_now new many case leaves settled some fell written now_is w q =
+      is_cover u vs ≡ true → uncovered u vs ≡ v ∷ rest → Settled more ≡ true → ¬ (left ≡ 0) → left ≤ had → (w : Part v seen ms more (left - 1) next_left now next_now) →
+      new ≡ old ++ ((upto_lines u ++ Skip ∷ []) ++ (map step_line w.steps ++ ending_lines w.ending)) → At rest (seen_skipped ∷ more) next_left new
+  cut_here cut numbers u rest v seen ms more left next_left now next_now new many case leaves settled some fell w new_is =
       let part = map step_line w.steps ++ ending_lines w.ending in
-      let new_is : new ≡ old ++ ((upto_lines u ++ Skip ∷ []) ++ part) = cut_lines old now next_now new written part (upto_lines u ++ Skip ∷ []) now_is w.lines q in
       let one_less : 1 + (left - 1) ≤ had = less left had some fell in
       let skipped = before ++ seen_skipped ∷ [] in
       let nothing = settled_wishes g later d more settled in
@@ -204,27 +202,17 @@ module _ (cuts : Bool) (above : ℤ → Bool) (g : Game) (later : List Scope) (i
       less : (m n : ℕ) → ¬ (m ≡ 0) → m ≤ n → 1 + (m - 1) ≤ n
       less m n h l = omega arith
 
-  -- the same after the cases before
+  -- after the cases before, whose lines are cut
   pub cut_after : cuts ≡ true → list_all is_number vs ≡ true → (u : Option ℤ) (here rest : Values) (v : ℤ) (seen : List Seen) (ms : List ℤ) (more : List Seen) (left next_left : ℕ) (now next_now new : List Line) → 1 < length (values_left box x) →
       is_cover u vs ≡ true → uncovered u vs ≡ v ∷ rest → Settled more ≡ true → ¬ (left ≡ 0) → At here seen left now → Part v seen ms more (left - 1) next_left now next_now →
       new ≡ take (length old) next_now ++ ((upto_lines u ++ Skip ∷ []) ++ drop (length now) next_now) → At rest (seen_skipped ∷ more) next_left new
   cut_after cut numbers u here rest v seen ms more left next_left now next_now new many case leaves settled some p w q =
-      cut_here cut numbers u rest v seen ms more left next_left now next_now new many case leaves settled some (omega (arith, p.fell)) p.written p.now_is w q
+      cut_here cut numbers u rest v seen ms more left next_left now next_now new many case leaves settled some (omega (arith, p.fell)) w
+      (cut_lines old now next_now new p.written (map step_line w.steps ++ ending_lines w.ending) (upto_lines u ++ Skip ∷ []) p.now_is w.lines q)
 
-  -- a case tried before all others settles the scope: those before it are cut, though none was gone into
-  pub jump_after : cuts ≡ true → list_all is_number vs ≡ true → (u : Option ℤ) (rest : Values) (v : ℤ) (ms : List ℤ) (more : List Seen) (next_left : ℕ) (next_now new : List Line) → 1 < length (values_left box x) →
-      is_cover u vs ≡ true → uncovered u vs ≡ v ∷ rest → Settled more ≡ true → ¬ (had ≡ 0) → Part v [] ms more (had - 1) next_left old next_now →
-      new ≡ take (length old) next_now ++ ((upto_lines u ++ Skip ∷ []) ++ drop (length old) next_now) → At rest (seen_skipped ∷ more) next_left new
-  jump_after cut numbers u rest v ms more next_left next_now new many case leaves settled some w q =
-      cut_here cut numbers u rest v [] ms more had next_left old next_now new many case leaves settled some (omega arith) [] (sym (append-nil old)) w q
-
-  -- turns may be counted before their case is appended
-  pub fewer_left : cuts ≡ true → (here : Values) (seen : List Seen) (left less : ℕ) (now : List Line) → less ≤ left → At here seen left now → At here seen less now
-  fewer_left cut here seen left less now l p = record {
-    used = p.used;
-    fell = omega (arith, l, p.fell);
-    sizes = p.sizes;
-    written = p.written;
-    now_is = p.now_is;
-    ends = λ bs rest last new m e. p.ends bs rest last new (cut_more cuts above g later i d box h x here (Settled seen) (before ++ seen) rest less left last bs cut l m) e;
-  }
+  -- before all others: those before it were skipped, and none was gone into
+  pub jump_after : cuts ≡ true → list_all is_number vs ≡ true → (u : Option ℤ) (rest : Values) (v : ℤ) (ms : List ℤ) (more : List Seen) (next_left : ℕ) (new : List Line) → 1 < length (values_left box x) →
+      is_cover u vs ≡ true → uncovered u vs ≡ v ∷ rest → Settled more ≡ true → ¬ (had ≡ 0) → Part v [] ms more (had - 1) next_left (old ++ (upto_lines u ++ Skip ∷ [])) new → At rest (seen_skipped ∷ more) next_left new
+  jump_after cut numbers u rest v ms more next_left new many case leaves settled some w =
+      let skips = upto_lines u ++ Skip ∷ [] in
+      cut_here cut numbers u rest v [] ms more had next_left (old ++ skips) new new many case leaves settled some (omega arith) w (w.lines ∙ append_assoc old skips (map step_line w.steps ++ ending_lines w.ending))

@@ -1,5 +1,6 @@
 -- The box of a search on the way through a scope's own tree, and back.
-use Rattle.std.proofs.Common.{◌≡◌, ◌≤◌, ◌<◌, ◌∙◌, ◌+◌, ◌++◌, ℕ, zero, suc, Bool, true, false, not, List, [], ◌∷◌, length, take, drop, refl, sym, ap, subst, arith, ℤ, length-set, length-append, length-take, add-one, Option, None, Some}
+use Rattle.std.proofs.Common.{◌≡◌, ◌≤◌, ◌<◌, ◌∙◌, ◌+◌, ◌-◌, ◌++◌, ℕ, zero, suc, Bool, true, false, not, List, [], ◌∷◌, length, take, drop, refl, sym, ap, subst, arith, ℤ, length-set, add-one, Option, None, Some, append_assoc}
+use Rattle.std.proofs.lemmas.List.{append-nil}
 use Rattle.std.specs.List.{list_all}
 use Rattle.qc_model.specs.declared.problem.VarId.{VarId}
 use Rattle.qc_model.specs.Block.{constraints_in_force}
@@ -12,6 +13,7 @@ use Rattle.qc_rules.proofs.Singles.{still_single}
 use Rattle.qc_model.specs.Verdict.{Seen}
 use Rattle.proof_tree.specs.Cover.{box_to}
 use Rattle.proof_tree.specs.Lines.{upto_lines}
+use Rattle.proof_tree.specs.Place.{position}
 use Rattle.proof_tree.specs.declared.line.Line.{Line}
 use Rattle.proof_tree.specs.declared.line.Line.TheVariants.{Skip}
 use Rattle.qc_joins.specs.Joins.{game_of, StandsAt, KeepsOthers}
@@ -29,6 +31,7 @@ use Rattle.game_search.specs.Told.{IsBack}
 use Rattle.game_search.specs.Uppers.{upto_between, without_before}
 use Rattle.game_search.specs.declared.walk.Walk.{Walk}
 use Rattle.game_search.proofs.Bools.{both}
+use Rattle.game_search.proofs.Progress.{take_front}
 
 is_full : (g : Game) (i : ℕ) (box : Box) → IsClosedAt g i box → has_empty box ≡ false
 is_full g i box h = by (has_empty box) (both (not (has_empty box)) (list_all (keeps_ends box) (constraints_in_force g (drop i g.scopes) i)) h).0
@@ -73,6 +76,24 @@ goes_next Open g i x v b c d w l inside e entered on h here =
 pub was_closed : (g : Game) (i : ℕ) (x : VarId) (v : ℤ) (b c : Boxed) → IsClosedAt g i b.store.box → c.store.box ≡ box_to b.store.box x.0 (v ∷ []) → WasClosed g i (x ∷ []) c.store.box
 was_closed g i x v b c h e = subst (WasClosed g i (x ∷ [])) (sym e) (closed_before g i b.store.box x [] (v ∷ []) (closed_now g i b.store.box h))
 
+-- lines that are appended one after the other
+pub lines_both : (a b c first second : List Line) → b ≡ a ++ first → c ≡ b ++ second → c ≡ a ++ (first ++ second)
+lines_both a b c first second p q = q ∙ (ap (λ ls. ls ++ second) p ∙ append_assoc a first second)
+
+-- nothing was done
+pub none_back : (g : Game) (i : ℕ) (a : Walk) → IsBack g i a a
+none_back g i a = record {
+  problem = refl;
+  box = refl;
+  past = refl;
+  kept = refl;
+  game = refl;
+  joins = λ j xs h s. s;
+  written = [];
+  lines = sym (append-nil a.lines);
+  left = omega arith;
+}
+
 -- one part after another
 pub both_back : (g : Game) (i : ℕ) (a b c : Walk) → IsBack g i a b → IsBack g i b c → IsBack g i a c
 both_back g i a b c p q = record {
@@ -82,16 +103,15 @@ both_back g i a b c p q = record {
   kept = q.kept ∙ p.kept;
   game = q.game ∙ p.game;
   joins = λ j xs h s. q.joins j xs h (p.joins j xs h s);
-  lines = omega (arith, p.lines, q.lines);
+  written = p.written ++ q.written;
+  lines = lines_both a.lines b.lines c.lines p.written q.written p.lines q.lines;
+  left = omega (arith, p.left, q.left);
 }
 
-pub longer : (old new more : List Line) → new ≡ old ++ more → length old ≤ length new
-longer old new more e = omega (arith, ap length e, length-append old more)
-
 -- after a look ahead and its lines, in words of the same scope
-pub back_after : (g k : Game) (i j : ℕ) → k ≡ g → j ≡ i → (a b c : Walk) → b.remains.game ≡ a.remains.game → b.remains.store.box ≡ a.remains.store.box → b.remains.store.past ≡ a.remains.store.past → b.remains.values ≡ a.remains.values → b.joins ≡ a.joins →
+pub back_after : (g k : Game) (i j : ℕ) → k ≡ g → j ≡ i → (a b c : Walk) → b.remains.game ≡ a.remains.game → b.remains.store.box ≡ a.remains.store.box → b.remains.store.past ≡ a.remains.store.past → b.remains.values ≡ a.remains.values → b.joins ≡ a.joins → b.left ≡ a.left →
     (more : List Line) → b.lines ≡ a.lines ++ more → IsBack k j b c → IsBack g i a c
-back_after g k i j p q a b c e f past values joins more lines back =
+back_after g k i j p q a b c e f past values joins left more lines back =
     both_back g i a b c
     (record {
       problem = e;
@@ -100,14 +120,30 @@ back_after g k i j p q a b c e f past values joins more lines back =
       kept = ap (take (before g i)) values;
       game = ap game_of joins;
       joins = λ m xs h s. subst (λ js. StandsAt js m xs) (sym joins) s;
-      lines = longer a.lines b.lines more lines;
+      written = more;
+      lines = lines;
+      left = omega (arith, left);
     })
     (subst (λ (u : Game). IsBack u i b c) p (subst (λ n. IsBack k n b c) q back))
 
+-- after a tuple was read
+pub tuple_back : (g : Game) (i : ℕ) (a b : Walk) → IsEntered g i a.remains → IsEntered g (suc i) b.remains → b.remains.store ≡ a.remains.store → KeepsValues g i a.remains b.remains → game_of b.joins ≡ game_of a.joins → KeepsOthers i a.joins b.joins → (more : List Line) → b.lines ≡ a.lines ++ more → b.left ≡ a.left → IsBack g i a b
+tuple_back g i a b here there store kept game others more lines left = record {
+  problem = there.game ∙ sym here.game;
+  box = ap (λ (s : Held). s.box) store;
+  past = ap (λ (s : Held). s.past) store;
+  kept = kept;
+  game = game;
+  joins = λ j xs h s. others j xs (λ e. absurd (omega (arith, h, e))) s;
+  written = more;
+  lines = lines;
+  left = omega (arith, left);
+}
+
 -- after the node below a tuple
-pub back_below : (g k : Game) (i : ℕ) → k ≡ g → (a b c d : Walk) → IsEntered g i a.remains → IsEntered g (suc i) b.remains → b.remains.store ≡ a.remains.store → KeepsValues g i a.remains b.remains → b.joins ≡ a.joins → (more : List Line) → b.lines ≡ a.lines ++ more →
-    IsBack k (i + 1) b c → d.remains ≡ c.remains → d.lines ≡ c.lines → game_of d.joins ≡ game_of c.joins → KeepsOthers i c.joins d.joins → IsBack g i a d
-back_below g k i p a b c d here there store kept joins more lines back remains last game others =
+pub back_below : (g k : Game) (i : ℕ) → k ≡ g → (a b c d : Walk) → IsEntered g i a.remains → IsEntered g (suc i) b.remains → b.remains.store ≡ a.remains.store → KeepsValues g i a.remains b.remains → b.joins ≡ a.joins → b.left ≡ a.left → (more : List Line) → b.lines ≡ a.lines ++ more →
+    IsBack k (i + 1) b c → d.remains ≡ c.remains → d.lines ≡ c.lines → d.left ≡ c.left → game_of d.joins ≡ game_of c.joins → KeepsOthers i c.joins d.joins → IsBack g i a d
+back_below g k i p a b c d here there store kept joins left more lines back remains last last_left game others =
     let n = subst (λ (u : Game). IsBack u (suc i) b c) p (subst (λ m. IsBack k m b c) (add-one i) back) in
     record {
       problem = ap (λ (r : Boxed). r.game) remains ∙ (n.problem ∙ (there.game ∙ sym here.game));
@@ -116,12 +152,14 @@ back_below g k i p a b c d here there store kept joins more lines back remains l
       kept = ap (λ (r : Boxed). take (before g i) r.values) remains ∙ (kept_fewer g i b.remains c.remains n.kept ∙ kept);
       game = game ∙ (n.game ∙ ap game_of joins);
       joins = λ j xs h s. others j xs (λ e. absurd (omega (arith, h, e))) (n.joins j xs (omega (arith, h)) (subst (λ js. StandsAt js j xs) (sym joins) s));
-      lines = omega (arith, longer a.lines b.lines more lines, n.lines, ap length last);
+      written = more ++ n.written;
+      lines = last ∙ lines_both a.lines b.lines c.lines more n.written lines n.lines;
+      left = omega (arith, left, n.left, last_left);
     }
 
 -- after lines that leave out cases, and a leaf that is skipped
-pub back_more : (g : Game) (i : ℕ) (a b c : Walk) → IsBack g i a b → c.remains ≡ b.remains → game_of c.joins ≡ game_of b.joins → ((j : ℕ) (xs : List Seen) → j < i → StandsAt b.joins j xs → StandsAt c.joins j xs) → length b.lines ≤ length c.lines → IsBack g i a c
-back_more g i a b c p remains game others lines =
+pub back_more : (g : Game) (i : ℕ) (a b c : Walk) → IsBack g i a b → c.remains ≡ b.remains → game_of c.joins ≡ game_of b.joins → ((j : ℕ) (xs : List Seen) → j < i → StandsAt b.joins j xs → StandsAt c.joins j xs) → (more : List Line) → c.lines ≡ b.lines ++ more → c.left ≤ b.left → IsBack g i a c
+back_more g i a b c p remains game others more lines left =
     both_back g i a b c p
     (record {
       problem = ap (λ (r : Boxed). r.game) remains;
@@ -130,22 +168,58 @@ back_more g i a b c p remains game others lines =
       kept = ap (λ (r : Boxed). take (before g i) r.values) remains;
       game = game;
       joins = others;
+      written = more;
       lines = lines;
+      left = left;
     })
 
+-- after a part that was gone into from a smaller box, which was undone
+pub undone_back : (g : Game) (i : ℕ) (a m c d : Walk) → LeadsOn a.remains m.remains → game_of m.joins ≡ game_of a.joins → KeepsOthers i a.joins m.joins → m.lines ≡ a.lines → m.left ≡ a.left → IsBack g i m c → d.remains.game ≡ c.remains.game → d.remains.store.box ≡ a.remains.store.box → d.remains.store.past ≡ a.remains.store.past →
+    d.remains.values ≡ c.remains.values → d.joins ≡ c.joins → d.lines ≡ c.lines → d.left ≡ c.left → IsBack g i a d
+undone_back g i a m c d on game others lines left p then_game then_box then_past then_values then_joins then_lines then_left = record {
+  problem = then_game ∙ (p.problem ∙ on.game);
+  box = then_box;
+  past = then_past;
+  kept = ap (take (before g i)) then_values ∙ (p.kept ∙ ap (take (before g i)) on.values);
+  game = ap game_of then_joins ∙ (p.game ∙ game);
+  joins = λ j xs h s. subst (λ js. StandsAt js j xs) (sym then_joins) (p.joins j xs h (others j xs (λ e. absurd (omega (arith, h, e))) s));
+  written = p.written;
+  lines = then_lines ∙ (p.lines ∙ ap (λ ls. ls ++ p.written) lines);
+  left = omega (arith, left, p.left, then_left);
+}
+
+-- after a part whose lines were taken back
+pub cut_back : (g : Game) (i : ℕ) (a b c : Walk) → IsBack g i a b → c.remains ≡ b.remains → c.joins ≡ b.joins → c.lines ≡ a.lines → c.left ≡ b.left → IsBack g i a c
+cut_back g i a b c p remains joins lines left = record {
+  problem = ap (λ (r : Boxed). r.game) remains ∙ p.problem;
+  box = ap (λ (r : Boxed). r.store.box) remains ∙ p.box;
+  past = ap (λ (r : Boxed). r.store.past) remains ∙ p.past;
+  kept = ap (λ (r : Boxed). take (before g i) r.values) remains ∙ p.kept;
+  game = ap game_of joins ∙ p.game;
+  joins = λ j xs h s. subst (λ js. StandsAt js j xs) (sym joins) (p.joins j xs h s);
+  written = [];
+  lines = lines ∙ sym (append-nil a.lines);
+  left = omega (arith, p.left, left);
+}
+
+-- the lines before a part, once those since are taken back
+pub taken_back : (old new more : List Line) (start : ℕ) → new ≡ old ++ more → start ≡ length old → take start new ≡ old
+taken_back old new more start e f = ap (λ n. take n new) f ∙ (ap (take (length old)) e ∙ take_front old more)
+
 -- the lines without the cases before one that settled the scope
-dropped_longer : (old now new : List Line) (last : Option ℤ) (first : ℤ) (start at : ℕ) → length old ≤ length now → start ≡ length old → new ≡ without_before last first start at now → length old ≤ length new
-dropped_longer old now new None first start at h e f = omega (arith, h, ap length f)
-dropped_longer old now new (Some last) first start at h e f =
-    let more = (upto_lines (upto_between first last) ++ Skip ∷ []) ++ drop at now in
-    omega (arith, h, e, ap length f, length-append (take start now) more, length-take start now)
+dropped_lines : (old now new more : List Line) (last : Option ℤ) (first : ℤ) (start at : ℕ) → now ≡ old ++ more → start ≡ length old → new ≡ without_before last first start at now → (rest : List Line) × (new ≡ old ++ rest)
+dropped_lines old now new more None first start at e s f = (more, f ∙ e)
+dropped_lines old now new more (Some last) first start at e s f =
+    let rest = (upto_lines (upto_between first last) ++ Skip ∷ []) ++ drop at now in
+    (rest, f ∙ ap (λ ls. ls ++ rest) (taken_back old now more start e s))
 
 -- after a case, which stands without those before it or beside them
-pub case_back : (g : Game) (i : ℕ) (a b m c d : Walk) → IsBack g i a b → m.remains ≡ b.remains → m.joins ≡ b.joins → m.lines ≡ b.lines → IsBack g i m c → d.remains ≡ c.remains → d.joins ≡ c.joins → (last : Option ℤ) (first : ℤ) (start at : ℕ) → start ≡ length a.lines →
+pub case_back : (g : Game) (i : ℕ) (a b m c d : Walk) → IsBack g i a b → m.remains ≡ b.remains → m.joins ≡ b.joins → m.lines ≡ b.lines → m.left ≤ b.left → IsBack g i m c → d.remains ≡ c.remains → d.joins ≡ c.joins → d.left ≡ c.left → (last : Option ℤ) (first : ℤ) (start at : ℕ) → start ≡ length a.lines →
     d.lines ≡ without_before last first start at c.lines → IsBack g i a d
-case_back g i a b m c d p remains joins lines q then_remains then_joins last first start at e f =
-    let to_m = back_more g i a b m p remains (ap game_of joins) (λ j xs h s. subst (λ js. StandsAt js j xs) (sym joins) s) (omega (arith, ap length lines)) in
+case_back g i a b m c d p remains joins lines left q then_remains then_joins then_left last first start at e f =
+    let to_m = back_more g i a b m p remains (ap game_of joins) (λ j xs h s. subst (λ js. StandsAt js j xs) (sym joins) s) [] (lines ∙ sym (append-nil b.lines)) left in
     let to_c = both_back g i a m c to_m q in
+    let stand = dropped_lines a.lines c.lines d.lines to_c.written last first start at to_c.lines e f in
     record {
       problem = ap (λ (r : Boxed). r.game) then_remains ∙ to_c.problem;
       box = ap (λ (r : Boxed). r.store.box) then_remains ∙ to_c.box;
@@ -153,5 +227,27 @@ case_back g i a b m c d p remains joins lines q then_remains then_joins last fir
       kept = ap (λ (r : Boxed). take (before g i) r.values) then_remains ∙ to_c.kept;
       game = ap game_of then_joins ∙ to_c.game;
       joins = λ j xs h s. subst (λ js. StandsAt js j xs) (sym then_joins) (to_c.joins j xs h s);
-      lines = dropped_longer a.lines c.lines d.lines last first start at to_c.lines e f;
+      written = stand.0;
+      lines = stand.1;
+      left = omega (arith, to_c.left, then_left);
     }
+
+-- after one more line
+pub line_back : (g : Game) (i : ℕ) (a b c : Walk) → IsBack g i a b → c.remains ≡ b.remains → c.joins ≡ b.joins → c.left ≡ b.left → (more : List Line) → c.lines ≡ b.lines ++ more → IsBack g i a c
+line_back g i a b c p remains joins left more lines = back_more g i a b c p remains (ap game_of joins) (λ j xs h s. subst (λ js. StandsAt js j xs) (sym joins) s) more lines (omega (arith, left))
+
+-- the box is as at the scope before
+pub entered_back : (g : Game) (i : ℕ) (a b : Walk) → IsBack g i a b → IsEntered g i a.remains → IsEntered g i b.remains
+entered_back g i a b p here = record {
+  game = p.problem ∙ here.game;
+  full = ap has_empty p.box ∙ here.full;
+  fixed = subst (λ d. list_all is_single (take (before g i) d) ≡ true) (sym p.box) here.fixed;
+  stand = p.kept ∙ (here.stand ∙ sym (ap (position g i) p.box));
+}
+
+-- no turn is taken, or one
+pub as_many : (n : ℕ) → n ≤ n
+as_many n = omega arith
+
+pub one_fewer : (n : ℕ) → n - 1 ≤ n
+one_fewer n = omega arith

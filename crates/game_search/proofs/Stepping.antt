@@ -1,5 +1,5 @@
 -- Steps, one after the other.
-use Rattle.std.proofs.Common.{◌≡◌, true, false, ℕ, suc, ◌+◌, ◌*◌, List, [], ◌∷◌, ◌++◌, map, refl, sym, ap, subst, ◌∙◌, Option, None, Some, ℤ, Bool, arith, append_assoc}
+use Rattle.std.proofs.Common.{◌≡◌, ◌≤◌, true, false, ℕ, suc, ◌+◌, ◌*◌, List, [], ◌∷◌, ◌++◌, map, refl, sym, ap, subst, ◌∙◌, Option, None, Some, ℤ, Bool, arith, append_assoc}
 use Rattle.std.specs.List.{list_all}
 use Rattle.std.proofs.lemmas.List.{append-nil}
 use Rattle.qc_model.specs.declared.problem.Condition.{Condition}
@@ -152,6 +152,29 @@ module _ (cuts : Bool) (above : ℤ → Bool) (g : Game) (later : List Scope) (i
         let none = subst (λ l. are_beaten l (firsts (before ++ seen)) (bounds seen) ≡ true) w (m.beaten o) in
         subst (λ l. are_beaten l (firsts (less ++ seen)) (bounds seen) ≡ true) (sym w) (none_beaten (firsts (before ++ seen)) (firsts (less ++ seen)) (bounds seen) none);
     keeps = λ reached k. m.keeps reached (among_through reached (firsts less) (firsts before) k a);
+    long = m.long;
+    sizes = m.sizes;
+    closed = m.closed;
+    foreseen = m.foreseen;
+  }
+
+  -- more turns may have been done
+  pub ending_more : (before seen : List Seen) (had more left : ℕ) (e : Ending) → cuts ≡ true → had ≤ more → EndingMade cuts above g later i d box h before seen had left e → EndingMade cuts above g later i d box h before seen more left e
+  ending_more before seen had more left e cut l m = record {
+    placed = m.placed;
+    says = m.says;
+    settled = m.settled;
+    lasts = m.lasts;
+    ones = m.ones;
+    apart = m.apart;
+    fits = m.fits;
+    spent = omega (arith, m.spent, l);
+    exact = λ f. let q : true ≡ false = sym cut ∙ f in cc;
+    opens = m.opens;
+    gap = m.gap;
+    skips = m.skips;
+    beaten = m.beaten;
+    keeps = m.keeps;
     long = m.long;
     sizes = m.sizes;
     closed = m.closed;

@@ -38,7 +38,7 @@ pub record IsTold (g : Game) (i : ℕ) (joins : Joins) (seen : List Seen) : Type
   pub same : (stood ≡ seen) ⊎ ((settled_at g i stood ≡ true) × (settled_at g i seen ≡ true))
 
 -- the values left, the trail, the places of the variables before scope i and the joins of the scopes before it are as they
--- were, and there are no fewer lines
+-- were; the lines are those before and more, and no more turns are left
 pub record IsBack (g : Game) (i : ℕ) (old new : Walk) : Type 0 where
   pub problem : new.remains.game ≡ old.remains.game
   pub box : new.remains.store.box ≡ old.remains.store.box
@@ -46,7 +46,9 @@ pub record IsBack (g : Game) (i : ℕ) (old new : Walk) : Type 0 where
   pub kept : KeepsValues g i old.remains new.remains
   pub game : game_of new.joins ≡ game_of old.joins
   pub joins : (j : ℕ) (xs : List Seen) → j < i → StandsAt old.joins j xs → StandsAt new.joins j xs
-  pub lines : length old.lines ≤ length new.lines
+  pub written : List Line
+  pub lines : new.lines ≡ old.lines ++ written
+  pub left : new.left ≤ old.left
 
 -- the lines are those of an end of scope i's own tree in this box, below the horizon h, after what was seen before
 pub record EndingTold (cuts : Bool) (above : ℤ → Bool) (g : Game) (i : ℕ) (box : Box) (h : Option ℕ) (before : List Seen) (had left : ℕ) (old new : List Line) (joins : Joins) : Type 0 where

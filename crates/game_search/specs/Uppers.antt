@@ -27,3 +27,9 @@ abbrev pub without_before : Option ℤ → ℤ → ℕ → ℕ → List Line →
 without_before None first start at ls = ls
 without_before (Some last) first start at ls =
     take start ls ++ ((upto_lines (upto_between first last) ++ Skip ∷ []) ++ drop at ls)
+
+-- the lines of one case that skips the values from the first to the last, where there are such
+abbrev pub skipped_between : Option ℤ → Option ℤ → List Line
+skipped_between None last = []
+skipped_between (Some first) None = []
+skipped_between (Some first) (Some last) = upto_lines (upto_between first last) ++ Skip ∷ []

@@ -8,6 +8,7 @@ ghost use Rattle.game_search.specs.Settled.{beats_none, is_vague_verdict};
 ghost use Rattle.game_search.specs.Solution.{SolutionLines, outcome_by};
 ghost use Rattle.game_search.specs.Attempted.{Attempted};
 
+use crate::advice::Advice;
 use crate::search::node;
 use crate::walk::Walk;
 use proof_tree::{Outcome, cases_are_few};
@@ -93,6 +94,7 @@ pub(crate) fn attempt(
 {
     let remains = SearchBox::new(alloc, levels.problem)?;
     let joins = Joins::new(alloc, levels.problem)?;
+    let advice = Advice::new(alloc, levels.problem)?;
     let mut walk = Walk {
         alloc,
         remains,
@@ -100,6 +102,7 @@ pub(crate) fn attempt(
         lines: Arena::new(alloc),
         kept: Vec::new(alloc),
         left: turns,
+        advice,
     };
     let found = node(levels, cuts, None, 0, &mut walk)?;
     let own = first_own(levels.problem, &walk.joins);

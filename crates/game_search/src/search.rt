@@ -10,6 +10,9 @@
 //! Where a scope of the player optimises a variable first, each value of it that is worse than the incumbent's is given up
 //! by a bound where a case is gone into. So what the bounds leave out is beaten by what was found.
 //!
+//! In the first pass a node's own tree begins with a try of one tuple, which an advice names: where it settles the scope, all
+//! other values are skipped; where it doesn't, its lines are taken back, and the values are gone over as ever.
+//!
 //! Where a leaf settles its scope, so that no other leaf changes what the node comes to, the cases after it are left
 //! out, and the join isn't told of them. They are left out too where the leaves of a scope of the opponent give a bound that
 //! the incumbent of the scope right above beats. Where no turn is left the cases that remain are left open.
@@ -38,7 +41,7 @@ use crate::narrowing::narrow;
 use crate::rival::{is_outdone, rival_of};
 use crate::stage::Stage;
 use crate::walk::Walk;
-use crate::writing::{drop_before, last_to_drop, leave_out, put_horizon, put_steps};
+use crate::writing::{drop_before, last_to_drop, leave_out, put_horizon, put_steps, skip_between};
 use proof_tree::{Line, Step, StepList};
 use prop_engine::Closed;
 use qc_levels::Found;
@@ -144,6 +147,52 @@ fn own_tree(stage: &Stage, walk: &mut Walk) -> Result<Found, AllocError>
     ensures told { IfOk result (λ found. walk.old.left < 2147483648 → SeesAhead stage.now.level.now.problem.now (drop stage.now.level.now.number stage.now.level.now.problem.now.scopes) stage.now.level.now.number walk.old.remains.store.box (scope_number stage.now.horizon) → BodyTold stage.now.cuts (outdoes stage.now.level.now.problem.now stage.now.level.now.number stage.now.rival) stage.now.level.now.problem.now stage.now.level.now.number walk.old.remains.store.box (scope_number stage.now.horizon) (verdict_of found (out_of walk.new.joins)) walk.old.left walk.new.left walk.old.lines walk.new.lines walk.new.joins) }
     ensures back { OnOk result (IsBack stage.now.level.now.problem.now stage.now.level.now.number walk.old walk.new) }
 {
+    stage.level.problem.known();
+    walk.remains.known();
+    own_part(stage, walk)?;
+    Ok(verdict(stage.level, walk))
+}
+
+/// The lines of a node's own tree. Where an advised tuple is tried first and settles the scope, they are those of this tuple
+/// alone; where it doesn't, its lines are taken back.
+#[cycle(search)]
+fn own_part(stage: &Stage, walk: &mut Walk) -> Result<(), AllocError>
+    requires here { IsEntered stage.now.level.now.problem.now stage.now.level.now.number walk.old.remains }
+    requires joins { game_of walk.old.joins ≡ stage.now.level.now.problem.now }
+    ensures told { OnOk result (walk.old.left < 2147483648 → PartTold stage.now.cuts (outdoes stage.now.level.now.problem.now stage.now.level.now.number stage.now.rival) stage.now.level.now.problem.now stage.now.level.now.number walk.old.remains.store.box (scope_number stage.now.horizon) [] [] walk.old.left walk.new.left walk.old.lines walk.new.lines walk.new.joins) }
+    ensures back { OnOk result (IsBack stage.now.level.now.problem.now stage.now.level.now.number walk.old walk.new) }
+{
+    if !is_advised(stage, walk) {
+        closed_part(stage, false, walk)?;
+        return Ok(());
+    }
+    let start = walk.lines.len();
+    let is_whole = closed_part(stage, true, walk)?;
+    walk.advice.tell(stage.level, is_whole);
+    if is_whole {
+        return Ok(());
+    }
+    walk.lines.cut(start);
+    closed_part(stage, false, walk)?;
+    Ok(())
+}
+
+/// Whether a tuple is tried first at a node. Without cuts none is.
+fn is_advised(stage: &Stage, walk: &Walk) -> bool
+    ensures { IsTrue result → IsTrue stage.now.cuts }
+{
+    stage.cuts && walk.advice.is_asked(stage.level)
+}
+
+/// A scope's own tree in the box as it is closed. With `tries` only advised values are gone into, and whether that is enough
+/// is answered.
+#[cycle(search)]
+fn closed_part(stage: &Stage, tries: bool, walk: &mut Walk) -> Result<bool, AllocError>
+    requires here { IsEntered stage.now.level.now.problem.now stage.now.level.now.number walk.old.remains }
+    requires joins { game_of walk.old.joins ≡ stage.now.level.now.problem.now }
+    ensures told { IfOk result (λ whole. (IsTrue tries → IsTrue whole) → walk.old.left < 2147483648 → PartTold stage.now.cuts (outdoes stage.now.level.now.problem.now stage.now.level.now.number stage.now.rival) stage.now.level.now.problem.now stage.now.level.now.number walk.old.remains.store.box (scope_number stage.now.horizon) [] [] walk.old.left walk.new.left walk.old.lines walk.new.lines walk.new.joins) }
+    ensures back { OnOk result (IsBack stage.now.level.now.problem.now stage.now.level.now.number walk.old walk.new) }
+{
     let level = stage.level;
     level.problem.known();
     walk.remains.known();
@@ -151,9 +200,9 @@ fn own_tree(stage: &Stage, walk: &mut Walk) -> Result<Found, AllocError>
     let mark = walk.remains.mark();
     let mut steps = StepList::new(walk.alloc);
     let closed = walk.remains.close(level, &mut steps)?;
-    part(stage, level.from, closed, steps.items(), walk)?;
+    let is_whole = part(stage, level.from, closed, steps.items(), tries, walk)?;
     walk.remains.undo_to(mark);
-    Ok(verdict(level, walk))
+    Ok(is_whole)
 }
 
 /// What a node comes to whose own tree is done.
@@ -172,42 +221,53 @@ fn verdict(level: &Level, walk: &mut Walk) -> Found
 }
 
 /// Steps, and what follows them: the box that they leave is closed, where the variables of the scope before x have
-/// their values, or a domain is empty.
+/// their values, or a domain is empty. With `tries` only advised values are gone into, and whether that is enough is
+/// answered.
 #[cycle(search)]
 fn part(
     stage: &Stage,
     x: usize,
     closed: Closed,
     steps: &[Step],
+    tries: bool,
     walk: &mut Walk,
-) -> Result<(), AllocError>
+) -> Result<bool, AllocError>
     requires goes { GoesOn closed stage.now.level.now.problem.now stage.now.level.now.number x walk.old.remains }
     requires joins { game_of walk.old.joins ≡ stage.now.level.now.problem.now }
-    ensures told { OnOk result ((box : Box) (before : List Seen) (ms : List ℤ) → StepsTold stage.now.level.now.problem.now stage.now.level.now.number box walk.old.remains.store.box before ms steps.now → IsReady stage.now.level.now.problem.now stage.now.level.now.number walk.old.joins (suc (2 * walk.old.left)) (before ++ seen_bounds ms) → PartTold stage.now.cuts (outdoes stage.now.level.now.problem.now stage.now.level.now.number stage.now.rival) stage.now.level.now.problem.now stage.now.level.now.number box (scope_number stage.now.horizon) before ms walk.old.left walk.new.left walk.old.lines walk.new.lines walk.new.joins) }
+    ensures told { IfOk result (λ whole. (IsTrue tries → IsTrue whole) → (box : Box) (before : List Seen) (ms : List ℤ) → StepsTold stage.now.level.now.problem.now stage.now.level.now.number box walk.old.remains.store.box before ms steps.now → IsReady stage.now.level.now.problem.now stage.now.level.now.number walk.old.joins (suc (2 * walk.old.left)) (before ++ seen_bounds ms) → PartTold stage.now.cuts (outdoes stage.now.level.now.problem.now stage.now.level.now.number stage.now.rival) stage.now.level.now.problem.now stage.now.level.now.number box (scope_number stage.now.horizon) before ms walk.old.left walk.new.left walk.old.lines walk.new.lines walk.new.joins) }
     ensures back { OnOk result (IsBack stage.now.level.now.problem.now stage.now.level.now.number walk.old walk.new) }
 {
     put_steps(&mut walk.lines, steps)?;
     match closed {
-        Closed::Empty => walk.lines.put(Line::Empty),
-        Closed::Open => within(stage, x, walk),
+        Closed::Empty => {
+            walk.lines.put(Line::Empty)?;
+            Ok(true)
+        }
+        Closed::Open => within(stage, x, tries, walk),
     }
 }
 
 /// The part of a scope's own tree in the walk's box, which is closed, where the variables of the scope before x have
 /// their values.
 #[cycle(search)]
-fn within(stage: &Stage, x: usize, walk: &mut Walk) -> Result<(), AllocError>
+fn within(stage: &Stage, x: usize, tries: bool, walk: &mut Walk) -> Result<bool, AllocError>
     requires going { IsGoing stage.now.level.now.problem.now stage.now.level.now.number x walk.old.remains }
     requires joins { game_of walk.old.joins ≡ stage.now.level.now.problem.now }
-    ensures told { OnOk result ((before : List Seen) → IsReady stage.now.level.now.problem.now stage.now.level.now.number walk.old.joins (suc (2 * walk.old.left)) before → IsTrue (has_no_worse (tracked_at stage.now.level.now.problem.now stage.now.level.now.number) (firsts before) walk.old.remains.store.box) → EndingTold stage.now.cuts (outdoes stage.now.level.now.problem.now stage.now.level.now.number stage.now.rival) stage.now.level.now.problem.now stage.now.level.now.number walk.old.remains.store.box (scope_number stage.now.horizon) before walk.old.left walk.new.left walk.old.lines walk.new.lines walk.new.joins) }
+    ensures told { IfOk result (λ whole. (IsTrue tries → IsTrue whole) → (before : List Seen) → IsReady stage.now.level.now.problem.now stage.now.level.now.number walk.old.joins (suc (2 * walk.old.left)) before → IsTrue (has_no_worse (tracked_at stage.now.level.now.problem.now stage.now.level.now.number) (firsts before) walk.old.remains.store.box) → EndingTold stage.now.cuts (outdoes stage.now.level.now.problem.now stage.now.level.now.number stage.now.rival) stage.now.level.now.problem.now stage.now.level.now.number walk.old.remains.store.box (scope_number stage.now.horizon) before walk.old.left walk.new.left walk.old.lines walk.new.lines walk.new.joins) }
     ensures back { OnOk result (IsBack stage.now.level.now.problem.now stage.now.level.now.number walk.old walk.new) }
 {
     stage.level.problem.known();
     let next = walk.remains.next_free(stage.level, x);
     if next == stage.level.stop {
-        return after_tuple(stage, walk);
+        after_tuple(stage, walk)?;
+        return Ok(true);
     }
-    over_values(stage, VarId(next as u16), walk)
+    let x = VarId(next as u16);
+    if tries {
+        return try_branch(stage, x, walk);
+    }
+    over_values(stage, x, walk)?;
+    Ok(true)
 }
 
 /// The end of a scope's own tree, where its tuple is complete.
@@ -234,6 +294,9 @@ fn after_tuple(stage: &Stage, walk: &mut Walk) -> Result<(), AllocError>
         walk,
     )?;
     walk.joins.add_node(ScopeId(level.number), below);
+    let is_settled = walk.joins.is_settled(ScopeId(level.number));
+    walk.advice
+        .note(is_settled, level, walk.remains.all_values());
     Ok(())
 }
 
@@ -286,7 +349,7 @@ fn cases(stage: &Stage, x: VarId, walk: &mut Walk) -> Result<(), AllocError>
         }
         let at = walk.lines.len();
         walk.left -= 1;
-        with_value(stage, x, value, walk)?;
+        with_value(stage, x, value, false, walk)?;
         let dropped = last_to_drop(stage.cuts, walk.joins.is_settled(number), before);
         drop_before(&mut walk.lines, &mut walk.kept, start, at, first, dropped)?;
         let Some(next) = walk.remains.next(x, value) else {
@@ -298,19 +361,104 @@ fn cases(stage: &Stage, x: VarId, walk: &mut Walk) -> Result<(), AllocError>
 }
 
 /// The part of a scope's own tree where x, its next variable with more values than one, has this one.
+/// With `tries` only advised values of later variables are gone into, and whether that is enough is answered.
 #[cycle(search)]
-fn with_value(stage: &Stage, x: VarId, value: i64, walk: &mut Walk) -> Result<(), AllocError>
+fn with_value(
+    stage: &Stage,
+    x: VarId,
+    value: i64,
+    tries: bool,
+    walk: &mut Walk,
+) -> Result<bool, AllocError>
     requires var { x.0 < stage.now.level.now.stop }
     requires going { IsGoing stage.now.level.now.problem.now stage.now.level.now.number x.0 walk.old.remains }
     requires value { IsTrue (has_value (values_left walk.old.remains.store.box x.0) value) }
     requires joins { game_of walk.old.joins ≡ stage.now.level.now.problem.now }
-    ensures told { OnOk result ((before : List Seen) → IsReady stage.now.level.now.problem.now stage.now.level.now.number walk.old.joins (2 + 2 * walk.old.left) before → CaseTold stage.now.cuts (outdoes stage.now.level.now.problem.now stage.now.level.now.number stage.now.rival) stage.now.level.now.problem.now stage.now.level.now.number (box_to walk.old.remains.store.box x.0 (value ∷ [])) (scope_number stage.now.horizon) before walk.old.left walk.new.left walk.old.lines walk.new.lines walk.new.joins) }
+    ensures told { IfOk result (λ whole. (IsTrue tries → IsTrue whole) → (before : List Seen) → IsReady stage.now.level.now.problem.now stage.now.level.now.number walk.old.joins (2 + 2 * walk.old.left) before → CaseTold stage.now.cuts (outdoes stage.now.level.now.problem.now stage.now.level.now.number stage.now.rival) stage.now.level.now.problem.now stage.now.level.now.number (box_to walk.old.remains.store.box x.0 (value ∷ [])) (scope_number stage.now.horizon) before walk.old.left walk.new.left walk.old.lines walk.new.lines walk.new.joins) }
     ensures back { OnOk result (IsBack stage.now.level.now.problem.now stage.now.level.now.number walk.old walk.new) }
 {
     let mark = walk.remains.mark();
     let mut steps = StepList::new(walk.alloc);
     let closed = narrow(stage, x, value, &mut steps, walk)?;
-    part(stage, x.0 as usize + 1, closed, steps.items(), walk)?;
+    let is_whole = part(stage, x.0 as usize + 1, closed, steps.items(), tries, walk)?;
     walk.remains.undo_to(mark);
-    Ok(())
+    Ok(is_whole)
+}
+
+/// A branch on x where the advised value alone is gone into, and whether it settles the scope: then the lines are those of the
+/// branch.
+#[cycle(search)]
+fn try_branch(stage: &Stage, x: VarId, walk: &mut Walk) -> Result<bool, AllocError>
+    requires var { x.0 < stage.now.level.now.stop }
+    requires going { IsGoing stage.now.level.now.problem.now stage.now.level.now.number x.0 walk.old.remains }
+    requires own { IsTrue (is_of_scope stage.now.level.now.problem.now stage.now.level.now.number x.0) }
+    requires free { is_single (values_left walk.old.remains.store.box x.0) ≡ false }
+    requires joins { game_of walk.old.joins ≡ stage.now.level.now.problem.now }
+    ensures told { IfOk result (λ whole. IsTrue whole → (before : List Seen) → IsReady stage.now.level.now.problem.now stage.now.level.now.number walk.old.joins (suc (2 * walk.old.left)) before → IsTrue (has_no_worse (tracked_at stage.now.level.now.problem.now stage.now.level.now.number) (firsts before) walk.old.remains.store.box) → EndingTold stage.now.cuts (outdoes stage.now.level.now.problem.now stage.now.level.now.number stage.now.rival) stage.now.level.now.problem.now stage.now.level.now.number walk.old.remains.store.box (scope_number stage.now.horizon) before walk.old.left walk.new.left walk.old.lines walk.new.lines walk.new.joins) }
+    ensures back { OnOk result (IsBack stage.now.level.now.problem.now stage.now.level.now.number walk.old walk.new) }
+{
+    stage.level.problem.known();
+    let Some(value) = value_to_try(stage, x, walk) else {
+        return Ok(false);
+    };
+    walk.lines.put(Line::Branch { x })?;
+    if !try_case(stage, x, value, walk)? {
+        return Ok(false);
+    }
+    walk.lines.put(Line::Dot)?;
+    Ok(true)
+}
+
+/// The advised value of x, where it is left and the case may be gone into.
+fn value_to_try(stage: &Stage, x: VarId, walk: &Walk) -> Option<i64>
+    requires var { x.0 < stage.now.level.now.stop }
+    requires going { IsGoing stage.now.level.now.problem.now stage.now.level.now.number x.0 walk.now.remains }
+    ensures cuts { IfSome result (λ v. IsTrue stage.now.cuts) }
+    ensures turn { IfSome result (λ v. 0 < walk.now.left) }
+    ensures value { IfSome result (λ v. IsTrue (has_value (values_left walk.now.remains.store.box x.0) v)) }
+{
+    walk.remains.known();
+    if !stage.cuts {
+        return None;
+    }
+    if walk.left == 0 {
+        return None;
+    }
+    let value = walk.advice.value(x);
+    if !walk.remains.has(x, value) {
+        return None;
+    }
+    Some(value)
+}
+
+/// The cases of a branch on x where this value is gone into before all others, and whether it settles the scope: then the
+/// lines are those of the cases, of which the others are skipped.
+#[cycle(search)]
+fn try_case(stage: &Stage, x: VarId, value: i64, walk: &mut Walk) -> Result<bool, AllocError>
+    requires var { x.0 < stage.now.level.now.stop }
+    requires going { IsGoing stage.now.level.now.problem.now stage.now.level.now.number x.0 walk.old.remains }
+    requires free { is_single (values_left walk.old.remains.store.box x.0) ≡ false }
+    requires value { IsTrue (has_value (values_left walk.old.remains.store.box x.0) value) }
+    requires cuts { IsTrue stage.now.cuts }
+    requires turn { 0 < walk.old.left }
+    requires joins { game_of walk.old.joins ≡ stage.now.level.now.problem.now }
+    ensures told { IfOk result (λ whole. IsTrue whole → (before : List Seen) → IsReady stage.now.level.now.problem.now stage.now.level.now.number walk.old.joins (suc (2 * walk.old.left)) before → CasesTold stage.now.cuts (outdoes stage.now.level.now.problem.now stage.now.level.now.number stage.now.rival) stage.now.level.now.problem.now stage.now.level.now.number walk.old.remains.store.box (scope_number stage.now.horizon) x.0 (values_left walk.old.remains.store.box x.0) before walk.old.left walk.new.left walk.old.lines walk.new.lines walk.new.joins) }
+    ensures back { OnOk result (IsBack stage.now.level.now.problem.now stage.now.level.now.number walk.old walk.new) }
+{
+    stage.level.problem.known();
+    walk.remains.known();
+    let first = walk.remains.first(x);
+    let last = walk.remains.last(x);
+    let before = walk.remains.previous(x, value);
+    let next = walk.remains.next(x, value);
+    skip_between(&mut walk.lines, Some(first), before)?;
+    walk.left -= 1;
+    if !with_value(stage, x, value, true, walk)? {
+        return Ok(false);
+    }
+    if !walk.joins.is_settled(ScopeId(stage.level.number)) {
+        return Ok(false);
+    }
+    skip_between(&mut walk.lines, next, Some(last))?;
+    Ok(true)
 }

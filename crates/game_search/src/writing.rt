@@ -6,7 +6,7 @@ ghost use Rattle.proof_tree.specs.InPlace.{horizon_below};
 ghost use Rattle.proof_tree.specs.Lines.{horizon_lines, step_line, upto_lines};
 ghost use Rattle.proof_tree.specs.Text.{horizon_fits};
 ghost use Rattle.search_box.specs.Looking.{scope_number};
-ghost use Rattle.game_search.specs.Uppers.{upto_between, without_before};
+ghost use Rattle.game_search.specs.Uppers.{upto_between, skipped_between, without_before};
 
 use proof_tree::{Horizon, Line, Step};
 use qc_model::ScopeId;
@@ -68,6 +68,23 @@ pub(crate) fn leave_out(
         lines.put(Line::Range { hi: last })?;
     }
     lines.put(line)
+}
+
+/// One case that skips the values from the first to the last, where there are such.
+pub(crate) fn skip_between(
+    lines: &mut Arena,
+    first: Option<i64>,
+    last: Option<i64>,
+) -> Result<(), AllocError>
+    ensures { OnOk result (lines.new ≡ lines.old ++ skipped_between first last) }
+{
+    let Some(first) = first else {
+        return Ok(());
+    };
+    match last {
+        None => Ok(()),
+        Some(last) => leave_out(lines, first, last, Line::Skip),
+    }
 }
 
 /// The last of the values before a case that go, where the case settled the scope and stands without them.

@@ -1,6 +1,7 @@
-use Rattle.std.proofs.Common.{add-one, List, ℤ, ◌≡◌, ◌∙◌, sym, ap, refl, subst, ◌+◌, ◌-◌, ◌*◌, rules, length, drop, w64, to_z, of_z, arith, true, [], ◌∷◌, ◌++◌}
+use Rattle.std.proofs.Common.{add-one, List, ℤ, ◌≡◌, ◌∙◌, sym, ap, refl, subst, ◌+◌, ◌-◌, ◌*◌, rules, length, drop, w64, to_z, of_z, arith, true, [], ◌∷◌, ◌++◌, Some}
 use Rattle.std.specs.List.{list_all}
 use Rattle.std.proofs.lemmas.Int.{to_z-of_z}
+use Rattle.std.proofs.lemmas.List.{append-nil}
 use Rattle.std.proofs.lemmas.Result.{on_ok_weaker, IfOk-weaker}
 use mir.Val.{SFits}
 use Rattle.qc_model.specs.Content.{Game}
@@ -24,7 +25,7 @@ use Rattle.qc_levels.specs.Seen.{verdict_of}
 use Rattle.qc_joins.specs.Joins.{LeafFits, StandsAt, out_of}
 use Rattle.search_box.specs.Closes.{IsPruned}
 use Rattle.search_box.specs.Looking.{scope_number}
-use Rattle.search_box.specs.Rests.{IsFirst, IsAfter}
+use Rattle.search_box.specs.Rests.{IsFirst, IsAfter, IsNext, IsPrevious}
 use Rattle.search_box.proofs.Goings.{follows_on}
 use Rattle.search_box.proofs.Places.{read_numbers}
 use Rattle.game_search.specs.Going.{GoesOn}
@@ -34,15 +35,15 @@ use Rattle.game_search.specs.Narrowed.{NarrowTold}
 use Rattle.game_search.specs.Rivals.{above_at, StandsAbove, outdoes, IsRival}
 use Rattle.game_search.specs.Settled.{is_outdone}
 use Rattle.game_search.specs.Told.{IsReady, StepsTold, PartTold, CaseTold, BodyTold, NodeTold}
-use Rattle.game_search.specs.Uppers.{upto_between, without_before}
+use Rattle.game_search.specs.Uppers.{upto_between, skipped_between, without_before}
 use Rattle.game_search.proofs.Covers.{covers_after, many_of, rest_of}
 use Rattle.game_search.proofs.Fitting.{number_among, place_fits}
-use Rattle.game_search.proofs.Here.{Passing, asked_here, started, ready_again, case_done, rest_skipped, rest_outdone, rest_opened, rest_none, empty_told, barred_told, few_turns, next_told, pruned_told, part_told, branch_told, node_ended, body_more, whole_node}
+use Rattle.game_search.proofs.Here.{Passing, asked_here, started, ready_again, case_done, case_ready, case_tried, rest_skipped, rest_outdone, rest_opened, rest_none, empty_told, barred_told, few_turns, next_told, pruned_told, part_told, part_more, branch_told, ready_first, node_ended, body_more, whole_node}
 use Rattle.game_search.proofs.Losing.{ready_after}
 use Rattle.game_search.proofs.Marks.{firsts_marks}
 use Rattle.game_search.proofs.Outdone.{rival_outdoes}
 use Rattle.game_search.proofs.Bools.{both}
-use Rattle.game_search.proofs.Remains.{back_after, back_below, back_more, case_back, longer}
+use Rattle.game_search.proofs.Remains.{as_many, none_back, both_back, back_after, back_below, back_more, case_back, cut_back, entered_back, line_back, lines_both, one_fewer, taken_back, tuple_back, undone_back}
 use Rattle.game_search.proofs.search.+search.Goals as goal
 
 pub after_tuple-returns-then-not-tuple_allowed-clause-told : goal.after_tuple-returns-then-not-tuple_allowed-clause-told
@@ -76,8 +77,8 @@ after_tuple-returns-clause-told t c =
 pub after_tuple-returns-clause-back : goal.after_tuple-returns-clause-back
 after_tuple-returns-clause-back t c =
     let l = c.args.stage.now.level.now in
-    back_below l.problem.now _ l.number (sym c.args.stage.now.same) c.args.walk.now _ c.node.new.walk _ c.requires.going.within.here c.tuple_allowed.ensures.entered c.tuple_allowed.ensures.store c.tuple_allowed.ensures.kept refl _ c.in_ok-put-2.ensures.put c.in_ok-below.ensures.back
-    refl refl c.add_node.ensures.same c.add_node.ensures.others
+    back_below l.problem.now _ l.number (sym c.args.stage.now.same) c.args.walk.now _ c.node.new.walk _ c.requires.going.within.here c.tuple_allowed.ensures.entered c.tuple_allowed.ensures.store c.tuple_allowed.ensures.kept refl refl _ c.in_ok-put-2.ensures.put c.in_ok-below.ensures.back
+    refl refl refl c.add_node.ensures.same c.add_node.ensures.others
 
 pub cases-values-init : goal.cases-values-init
 cases-values-init t c =
@@ -92,7 +93,7 @@ cases-values-init t c =
     let all = subst (λ v. values_from v vs ≡ vs) (sym first_is) c.first-first.ensures.all in
     record {
       start = c.len-start.ensures;
-      back = record { problem = refl; box = refl; past = refl; kept = refl; game = refl; joins = λ j xs h s. s; lines = omega arith };
+      back = record { problem = refl; box = refl; past = refl; kept = refl; game = refl; joins = λ j xs h s. s; written = []; lines = sym (append-nil c.args.walk.now.lines); left = omega arith };
       left = subst (λ v. has_value vs v ≡ true) (sym first_is) c.first-first.ensures.left;
       after = all;
       goes = λ xs ready. subst (λ us. Passing c.args.stage.now.cuts (outdoes g l.number c.args.stage.now.rival) g l.number b.store.box (scope_number c.args.stage.now.horizon) x vs xs c.args.walk.now.left c.args.walk.now.lines us c.args.walk.now.left c.args.walk.now.lines c.args.walk.now.joins) (sym all)
@@ -124,7 +125,7 @@ cases-returns-then-is_settled-clause-told t c =
 pub cases-returns-then-is_settled-clause-back : goal.cases-returns-then-is_settled-clause-back
 cases-returns-then-is_settled-clause-back t c =
     on_ok_weaker c.leave_out.result
-    (λ e. back_more c.args.stage.now.level.now.problem.now c.args.stage.now.level.now.number c.args.walk.now c.values.walk _ c.values.invariant.back refl refl (λ j xs h s. s) (longer c.values.walk.lines c.leave_out.new.lines _ e)) c.leave_out.ensures
+    (λ e. back_more c.args.stage.now.level.now.problem.now c.args.stage.now.level.now.number c.args.walk.now c.values.walk _ c.values.invariant.back refl refl (λ j xs h s. s) _ e (as_many c.values.walk.left)) c.leave_out.ensures
 
 pub cases-returns-then-is_outdone-clause-told : goal.cases-returns-then-is_outdone-clause-told
 cases-returns-then-is_outdone-clause-told t c =
@@ -153,7 +154,7 @@ pub cases-returns-then-is_outdone-clause-back : goal.cases-returns-then-is_outdo
 cases-returns-then-is_outdone-clause-back t c =
     on_ok_weaker c.leave_out-then-is_outdone.result
     (λ e. back_more c.args.stage.now.level.now.problem.now c.args.stage.now.level.now.number c.args.walk.now c.values.walk _ c.values.invariant.back refl c.add_skipped.ensures.same (λ j xs h s. c.add_skipped.ensures.others j xs (λ q. absurd (omega arith)) s)
-    (longer c.values.walk.lines c.leave_out-then-is_outdone.new.lines _ e))
+    _ e (as_many c.values.walk.left))
     c.leave_out-then-is_outdone.ensures
 
 pub cases-returns-then-walk-eq0-clause-told : goal.cases-returns-then-walk-eq0-clause-told
@@ -182,7 +183,7 @@ pub cases-returns-then-walk-eq0-clause-back : goal.cases-returns-then-walk-eq0-c
 cases-returns-then-walk-eq0-clause-back t c =
     on_ok_weaker c.leave_out-then-walk-eq0.result
     (λ e. back_more c.args.stage.now.level.now.problem.now c.args.stage.now.level.now.number c.args.walk.now c.values.walk _ c.values.invariant.back refl c.add_skipped-then-walk-eq0.ensures.same (λ j xs h s. c.add_skipped-then-walk-eq0.ensures.others j xs (λ q. absurd (omega arith)) s)
-    (longer c.values.walk.lines c.leave_out-then-walk-eq0.new.lines _ e))
+    _ e (as_many c.values.walk.left))
     c.leave_out-then-walk-eq0.ensures
 
 pub cases-returns-in_default-clause-told : goal.cases-returns-in_default-clause-told
@@ -215,14 +216,14 @@ cases-returns-in_default-clause-told t c =
     let p = c.values.invariant.goes xs ready in
     let again = ready_again c.args.stage.now.cuts (outdoes g l.number c.args.stage.now.rival) g l.number b.store.box h x vs xs c.args.walk.now.left c.args.walk.now.lines c.args.walk.now.joins ready (values_from v vs) c.values.walk.left c.values.walk.lines c.values.walk.joins c.is_settled.result asked c.if-is_settled.false c.if-walk-eq0.false p in
     let part = subst (λ (d : Box). CaseTold c.args.stage.now.cuts (outdoes g l.number c.args.stage.now.rival) g l.number (box_to d x (v ∷ [])) h (xs ++ p.seen) (c.values.walk.left - 1) c.with_value.new.walk.left c.values.walk.lines c.with_value.new.walk.lines c.with_value.new.walk.joins) back.box
-    (c.in_ok-with_value.ensures.told (xs ++ p.seen) again) in
+    (c.in_ok-with_value.ensures.told (λ q. cc) (xs ++ p.seen) again) in
     rest_none c.args.stage.now.cuts (outdoes g l.number c.args.stage.now.rival) g l.number b.store.box h x vs xs c.args.walk.now.left c.args.walk.now.lines c.args.walk.now.joins ready c.with_value.new.walk.left c.drop_before.new.lines c.with_value.new.walk.joins
     (case_done c.args.stage.now.cuts (outdoes g l.number c.args.stage.now.rival) g l.number b.store.box h x vs xs c.args.walk.now.left c.args.walk.now.lines c.args.walk.now.joins ready numbers low c.values.before c.last_to_drop-dropped.result (values_from v vs) [] v c.values.walk.left c.with_value.new.walk.left
     c.values.walk.lines c.with_value.new.walk.lines c.drop_before.new.lines c.values.walk.joins c.with_value.new.walk.joins c.is_settled.result c.is_settled-in-values.result many at covers asked c.if-is_settled.false c.if-walk-eq0.false asked_then c.last_to_drop-dropped.ensures p part (c.in_ok-drop_before.ensures ∙ there))
 
 pub cases-returns-in_default-clause-back : goal.cases-returns-in_default-clause-back
 cases-returns-in_default-clause-back t c =
-    case_back c.args.stage.now.level.now.problem.now c.args.stage.now.level.now.number c.args.walk.now c.values.walk _ c.with_value.new.walk _ c.values.invariant.back refl refl refl c.in_ok-with_value.ensures.back refl refl c.last_to_drop-dropped.result (to_z w64 (of_z w64 c.first-first.result)) c.len-start.result c.len-at.result c.values.invariant.start c.in_ok-drop_before.ensures
+    case_back c.args.stage.now.level.now.problem.now c.args.stage.now.level.now.number c.args.walk.now c.values.walk _ c.with_value.new.walk _ c.values.invariant.back refl refl refl (one_fewer c.values.walk.left) c.in_ok-with_value.ensures.back refl refl refl c.last_to_drop-dropped.result (to_z w64 (of_z w64 c.first-first.result)) c.len-start.result c.len-at.result c.values.invariant.start c.in_ok-drop_before.ensures
 
 pub cases-values-preserved : goal.cases-values-preserved
 cases-values-preserved t c =
@@ -256,14 +257,14 @@ cases-values-preserved t c =
     let at = subst (λ w. values_from v vs ≡ v ∷ values_from w vs) (sym next_is) after.rest in
     record {
       start = c.values.invariant.start;
-      back = case_back g l.number c.args.walk.now c.values.walk _ c.with_value.new.walk _ back refl refl refl part_back refl refl c.last_to_drop-dropped.result (to_z w64 (of_z w64 c.first-first.result)) c.len-start.result c.len-at.result c.values.invariant.start c.in_ok-drop_before.ensures;
+      back = case_back g l.number c.args.walk.now c.values.walk _ c.with_value.new.walk _ back refl refl refl (one_fewer c.values.walk.left) part_back refl refl refl c.last_to_drop-dropped.result (to_z w64 (of_z w64 c.first-first.result)) c.len-start.result c.len-at.result c.values.invariant.start c.in_ok-drop_before.ensures;
       left = left;
       after = record { left = c.values.invariant.left; rest = at };
       goes = λ xs ready.
           let p = c.values.invariant.goes xs ready in
           let again = ready_again c.args.stage.now.cuts (outdoes g l.number c.args.stage.now.rival) g l.number b.store.box h x vs xs c.args.walk.now.left c.args.walk.now.lines c.args.walk.now.joins ready (values_from v vs) c.values.walk.left c.values.walk.lines c.values.walk.joins c.is_settled.result asked c.if-is_settled.false c.if-walk-eq0.false p in
           let part = subst (λ (d : Box). CaseTold c.args.stage.now.cuts (outdoes g l.number c.args.stage.now.rival) g l.number (box_to d x (v ∷ [])) h (xs ++ p.seen) (c.values.walk.left - 1) c.with_value.new.walk.left c.values.walk.lines c.with_value.new.walk.lines c.with_value.new.walk.joins) back.box
-          (c.in_ok-with_value.ensures.told (xs ++ p.seen) again) in
+          (c.in_ok-with_value.ensures.told (λ q. cc) (xs ++ p.seen) again) in
           (case_done c.args.stage.now.cuts (outdoes g l.number c.args.stage.now.rival) g l.number b.store.box h x vs xs c.args.walk.now.left c.args.walk.now.lines c.args.walk.now.joins ready numbers low c.values.before c.last_to_drop-dropped.result (values_from v vs) (values_from next vs) v c.values.walk.left c.with_value.new.walk.left
           c.values.walk.lines c.with_value.new.walk.lines c.drop_before.new.lines c.values.walk.joins c.with_value.new.walk.joins c.is_settled.result c.is_settled-in-values.result many at covers asked c.if-is_settled.false c.if-walk-eq0.false asked_then c.last_to_drop-dropped.ensures p part (c.in_ok-drop_before.ensures ∙ there));
     }
@@ -292,7 +293,7 @@ pub node-returns-then-is_here-clause-back : goal.node-returns-then-is_here-claus
 node-returns-then-is_here-clause-back t c =
     let look = c.in_ok-ahead.ensures in
     on_ok_weaker c.stuck.result
-    (λ e. back_after c.args.levels.now.problem.now _ c.args.number _ c.level-level.ensures.problem c.level-level.ensures.number c.args.walk.now _ c.stuck.new.walk look.game look.content look.past look.values refl _ c.in_ok-below.ensures.lines e) c.stuck.ensures.back
+    (λ e. back_after c.args.levels.now.problem.now _ c.args.number _ c.level-level.ensures.problem c.level-level.ensures.number c.args.walk.now _ c.stuck.new.walk look.game look.content look.past look.values refl refl _ c.in_ok-below.ensures.lines e) c.stuck.ensures.back
 
 pub node-invariant_of-stage-clause-aimed : goal.node-invariant_of-stage-clause-aimed
 node-invariant_of-stage-clause-aimed t c =
@@ -341,7 +342,7 @@ pub node-returns-clause-back : goal.node-returns-clause-back
 node-returns-clause-back t c =
     let look = c.in_ok-ahead.ensures in
     on_ok_weaker c.own_tree.result
-    (λ e. back_after c.args.levels.now.problem.now _ c.args.number _ c.level-level.ensures.problem c.level-level.ensures.number c.args.walk.now _ c.own_tree.new.walk look.game look.content look.past look.values refl _ c.in_ok-below.ensures.lines e) c.own_tree.ensures.back
+    (λ e. back_after c.args.levels.now.problem.now _ c.args.number _ c.level-level.ensures.problem c.level-level.ensures.number c.args.walk.now _ c.own_tree.new.walk look.game look.content look.past look.values refl refl _ c.in_ok-below.ensures.lines e) c.own_tree.ensures.back
 
 pub over_values-returns-clause-told : goal.over_values-returns-clause-told
 over_values-returns-clause-told t c =
@@ -355,6 +356,12 @@ over_values-returns-clause-told t c =
     (place_fits x.0 l.stop (length g.variables) c.requires.var l.stop_within c.known.ensures.few_variables) c.requires.going.closed c.requires.going.within.fixed worse c.in_ok-put.ensures.put q (c.in_ok-cases.ensures.told xs ready))
     c.put-2.ensures.put
 
+pub own_tree-verdict-requires : goal.own_tree-verdict-requires
+own_tree-verdict-requires t c =
+    let l = c.args.stage.now.level.now in
+    let back = c.in_ok-own_part.ensures.back in
+    record { here = entered_back l.problem.now l.number c.args.walk.now c.own_part.new.walk back c.requires.here; joins = back.game ∙ c.requires.joins }
+
 pub own_tree-returns-clause-told : goal.own_tree-returns-clause-told
 own_tree-returns-clause-told t c =
     let l = c.args.stage.now.level.now in
@@ -363,26 +370,81 @@ own_tree-returns-clause-told t c =
     let b = c.args.walk.now.remains in
     let declared : is_box_of g b.store.box ≡ true = subst (λ (f : Game). is_box_of f b.store.box ≡ true) c.requires.here.game c.known-2.ensures.declared in
     let numbers : list_all is_number (position g i b.store.box) ≡ true = read_numbers g b.store.box (before g i) c.known.ensures.domains declared c.requires.here.full in
-    let back = c.in_ok-part.ensures.back in
-    let follows = follows_on b c.close.new.self c.part.new.walk.remains c.close.ensures.on.follows back.box back.past in
-    let same = (c.undo_to.ensures.back b.store (sym c.mark-mark.ensures.at) follows).0 in
-    let pruned = subst (λ ss. IsPruned g i b.store.box c.close.new.self.store.box [] ss) (sym c.items.ensures) (subst (λ ss. IsPruned g i b.store.box c.close.new.self.store.box ss c.close.new.steps) c.new-steps.ensures c.close.ensures.pruned) in
     λ few sees.
-    node_ended c.args.stage.now.cuts (outdoes g i c.args.stage.now.rival) g i (scope_number c.args.stage.now.horizon) c.known.ensures l.is_scope b.store.box c.undo_to.new.self.store.box same numbers c.args.stage.now.ahead (rival_outdoes g i c.args.stage.now.rival c.args.stage.now.rivalled) sees c.args.walk.now.left c.part.new.walk.left c.verdict.new.walk.left c.args.walk.now.lines c.part.new.walk.lines c.verdict.new.walk.lines
-    c.clear.new.self c.part.new.walk.joins c.verdict.new.walk.joins _ c.clear.ensures.stands few (λ ready. c.in_ok-part.ensures.told b.store.box [] [] (pruned_told g i b.store.box c.close.new.self.store.box c.items.result.now pruned) ready) c.verdict.ensures.verdict c.verdict.ensures.joins c.verdict.ensures.lines c.verdict.ensures.left
+    node_ended c.args.stage.now.cuts (outdoes g i c.args.stage.now.rival) g i (scope_number c.args.stage.now.horizon) c.known.ensures l.is_scope b.store.box c.own_part.new.walk.remains.store.box c.in_ok-own_part.ensures.back.box numbers c.args.stage.now.ahead (rival_outdoes g i c.args.stage.now.rival c.args.stage.now.rivalled) sees
+    c.args.walk.now.left c.own_part.new.walk.left c.verdict.new.walk.left c.args.walk.now.lines c.own_part.new.walk.lines c.verdict.new.walk.lines c.own_part.new.walk.joins c.verdict.new.walk.joins _ (c.in_ok-own_part.ensures.told few) c.verdict.ensures.verdict c.verdict.ensures.joins c.verdict.ensures.lines c.verdict.ensures.left
 
-pub part-returns-in-Empty-clause-told : goal.part-returns-in-Empty-clause-told
-part-returns-in-Empty-clause-told t c =
+pub own_tree-returns-clause-back : goal.own_tree-returns-clause-back
+own_tree-returns-clause-back t c =
+    let l = c.args.stage.now.level.now in
+    back_more l.problem.now l.number c.args.walk.now c.own_part.new.walk c.verdict.new.walk c.in_ok-own_part.ensures.back c.verdict.ensures.remains c.verdict.ensures.game (λ j xs h s. c.verdict.ensures.joins j xs s) [] (c.verdict.ensures.lines ∙ sym (append-nil c.own_part.new.walk.lines)) (omega (arith, c.verdict.ensures.left))
+
+pub own_part-returns-clause-told : goal.own_part-returns-clause-told
+own_part-returns-clause-told t c =
+    let l = c.args.stage.now.level.now in
+    let g = l.problem.now in
+    let i = l.number in
+    let above = outdoes g i c.args.stage.now.rival in
+    let h = scope_number c.args.stage.now.horizon in
+    let a = c.args.walk.now in
+    let back = c.in_ok-is_whole.ensures.back in
+    let cut = c.is_advised.ensures c.if-not-is_advised.false in
+    let stand : c.cut.new.self ≡ a.lines = c.cut.ensures ∙ taken_back a.lines c.closed_part-2.new.walk.lines back.written c.len-start.result back.lines c.len-start.ensures in
+    let last = c.closed_part-3.new.walk in
+    λ few.
+    let told = c.in_ok-closed_part-2.ensures.told (λ q. cc) (omega (arith, few, back.left)) in
+    let here = subst (λ (d : Box). PartTold c.args.stage.now.cuts above g i d h [] [] c.closed_part-2.new.walk.left last.left c.cut.new.self last.lines last.joins) back.box told in
+    part_more c.args.stage.now.cuts above g i a.remains.store.box h [] [] c.closed_part-2.new.walk.left a.left last.left a.lines last.lines last.joins cut back.left
+    (subst (λ ls. PartTold c.args.stage.now.cuts above g i a.remains.store.box h [] [] c.closed_part-2.new.walk.left last.left ls last.lines last.joins) stand here)
+
+pub own_part-returns-clause-back : goal.own_part-returns-clause-back
+own_part-returns-clause-back t c =
+    let l = c.args.stage.now.level.now in
+    let g = l.problem.now in
+    let i = l.number in
+    let a = c.args.walk.now in
+    let back = c.in_ok-is_whole.ensures.back in
+    let stand : c.cut.new.self ≡ a.lines = c.cut.ensures ∙ taken_back a.lines c.closed_part-2.new.walk.lines back.written c.len-start.result back.lines c.len-start.ensures in
+    both_back g i a _ c.closed_part-3.new.walk (cut_back g i a c.closed_part-2.new.walk _ back refl refl stand refl) c.in_ok-closed_part-2.ensures.back
+
+pub closed_part-returns-clause-told : goal.closed_part-returns-clause-told
+closed_part-returns-clause-told t c =
+    let l = c.args.stage.now.level.now in
+    let g = l.problem.now in
+    let i = l.number in
+    let b = c.args.walk.now.remains in
+    let pruned = subst (λ ss. IsPruned g i b.store.box c.close.new.self.store.box [] ss) (sym c.items.ensures) (subst (λ ss. IsPruned g i b.store.box c.close.new.self.store.box ss c.close.new.steps) c.new-steps.ensures c.close.ensures.pruned) in
+    λ q few. c.in_ok-is_whole.ensures.told q b.store.box [] [] (pruned_told g i b.store.box c.close.new.self.store.box c.items.result.now pruned) (ready_first g i c.args.walk.now.left c.clear.new.self c.clear.ensures.stands few)
+
+pub closed_part-returns-clause-back : goal.closed_part-returns-clause-back
+closed_part-returns-clause-back t c =
+    let l = c.args.stage.now.level.now in
+    let g = l.problem.now in
+    let i = l.number in
+    let b = c.args.walk.now.remains in
+    let back = c.in_ok-is_whole.ensures.back in
+    let follows = follows_on b c.close.new.self c.part.new.walk.remains c.close.ensures.on.follows back.box back.past in
+    let same = c.undo_to.ensures.back b.store (sym c.mark-mark.ensures.at) follows in
+    undone_back g i c.args.walk.now _ c.part.new.walk _ c.close.ensures.on c.clear.ensures.same c.clear.ensures.others refl refl back c.undo_to.ensures.game same.0 same.1 c.undo_to.ensures.values refl refl refl
+
+pub part-returns-in_ok-put-in-Empty-clause-told : goal.part-returns-in_ok-put-in-Empty-clause-told
+part-returns-in_ok-put-in-Empty-clause-told t c =
     let l = c.args.stage.now.level.now in
     let g = l.problem.now in
     let h = scope_number c.args.stage.now.horizon in
     let left_box = c.args.walk.now.remains.store.box in
     let none_left : has_empty left_box ≡ true = subst (λ (a : Closed). GoesOn a g l.number c.args.x c.args.walk.now.remains) c.in-Empty.is c.requires.goes in
-    on_ok_weaker c.put.result
-    (λ q box before ms stepped ready.
+    λ w box before ms stepped ready.
     part_told c.args.stage.now.cuts (outdoes g l.number c.args.stage.now.rival) g l.number box left_box h before ms c.args.walk.now.left c.args.walk.now.left c.args.walk.now.lines c.put_steps.new.lines c.put.new.self c.args.walk.now.joins c.args.steps.now stepped c.in_ok-put_steps.ensures
-    (empty_told c.args.stage.now.cuts (outdoes g l.number c.args.stage.now.rival) g l.number left_box h (before ++ seen_bounds ms) c.args.walk.now.left c.put_steps.new.lines c.args.walk.now.joins ready c.put.new.self none_left q))
-    c.put.ensures.put
+    (empty_told c.args.stage.now.cuts (outdoes g l.number c.args.stage.now.rival) g l.number left_box h (before ++ seen_bounds ms) c.args.walk.now.left c.put_steps.new.lines c.args.walk.now.joins ready c.put.new.self none_left c.in_ok-put-in-Empty.ensures.put)
+
+pub part-returns-in_ok-put-in-Empty-clause-back : goal.part-returns-in_ok-put-in-Empty-clause-back
+part-returns-in_ok-put-in-Empty-clause-back t c =
+    let l = c.args.stage.now.level.now in
+    let g = l.problem.now in
+    let i = l.number in
+    let a = c.args.walk.now in
+    line_back g i a a _ (none_back g i a) refl refl refl _ (lines_both a.lines c.put_steps.new.lines c.put.new.self _ _ c.in_ok-put_steps.ensures c.in_ok-put-in-Empty.ensures.put)
 
 pub part-returns-in-Open-clause-told : goal.part-returns-in-Open-clause-told
 part-returns-in-Open-clause-told t c =
@@ -390,12 +452,21 @@ part-returns-in-Open-clause-told t c =
     let g = l.problem.now in
     let h = scope_number c.args.stage.now.horizon in
     let left_box = c.args.walk.now.remains.store.box in
-    on_ok_weaker c.within.result
-    (λ told box before ms stepped ready.
+    IfOk-weaker c.within.result _ _
+    (λ whole told w box before ms stepped ready.
     let worse = subst (λ ns. has_no_worse (tracked_at g l.number) ns left_box ≡ true) (sym (firsts_marks before ms)) stepped.worse in
     part_told c.args.stage.now.cuts (outdoes g l.number c.args.stage.now.rival) g l.number box left_box h before ms c.args.walk.now.left c.within.new.walk.left c.args.walk.now.lines c.put_steps.new.lines c.within.new.walk.lines c.within.new.walk.joins c.args.steps.now stepped c.in_ok-put_steps.ensures
-    (told (before ++ seen_bounds ms) ready worse))
+    (told w (before ++ seen_bounds ms) ready worse))
     c.within.ensures.told
+
+pub part-returns-in-Open-clause-back : goal.part-returns-in-Open-clause-back
+part-returns-in-Open-clause-back t c =
+    let l = c.args.stage.now.level.now in
+    let g = l.problem.now in
+    let i = l.number in
+    let a = c.args.walk.now in
+    let stepped = line_back g i a a _ (none_back g i a) refl refl refl _ c.in_ok-put_steps.ensures in
+    on_ok_weaker c.within.result (λ e. both_back g i a _ c.within.new.walk stepped e) c.within.ensures.back
 
 pub with_value-part-requires : goal.with_value-part-requires
 with_value-part-requires t c =
@@ -412,12 +483,118 @@ with_value-returns-clause-told t c =
     let h = scope_number c.args.stage.now.horizon in
     let joins = c.narrow.new.walk.joins in
     let fits : SFits w64 c.args.value = search rules in
-    λ before ready.
+    λ w before ready.
     let told = c.in_ok-closed.ensures.told before ready.stands in
     let n : NarrowTold g l.number box c.narrow.new.walk.remains.store.box before joins c.narrow.new.steps = simp to_z-of_z at told in
     let stepped = subst (λ ss. StepsTold g l.number box c.narrow.new.walk.remains.store.box before n.ms ss) (sym c.items.ensures) n.stepped in
     let left = subst (λ m. IsReady g l.number c.args.walk.now.joins (2 + 2 * m) before) (sym c.narrow.ensures.left) ready in
     let again = ready_after g l.number box c.narrow.new.walk.remains.store.box c.args.walk.now.joins joins c.narrow.new.walk.left before c.narrow.new.steps n left in
-    let part = c.in_ok-part.ensures.told box before n.ms stepped again in
+    let part = c.in_ok-is_whole.ensures.told w box before n.ms stepped again in
     let turns = subst (λ m. PartTold c.args.stage.now.cuts (outdoes g l.number c.args.stage.now.rival) g l.number box h before n.ms m c.part.new.walk.left c.narrow.new.walk.lines c.part.new.walk.lines c.part.new.walk.joins) c.narrow.ensures.left part in
     record { ms = n.ms; part = subst (λ ls. PartTold c.args.stage.now.cuts (outdoes g l.number c.args.stage.now.rival) g l.number box h before n.ms c.args.walk.now.left c.part.new.walk.left ls c.part.new.walk.lines c.part.new.walk.joins) c.narrow.ensures.lines turns }
+
+pub with_value-returns-clause-back : goal.with_value-returns-clause-back
+with_value-returns-clause-back t c =
+    let l = c.args.stage.now.level.now in
+    let g = l.problem.now in
+    let i = l.number in
+    let b = c.args.walk.now.remains in
+    let back = c.in_ok-is_whole.ensures.back in
+    let follows = follows_on b c.narrow.new.walk.remains c.part.new.walk.remains c.narrow.ensures.on.follows back.box back.past in
+    let same = c.undo_to.ensures.back b.store (sym c.mark-mark.ensures.at) follows in
+    undone_back g i c.args.walk.now c.narrow.new.walk c.part.new.walk _ c.narrow.ensures.on c.narrow.ensures.game c.narrow.ensures.others c.narrow.ensures.lines c.narrow.ensures.left back c.undo_to.ensures.game same.0 same.1 c.undo_to.ensures.values refl refl refl
+
+pub over_values-returns-clause-back : goal.over_values-returns-clause-back
+over_values-returns-clause-back t c =
+    let l = c.args.stage.now.level.now in
+    let g = l.problem.now in
+    let i = l.number in
+    let a = c.args.walk.now in
+    let begun = line_back g i a a _ (none_back g i a) refl refl refl _ c.in_ok-put.ensures.put in
+    let gone = both_back g i a _ c.cases.new.walk begun c.in_ok-cases.ensures.back in
+    on_ok_weaker c.put-2.result (λ e. line_back g i a c.cases.new.walk _ gone refl refl refl _ e) c.put-2.ensures.put
+
+pub after_tuple-returns-then-not-tuple_allowed-clause-back : goal.after_tuple-returns-then-not-tuple_allowed-clause-back
+after_tuple-returns-then-not-tuple_allowed-clause-back t c =
+    let l = c.args.stage.now.level.now in
+    tuple_back l.problem.now l.number c.args.walk.now _ c.requires.going.within.here c.tuple_allowed.ensures.entered c.tuple_allowed.ensures.store c.tuple_allowed.ensures.kept c.add_barred.ensures.same c.add_barred.ensures.others _ c.in_ok-put.ensures.put refl
+
+pub try_branch-returns-clause-told : goal.try_branch-returns-clause-told
+try_branch-returns-clause-told t c =
+    let l = c.args.stage.now.level.now in
+    let g = l.problem.now in
+    let b = c.args.walk.now.remains in
+    let x = c.args.x in
+    λ w xs ready worse.
+    branch_told c.args.stage.now.cuts (outdoes g l.number c.args.stage.now.rival) g l.number b.store.box (scope_number c.args.stage.now.horizon) xs c.args.walk.now.left c.try_case.new.walk.left c.args.walk.now.lines c.put.new.self c.try_case.new.walk.lines c.put-2.new.self c.try_case.new.walk.joins x c.requires.going.within.here.full c.requires.own c.requires.free
+    (place_fits x.0 l.stop (length g.variables) c.requires.var l.stop_within c.known.ensures.few_variables) c.requires.going.closed c.requires.going.within.fixed worse c.in_ok-put.ensures.put c.in_ok-put-2.ensures.put (c.in_ok-try_case.ensures.told c.if-not-branch.false xs ready)
+
+pub try_branch-returns-clause-back : goal.try_branch-returns-clause-back
+try_branch-returns-clause-back t c =
+    let l = c.args.stage.now.level.now in
+    let g = l.problem.now in
+    let i = l.number in
+    let a = c.args.walk.now in
+    let begun = line_back g i a a _ (none_back g i a) refl refl refl _ c.in_ok-put.ensures.put in
+    let gone = both_back g i a _ c.try_case.new.walk begun c.in_ok-try_case.ensures.back in
+    line_back g i a c.try_case.new.walk _ gone refl refl refl _ c.in_ok-put-2.ensures.put
+
+pub try_branch-returns-then-not-branch-clause-back : goal.try_branch-returns-then-not-branch-clause-back
+try_branch-returns-then-not-branch-clause-back t c =
+    let l = c.args.stage.now.level.now in
+    let g = l.problem.now in
+    let i = l.number in
+    let a = c.args.walk.now in
+    let begun = line_back g i a a _ (none_back g i a) refl refl refl _ c.in_ok-put.ensures.put in
+    both_back g i a _ c.try_case.new.walk begun c.in_ok-try_case.ensures.back
+
+pub try_branch-returns-in_default-clause-back : goal.try_branch-returns-in_default-clause-back
+try_branch-returns-in_default-clause-back t c = none_back c.args.stage.now.level.now.problem.now c.args.stage.now.level.now.number c.args.walk.now
+
+pub try_case-returns-then-not-branch-clause-back : goal.try_case-returns-then-not-branch-clause-back
+try_case-returns-then-not-branch-clause-back t c =
+    let l = c.args.stage.now.level.now in
+    let a = c.args.walk.now in
+    both_back l.problem.now l.number a _ c.with_value.new.walk (back_more l.problem.now l.number a a _ (none_back l.problem.now l.number a) refl refl (λ j xs h s. s) _ c.in_ok-skip_between.ensures (one_fewer a.left)) c.in_ok-with_value.ensures.back
+
+pub try_case-returns-then-not-is_settled-clause-back : goal.try_case-returns-then-not-is_settled-clause-back
+try_case-returns-then-not-is_settled-clause-back t c =
+    let l = c.args.stage.now.level.now in
+    let a = c.args.walk.now in
+    both_back l.problem.now l.number a _ c.with_value.new.walk (back_more l.problem.now l.number a a _ (none_back l.problem.now l.number a) refl refl (λ j xs h s. s) _ c.in_ok-skip_between.ensures (one_fewer a.left)) c.in_ok-with_value.ensures.back
+
+pub try_case-returns-clause-back : goal.try_case-returns-clause-back
+try_case-returns-clause-back t c =
+    let l = c.args.stage.now.level.now in
+    let a = c.args.walk.now in
+    let gone = both_back l.problem.now l.number a _ c.with_value.new.walk (back_more l.problem.now l.number a a _ (none_back l.problem.now l.number a) refl refl (λ j xs h s. s) _ c.in_ok-skip_between.ensures (one_fewer a.left)) c.in_ok-with_value.ensures.back in
+    line_back l.problem.now l.number a c.with_value.new.walk _ gone refl refl refl _ c.in_ok-skip_between-2.ensures
+
+pub try_case-returns-clause-told : goal.try_case-returns-clause-told
+try_case-returns-clause-told t c =
+    let l = c.args.stage.now.level.now in
+    let g = l.problem.now in
+    let b = c.args.walk.now.remains in
+    let x = c.args.x.0 in
+    let v = c.args.value in
+    let vs = values_left b.store.box x in
+    let h = scope_number c.args.stage.now.horizon in
+    let declared : is_box_of g b.store.box ≡ true = subst (λ (f : Game). is_box_of f b.store.box ≡ true) c.requires.going.within.here.game c.known-2.ensures.declared in
+    let numbers : list_all is_number vs ≡ true = left_small g b.store.box x c.known.ensures.domains declared in
+    let rises : is_ascending vs ≡ true = sub_ascending b.store.box (declared_box g) x declared in
+    let passed_is : to_z w64 (of_z w64 v) ≡ v = passed v (number_among vs v numbers c.requires.value) in
+    let first_is : to_z w64 (of_z w64 c.first-first.result) ≡ c.first-first.result = passed c.first-first.result (number_among vs c.first-first.result numbers c.first-first.ensures.left) in
+    let last_is : to_z w64 (of_z w64 c.last-last.result) ≡ c.last-last.result = passed c.last-last.result (number_among vs c.last-last.result numbers c.last-last.ensures.left) in
+    let skipped = c.in_ok-skip_between.ensures ∙ ap (λ u. c.args.walk.now.lines ++ skipped_between (Some u) c.previous-before.result) first_is in
+    let then_skipped = c.in_ok-skip_between-2.ensures ∙ ap (λ u. c.with_value.new.walk.lines ++ skipped_between c.next-next.result (Some u)) last_is in
+    let previous = subst (λ u. IsPrevious vs u c.previous-before.result) passed_is c.previous-before.ensures in
+    let next = subst (λ u. IsNext vs u c.next-next.result) passed_is c.next-next.ensures in
+    let same = c.in_ok-with_value.ensures.back.game ∙ c.requires.joins in
+    let asked = asked_here g _ l.number c.with_value.new.walk.joins c.is_settled.result same c.is_settled.ensures in
+    let many = many_of vs v c.requires.free c.requires.value in
+    λ w xs ready.
+    let again = case_ready g l.number c.args.walk.now.joins xs c.args.walk.now.left c.requires.turn ready in
+    let part = subst (λ u. CaseTold c.args.stage.now.cuts (outdoes g l.number c.args.stage.now.rival) g l.number (box_to b.store.box x (u ∷ [])) h xs (c.args.walk.now.left - 1) c.with_value.new.walk.left c.skip_between.new.lines c.with_value.new.walk.lines c.with_value.new.walk.joins) passed_is
+    (c.in_ok-with_value.ensures.told (λ q. c.if-not-branch.false) xs again) in
+    case_tried c.args.stage.now.cuts (outdoes g l.number c.args.stage.now.rival) g l.number b.store.box h x vs xs c.args.walk.now.left c.args.walk.now.lines c.args.walk.now.joins ready c.requires.cuts numbers rises c.first-first.result v c.last-last.result c.previous-before.result c.next-next.result c.with_value.new.walk.left c.skip_between.new.lines c.with_value.new.walk.lines
+    c.skip_between-2.new.lines c.with_value.new.walk.joins c.is_settled.result many c.first-first.ensures c.last-last.ensures c.requires.value previous next (λ e. absurd (omega (arith, e, c.requires.turn))) asked c.if-not-is_settled.false skipped then_skipped part

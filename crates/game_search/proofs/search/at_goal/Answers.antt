@@ -1,4 +1,4 @@
-use Rattle.std.proofs.Common.{◌≡◌, ◌∙◌, sym, ap, subst, true, length}
+use Rattle.std.proofs.Common.{◌≡◌, ◌∙◌, sym, ap, refl, subst, true, length, arith}
 use Rattle.std.specs.List.{list_all}
 use Rattle.qc_model.specs.Content.{Game}
 use Rattle.qc_model.specs.Demands.{demands}
@@ -10,6 +10,7 @@ use Rattle.proof_tree.specs.Place.{position}
 use Rattle.search_box.specs.Entered.{IsEntered}
 use Rattle.search_box.proofs.Places.{read_numbers}
 use Rattle.game_search.proofs.Here.{goal_there, lost_there}
+use Rattle.game_search.proofs.Remains.{none_back, line_back, back_more}
 use Rattle.game_search.proofs.search.at_goal.Goals as goal
 
 pub returns-then-is_here-clause-told : goal.returns-then-is_here-clause-told
@@ -30,3 +31,15 @@ returns-clause-told c =
     let holds = c.goal_holds-holds.result in
     let v = c.goal.ensures.verdict ∙ (ap (λ (f : Game). goal_verdict f holds (demands f (length f.scopes)) c.all_values-values.result.now) c.requires.joins ∙ ap (goal_verdict g holds (demands g n)) (c.all_values-values.ensures g (subst (λ k. IsEntered g k b) c.requires.scope c.requires.here))) in
     λ cuts above. goal_there cuts above g c.args.number _ c.requires.scope c.known.ensures b.store.box numbers (sym c.is_here.ensures ∙ c.if-is_here.false) c.args.walk.now.left c.args.walk.now.lines c.put-2.new.self c.goal.new.self _ holds c.goal_holds-holds.ensures v c.in_ok-put-2.ensures.put
+
+pub returns-then-is_here-clause-back : goal.returns-then-is_here-clause-back
+returns-then-is_here-clause-back c =
+    let g = c.args.levels.now.problem.now in
+    let a = c.args.walk.now in
+    line_back g c.args.number a a _ (none_back g c.args.number a) refl refl refl _ c.in_ok-put.ensures.put
+
+pub returns-clause-back : goal.returns-clause-back
+returns-clause-back c =
+    let g = c.args.levels.now.problem.now in
+    let a = c.args.walk.now in
+    back_more g c.args.number a a _ (none_back g c.args.number a) refl c.goal.ensures.same (λ j xs h s. c.goal.ensures.all j xs s) _ c.in_ok-put-2.ensures.put (omega arith)

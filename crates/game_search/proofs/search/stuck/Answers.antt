@@ -1,4 +1,4 @@
-use Rattle.std.proofs.Common.{◌≡◌, ◌∙◌, ap, subst, true, drop}
+use Rattle.std.proofs.Common.{◌≡◌, ◌∙◌, ap, refl, subst, true, drop, arith}
 use Rattle.std.specs.List.{list_all}
 use Rattle.qc_model.specs.Content.{Game}
 use Rattle.qc_model.specs.Demands.{demands}
@@ -10,6 +10,7 @@ use Rattle.qc_levels.specs.Seen.{verdict_of}
 use Rattle.qc_joins.specs.Verdicts.{stuck_of}
 use Rattle.search_box.proofs.Places.{read_numbers}
 use Rattle.game_search.proofs.Here.{stuck_told}
+use Rattle.game_search.proofs.Remains.{none_back, back_more}
 use Rattle.game_search.proofs.search.stuck.Goals as goal
 
 pub returns-clause-told : goal.returns-clause-told
@@ -21,3 +22,11 @@ returns-clause-told c =
     let numbers : list_all is_number (position g i b.store.box) ≡ true = read_numbers g b.store.box (before g i) c.known.ensures.domains declared c.requires.here.full in
     let v = c.stuck-found.ensures.verdict ∙ (ap (λ (f : Game). stuck_of (drop i f.scopes) f (demands f i) c.values_before-values.result.now) c.requires.joins ∙ ap (stuck_of (drop i g.scopes) g (demands g i)) c.values_before-values.ensures) in
     λ cuts above h f. stuck_told cuts above g i h c.known.ensures b.store.box numbers f c.args.walk.now.left c.args.walk.now.lines c.put.new.self c.clear.new.self _ (ap (verdict_of c.stuck-found.result) c.clear.ensures.out ∙ v) c.in_ok-put.ensures.put (λ s. c.clear.ensures.stands)
+
+pub returns-clause-back : goal.returns-clause-back
+returns-clause-back c =
+    let g = c.args.level.now.problem.now in
+    let i = c.args.level.now.number in
+    let a = c.args.walk.now in
+    back_more g i a a _ (none_back g i a) refl (c.clear.ensures.same ∙ c.stuck-found.ensures.same)
+    (λ j xs h s. c.clear.ensures.others j xs (λ e. absurd (omega (arith, h, e))) (c.stuck-found.ensures.others j xs (λ e. absurd (omega (arith, h, e))) s)) _ c.in_ok-put.ensures.put (omega arith)
