@@ -103,15 +103,18 @@ fn keeps_the_settling_case_alone(rt: HostRuntime) -> Result<(), Fail> {
 fn keeps_to_the_budget(rt: HostRuntime) -> Result<(), Fail> {
     let alloc = rt.alloc();
     // v 1, n, v 2, n, g, n, g, r 3, s, dot, r 3, o, dot
-    // x = 0 takes 3 turns and loses, x = 1 takes 3 and wins: v 1, s, n, v 2, n, g, n, g, dot, dot
-    // one turn less: v 1, n, v 2, n, g, n, g, dot, n, v 2, n, g, o, dot, dot
+    // x = 0 takes 3 turns and loses by y = 1; with x = 1 this y is tried in vain, and 3 more win: v 1, s, n, v 2, n, g, n, g,
+    // dot, dot
+    // one turn less is enough without cuts and tries: v 1, n, v 2, n, g, n, g, dot, n, v 2, n, g, n, g, dot, dot
+    // and one less: v 1, n, v 2, n, g, n, g, dot, n, v 2, n, g, o, dot, dot
     // v 1; x = 0 has n, h 3, p, dot, p, e, since no y is below it; s, dot
     // no values are left ahead of x: h 3, p, dot, n, n, t
     // of the 17 turns that it takes to go over all cases the last is missing: x has n, v 2, so many times n, g, then s, r 3, s or
     // nothing, and dot: 9, 10, 11 and, with o for the last n, g, 10; v 1, dot
     let rows = [
         (Kind::Exists, 3, Pred::IntLe, 3, Outcome::Open(3), 13),
-        (Kind::Exists, 1, Pred::IntLe, 6, Outcome::True, 10),
+        (Kind::Exists, 1, Pred::IntLe, 7, Outcome::True, 10),
+        (Kind::Exists, 1, Pred::IntLe, 6, Outcome::True, 16),
         (Kind::Exists, 1, Pred::IntLe, 5, Outcome::Open(5), 15),
         (Kind::Forall, 1, Pred::IntLt, 1, Outcome::False, 9),
         (Kind::Exists, 0, Pred::IntLt, 1, Outcome::False, 6),
@@ -122,6 +125,28 @@ fn keeps_to_the_budget(rt: HostRuntime) -> Result<(), Fail> {
         let answer = solved(alloc, game, budget)?.ok_or("no game")?;
         assert!(rt; answer.outcome == outcome && answer.optimum == None && answer.lines == lines);
     }
+    Ok(())
+}
+
+/// The player chooses x from 0 to 3, and the opponent y from 0 to 9; y = 5 beats each x.
+fn one_answer(alloc: Global) -> Result<Option<Problem>, AllocError> {
+    let mut game = draft(alloc, &[EXISTS, FORALL])?;
+    game.variables.push(between(alloc, "x", 0, 0, 3)?)?;
+    game.variables.push(between(alloc, "five", 0, 5, 5)?)?;
+    game.variables.push(between(alloc, "y", 1, 0, 9)?)?;
+    game.constraints
+        .push(constraint(alloc, 2, Pred::IntNe, &[THIRD, SECOND])?)?;
+    Ok(build(game))
+}
+
+#[test]
+fn tries_what_settled_before(rt: HostRuntime) -> Result<(), Fail> {
+    let alloc = rt.alloc();
+    // 4 turns for the x, 6 for the y up to 5, and then 1 for each x: its lines are n, v 2, r 4, s, n, g, r 9, s, dot
+    let answer = solved(alloc, one_answer(alloc)?, 13)?.ok_or("no game")?;
+    assert!(rt; answer.outcome == Outcome::False && answer.lines == 38);
+    let answer = solved(alloc, one_answer(alloc)?, 12)?.ok_or("no game")?;
+    assert!(rt; answer.outcome == Outcome::Open(12));
     Ok(())
 }
 
