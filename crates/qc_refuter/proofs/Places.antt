@@ -66,10 +66,11 @@ numbers_before b c xs (suc n) h f =
 numbers_from : (b c : Values) (xs : List ℤ) (m k : ℕ) → length xs ≤ k + m → ((j : ℕ) → k ≤ j → j < length xs → has_value b (pos (j + 1)) ≡ false) →
     some_item_in (pos (k + 1)) b (drop k xs) c ≡ false
 numbers_from b c xs zero k h f = at_drop_all (λ l. some_item_in (pos (k + 1)) b l c) xs k (omega (arith, h))
-numbers_from b c xs (suc m) k h f = elim (ltb k (length xs)) as (λ t. ltb k (length xs) ≡ t → some_item_in (pos (k + 1)) b (drop k xs) c ≡ false)
-    [ true ↦ λ e. sym (number_missed b c xs k (ltb-true k (length xs) e) (sym (ap (λ t. t && has_value c (get_or xs k (pos 0))) (f k (omega arith) (ltb-true k (length xs) e)))))
-                  ∙ numbers_from b c xs m (k + 1) (omega (arith, h)) (λ j l. f j (omega (arith, l)))
-    | false ↦ λ e. at_drop_all (λ l. some_item_in (pos (k + 1)) b l c) xs k (grind (arith, nat_tests)) ] refl
+numbers_from b c xs (suc m) k h f = elim (ltb k (length xs)) as (λ t. ltb k (length xs) ≡ t → some_item_in (pos (k + 1)) b (drop k xs) c ≡ false) [
+  | true ↦ λ e. sym (number_missed b c xs k (ltb-true k (length xs) e) (sym (ap (λ t. t && has_value c (get_or xs k (pos 0))) (f k (omega arith) (ltb-true k (length xs) e)))))
+      ∙ numbers_from b c xs m (k + 1) (omega (arith, h)) (λ j l. f j (omega (arith, l)))
+  | false ↦ λ e. at_drop_all (λ l. some_item_in (pos (k + 1)) b l c) xs k (grind (arith, nat_tests))
+] refl
 
 pub numbers_after : (b c : Values) (xs : List ℤ) (k : ℕ) → ((j : ℕ) → k ≤ j → j < length xs → has_value b (pos (j + 1)) ≡ false) → some_item_in (pos (k + 1)) b (drop k xs) c ≡ false
 numbers_after b c xs k f = numbers_from b c xs (length xs) k (omega arith) f
@@ -97,10 +98,11 @@ items_before box b c items x (suc n) h f =
 items_from : (box : Box) (b c : Values) (items : List Arg) (x : Arg) (m k : ℕ) → length items ≤ k + m → ((j : ℕ) → k ≤ j → j < length items → has_value b (pos (j + 1)) ≡ false) →
     some_item_meets (pos (k + 1)) b (map (left_to box) (drop k items)) c ≡ false
 items_from box b c items x zero k h f = at_drop_all (λ l. some_item_meets (pos (k + 1)) b (map (left_to box) l) c) items k (omega (arith, h))
-items_from box b c items x (suc m) k h f = elim (ltb k (length items)) as (λ t. ltb k (length items) ≡ t → some_item_meets (pos (k + 1)) b (map (left_to box) (drop k items)) c ≡ false)
-    [ true ↦ λ e. sym (item_missed box b c items k x (ltb-true k (length items) e) (f k (omega arith) (ltb-true k (length items) e)))
-                  ∙ items_from box b c items x m (k + 1) (omega (arith, h)) (λ j l. f j (omega (arith, l)))
-    | false ↦ λ e. at_drop_all (λ l. some_item_meets (pos (k + 1)) b (map (left_to box) l) c) items k (grind (arith, nat_tests)) ] refl
+items_from box b c items x (suc m) k h f = elim (ltb k (length items)) as (λ t. ltb k (length items) ≡ t → some_item_meets (pos (k + 1)) b (map (left_to box) (drop k items)) c ≡ false) [
+  | true ↦ λ e. sym (item_missed box b c items k x (ltb-true k (length items) e) (f k (omega arith) (ltb-true k (length items) e)))
+      ∙ items_from box b c items x m (k + 1) (omega (arith, h)) (λ j l. f j (omega (arith, l)))
+  | false ↦ λ e. at_drop_all (λ l. some_item_meets (pos (k + 1)) b (map (left_to box) l) c) items k (grind (arith, nat_tests))
+] refl
 
 pub items_after : (box : Box) (b c : Values) (items : List Arg) (x : Arg) (k : ℕ) → ((j : ℕ) → k ≤ j → j < length items → has_value b (pos (j + 1)) ≡ false) →
     some_item_meets (pos (k + 1)) b (map (left_to box) (drop k items)) c ≡ false

@@ -1,5 +1,5 @@
 //! Sums of products, in 128 bits. A product alone fits into 64.
-ghost use Rattle.std.specs.Prelude.{◌≡◌, ◌≤◌, ◌<◌, ◌^◌, IsTrue, length, map, ◌*ℤ◌, unsigned_abs};
+ghost use Rattle.std.specs.Prelude.{◌≡◌, ◌≤◌, ◌<◌, ◌^◌, IsTrue, true, length, map, ◌*ℤ◌, unsigned_abs};
 ghost use Rattle.std.specs.Int.{int_min, int_max};
 ghost use Rattle.std.specs.List.{list_all};
 ghost use Rattle.qc_model.specs.Entailed.{entailed_as};
@@ -50,7 +50,7 @@ fn ordered(p: i64, q: i64) -> Reach
 }
 
 // What a factor times an argument can be, as a view shows it.
-fn term(factor: i64, arg: Arg, view: &View) -> Reach
+fn term_shown(factor: i64, arg: Arg, view: &View) -> Reach
     requires factor { IsTrue (is_number factor) }
     requires open { IsTrue (is_open (seen view.now) arg) }
     ensures value { range_of result.from result.to ≡ product_of (point factor) (span (left_to (seen view.now) arg)) }
@@ -80,6 +80,31 @@ fn term_left(factor: i64, arg: Arg, store: &Store) -> Reach
             }
         }
         Arg::Var(x) => ordered(product(factor, store.min(x)), product(factor, store.max(x))),
+    }
+}
+
+// Whether the view shows all that is left to the argument: a number, or another variable than the view's.
+fn is_whole(arg: Arg, view: &View) -> bool
+    ensures { result ≡ true → left_to (seen view.now) arg ≡ left_to view.now.store.now.box arg }
+{
+    match arg {
+        Arg::Num(_) => true,
+        Arg::Var(y) => y.0 != view.x.0,
+    }
+}
+
+// The same, with one look at an argument that the view shows whole.
+fn term(factor: i64, arg: Arg, view: &View) -> Reach
+    requires factor { IsTrue (is_number factor) }
+    requires open { IsTrue (is_open (seen view.now) arg) }
+    ensures value { range_of result.from result.to ≡ product_of (point factor) (span (left_to (seen view.now) arg)) }
+    ensures small_from { unsigned_abs result.from ≤ 10 ^ 18 }
+    ensures small_to { unsigned_abs result.to ≤ 10 ^ 18 }
+{
+    if is_whole(arg, view) {
+        term_left(factor, arg, view.store)
+    } else {
+        term_shown(factor, arg, view)
     }
 }
 
