@@ -1,58 +1,118 @@
 //! Which tuple of a scope is tried first.
 //!
-//! It is the last tuple that settled a node of the scope. What is tried is proved as any case is, so bad advice costs turns
-//! and time, and nothing else.
-use qc_model::{Problem, VarId};
-use qc_rules::Level;
+//! It is the tuple that settled the same position before (`residues`, `positions`), where one is kept; else the last tuple that
+//! settled a node of the scope. What is tried is proved as any case is, so bad advice costs turns and time, and nothing else.
+use crate::positions::Positions;
+use crate::residues::Residues;
+use qc_model::{Kind, ScopeId, VarId};
+use qc_rules::{Level, Levels};
 use std::alloc::{AllocError, Global};
 
-/// How often a scope's advice may fail before it is asked no more, where it never serves.
+/// How often advice may fail before it is asked no more, where it never serves.
 const FIRST_TRUST: u8 = 4;
 
-/// How much a scope's advice can be trusted.
+/// How much advice can be trusted.
 const MOST_TRUST: u8 = 32;
+
+/// The widest tuple that is kept for a position.
+const MOST_WIDTH: usize = 32;
+
+/// How many positions of a scope are kept before it is asked whether that serves.
+const FIRST_NOTES: u32 = 1024;
+
+/// One in so many of the positions that are kept has to have been met before, else no more are.
+const LEAST_SHARE: u32 = 8;
 
 /// What is known of one scope's advice.
 #[derive(Clone, Copy)]
-struct Trust {
+struct Standing {
+    /// Whether some tuple settled a node of the scope.
     is_known: bool,
-    left: u8,
+    /// How far the last tuple is trusted, and those of positions.
+    last: u8,
+    kept: u8,
+    /// How many positions were kept, and how many of them had been met before.
+    notes: u32,
+    met: u32,
+    /// Whether the last one had.
+    was_met: bool,
 }
 
-/// For each scope the values of a tuple, in the places of its variables, and how far it is trusted: a try that serves
-/// makes up for one that fails.
+/// For each scope the values of the last tuple, in the places of its variables, the tuples of positions, and how far both are
+/// trusted: a try that serves makes up for one that fails.
 #[derive(Drop)]
 pub(crate) struct Advice {
     values: Vec<i64>,
-    scopes: Vec<Trust>,
+    scopes: Vec<Standing>,
+    residues: Residues,
+    positions: Positions,
 }
 
 impl Advice {
-    /// No advice for any scope. It fails only where memory runs out.
-    pub(crate) fn new(alloc: Global, problem: &Problem) -> Result<Advice, AllocError> {
-        problem.known();
-        let trust = Trust {
+    /// No advice for any scope. Only with `tries` positions are kept later. It fails only where memory runs out.
+    pub(crate) fn new(alloc: Global, levels: &Levels, tries: bool) -> Result<Advice, AllocError> {
+        levels.problem.known();
+        let standing = Standing {
             is_known: false,
-            left: FIRST_TRUST,
+            last: FIRST_TRUST,
+            kept: FIRST_TRUST,
+            notes: 0,
+            met: 0,
+            was_met: false,
         };
-        let values = vec![in alloc; 0i64; problem.variables()]?;
-        let scopes = vec![in alloc; trust; problem.scopes()]?;
-        Ok(Advice { values, scopes })
+        let values = vec![in alloc; 0i64; levels.problem.variables()]?;
+        let scopes = vec![in alloc; standing; levels.problem.scopes()]?;
+        let wanted = wanted_scopes(alloc, levels, tries)?;
+        let residues = Residues::new(alloc, levels, wanted.as_slice())?;
+        let positions = Positions::new(alloc, widest(levels, wanted.as_slice()))?;
+        Ok(Advice {
+            values,
+            scopes,
+            residues,
+            positions,
+        })
     }
 
-    /// Whether there is a tuple for the scope that is worth a try.
-    pub(crate) fn is_asked(&self, level: &Level) -> bool {
+    /// Whether there is a tuple that is worth a try at a node of the scope, where variables have these values.
+    pub(crate) fn is_asked(&self, level: &Level, values: &[i64]) -> bool {
         match self.scopes.get(level.number as usize) {
-            Some(trust) => trust.is_known && trust.left > 0,
+            Some(standing) => {
+                standing.is_known && (standing.last > 0 || self.kept(level, values).is_some())
+            }
             None => false,
         }
     }
 
     /// The value that x has in the tuple of its scope.
-    pub(crate) fn value(&self, x: VarId) -> i64 {
-        match self.values.get(x.0 as usize) {
-            Some(value) => *value,
-            None => 0,
+    pub(crate) fn value(&self, level: &Level, x: VarId, values: &[i64]) -> i64 {
+        let x = x.0 as usize;
+        if let Some(number) = self.kept(level, values) {
+            return self.positions.value(number, x.saturating_sub(level.from));
+        }
+        value_at(self.values.as_slice(), x)
+    }
+
+    /// The number of the scope's position, where a tuple is kept for it.
+    fn kept(&self, level: &Level, values: &[i64]) -> Option<u64> {
+        let number = self.number(level, values)?;
+        if self.positions.has(number) {
+            Some(number)
+        } else {
+            None
+        }
+    }
+
+    /// The number of the scope's position, where it is worth to be looked up.
+    fn number(&self, level: &Level, values: &[i64]) -> Option<u64> {
+        match self.scopes.get(level.number as usize) {
+            Some(standing) => {
+                if standing.keeps_positions() {
+                    self.residues.number(level, values)
+                } else {
+                    None
+                }
+            }
+            None => None,
         }
     }
 
@@ -61,27 +121,72 @@ impl Advice {
         if !settled {
             return;
         }
-        if let Some(trust) = self.scopes.get_mut(level.number as usize) {
-            trust.is_known = true;
+        if let Some(standing) = self.scopes.get_mut(level.number as usize) {
+            standing.is_known = true;
         }
         for x in level.from..level.stop {
             self.copy(x, values);
         }
+        if let Some(number) = self.number(level, values) {
+            self.keep(number, level, values);
+        }
     }
 
     fn copy(&mut self, x: usize, values: &[i64]) {
-        if let Some(value) = values.get(x) {
-            if let Some(place) = self.values.get_mut(x) {
-                *place = *value;
-            }
+        if let Some(place) = self.values.get_mut(x) {
+            *place = value_at(values, x);
+        }
+    }
+
+    /// Keeps the tuple for its position.
+    fn keep(&mut self, number: u64, level: &Level, values: &[i64]) {
+        let is_met = self.positions.has(number);
+        if let Some(standing) = self.scopes.get_mut(level.number as usize) {
+            standing.note(is_met);
+        }
+        self.positions.keep(number);
+        for at in 0..level.stop - level.from {
+            self.positions
+                .put(number, at, value_at(values, level.from + at));
         }
     }
 
     /// Learns whether a try of the scope's tuple served.
-    pub(crate) fn tell(&mut self, level: &Level, served: bool) {
-        if let Some(trust) = self.scopes.get_mut(level.number as usize) {
-            trust.left = trusted_then(trust.left, served);
+    pub(crate) fn tell(&mut self, level: &Level, values: &[i64], served: bool) {
+        let is_kept = self.kept(level, values).is_some();
+        if let Some(standing) = self.scopes.get_mut(level.number as usize) {
+            standing.tell(is_kept, served);
         }
+    }
+}
+
+impl Standing {
+    fn keeps_positions(&self) -> bool {
+        self.kept > 0 && (self.notes < FIRST_NOTES || self.met >= self.notes / LEAST_SHARE)
+    }
+
+    fn note(&mut self, is_met: bool) {
+        self.notes = self.notes.saturating_add(1);
+        self.was_met = is_met;
+        if is_met {
+            self.met = self.met.saturating_add(1);
+        }
+    }
+
+    /// Learns whether a try served. A tuple that served was kept just now; it was one of a position where that had been met.
+    fn tell(&mut self, is_kept: bool, served: bool) {
+        if is_kept && (self.was_met || !served) {
+            self.kept = trusted_then(self.kept, served);
+        } else {
+            self.last = trusted_then(self.last, served);
+        }
+    }
+}
+
+fn value_at(values: &[i64], x: usize) -> i64 {
+    match values.get(x) {
+        Some(value) => *value,
+        None => 0,
     }
 }
 
@@ -90,4 +195,53 @@ fn trusted_then(left: u8, served: bool) -> u8 {
         return left.saturating_sub(1);
     }
     if left < MOST_TRUST { left + 1 } else { left }
+}
+
+/// Which scopes' positions are kept: those that can be settled and aren't too wide. The first one has one node, and at the last
+/// one what is saved is no more than what a look costs.
+fn wanted_scopes(alloc: Global, levels: &Levels, tries: bool) -> Result<Vec<bool>, AllocError> {
+    levels.problem.known();
+    let mut wanted = Vec::new(alloc);
+    let mut demands = false;
+    for i in 0..levels.problem.scopes() {
+        let level = levels.level(ScopeId(i as u8));
+        demands = demands_after(level, demands);
+        let is_between = i > 0 && i + 1 < levels.problem.scopes();
+        wanted.push(tries && is_between && is_kept(level, demands))?;
+    }
+    Ok(wanted)
+}
+
+/// Whether something may be demanded after the scope, where something may be before.
+fn demands_after(level: &Level, before: bool) -> bool {
+    match level.kind {
+        Kind::Exists => before || level.has_condition,
+        Kind::Forall => before
+            && !level
+                .problem
+                .aggregates_in(level.number as usize)
+                .is_empty(),
+    }
+}
+
+/// Whether the scope can be settled, and its tuples aren't too wide.
+fn is_kept(level: &Level, demands: bool) -> bool {
+    let can_settle = match level.kind {
+        Kind::Exists => !demands,
+        Kind::Forall => true,
+    };
+    can_settle && level.stop - level.from <= MOST_WIDTH
+}
+
+/// How many variables the widest of these scopes has.
+fn widest(levels: &Levels, wanted: &[bool]) -> usize {
+    levels.problem.known();
+    let mut most = 0;
+    for i in 0..levels.problem.scopes() {
+        let level = levels.level(ScopeId(i as u8));
+        if let Some(true) = wanted.get(i) {
+            most = most.max(level.stop - level.from);
+        }
+    }
+    most
 }

@@ -94,7 +94,7 @@ pub(crate) fn attempt(
 {
     let remains = SearchBox::new(alloc, levels.problem)?;
     let joins = Joins::new(alloc, levels.problem)?;
-    let advice = Advice::new(alloc, levels.problem)?;
+    let advice = Advice::new(alloc, levels, cuts)?;
     let mut walk = Walk {
         alloc,
         remains,

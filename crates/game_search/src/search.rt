@@ -168,7 +168,8 @@ fn own_part(stage: &Stage, walk: &mut Walk) -> Result<(), AllocError>
     }
     let start = walk.lines.len();
     let is_whole = closed_part(stage, true, walk)?;
-    walk.advice.tell(stage.level, is_whole);
+    walk.advice
+        .tell(stage.level, walk.remains.all_values(), is_whole);
     if is_whole {
         return Ok(());
     }
@@ -181,7 +182,7 @@ fn own_part(stage: &Stage, walk: &mut Walk) -> Result<(), AllocError>
 fn is_advised(stage: &Stage, walk: &Walk) -> bool
     ensures { IsTrue result → IsTrue stage.now.cuts }
 {
-    stage.cuts && walk.advice.is_asked(stage.level)
+    stage.cuts && walk.advice.is_asked(stage.level, walk.remains.all_values())
 }
 
 /// A scope's own tree in the box as it is closed. With `tries` only advised values are gone into, and whether that is enough
@@ -424,7 +425,7 @@ fn value_to_try(stage: &Stage, x: VarId, walk: &Walk) -> Option<i64>
     if walk.left == 0 {
         return None;
     }
-    let value = walk.advice.value(x);
+    let value = walk.advice.value(stage.level, x, walk.remains.all_values());
     if !walk.remains.has(x, value) {
         return None;
     }
