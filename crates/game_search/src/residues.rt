@@ -12,7 +12,7 @@ use qc_rules::{Level, Levels};
 use std::alloc::{AllocError, Global};
 
 /// How many items all scopes may have together. A scope that would need more has no number.
-const MOST_ITEMS: usize = 262_144;
+const MOST_ITEMS: usize = 131_072;
 
 /// As many variables as a problem can have.
 const MOST_VARIABLES: usize = 500;
