@@ -1,0 +1,2 @@
+pub mod Narrower
+pub mod Going
