@@ -1,8 +1,8 @@
 -- Stores that are led on and come back.
-use Rattle.std.proofs.Common.{◌≡◌, ◌∷◌, ◌∙◌, ℕ, Bool, true, false, List, [], length, get_or, ext_get_or, refl, sym, ap, subst, arith, ◌≤◌, ◌<◌}
+use Rattle.std.proofs.Common.{◌≡◌, ◌∷◌, ◌∙◌, ℕ, Bool, List, [], length, get_or, ext_get_or, refl, sym, ap, subst, arith, ◌≤◌}
 use Rattle.std.proofs.lemmas.List.{length-map}
 use Rattle.qc_model.specs.Content.{Game}
-use Rattle.qc_model.specs.Domains.{Box, declared_box, domain_values}
+use Rattle.qc_model.specs.Domains.{declared_box, domain_values}
 use Rattle.qc_arguments.specs.Asked.{is_box_of}
 use Rattle.qc_arguments.proofs.Boxes.{sub_length}
 use Rattle.fd_store.specs.Held.{Held, Follows, IsUndone, trail_len}

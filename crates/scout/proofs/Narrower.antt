@@ -1,11 +1,11 @@
 -- Stores that lose values of one variable.
-use Rattle.std.proofs.Common.{◌≡◌, ◌<◌, ℕ, Bool, true, false, ◌||◌, List, [], ◌∷◌, length, set, get_or, refl, sym, ap, ◌∙◌, subst, arith, length-set}
+use Rattle.std.proofs.Common.{◌≡◌, ◌<◌, ℕ, Bool, true, false, ◌||◌, [], ◌∷◌, length, refl, sym, ap, ◌∙◌, subst, arith, length-set}
 use Rattle.std.specs.Prelude.{◌==◌, nat_lt, ℤ}
 use Rattle.std.proofs.lemmas.Bool.Decides.{nat_tests}
 use Rattle.std.proofs.lemmas.List.{get_or-set_other, get_or-set_same}
 use Rattle.qc_model.specs.declared.problem.VarId.{VarId}
 use Rattle.qc_model.specs.Content.{Game}
-use Rattle.qc_model.specs.Domains.{Box, Values, values_left, values_outside, box_without, has_empty, is_none_left, is_sub_box}
+use Rattle.qc_model.specs.Domains.{Values, values_left, values_outside, box_without, has_empty, is_none_left, is_sub_box}
 use Rattle.qc_arguments.proofs.Boxes.{sub_without, set_full}
 use Rattle.fd_store.specs.Held.{Held, Follows}
 use Rattle.prop_base.proofs.Steps.{follows_same, follows_more}
