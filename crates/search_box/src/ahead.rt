@@ -8,6 +8,7 @@ ghost use Rattle.qc_cascade.specs.Ahead.{IsEntered as IsFound};
 ghost use Rattle.search_box.specs.Looking.{LooksAhead, scope_number, first_unseen};
 
 use fd_store::Store;
+use joint_store::Joint;
 use proof_tree::Horizon;
 use prop_engine::{Engine, Filter};
 use qc_cascade::{Entered, enter, enter_under};
@@ -42,8 +43,8 @@ fn found_ahead<F: Filter>(
     }
 }
 
-/// A horizon for a node of scope i, nearer than the one in force, or none. The box and the past boxes are as before.
-pub(crate) fn nearest_horizon<F: Filter>(
+// A horizon for a node of scope i, nearer than the one in force, or none. The box and the past boxes are as before.
+fn nearest_horizon<F: Filter>(
     filter: &F,
     alloc: Global,
     levels: &Levels,
@@ -61,6 +62,7 @@ pub(crate) fn nearest_horizon<F: Filter>(
     ensures ready { IsReady levels.now.problem.now engine.new }
     ensures content { store.new.box ≡ store.old.box }
     ensures past { store.new.past ≡ store.old.past }
+    ensures to { IfOk result (λ z. IfSome z (λ h. h.scope.0 ≤ length levels.now.problem.now.scopes)) }
     ensures answer { IfOk result (λ z. LooksAhead levels.now.problem.now i.0 store.old.box (scope_number in_force) z) }
 {
     levels.problem.known();
@@ -71,5 +73,71 @@ pub(crate) fn nearest_horizon<F: Filter>(
             scope,
             steps: found.steps,
         })),
+    }
+}
+
+// The first number that needn't be looked at.
+fn stop_of(levels: &Levels, in_force: Option<ScopeId>) -> usize
+    ensures { result ≡ first_unseen levels.now.problem.now (scope_number in_force) }
+{
+    match in_force {
+        None => levels.problem.scopes() + 1,
+        Some(horizon) => horizon.0 as usize,
+    }
+}
+
+// Keeps the box of this node on the way, as far as the horizon that was found here: nodes below begin with it.
+fn note(
+    levels: &Levels,
+    joint: &mut Joint,
+    i: ScopeId,
+    horizon: &Horizon,
+    store: &Store,
+) -> Result<(), AllocError>
+    requires game { joint.old ≡ levels.now.problem.now }
+    requires to { horizon.now.scope.0 ≤ length levels.now.problem.now.scopes }
+    requires declared { is_box_of levels.now.problem.now store.now.box ≡ true }
+    requires full { has_empty store.now.box ≡ false }
+    ensures game { joint.new ≡ joint.old }
+{
+    let _ = joint.sees_through(levels, i, horizon.scope.0 as usize, store)?;
+    Ok(())
+}
+
+/// A horizon for a node of scope i, nearer than the one in force, or none: first by the boxes on the way, which tell at little
+/// cost that there is none, and else scope by scope. The box and the past boxes are as before.
+pub(crate) fn look<F: Filter>(
+    filter: &F,
+    alloc: Global,
+    levels: &Levels,
+    joint: &mut Joint,
+    engine: &mut Engine,
+    i: ScopeId,
+    in_force: Option<ScopeId>,
+    store: &mut Store,
+) -> Result<Option<Horizon>, AllocError>
+    requires ready { IsReady levels.now.problem.now engine.old }
+    requires game { joint.old ≡ levels.now.problem.now }
+    requires known { (c : Rule) → F.knows c ≡ true }
+    requires scope { i.0 < length levels.now.problem.now.scopes }
+    requires horizon { IfSome in_force (λ h. h.0 ≤ length levels.now.problem.now.scopes) }
+    requires declared { is_box_of levels.now.problem.now store.old.box ≡ true }
+    requires full { has_empty store.old.box ≡ false }
+    ensures ready { IsReady levels.now.problem.now engine.new }
+    ensures game { joint.new ≡ joint.old }
+    ensures content { store.new.box ≡ store.old.box }
+    ensures past { store.new.past ≡ store.old.past }
+    ensures answer { IfOk result (λ z. LooksAhead levels.now.problem.now i.0 store.old.box (scope_number in_force) z) }
+{
+    let stop = stop_of(levels, in_force);
+    if joint.sees_through(levels, i, stop, store)? {
+        return Ok(None);
+    }
+    match nearest_horizon(filter, alloc, levels, engine, i, in_force, store)? {
+        None => Ok(None),
+        Some(horizon) => {
+            note(levels, joint, i, &horizon, store)?;
+            Ok(Some(horizon))
+        }
     }
 }

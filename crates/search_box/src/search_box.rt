@@ -15,13 +15,14 @@ ghost use Rattle.search_box.specs.Boxed.{KeepsValues, IsMarked, LeadsOn};
 ghost use Rattle.search_box.specs.Entered.{IsEntered, IsWithin};
 ghost use Rattle.search_box.specs.Rests.{IsFirst, IsLast, IsNext, IsPrevious};
 
-use crate::ahead::nearest_horizon;
+use crate::ahead::look;
 use crate::bounding::{Bounded, give_up};
 use crate::closing::{close_all, close_changed};
 use crate::reading::next_unfixed;
 use crate::taking::keep_one;
 use crate::tuple::{goal_is_met, read_tuple};
 use fd_store::{Mark, Store};
+use joint_store::Joint;
 use proof_tree::{Horizon, StepList};
 use prop_engine::{Closed, Engine};
 use prop_families::Families;
@@ -30,8 +31,8 @@ use qc_rules::{Level, Levels};
 use std::alloc::{AllocError, Global};
 use std::marker::Model;
 
-/// The values left to each variable of a problem, with a trail of changes, the filters that close them, and a place for
-/// one value of each variable.
+/// The values left to each variable of a problem, with a trail of changes, the filters that close them, the boxes on the
+/// way by which it looks ahead, and a place for one value of each variable.
 ///
 /// At a scope the values of the variables before it, which have one left each, stand in their places; those of its own
 /// variables are read once its tuple is complete. A call takes memory only for the trail, whose pages are kept when it is
@@ -42,6 +43,7 @@ pub struct SearchBox<'p> {
     alloc: Global,
     store: Store,
     engine: Engine,
+    joint: Joint<'p>,
     values: Vec<i64>,
 }
 
@@ -56,7 +58,7 @@ impl<'p> Model for SearchBox<'p> {
 
     ghost view = { λ b. record { game = b.problem.now; store = b.store; values = b.values.items } };
 
-    ghost invariant = { λ b. IsSound b.problem.now b.store b.engine b.values.items };
+    ghost invariant = { λ b. IsSound b.problem.now b.store b.engine b.joint b.values.items };
 }
 
 impl<'p> SearchBox<'p> {
@@ -69,12 +71,14 @@ impl<'p> SearchBox<'p> {
         problem.known();
         let store = Store::new(alloc, problem)?;
         let engine = Engine::new(alloc, problem)?;
+        let joint = Joint::new(alloc, problem)?;
         let values = vec![in alloc; 0i64; problem.variables()]?;
         Ok(SearchBox {
             problem,
             alloc,
             store,
             engine,
+            joint,
             values,
         })
     }
@@ -306,10 +310,11 @@ impl<'p> SearchBox<'p> {
         ensures game { self.new.game ≡ self.old.game }
         ensures values { self.new.values ≡ self.old.values }
     {
-        nearest_horizon(
+        look(
             &Families {},
             self.alloc,
             levels,
+            &mut self.joint,
             &mut self.engine,
             i,
             in_force,

@@ -17,3 +17,10 @@ returns-in-Some-clause-answer g c =
     let h = scope_number c.args.in_force in
     let found = subst (λ z. IsEntered game c.args.i.0 (first_unseen game h) c.args.store.now.box z c.in_ok-found.found.steps) c.in-Some.is c.in_ok-found.ensures.answer in
     horizon_ahead game c.args.i.0 c.args.store.now.box h (record { scope = c.in-Some.scope; steps = c.in_ok-found.found.steps }) c.known.ensures c.requires.declared c.requires.scope found.0 found.1
+
+pub returns-in-Some-clause-to : goal.returns-in-Some-clause-to
+returns-in-Some-clause-to g c =
+    let game = c.args.levels.now.problem.now in
+    let h = scope_number c.args.in_force in
+    let found = subst (λ z. IsEntered game c.args.i.0 (first_unseen game h) c.args.store.now.box z c.in_ok-found.found.steps) c.in-Some.is c.in_ok-found.ensures.answer in
+    found.1.to

@@ -16,6 +16,7 @@ pub invariant_of-self : goal.invariant_of-self
 invariant_of-self c = record {
   declared = bound_sub c.give_up.result c.args.sense c.args.x _ _ c.self.inside.store.box c.give_up.new.store.box (declared_box c.self.inside.problem.now) _ _ c.give_up.ensures.answer c.give_up.ensures.same c.self.invariant.declared;
   ready = c.self.invariant.ready;
+  same = c.self.invariant.same;
   value_each = c.self.invariant.value_each;
 }
 

@@ -7,6 +7,7 @@ pub invariant_of-result : goal.invariant_of-result
 invariant_of-result c = record {
   declared = declared_is_box c.args.problem.now c.in_ok-store.store.box c.known.ensures c.in_ok-store.ensures.0;
   ready = c.in_ok-engine.ensures;
+  same = c.in_ok-joint.ensures;
   value_each = search rules;
 }
 

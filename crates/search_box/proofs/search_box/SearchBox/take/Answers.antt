@@ -24,6 +24,7 @@ invariant_of-self c =
           (λ e. subst (λ box. is_sub_box box (declared_box g) ≡ true) (sym e) (sub_one old (declared_box g) c.args.x.0 c.args.v c.self.invariant.declared left))
           (λ e. subst (λ box. is_sub_box box (declared_box g) ≡ true) (sym e) c.self.invariant.declared);
       ready = c.self.invariant.ready;
+      same = c.self.invariant.same;
       value_each = c.self.invariant.value_each;
     }
 
