@@ -1,15 +1,15 @@
 -- Boxes that leave the same to each variable that is looked at, and nothing to the same variables.
-use Rattle.std.proofs.Common.{◌≡◌, ◌⊎◌, inl, inr, ℕ, zero, suc, ◌<◌, ◌≤◌, Bool, true, false, not, ◌&&◌, ◌||◌, List, [], ◌∷◌, length, map, take, drop, set, get_or, refl, sym, ap, ◌∙◌, subst, arith, ℤ, pos}
+use Rattle.std.proofs.Common.{◌≡◌, ◌⊎◌, inl, inr, ℕ, zero, suc, ◌<◌, ◌≤◌, Bool, true, false, ◌&&◌, ◌||◌, List, [], ◌∷◌, length, map, take, drop, set, refl, sym, ap, ◌∙◌, subst, arith, ℤ, pos}
 use Rattle.std.specs.Prelude.{nat_le, nat_lt, slice_index_or}
-use Rattle.std.specs.List.{list_any, list_all}
+use Rattle.std.specs.List.{list_any}
 use Rattle.std.proofs.lemmas.Bool.Decides.{nat_tests}
 use Rattle.std.proofs.lemmas.List.{length-set, get_or_past}
 use Rattle.qc_model.specs.Content.{Game, Rule}
 use Rattle.qc_model.specs.Arguments.{variables_of}
-use Rattle.qc_model.specs.Domains.{Values, Box, values_left, values_outside, box_without, is_none_left, is_single, has_empty, least_value}
-use Rattle.qc_model.specs.Game.{before, part}
+use Rattle.qc_model.specs.Domains.{Values, Box, values_left, values_outside, box_without, is_none_left, has_empty, least_value}
+use Rattle.qc_model.specs.Game.{before}
 use Rattle.qc_model.proofs.Before.{before_up}
-use Rattle.qc_arguments.proofs.Bools.{or_left, or_right, neither}
+use Rattle.qc_arguments.proofs.Bools.{or_left, or_right}
 use Rattle.qc_alike.specs.Alike.{is_among, constrains, is_named, is_seen, is_looked_at, AreAlike}
 
 pub both : (a b : Bool) → (a && b) ≡ true → (a ≡ true) × (b ≡ true)

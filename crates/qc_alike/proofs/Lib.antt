@@ -1,2 +1,5 @@
 pub mod Boxes
 pub mod Rules
+pub mod Named
+pub mod Removals
+pub mod Walks

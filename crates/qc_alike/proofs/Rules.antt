@@ -1,6 +1,6 @@
 -- Constraints do the same in boxes that look the same: they hold, refute and keep ends alike.
-use Rattle.std.proofs.Common.{◌≡◌, ◌⊎◌, inl, inr, ℕ, zero, suc, ◌==◌, Bool, true, false, not, ◌&&◌, ◌||◌, List, [], ◌∷◌, ◌++◌, length, map, filter, cond, refl, sym, ap, ◌∙◌, subst, arith, ℤ, pos, Option, Some, None}
-use Rattle.std.specs.Prelude.{nat_le, nat_lt, flat_map, slice_get, slice_index_or}
+use Rattle.std.proofs.Common.{◌≡◌, inl, inr, ℕ, zero, suc, ◌==◌, Bool, true, false, not, ◌&&◌, List, [], ◌∷◌, ◌++◌, map, filter, cond, refl, sym, ap, ◌∙◌, arith, ℤ, Some}
+use Rattle.std.specs.Prelude.{nat_le, nat_lt, flat_map, slice_get}
 use Rattle.std.specs.List.{list_any, list_all}
 use Rattle.std.proofs.lemmas.Bool.Decides.{nat_tests}
 use Rattle.std.proofs.lemmas.List.Folds.{list_any-append}
@@ -12,17 +12,17 @@ use Rattle.qc_model.specs.declared.problem.Argument.TheVariants.{One, Many, Numb
 use Rattle.qc_model.specs.Arguments.{arg_variables, argument_variables, variables_of, filled_one, filled_many, fill}
 use Rattle.qc_model.specs.Content.{Game, Rule}
 use Rattle.qc_model.specs.Lists.{Among}
-use Rattle.qc_model.specs.Domains.{Values, Box, values_left, box_at, box_within, values_within, least_value, greatest_value, has_empty}
+use Rattle.qc_model.specs.Domains.{Box, values_left, box_at, least_value, greatest_value, has_empty}
 use Rattle.qc_model.specs.Meaning.{meaning_of}
 use Rattle.qc_model.specs.Holds.{holds_as, holds_on, arg_value}
 use Rattle.qc_model.specs.Refuted.{left_to, refuted_as, refuted_by}
 use Rattle.qc_model.specs.Closed.{refutes_at, keeps_ends, is_closed}
-use Rattle.qc_model.specs.Game.{before, allows, restriction}
+use Rattle.qc_model.specs.Game.{before, allows}
 use Rattle.qc_model.specs.Block.{is_owned_within, constraints_within}
 use Rattle.qc_arguments.proofs.Bools.{or_left, or_right}
 use Rattle.proof_tree.specs.Place.{position}
 use Rattle.qc_alike.specs.Alike.{is_among, constrains, is_named, is_seen, is_looked_at}
-use Rattle.qc_alike.proofs.Boxes.{both, join, and_both, Look, look_set, set_both, empty_same, value_same}
+use Rattle.qc_alike.proofs.Boxes.{both, join, and_both, Look, look_set, empty_same, value_same}
 
 same_number : (k : ℕ) → (k == k) ≡ true
 same_number k = grind (arith, nat_tests)
@@ -72,7 +72,7 @@ fill_all f h (a ∷ args) l =
 abbrev pub RuleLooks : Game → ℕ → Rule → Type 0
 RuleLooks g i c = (x : ℕ) → is_among (variables_of c.args) x ≡ true → is_looked_at g i x ≡ true
 
-any_of : {X : Type 0} (p : X → Bool) (xs : List X) (x : X) → Among x xs → p x ≡ true → list_any p xs ≡ true
+pub any_of : {X : Type 0} (p : X → Bool) (xs : List X) (x : X) → Among x xs → p x ≡ true → list_any p xs ≡ true
 any_of p [] x m e = absurd m
 any_of p (y ∷ xs) x m e = elim m [
   | inl q ↦ or_left (p y) (list_any p xs) (ap p (sym q) ∙ e)

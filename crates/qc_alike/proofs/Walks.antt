@@ -1,0 +1,119 @@
+-- A tree in place in one box goes through boxes that look the same where it is gone through in another that looks the same.
+use Rattle.std.proofs.Common.{◌≡◌, ℕ, suc, true, not, List, length, Option}
+use Rattle.std.specs.Prelude.{⊤, nat_lt}
+use Rattle.qc_model.specs.declared.problem.Scope.{Scope}
+use Rattle.qc_model.specs.declared.problem.Condition.{Condition}
+use Rattle.qc_model.specs.Content.{Game}
+use Rattle.qc_model.specs.Domains.{Values, Box, values_left, is_single, has_empty}
+use Rattle.qc_model.specs.Game.{before, is_of_scope}
+use Rattle.qc_model.specs.Block.{force_stop}
+use Rattle.qc_arguments.proofs.Bools.{or_left}
+use Rattle.proof_tree.specs.declared.tree.Step.{Step}
+use Rattle.proof_tree.specs.Tree.{Tree, tree, Body, stuck, goal, cases, Ending, empty, barred, next, branch, Branches, no_more, piece, Case, skip, left_open, go}
+use Rattle.proof_tree.specs.Cover.{covered, uncovered, is_cover, box_to}
+use Rattle.proof_tree.specs.Place.{next_scopes, list_after, tracked_variable}
+use Rattle.proof_tree.specs.Steps.{after_steps}
+use Rattle.proof_tree.specs.InPlace.{horizon_below, horizon_in_place, steps_in_place, in_place, body_in_place, ending_in_place, branches_in_place, case_in_place}
+use Rattle.qc_alike.specs.Alike.{is_seen}
+use Rattle.qc_alike.specs.Looking.{steps_look, horizon_looks, looks, body_looks, ending_looks, branches_look, case_looks}
+use Rattle.qc_alike.proofs.Boxes.{both, Look, look_set, look_next}
+use Rattle.qc_alike.proofs.Named.{AreNamed, ScopesNamed, list_named, next_named, tracked_named}
+use Rattle.qc_alike.proofs.Removals.{StepsAlike, steps_alike}
+
+-- the steps of scope i's own tree
+abbrev pub OwnSteps : Game → List Scope → ℕ → List Condition → List Step → Box → Box → Type 0
+OwnSteps g later i d steps a b = StepsAlike g i (force_stop later i) (tracked_variable g later i (list_after g later d)) steps a b
+
+-- after each list of steps the boxes look the same, and at each branch the same is left to its variable
+abbrev mutual
+  pub Walk : Game → Tree → List Scope → ℕ → List Condition → Box → Box → Type 0
+  Walk g (tree z c) later i d a b = BodyWalk g c later i d a b
+
+  pub BodyWalk : Game → Body → List Scope → ℕ → List Condition → Box → Box → Type 0
+  BodyWalk g stuck later i d a b = ⊤
+  BodyWalk g goal later i d a b = ⊤
+  BodyWalk g (cases steps end) later i d a b = OwnSteps g later i d steps a b × EndingWalk g end later i d (after_steps steps a) (after_steps steps b)
+
+  pub EndingWalk : Game → Ending → List Scope → ℕ → List Condition → Box → Box → Type 0
+  EndingWalk g empty later i d a b = ⊤
+  EndingWalk g barred later i d a b = ⊤
+  EndingWalk g (next t) later i d a b = Walk g t (next_scopes later) (suc i) (list_after g later d) a b
+  EndingWalk g (branch x bs) later i d a b = (values_left a x.0 ≡ values_left b x.0) × BranchesWalk g bs x.0 (values_left a x.0) later i d a b
+
+  pub BranchesWalk : Game → Branches → ℕ → Values → List Scope → ℕ → List Condition → Box → Box → Type 0
+  BranchesWalk g no_more x vs later i d a b = ⊤
+  BranchesWalk g (piece upto c bs) x vs later i d a b =
+      CaseWalk g c later i d (box_to a x (covered upto vs)) (box_to b x (covered upto vs)) × BranchesWalk g bs x (uncovered upto vs) later i d a b
+
+  pub CaseWalk : Game → Case → List Scope → ℕ → List Condition → Box → Box → Type 0
+  CaseWalk g skip later i d a b = ⊤
+  CaseWalk g left_open later i d a b = ⊤
+  CaseWalk g (go steps end) later i d a b = OwnSteps g later i d steps a b × EndingWalk g end later i d (after_steps steps a) (after_steps steps b)
+
+-- a scope, the scopes from it on, and its list
+pub record Named (g : Game) (later : List Scope) (d : List Condition) : Type 0 where
+  pub scopes : ScopesNamed g later
+  pub list : AreNamed g d
+
+pub named_next : (g : Game) (later : List Scope) (d : List Condition) → Named g later d → Named g (next_scopes later) (list_after g later d)
+named_next g later d n = record { scopes = next_named g later n.scopes; list = list_named g later d n.scopes n.list }
+
+pub own_steps : (g : Game) (later : List Scope) (i : ℕ) (d : List Condition) (steps : List Step) (a b : Box) → Named g later d → steps_look g i steps ≡ true →
+    steps_in_place g later i d steps a ≡ true → Look g i a b → OwnSteps g later i d steps a b
+own_steps g later i d steps a b n e h l =
+    let x = list_after g later d in
+    steps_alike g i (force_stop later i) (tracked_variable g later i x) (tracked_named g later i x (list_named g later d n.scopes n.list)) steps a b e h l
+
+own_variable : (g : Game) (i x : ℕ) (a b : Box) → is_of_scope g i x ≡ true → Look g i a b → values_left a x ≡ values_left b x
+own_variable g i x a b e l = l.same x (or_left _ (is_seen g i x) (both _ (nat_lt x (before g (suc i))) e).0)
+
+module _ (g : Game) where
+  mutual
+    pub walk : (t : Tree) (later : List Scope) (i : ℕ) (d : List Condition) (a b : Box) (h : Option ℕ) → Named g later d → looks g t i ≡ true →
+        in_place g t later i d a h ≡ true → Look g i a b → Walk g t later i d a b
+    walk (tree z c) later i d a b h n e p l =
+        body_walk c later i d a b (horizon_below z h) n (both (horizon_looks g i z) (body_looks g c i) e).1
+        (both (horizon_in_place g z later i a h) (body_in_place g c later i d a (horizon_below z h)) p).1 l
+
+    body_walk : (c : Body) (later : List Scope) (i : ℕ) (d : List Condition) (a b : Box) (h : Option ℕ) → Named g later d → body_looks g c i ≡ true →
+        body_in_place g c later i d a h ≡ true → Look g i a b → BodyWalk g c later i d a b
+    body_walk stuck later i d a b h n e p l = tt
+    body_walk goal later i d a b h n e p l = tt
+    body_walk (cases steps end) later i d a b h n e p l =
+        let k = both (steps_look g i steps) (ending_looks g end i) e in
+        let q = both _ (ending_in_place g end later i d (after_steps steps a) h) p in
+        let s = own_steps g later i d steps a b n k.0 (both _ (steps_in_place g later i d steps a) q.0).1 l in
+        (s, ending_walk end later i d (after_steps steps a) (after_steps steps b) h n k.1 q.1 s.after)
+
+    ending_walk : (end : Ending) (later : List Scope) (i : ℕ) (d : List Condition) (a b : Box) (h : Option ℕ) → Named g later d → ending_looks g end i ≡ true →
+        ending_in_place g end later i d a h ≡ true → Look g i a b → EndingWalk g end later i d a b
+    ending_walk empty later i d a b h n e p l = tt
+    ending_walk barred later i d a b h n e p l = tt
+    ending_walk (next t) later i d a b h n e p l =
+        let x = list_after g later d in
+        walk t (next_scopes later) (suc i) x a b h (named_next g later d n) e (both _ (in_place g t (next_scopes later) (suc i) x a h) p).1 (look_next g i a b l)
+    ending_walk (branch x bs) later i d a b h n e p l =
+        let q = both _ (branches_in_place g bs x.0 (values_left a x.0) later i d a h) p in
+        let r = both _ (not (is_single (values_left a x.0))) q.0 in
+        (own_variable g i x.0 a b (both (not (has_empty a)) (is_of_scope g i x.0) r.0).1 l, branches_walk bs x.0 (values_left a x.0) later i d a b h n e q.1 l)
+
+    branches_walk : (bs : Branches) (x : ℕ) (vs : Values) (later : List Scope) (i : ℕ) (d : List Condition) (a b : Box) (h : Option ℕ) → Named g later d →
+        branches_look g bs i ≡ true → branches_in_place g bs x vs later i d a h ≡ true → Look g i a b → BranchesWalk g bs x vs later i d a b
+    branches_walk no_more x vs later i d a b h n e p l = tt
+    branches_walk (piece upto c bs) x vs later i d a b h n e p l =
+        let k = both (case_looks g c i) (branches_look g bs i) e in
+        let q = both _ (branches_in_place g bs x (uncovered upto vs) later i d a h) p in (
+          case_walk c x (covered upto vs) later i d a b h n k.0 (both (is_cover upto vs) (case_in_place g c x (covered upto vs) later i d a h) q.0).1 l,
+          branches_walk bs x (uncovered upto vs) later i d a b h n k.1 q.1 l,
+        )
+
+    case_walk : (c : Case) (x : ℕ) (vs : Values) (later : List Scope) (i : ℕ) (d : List Condition) (a b : Box) (h : Option ℕ) → Named g later d →
+        case_looks g c i ≡ true → case_in_place g c x vs later i d a h ≡ true → Look g i a b → CaseWalk g c later i d (box_to a x vs) (box_to b x vs)
+    case_walk skip x vs later i d a b h n e p l = tt
+    case_walk left_open x vs later i d a b h n e p l = tt
+    case_walk (go steps end) x vs later i d a b h n e p l =
+        let k = both (steps_look g i steps) (ending_looks g end i) e in
+        let q = both _ (ending_in_place g end later i d (after_steps steps (box_to a x vs)) h) p in
+        let r = both (nat_lt (length vs) (length (values_left a x))) (steps_in_place g later i d steps (box_to a x vs)) q.0 in
+        let s = own_steps g later i d steps (box_to a x vs) (box_to b x vs) n k.0 r.1 (look_set g i a b x vs l) in
+        (s, ending_walk end later i d (after_steps steps (box_to a x vs)) (after_steps steps (box_to b x vs)) h n k.1 q.1 s.after)
