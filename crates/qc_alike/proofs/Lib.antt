@@ -3,3 +3,4 @@ pub mod Rules
 pub mod Named
 pub mod Removals
 pub mod Walks
+pub mod Placed

@@ -1,6 +1,7 @@
 -- A tree in place in one box goes through boxes that look the same where it is gone through in another that looks the same.
-use Rattle.std.proofs.Common.{◌≡◌, ℕ, suc, true, not, List, length, Option}
-use Rattle.std.specs.Prelude.{⊤, nat_lt}
+use Rattle.proof_tree.specs.declared.tree.Horizon.{Horizon}
+use Rattle.std.proofs.Common.{◌≡◌, ℕ, suc, ◌+◌, ◌&&◌, true, not, List, length, refl, sym, ◌∙◌, Option, Some, None}
+use Rattle.std.specs.Prelude.{⊤, nat_lt, nat_le}
 use Rattle.qc_model.specs.declared.problem.Scope.{Scope}
 use Rattle.qc_model.specs.declared.problem.Condition.{Condition}
 use Rattle.qc_model.specs.Content.{Game}
@@ -11,12 +12,12 @@ use Rattle.qc_arguments.proofs.Bools.{or_left}
 use Rattle.proof_tree.specs.declared.tree.Step.{Step}
 use Rattle.proof_tree.specs.Tree.{Tree, tree, Body, stuck, goal, cases, Ending, empty, barred, next, branch, Branches, no_more, piece, Case, skip, left_open, go}
 use Rattle.proof_tree.specs.Cover.{covered, uncovered, is_cover, box_to}
-use Rattle.proof_tree.specs.Place.{next_scopes, list_after, tracked_variable}
-use Rattle.proof_tree.specs.Steps.{after_steps}
-use Rattle.proof_tree.specs.InPlace.{horizon_below, horizon_in_place, steps_in_place, in_place, body_in_place, ending_in_place, branches_in_place, case_in_place}
+use Rattle.proof_tree.specs.Place.{next_scopes, list_after, tracked_variable, is_goal}
+use Rattle.proof_tree.specs.Steps.{after_steps, are_legal}
+use Rattle.proof_tree.specs.InPlace.{horizon_below, horizon_in_place, steps_in_place, in_place, body_in_place, ending_in_place, branches_in_place, case_in_place, is_nearer}
 use Rattle.qc_alike.specs.Alike.{is_seen}
 use Rattle.qc_alike.specs.Looking.{steps_look, horizon_looks, looks, body_looks, ending_looks, branches_look, case_looks}
-use Rattle.qc_alike.proofs.Boxes.{both, Look, look_set, look_next}
+use Rattle.qc_alike.proofs.Boxes.{both, Look, look_set, look_next, join, empty_same}
 use Rattle.qc_alike.proofs.Named.{AreNamed, ScopesNamed, list_named, next_named, tracked_named}
 use Rattle.qc_alike.proofs.Removals.{StepsAlike, steps_alike}
 
@@ -24,10 +25,14 @@ use Rattle.qc_alike.proofs.Removals.{StepsAlike, steps_alike}
 abbrev pub OwnSteps : Game → List Scope → ℕ → List Condition → List Step → Box → Box → Type 0
 OwnSteps g later i d steps a b = StepsAlike g i (force_stop later i) (tracked_variable g later i (list_after g later d)) steps a b
 
+-- a horizon that is in place in one is so in the other
+abbrev pub HorizonWalk : Game → Option Horizon → List Scope → ℕ → Box → Box → Type 0
+HorizonWalk g z later i a b = (h : Option ℕ) → horizon_in_place g z later i a h ≡ true → horizon_in_place g z later i b h ≡ true
+
 -- after each list of steps the boxes look the same, and at each branch the same is left to its variable
 abbrev mutual
   pub Walk : Game → Tree → List Scope → ℕ → List Condition → Box → Box → Type 0
-  Walk g (tree z c) later i d a b = BodyWalk g c later i d a b
+  Walk g (tree z c) later i d a b = HorizonWalk g z later i a b × BodyWalk g c later i d a b
 
   pub BodyWalk : Game → Body → List Scope → ℕ → List Condition → Box → Box → Type 0
   BodyWalk g stuck later i d a b = ⊤
@@ -67,13 +72,26 @@ own_steps g later i d steps a b n e h l =
 own_variable : (g : Game) (i x : ℕ) (a b : Box) → is_of_scope g i x ≡ true → Look g i a b → values_left a x ≡ values_left b x
 own_variable g i x a b e l = l.same x (or_left _ (is_seen g i x) (both _ (nat_lt x (before g (suc i))) e).0)
 
+horizon_too : (g : Game) (z : Option Horizon) (later : List Scope) (i : ℕ) (a b : Box) (h : Option ℕ) → horizon_looks g i z ≡ true →
+    horizon_in_place g z later i a h ≡ true → Look g i a b → horizon_in_place g z later i b h ≡ true
+horizon_too g None later i a b h e p l = refl
+horizon_too g (Some z) later i a b h e p l =
+    let k = z.scope.0 in
+    let fits = not (is_goal later) && nat_le i k && nat_le k (i + length later) && is_nearer k h in
+    let q = both (fits && are_legal g i (suc k) None z.steps a) (has_empty (after_steps z.steps a)) p in
+    let r = both fits (are_legal g i (suc k) None z.steps a) q.0 in
+    let s = steps_alike g i (suc k) None tt z.steps a b e r.1 l in
+    join (fits && are_legal g i (suc k) None z.steps b) (has_empty (after_steps z.steps b)) (join fits (are_legal g i (suc k) None z.steps b) r.0 s.legal)
+    (sym (empty_same g i (after_steps z.steps a) (after_steps z.steps b) s.after) ∙ q.1)
+
 module _ (g : Game) where
   mutual
     pub walk : (t : Tree) (later : List Scope) (i : ℕ) (d : List Condition) (a b : Box) (h : Option ℕ) → Named g later d → looks g t i ≡ true →
         in_place g t later i d a h ≡ true → Look g i a b → Walk g t later i d a b
     walk (tree z c) later i d a b h n e p l =
-        body_walk c later i d a b (horizon_below z h) n (both (horizon_looks g i z) (body_looks g c i) e).1
-        (both (horizon_in_place g z later i a h) (body_in_place g c later i d a (horizon_below z h)) p).1 l
+        let k = both (horizon_looks g i z) (body_looks g c i) e in
+        let q = both (horizon_in_place g z later i a h) (body_in_place g c later i d a (horizon_below z h)) p in
+        (λ r f. horizon_too g z later i a b r k.0 f l, body_walk c later i d a b (horizon_below z h) n k.1 q.1 l)
 
     body_walk : (c : Body) (later : List Scope) (i : ℕ) (d : List Condition) (a b : Box) (h : Option ℕ) → Named g later d → body_looks g c i ≡ true →
         body_in_place g c later i d a h ≡ true → Look g i a b → BodyWalk g c later i d a b
