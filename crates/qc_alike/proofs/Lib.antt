@@ -4,3 +4,5 @@ pub mod Named
 pub mod Removals
 pub mod Walks
 pub mod Placed
+pub mod Closing
+pub mod Reading
