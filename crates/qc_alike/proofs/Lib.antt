@@ -6,3 +6,5 @@ pub mod Walks
 pub mod Placed
 pub mod Closing
 pub mod Reading
+pub mod Ordered
+pub mod Keeping
