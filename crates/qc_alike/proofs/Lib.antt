@@ -8,3 +8,5 @@ pub mod Closing
 pub mod Reading
 pub mod Ordered
 pub mod Keeping
+pub mod Mixed
+pub mod Foreseeing
