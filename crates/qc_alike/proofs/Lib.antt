@@ -10,3 +10,5 @@ pub mod Ordered
 pub mod Keeping
 pub mod Mixed
 pub mod Foreseeing
+pub mod Owning
+pub mod Alike

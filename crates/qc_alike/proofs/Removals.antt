@@ -1,6 +1,7 @@
 -- Steps that are legal in one box are so in each that looks the same, and leave boxes that do.
 use Rattle.std.proofs.Common.{◌≡◌, ℕ, ◌==◌, true, not, List, [], ◌∷◌, set, refl, sym, ap, ◌∙◌, subst, arith, ℤ, Option, Some, None}
 use Rattle.std.specs.Prelude.{nat_le, nat_lt, slice_get}
+use Rattle.std.specs.List.{list_all}
 use Rattle.std.proofs.lemmas.Bool.Decides.{nat_tests}
 use Rattle.qc_model.specs.declared.problem.VarId.{VarId}
 use Rattle.qc_model.specs.Content.{Game, Rule}
@@ -12,7 +13,7 @@ use Rattle.proof_tree.specs.declared.tree.Step.TheVariants.{Prune, Bound}
 use Rattle.proof_tree.specs.Place.{Tracked}
 use Rattle.proof_tree.specs.Steps.{after_step, after_steps, removes_some, is_refuted_within, is_tracked, is_legal, are_legal, best_value, step_marks}
 use Rattle.qc_alike.specs.Alike.{is_named, is_looked_at}
-use Rattle.qc_alike.specs.Looking.{step_looks, steps_look}
+use Rattle.qc_alike.specs.Looking.{step_looks}
 use Rattle.qc_alike.proofs.Boxes.{both, join, and_both, Look, look_set, look_without, empty_same}
 use Rattle.qc_alike.proofs.Named.{TrackedNamed, named_looks}
 use Rattle.qc_alike.proofs.Rules.{get_among, rule_looks, refuted_same}
@@ -85,10 +86,10 @@ module _ (g : Game) (i stop : ℕ) (t : Option Tracked) (named : TrackedNamed g 
       let p = both (removes_some a x.0 low high) (is_tracked x.0 t) h in
       bound_mark t x low high steps a b (l.same x.0 (tracked_looks g i x.0 t named p.1)) m
 
-  pub steps_alike : (steps : List Step) (a b : Box) → steps_look g i steps ≡ true → are_legal g i stop t steps a ≡ true → Look g i a b → StepsAlike g i stop t steps a b
+  pub steps_alike : (steps : List Step) (a b : Box) → list_all (step_looks g i) steps ≡ true → are_legal g i stop t steps a ≡ true → Look g i a b → StepsAlike g i stop t steps a b
   steps_alike [] a b e h l = record { legal = refl; marks = refl; after = l }
   steps_alike (s ∷ steps) a b e h l =
-      let q = both (step_looks g i s) (steps_look g i steps) e in
+      let q = both (step_looks g i s) (list_all (step_looks g i) steps) e in
       let p = both (is_legal g i stop t s a) (are_legal g i stop t steps (after_step s a)) h in
       let here = step_alike s a b q.0 p.0 l in
       let later = steps_alike steps (after_step s a) (after_step s b) q.1 p.1 here.after in

@@ -2,6 +2,7 @@
 use Rattle.proof_tree.specs.declared.tree.Horizon.{Horizon}
 use Rattle.std.proofs.Common.{◌≡◌, ℕ, suc, ◌+◌, ◌&&◌, true, not, List, length, refl, sym, ◌∙◌, Option, Some, None}
 use Rattle.std.specs.Prelude.{⊤, nat_lt, nat_le}
+use Rattle.std.specs.List.{list_all}
 use Rattle.qc_model.specs.declared.problem.Scope.{Scope}
 use Rattle.qc_model.specs.declared.problem.Condition.{Condition}
 use Rattle.qc_model.specs.Content.{Game}
@@ -16,7 +17,8 @@ use Rattle.proof_tree.specs.Place.{next_scopes, list_after, tracked_variable, is
 use Rattle.proof_tree.specs.Steps.{after_steps, are_legal}
 use Rattle.proof_tree.specs.InPlace.{horizon_below, horizon_in_place, steps_in_place, in_place, body_in_place, ending_in_place, branches_in_place, case_in_place, is_nearer}
 use Rattle.qc_alike.specs.Alike.{is_seen}
-use Rattle.qc_alike.specs.Looking.{steps_look, horizon_looks, looks, body_looks, ending_looks, branches_look, case_looks}
+use Rattle.qc_alike.specs.EachStep.{horizon_passes, body_passes, ending_passes, branches_pass, case_passes}
+use Rattle.qc_alike.specs.Looking.{step_looks, looks}
 use Rattle.qc_alike.proofs.Boxes.{both, Look, look_set, look_next, join, empty_same}
 use Rattle.qc_alike.proofs.Named.{AreNamed, ScopesNamed, list_named, next_named, tracked_named}
 use Rattle.qc_alike.proofs.Removals.{StepsAlike, steps_alike}
@@ -63,7 +65,7 @@ pub record Named (g : Game) (later : List Scope) (d : List Condition) : Type 0 w
 pub named_next : (g : Game) (later : List Scope) (d : List Condition) → Named g later d → Named g (next_scopes later) (list_after g later d)
 named_next g later d n = record { scopes = next_named g later n.scopes; list = list_named g later d n.scopes n.list }
 
-pub own_steps : (g : Game) (later : List Scope) (i : ℕ) (d : List Condition) (steps : List Step) (a b : Box) → Named g later d → steps_look g i steps ≡ true →
+pub own_steps : (g : Game) (later : List Scope) (i : ℕ) (d : List Condition) (steps : List Step) (a b : Box) → Named g later d → list_all (step_looks g i) steps ≡ true →
     steps_in_place g later i d steps a ≡ true → Look g i a b → OwnSteps g later i d steps a b
 own_steps g later i d steps a b n e h l =
     let x = list_after g later d in
@@ -72,7 +74,7 @@ own_steps g later i d steps a b n e h l =
 own_variable : (g : Game) (i x : ℕ) (a b : Box) → is_of_scope g i x ≡ true → Look g i a b → values_left a x ≡ values_left b x
 own_variable g i x a b e l = l.same x (or_left _ (is_seen g i x) (both _ (nat_lt x (before g (suc i))) e).0)
 
-horizon_too : (g : Game) (z : Option Horizon) (later : List Scope) (i : ℕ) (a b : Box) (h : Option ℕ) → horizon_looks g i z ≡ true →
+horizon_too : (g : Game) (z : Option Horizon) (later : List Scope) (i : ℕ) (a b : Box) (h : Option ℕ) → horizon_passes (step_looks g) z i ≡ true →
     horizon_in_place g z later i a h ≡ true → Look g i a b → horizon_in_place g z later i b h ≡ true
 horizon_too g None later i a b h e p l = refl
 horizon_too g (Some z) later i a b h e p l =
@@ -89,21 +91,21 @@ module _ (g : Game) where
     pub walk : (t : Tree) (later : List Scope) (i : ℕ) (d : List Condition) (a b : Box) (h : Option ℕ) → Named g later d → looks g t i ≡ true →
         in_place g t later i d a h ≡ true → Look g i a b → Walk g t later i d a b
     walk (tree z c) later i d a b h n e p l =
-        let k = both (horizon_looks g i z) (body_looks g c i) e in
+        let k = both (horizon_passes (step_looks g) z i) (body_passes (step_looks g) c i) e in
         let q = both (horizon_in_place g z later i a h) (body_in_place g c later i d a (horizon_below z h)) p in
         (λ r f. horizon_too g z later i a b r k.0 f l, body_walk c later i d a b (horizon_below z h) n k.1 q.1 l)
 
-    body_walk : (c : Body) (later : List Scope) (i : ℕ) (d : List Condition) (a b : Box) (h : Option ℕ) → Named g later d → body_looks g c i ≡ true →
+    body_walk : (c : Body) (later : List Scope) (i : ℕ) (d : List Condition) (a b : Box) (h : Option ℕ) → Named g later d → body_passes (step_looks g) c i ≡ true →
         body_in_place g c later i d a h ≡ true → Look g i a b → BodyWalk g c later i d a b
     body_walk stuck later i d a b h n e p l = tt
     body_walk goal later i d a b h n e p l = tt
     body_walk (cases steps end) later i d a b h n e p l =
-        let k = both (steps_look g i steps) (ending_looks g end i) e in
+        let k = both (list_all (step_looks g i) steps) (ending_passes (step_looks g) end i) e in
         let q = both _ (ending_in_place g end later i d (after_steps steps a) h) p in
         let s = own_steps g later i d steps a b n k.0 (both _ (steps_in_place g later i d steps a) q.0).1 l in
         (s, ending_walk end later i d (after_steps steps a) (after_steps steps b) h n k.1 q.1 s.after)
 
-    ending_walk : (end : Ending) (later : List Scope) (i : ℕ) (d : List Condition) (a b : Box) (h : Option ℕ) → Named g later d → ending_looks g end i ≡ true →
+    ending_walk : (end : Ending) (later : List Scope) (i : ℕ) (d : List Condition) (a b : Box) (h : Option ℕ) → Named g later d → ending_passes (step_looks g) end i ≡ true →
         ending_in_place g end later i d a h ≡ true → Look g i a b → EndingWalk g end later i d a b
     ending_walk empty later i d a b h n e p l = tt
     ending_walk barred later i d a b h n e p l = tt
@@ -116,21 +118,21 @@ module _ (g : Game) where
         (own_variable g i x.0 a b (both (not (has_empty a)) (is_of_scope g i x.0) r.0).1 l, branches_walk bs x.0 (values_left a x.0) later i d a b h n e q.1 l)
 
     branches_walk : (bs : Branches) (x : ℕ) (vs : Values) (later : List Scope) (i : ℕ) (d : List Condition) (a b : Box) (h : Option ℕ) → Named g later d →
-        branches_look g bs i ≡ true → branches_in_place g bs x vs later i d a h ≡ true → Look g i a b → BranchesWalk g bs x vs later i d a b
+        branches_pass (step_looks g) bs i ≡ true → branches_in_place g bs x vs later i d a h ≡ true → Look g i a b → BranchesWalk g bs x vs later i d a b
     branches_walk no_more x vs later i d a b h n e p l = tt
     branches_walk (piece upto c bs) x vs later i d a b h n e p l =
-        let k = both (case_looks g c i) (branches_look g bs i) e in
+        let k = both (case_passes (step_looks g) c i) (branches_pass (step_looks g) bs i) e in
         let q = both _ (branches_in_place g bs x (uncovered upto vs) later i d a h) p in (
           case_walk c x (covered upto vs) later i d a b h n k.0 (both (is_cover upto vs) (case_in_place g c x (covered upto vs) later i d a h) q.0).1 l,
           branches_walk bs x (uncovered upto vs) later i d a b h n k.1 q.1 l,
         )
 
     case_walk : (c : Case) (x : ℕ) (vs : Values) (later : List Scope) (i : ℕ) (d : List Condition) (a b : Box) (h : Option ℕ) → Named g later d →
-        case_looks g c i ≡ true → case_in_place g c x vs later i d a h ≡ true → Look g i a b → CaseWalk g c later i d (box_to a x vs) (box_to b x vs)
+        case_passes (step_looks g) c i ≡ true → case_in_place g c x vs later i d a h ≡ true → Look g i a b → CaseWalk g c later i d (box_to a x vs) (box_to b x vs)
     case_walk skip x vs later i d a b h n e p l = tt
     case_walk left_open x vs later i d a b h n e p l = tt
     case_walk (go steps end) x vs later i d a b h n e p l =
-        let k = both (steps_look g i steps) (ending_looks g end i) e in
+        let k = both (list_all (step_looks g i) steps) (ending_passes (step_looks g) end i) e in
         let q = both _ (ending_in_place g end later i d (after_steps steps (box_to a x vs)) h) p in
         let r = both (nat_lt (length vs) (length (values_left a x))) (steps_in_place g later i d steps (box_to a x vs)) q.0 in
         let s = own_steps g later i d steps (box_to a x vs) (box_to b x vs) n k.0 r.1 (look_set g i a b x vs l) in

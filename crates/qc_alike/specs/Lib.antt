@@ -1,2 +1,4 @@
 pub mod Alike
+pub mod EachStep
 pub mod Looking
+pub mod Same
