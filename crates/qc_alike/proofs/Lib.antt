@@ -12,3 +12,4 @@ pub mod Mixed
 pub mod Foreseeing
 pub mod Owning
 pub mod Alike
+mod Examples
