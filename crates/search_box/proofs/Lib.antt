@@ -6,3 +6,4 @@ pub mod Closings
 pub mod GivenUp
 pub mod Looks
 pub mod Goings
+pub mod Whole

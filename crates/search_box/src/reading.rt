@@ -1,10 +1,12 @@
 //! What a store tells of the variables of a scope.
-ghost use Rattle.std.specs.Prelude.{◌≡◌, ◌<◌, ◌≤◌, false, length, take, drop, IsTrue};
+ghost use Rattle.std.specs.Prelude.{◌≡◌, ◌<◌, ◌≤◌, ◌↔◌, false, length, take, drop, IsTrue};
 ghost use Rattle.std.specs.List.{list_all};
 ghost use Rattle.qc_model.specs.Domains.{box_values, has_empty, is_single, values_left};
+ghost use Rattle.qc_arguments.specs.Asked.{is_box_of};
+ghost use Rattle.search_box.specs.Fresh.{IsFreshFrom};
 
 use fd_store::Store;
-use qc_model::VarId;
+use qc_model::{Problem, VarId};
 
 /// The first variable from x to the one before `stop` that has more than one value left, or `stop`.
 pub(crate) fn next_unfixed(store: &Store, x: usize, stop: usize) -> usize
@@ -22,6 +24,22 @@ pub(crate) fn next_unfixed(store: &Store, x: usize, stop: usize) -> usize
         }
     }
     stop
+}
+
+/// Whether each variable from `from` on has all its declared values left. What is left to one are some of its declared
+/// values, so it is enough to count them.
+pub(crate) fn are_whole(problem: &Problem, store: &Store, from: usize) -> bool
+    requires { IsTrue (is_box_of problem.now store.now.box) }
+    ensures { IsTrue result ↔ IsFreshFrom problem.now from store.now.box }
+{
+    problem.known();
+    for at in from..problem.variables() {
+        let x = VarId(at as u16);
+        if store.size(x) != problem.variable(x).domain.size() {
+            return false;
+        }
+    }
+    true
 }
 
 /// Reads the least value left to each variable from `from` to the one before `stop` into its place.

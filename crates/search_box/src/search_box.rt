@@ -1,5 +1,5 @@
 //! The values left in a search, and what it does to them.
-ghost use Rattle.std.specs.Prelude.{◌≡◌, ◌<◌, ◌≤◌, ◌∷◌, ℕ, [], suc, false, length, IsTrue, IsFalse, IfOk, IfSome, OnOk, OnErr};
+ghost use Rattle.std.specs.Prelude.{◌≡◌, ◌<◌, ◌≤◌, ◌↔◌, ◌∷◌, ℕ, [], suc, false, length, IsTrue, IsFalse, IfOk, IfSome, OnOk, OnErr};
 ghost use Rattle.qc_model.specs.Content.{Game};
 ghost use Rattle.qc_model.specs.Domains.{box_without, declared_box, has_empty, has_value, is_single, values_left};
 ghost use Rattle.qc_model.specs.Game.{allows, before, is_of_scope};
@@ -13,12 +13,13 @@ ghost use Rattle.search_box.specs.Closes.{IsClosingAt, IsPruned, WasClosed};
 ghost use Rattle.search_box.specs.Looking.{LooksAhead, scope_number};
 ghost use Rattle.search_box.specs.Boxed.{KeepsValues, IsMarked, LeadsOn};
 ghost use Rattle.search_box.specs.Entered.{IsEntered, IsWithin};
+ghost use Rattle.search_box.specs.Fresh.{IsFreshFrom};
 ghost use Rattle.search_box.specs.Rests.{IsFirst, IsLast, IsNext, IsPrevious};
 
 use crate::ahead::look;
 use crate::bounding::{Bounded, give_up};
 use crate::closing::{close_all, close_changed};
-use crate::reading::next_unfixed;
+use crate::reading::{are_whole, next_unfixed};
 use crate::taking::keep_one;
 use crate::tuple::{goal_is_met, read_tuple};
 use fd_store::{Mark, Store};
@@ -122,6 +123,14 @@ impl<'p> SearchBox<'p> {
     {
         self.problem.known();
         next_unfixed(&self.store, x, level.stop)
+    }
+
+    /// Whether the variables of the scope and of later ones have all their declared values left. It takes no memory, and
+    /// looks at each of them once.
+    pub fn is_fresh(&self, level: &Level) -> bool
+        ensures { IsTrue result ↔ IsFreshFrom self.now.game (before level.now.problem.now level.now.number) self.now.store.box }
+    {
+        are_whole(self.problem, &self.store, level.from)
     }
 
     /// The first of the values left to x, which is the least.
