@@ -20,8 +20,8 @@
 //! | call | steps |
 //! |---|---|
 //! | `push`, `push_spare`, `pop` | the last page alone; each 1,024th moves a page between the used and the spare ones, by its links |
-//! | `get` | a link for each page between the item's and the nearer end |
-//! | a step of the `cursor` | one item; after the last one of a page also one link |
+//! | `get`, `cursor_from` | a link for each page between the item's and the nearer end |
+//! | a step of a cursor | one item; after the last one of a page also one link |
 //! | `cut` | a step for each page that is emptied, whatever it holds |
 //! | `reserve` | a block of the allocator for each page that is taken |
 //! | `len`, `spare`, `new`, `cursor` | a few instructions |

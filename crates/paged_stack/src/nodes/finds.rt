@@ -1,23 +1,36 @@
-//! An element is found by its number.
-ghost use Rattle.std.specs.Prelude.{◌≡◌, ◌<◌, slice_index_or};
+//! A node is found by its number.
+ghost use Rattle.std.specs.Prelude.{◌≡◌, ◌<◌};
+ghost use Rattle.paged_stack.specs.Links.{place_of};
 
-use super::Nodes;
+use super::{Nodes, Place};
 
 impl<T> Nodes<T> {
-    pub(crate) fn find_forward(&self, number: usize) -> &T
+    // Walks from the nearer end.
+    pub(crate) fn find(&self, number: usize) -> Place
         requires { number < self.now.len }
-        ensures { result.now ≡ slice_index_or self.now.items number result.now }
+        ensures { result.ptr ≡ place_of self.now.links number }
+    {
+        if number < self.len() - number {
+            self.find_forward(number)
+        } else {
+            self.find_backward(number)
+        }
+    }
+
+    fn find_forward(&self, number: usize) -> Place
+        requires { number < self.now.len }
+        ensures { result.ptr ≡ place_of self.now.links number }
     {
         let mut at = self.head();
         for k in 0..number {
             at = self.next(at, k);
         }
-        self.elem(at, number)
+        at
     }
 
-    pub(crate) fn find_backward(&self, number: usize) -> &T
+    fn find_backward(&self, number: usize) -> Place
         requires { number < self.now.len }
-        ensures { result.now ≡ slice_index_or self.now.items number result.now }
+        ensures { result.ptr ≡ place_of self.now.links number }
     {
         let mut k = self.len() - 1;
         let mut at = self.tail();
@@ -25,6 +38,6 @@ impl<T> Nodes<T> {
             at = self.prev(at, k);
             k -= 1;
         }
-        self.elem(at, number)
+        at
     }
 }

@@ -11,12 +11,7 @@ impl<T> Pages<T> {
         requires { number < length self.now }
         ensures { items_of result.now ≡ slice_index_or self.now number (items_of result.now) }
     {
-        let pages = self.nodes.len();
-        if number < pages - number {
-            self.nodes.find_forward(number)
-        } else {
-            self.nodes.find_backward(number)
-        }
+        self.nodes.elem(self.nodes.find(number), number)
     }
 
     pub(crate) fn nodes(&self) -> &Nodes<Page<T>>

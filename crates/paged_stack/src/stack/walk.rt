@@ -1,5 +1,5 @@
 //! The items of a stack, one after another.
-ghost use Rattle.std.specs.Prelude.{◌≡◌, ◌+◌, ◌/◌, ◌<◌, length, Some, IfSome};
+ghost use Rattle.std.specs.Prelude.{◌≡◌, ◌+◌, ◌/◌, ◌<◌, ◌≤◌, length, drop, Some, IfSome};
 ghost use Rattle.std.specs.Iterator.{YieldsFirst, UpTo, at_most, item_count};
 ghost use Rattle.std.specs.Iterator.SizeHint.{IsWithinCount};
 ghost use Rattle.paged_stack.specs.Links.{place_of};
@@ -10,7 +10,7 @@ use crate::nodes::{Nodes, Place};
 use crate::page::Page;
 use std::marker::Model;
 
-/// An iterator of a stack's items, from the first to the last, which a clause sees as the list of those that are left.
+/// An iterator of a stack's items, in order up to the last, which a clause sees as the list of those that are left.
 ///
 /// A step reads one item, and after the last one of a page a link. It takes no memory.
 #[derive(Drop)]
@@ -46,6 +46,25 @@ impl<T: Copy> PagedStack<T> {
             nodes,
             at: nodes.head(),
             place: 0,
+            len: self.len,
+        }
+    }
+
+    /// An iterator of the items from place `k` on. It takes no memory, and walks from the nearer end of the pages.
+    pub fn cursor_from(&self, k: usize) -> Cursor<'_, T>
+        requires { k ≤ length self.now.items }
+        ensures { result ≡ drop k self.now.items }
+    {
+        let nodes = self.used.nodes();
+        let at = if k < self.len {
+            nodes.find(k / PAGE_ITEMS)
+        } else {
+            nodes.head()
+        };
+        Cursor {
+            nodes,
+            at,
+            place: k,
             len: self.len,
         }
     }
