@@ -1,5 +1,5 @@
 //! A list of lines that grows at its end, and falls back to an earlier length.
-ghost use Rattle.std.specs.Prelude.{◌≡◌, ◌≤◌, [], ◌∷◌, ◌++◌, length, take, IfOk, OnOk, OnErr, MatchOption};
+ghost use Rattle.std.specs.Prelude.{◌≡◌, ◌≤◌, [], ◌∷◌, ◌++◌, length, take, drop, IfOk, OnOk, OnErr, MatchOption};
 ghost use Rattle.proof_tree.specs.Lines.{tree_lines};
 ghost use Rattle.proof_tree.specs.Shape.{tree_of};
 ghost use Rattle.proof_tree.specs.Tree.{Tree};
@@ -45,6 +45,18 @@ impl Arena {
         Ok(())
     }
 
+    /// Appends these lines, in order. After a refusal nothing has changed.
+    pub fn put_all(&mut self, lines: &[Line]) -> Result<(), AllocError>
+        ensures put { OnOk result (self.new ≡ self.old ++ lines.now) }
+        ensures refused { OnErr result (self.new ≡ self.old) }
+    {
+        self.lines.reserve(lines.len())?;
+        for line in lines {
+            self.lines.push_spare(*line);
+        }
+        Ok(())
+    }
+
     /// Takes the last line off. It takes no memory, and keeps the room for later ones. `None` comes exactly where there
     /// is no line.
     pub fn pop(&mut self) -> Option<Line>
@@ -73,6 +85,18 @@ impl Arena {
         ensures { result ≡ self.now }
     {
         self.lines.cursor()
+    }
+
+    /// Appends the lines from place `start` on to a list. It goes over those alone. After a refusal the list may have
+    /// some of them.
+    pub fn copy_from(&self, start: usize, into: &mut Vec<Line>) -> Result<(), AllocError>
+        requires { start ≤ length self.now }
+        ensures { OnOk result (into.new.items ≡ into.old.items ++ drop start self.now) }
+    {
+        for line in self.lines.cursor_from(start) {
+            into.push(line)?;
+        }
+        Ok(())
     }
 
     /// The node whose lines these are. It asks that they are the lines of one tree, nested at most 1,000 deep, and fails
