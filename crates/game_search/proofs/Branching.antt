@@ -33,9 +33,9 @@ use Rattle.game_search.specs.Beaten.{firsts, seen_bounds, is_beaten, are_beaten,
 use Rattle.game_search.specs.Settled.{is_settled, is_ended}
 use Rattle.game_search.specs.Made.{CasesMade, PartMade}
 use Rattle.game_search.proofs.Bools.{two, not_first, not_second, is_below, none_below}
-use Rattle.game_search.proofs.Joining.{seen-append, open-append, any_leaf, or_none, settled_wishes}
-use Rattle.game_search.proofs.Outdone.{ended_first, ended_last, not_ended}
-use Rattle.game_search.proofs.Beating.{all_both, among_self, among_more, among_join, among_as, beaten_among, none_beaten}
+use Rattle.game_search.proofs.Joining.{seen-append, open-append, any_leaf, or_none}
+use Rattle.game_search.proofs.Outdone.{ended_first, not_ended}
+use Rattle.game_search.proofs.Beating.{all_both, among_self, among_more, among_join, among_as, beaten_among}
 use Rattle.game_search.proofs.Marks.{firsts-append, firsts_marks, bounds-append}
 use Rattle.game_search.proofs.Covers.{covers_all}
 use Rattle.game_search.proofs.Fitting.{upper_fits}
@@ -208,16 +208,13 @@ module _ (cuts : Bool) (above : ℤ → Bool) (g : Game) (later : List Scope) (i
     foreseen = (tt, tt);
   }
 
-  -- the first cases, where a later one settled the scope
-  pub first_skipped : (u : Option ℤ) (vs here : Values) (before seen : List Seen) (had left : ℕ) (bs : Branches) → is_cover u vs ≡ true → uncovered u vs ≡ here → list_all is_number vs ≡ true → Settled seen ≡ true →
+  -- the first cases, where those after them and what was seen before end the scope
+  pub first_skipped : (u : Option ℤ) (vs here : Values) (before seen : List Seen) (had left : ℕ) (bs : Branches) → is_cover u vs ≡ true → uncovered u vs ≡ here → list_all is_number vs ≡ true → Ended (before ++ seen_skipped ∷ seen) ≡ true →
       is_joined u skip bs ≡ true → AreMade here false (before ++ seen_skipped ∷ []) seen had left bs → AreMade vs false before (seen_skipped ∷ seen) had left (piece u skip bs)
-  first_skipped u vs here before seen had left bs case there numbers settled apart m =
+  first_skipped u vs here before seen had left bs case there numbers ended apart m =
       let skipped = before ++ seen_skipped ∷ [] in
       let same : firsts skipped ≡ firsts before = firsts-append before (seen_skipped ∷ []) ∙ append-nil (firsts before) in
       let r = subst (λ us. AreMade us false skipped seen had left bs) (sym there) m in
-      let w = scope_wishes later g d in
-      let nothing : w ≡ [] = settled_wishes g later d seen settled in
-      let ended : Ended (before ++ seen_skipped ∷ seen) ≡ true = ended_last above later (list_after g later d) before (seen_skipped ∷ seen) settled in
       record {
         placed = two _ _ (two _ _ case refl) r.placed;
         says = ap (λ xs. seen_skipped ∷ xs) r.says;
@@ -232,9 +229,7 @@ module _ (cuts : Bool) (above : ℤ → Bool) (g : Game) (later : List Scope) (i
         gap = λ o q. let p : true ≡ false = sym ended ∙ q in cc;
         skips = λ f. ended;
         rests = λ f. cc;
-        beaten = λ o.
-            let some = subst (λ l. are_beaten l (firsts (skipped ++ seen)) (bounds seen) ≡ true) nothing (r.beaten (omega (arith, o))) in
-            subst (λ l. are_beaten l (firsts (before ++ seen_skipped ∷ seen)) (bounds seen) ≡ true) (sym nothing) (none_beaten (firsts (skipped ++ seen)) (firsts (before ++ seen_skipped ∷ seen)) (bounds seen) some);
+        beaten = λ o. subst (λ xs. are_beaten (scope_wishes later g d) (firsts xs) (bounds seen) ≡ true) (append_assoc before (seen_skipped ∷ []) seen) (r.beaten (omega (arith, o)));
         keeps = λ reached a. r.keeps (reached ++ []) (subst (λ ns. AreAmong ns (firsts skipped)) (sym (append-nil reached)) (among_as reached (firsts before) (firsts skipped) (sym same) a));
         long = r.long;
         sizes = subst (λ n. HasSizes n (seen_skipped ∷ seen)) (no_turn (branch_turns bs)) (sizes_both 0 (2 * branch_turns bs) (seen_skipped ∷ []) seen (sizes_skipped 0) r.sizes);

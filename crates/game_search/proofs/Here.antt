@@ -51,19 +51,19 @@ use Rattle.game_search.specs.Attempted.{Attempted}
 use Rattle.game_search.specs.Beaten.{firsts, seen_bounds}
 use Rattle.game_search.specs.Own.{IsOwnSized}
 use Rattle.game_search.specs.Rivals.{above_at}
-use Rattle.game_search.specs.Settled.{is_settled, is_outdone, is_vague_verdict, beats_none}
-use Rattle.game_search.specs.Uppers.{upto_all, upto_between, skipped_between, without_before}
+use Rattle.game_search.specs.Settled.{is_settled, is_outdone, is_ended, is_vague_verdict, beats_none}
+use Rattle.game_search.specs.Uppers.{upto_all, upto_between, skipped_between, seen_between, without_before}
 use Rattle.game_search.specs.Made.{NodeMade, EndingMade, StepsMade}
 use Rattle.game_search.specs.Written.{NodeWritten, PartWritten}
 use Rattle.game_search.specs.Told.{IsReady, IsTold, EndingTold, StepsTold, PartTold, CaseTold, CasesTold, BodyTold, NodeTold}
 use Rattle.game_search.proofs.Beating.{no_worse_yet}
 use Rattle.game_search.proofs.Covers.{covers_before, rest_of}
-use Rattle.game_search.proofs.Joining.{settled_is, settled_so, own_so, own_none, settled-append, or_first, or_second, neither}
+use Rattle.game_search.proofs.Joining.{settled_is, settled_so, own_so, own_none, settled-append, or_first, or_none, or_second, neither}
 use Rattle.game_search.proofs.Nodes.{goal_made, node_made, more_beaten, horizon_made, stuck_made, empty_made, next_made, barred_made, branch_made}
 use Rattle.game_search.proofs.Outdone.{Outdoes, ended_last}
 use Rattle.game_search.proofs.Places.{next_at}
-use Rattle.game_search.proofs.Progress.{Progress, start, taken_from, none, skipped, opened, cut_after, jump_after}
-use Rattle.game_search.proofs.Sizes.{sizes_none, own_sized}
+use Rattle.game_search.proofs.Progress.{Progress, start, taken_from, none, skipped, opened, cut_after, jump_after, jump_behind}
+use Rattle.game_search.proofs.Sizes.{sizes_none, sizes_skipped, own_sized}
 use Rattle.game_search.proofs.Stepping.{part_says, part_long, ending_more}
 
 some_scope : (n : ℕ) (ss : List Scope) → n < length ss → is_goal (drop n ss) ≡ false
@@ -123,6 +123,14 @@ module _ (g : Game) (i : ℕ) where
       by (inl q) = (yes, ap (settled_at g i) (sym q) ∙ yes)
       by (inr q) = q
 
+  -- the join was told of more
+  told_more : (joins next_joins : Joins) (xs more : List Seen) → ((ys : List Seen) → StandsAt joins i ys → StandsAt next_joins i (ys ++ more)) → IsTold g i joins xs → IsTold g i next_joins (xs ++ more)
+  told_more joins next_joins xs more added t = record { stood = t.stood ++ more; stands = added t.stood t.stands; same = by t.same }
+    where
+      by : ((t.stood ≡ xs) ⊎ ((settled_at g i t.stood ≡ true) × (settled_at g i xs ≡ true))) → (t.stood ++ more ≡ xs ++ more) ⊎ ((settled_at g i (t.stood ++ more) ≡ true) × (settled_at g i (xs ++ more) ≡ true))
+      by (inl q) = inl (ap (λ ys. ys ++ more) q)
+      by (inr q) = inr (settled_more t.stood more q.0, settled_more xs more q.1)
+
 -- the cases of a branch on x so far: what was seen in them, and what the join stands for
 pub record Passing (cuts : Bool) (above : ℤ → Bool) (g : Game) (i : ℕ) (box : Box) (h : Option ℕ) (x : ℕ) (vs : Values) (before : List Seen) (had : ℕ) (old : List Line) (here : Values) (left : ℕ) (now : List Line) (joins : Joins) : Type 0 where
   pub seen : List Seen
@@ -135,6 +143,24 @@ Answers g i joins b = (ys : List Seen) → StandsAt joins i ys → b ≡ settled
 
 pub asked_here : (g h : Game) (i : ℕ) (joins : Joins) (b : Bool) → h ≡ g → ((ys : List Seen) → StandsAt joins i ys → b ≡ settled_at h i ys) → Answers g i joins b
 asked_here g h i joins b e f ys s = f ys s ∙ ap (λ k. settled_at k i ys) e
+
+-- what the join answers when it is asked whether no further leaf counts
+abbrev pub Ends : (ℤ → Bool) → Game → ℕ → Joins → Type 0
+Ends above g i joins = (ys : List Seen) → StandsAt joins i ys → is_ended above (drop i g.scopes) (list_after g (drop i g.scopes) (demands g i)) ys ≡ true
+
+-- so it is of all that was seen
+ended_told : (above : ℤ → Bool) (g : Game) (i : ℕ) (joins : Joins) (xs : List Seen) → Ends above g i joins → IsTold g i joins xs → is_ended above (drop i g.scopes) (list_after g (drop i g.scopes) (demands g i)) xs ≡ true
+ended_told above g i joins xs ends t = by t.same
+  where
+    by : ((t.stood ≡ xs) ⊎ ((settled_at g i t.stood ≡ true) × (settled_at g i xs ≡ true))) → is_ended above (drop i g.scopes) (list_after g (drop i g.scopes) (demands g i)) xs ≡ true
+    by (inl q) = ap (is_ended above (drop i g.scopes) (list_after g (drop i g.scopes) (demands g i))) (sym q) ∙ ends t.stood t.stands
+    by (inr q) = or_first (Settled g i xs) (is_outdone above xs) (sym (settled_here g i xs) ∙ q.1)
+
+pub settled_ends : (above : ℤ → Bool) (g : Game) (i : ℕ) (joins : Joins) (b : Bool) → Answers g i joins b → b ≡ true → Ends above g i joins
+settled_ends above g i joins b asked e ys s = or_first (Settled g i ys) (is_outdone above ys) (sym (settled_here g i ys) ∙ (sym (asked ys s) ∙ e))
+
+pub outdone_ends : (above : ℤ → Bool) (g : Game) (i : ℕ) (joins : Joins) → ((ys : List Seen) → StandsAt joins i ys → is_outdone above ys ≡ true) → Ends above g i joins
+outdone_ends above g i joins outdone ys s = or_second (Settled g i ys) (is_outdone above ys) (outdone ys s)
 
 -- a case may be gone into before all others
 pub case_ready : (g : Game) (i : ℕ) (joins : Joins) (xs : List Seen) (had : ℕ) → 0 < had → IsReady g i joins (suc (2 * had)) xs → IsReady g i joins (2 + 2 * (had - 1)) xs
@@ -223,17 +249,14 @@ module _ (cuts : Bool) (above : ℤ → Bool) (g : Game) (i : ℕ) (box : Box) (
         told = record { stood = p.told.stood; stands = p.told.stands; same = inr (all.0, subst (λ us. settled_at g i us ≡ true) (append_assoc xs p.seen (seen_skipped ∷ [])) (settled_more g i (xs ++ p.seen) (seen_skipped ∷ []) all.1)) };
       }
 
-  -- they are skipped, since the scope right above beats a bound; the join is told of it
-  pub rest_outdone : (here : Values) (left : ℕ) (now new : List Line) (joins next_joins : Joins) (b : Bool) → is_none_left here ≡ false → list_all is_number here ≡ true → Answers g i joins b → b ≡ false → ((ys : List Seen) → StandsAt joins i ys → is_outdone above ys ≡ true) →
-      ((ys : List Seen) → StandsAt joins i ys → StandsAt next_joins i (ys ++ seen_skipped ∷ [])) → Goes here left now joins → new ≡ now ++ (upto_lines (upto_all here) ++ Skip ∷ []) → Done left new next_joins
-  rest_outdone here left now new joins next_joins b some numbers asked e outdone added p q =
-      let stands = (unsettled_stands g i joins (xs ++ p.seen) b asked e p.told).0 in
-      let ended = or_second (is_settled (drop i g.scopes) (list_after g (drop i g.scopes) (demands g i)) (xs ++ p.seen)) _ (outdone (xs ++ p.seen) stands) in
-      record {
-        seen = p.seen ++ seen_skipped ∷ [];
-        written = skipped cuts above g (drop i g.scopes) i (demands g i) box h x vs xs had old here p.seen left now new some numbers ended p.progress q;
-        told = all_told g i next_joins ((xs ++ p.seen) ++ seen_skipped ∷ []) (xs ++ (p.seen ++ seen_skipped ∷ [])) (added (xs ++ p.seen) stands) (append_assoc xs p.seen (seen_skipped ∷ []));
-      }
+  -- they are skipped, since no further leaf counts; the join is told of it
+  pub rest_ended : (here : Values) (left : ℕ) (now new : List Line) (joins next_joins : Joins) → is_none_left here ≡ false → list_all is_number here ≡ true → Ends above g i joins → ((ys : List Seen) → StandsAt joins i ys → StandsAt next_joins i (ys ++ seen_skipped ∷ [])) → Goes here left now joins →
+      new ≡ now ++ (upto_lines (upto_all here) ++ Skip ∷ []) → Done left new next_joins
+  rest_ended here left now new joins next_joins some numbers ends added p q = record {
+    seen = p.seen ++ seen_skipped ∷ [];
+    written = skipped cuts above g (drop i g.scopes) i (demands g i) box h x vs xs had old here p.seen left now new some numbers (ended_told above g i joins (xs ++ p.seen) ends p.told) p.progress q;
+    told = subst (IsTold g i next_joins) (append_assoc xs p.seen (seen_skipped ∷ [])) (told_more g i joins next_joins (xs ++ p.seen) (seen_skipped ∷ []) added p.told);
+  }
 
   pub rest_opened : (here : Values) (left : ℕ) (now new : List Line) (joins next_joins : Joins) (b : Bool) → is_none_left here ≡ false → list_all is_number here ≡ true → Answers g i joins b → b ≡ false → left ≡ 0 →
       ((ys : List Seen) → StandsAt joins i ys → StandsAt next_joins i (ys ++ seen_skipped ∷ [])) → Goes here left now joins → new ≡ now ++ (upto_lines (upto_all here) ++ Open ∷ []) → Done left new next_joins
@@ -291,6 +314,60 @@ module _ (cuts : Bool) (above : ℤ → Bool) (g : Game) (i : ℕ) (box : Box) (
   case_tried cut numbers rises low v high before (Some n) left mid new end joins c many first last has previous after some asked f q e w =
       let r = rest_of vs n high rises numbers after.left last in
       rest_skipped (values_from n vs) left new end joins c r.some r.numbers asked f (tried_here cut numbers rises low v before (values_from n vs) left mid new joins c many first has previous after.rest some asked f q w)
+      (e ∙ ap (λ o. new ++ (upto_lines o ++ Skip ∷ [])) (sym r.upto))
+
+  -- the values before v were skipped, and the join was told of it: its case may be gone into
+  pub ready_behind : (low before : Option ℤ) (joins : Joins) → ((ys : List Seen) → StandsAt first i ys → StandsAt joins i (ys ++ seen_between low before)) → 0 < had → IsReady g i joins (2 + 2 * (had - 1)) (xs ++ seen_between low before)
+  ready_behind low before joins added some =
+      let later = drop i g.scopes in
+      let more = seen_between low before in
+      record {
+        stands = added xs ready.stands;
+        unsettled = settled_here g i (xs ++ more) ∙ (settled-append later (list_after g later (demands g i)) xs more ∙ or_none (Settled g i xs) (Settled g i more) (sym (settled_here g i xs) ∙ ready.unsettled) (not_settled low before));
+        size = ready.size + 0;
+        sizes = sizes_both ready.size 0 xs more ready.sizes (small low before);
+        room = omega (arith, ready.room, some);
+      }
+    where
+      not_settled : (low before : Option ℤ) → Settled g i (seen_between low before) ≡ false
+      not_settled None q = refl
+      not_settled (Some p) None = refl
+      not_settled (Some p) (Some q) = refl
+
+      small : (low before : Option ℤ) → HasSizes 0 (seen_between low before)
+      small None q = sizes_none 0
+      small (Some p) None = sizes_none 0
+      small (Some p) (Some q) = sizes_skipped 0
+
+  -- it was gone into, and no further leaf counts
+  tried_behind : cuts ≡ true → list_all is_number vs ≡ true → is_ascending vs ≡ true → (low v : ℤ) (before : Option ℤ) (rest : Values) (left : ℕ) (mid new : List Line) (joins : Joins) → 1 < length (values_left box x) → IsFirst vs low → has_value vs v ≡ true → IsPrevious vs v before →
+      values_from v vs ≡ v ∷ rest → ¬ (had ≡ 0) → Ends above g i joins → mid ≡ old ++ skipped_between (Some low) before → CaseTold cuts above g i (box_to box x (v ∷ [])) h (xs ++ seen_between (Some low) before) (had - 1) left mid new joins → Goes rest left new joins
+  tried_behind cut numbers rises low v None rest left mid new joins many first has before at some ends q w =
+      tried_first rest v left new joins many (sym before.all ∙ at) some
+      (subst (λ ys. CaseTold cuts above g i (box_to box x (v ∷ [])) h ys (had - 1) left old new joins) (append-nil xs) (subst (λ ls. CaseTold cuts above g i (box_to box x (v ∷ [])) h (xs ++ []) (had - 1) left ls new joins) (q ∙ append-nil old) w))
+  tried_behind cut numbers rises low v (Some p) rest left mid new joins many first has before at some ends q w =
+      let k = covers_before vs low p v rises first has (record { left = before.left; rest = before.after.rest }) in
+      let behind = xs ++ seen_skipped ∷ [] in
+      let all : behind ++ w.part.seen ≡ xs ++ seen_skipped ∷ w.part.seen = append_assoc xs (seen_skipped ∷ []) w.part.seen in
+      let ended = subst (λ ys. is_ended above (drop i g.scopes) (list_after g (drop i g.scopes) (demands g i)) ys ≡ true) all (ended_told above g i joins (behind ++ w.part.seen) ends w.part.told) in
+      let part = subst (λ ls. PartWritten cuts above g (drop i g.scopes) i (demands g i) (box_to box x (v ∷ [])) h behind w.ms w.part.seen (had - 1) left ls new) q w.part.written in
+      record {
+        seen = seen_skipped ∷ w.part.seen;
+        progress = jump_behind cuts above g (drop i g.scopes) i (demands g i) box h x vs xs had old cut numbers (upto_between low p) rest v w.ms w.part.seen left new many k.is_case (k.leaves_rest ∙ at) ended some part;
+        told = subst (IsTold g i joins) all w.part.told;
+      }
+
+  -- then all others are skipped
+  pub case_behind : cuts ≡ true → list_all is_number vs ≡ true → is_ascending vs ≡ true → (low v high : ℤ) (before following : Option ℤ) (left : ℕ) (mid new end : List Line) (joins next_joins : Joins) → 1 < length (values_left box x) → IsFirst vs low → IsLast vs high → has_value vs v ≡ true →
+      IsPrevious vs v before → IsNext vs v following → ¬ (had ≡ 0) → Ends above g i joins → ((ys : List Seen) → StandsAt joins i ys → StandsAt next_joins i (ys ++ seen_between following (Some high))) → mid ≡ old ++ skipped_between (Some low) before → end ≡ new ++ skipped_between following (Some high) →
+      CaseTold cuts above g i (box_to box x (v ∷ [])) h (xs ++ seen_between (Some low) before) (had - 1) left mid new joins → Done left end next_joins
+  case_behind cut numbers rises low v high before None left mid new end joins next_joins many first last has previous after some ends added q e w =
+      let p = tried_behind cut numbers rises low v before [] left mid new joins many first has previous after some ends q w in
+      subst (λ ls. Done left ls next_joins) (sym (e ∙ append-nil new))
+      (rest_none left new next_joins (record { seen = p.seen; progress = p.progress; told = subst (IsTold g i next_joins) (append-nil (xs ++ p.seen)) (told_more g i joins next_joins (xs ++ p.seen) [] added p.told) }))
+  case_behind cut numbers rises low v high before (Some n) left mid new end joins next_joins many first last has previous after some ends added q e w =
+      let r = rest_of vs n high rises numbers after.left last in
+      rest_ended (values_from n vs) left new end joins next_joins r.some r.numbers ends added (tried_behind cut numbers rises low v before (values_from n vs) left mid new joins many first has previous after.rest some ends q w)
       (e ∙ ap (λ o. new ++ (upto_lines o ++ Skip ∷ [])) (sym r.upto))
 
 -- the parts of a scope's own tree

@@ -22,14 +22,15 @@ use Rattle.game_search.specs.Beaten.{firsts, AreAmong}
 use Rattle.qc_joins.proofs.Sizing.{sizes_both}
 use Rattle.game_search.specs.Settled.{is_settled, is_ended}
 use Rattle.game_search.specs.Uppers.{upto_all}
-use Rattle.game_search.specs.Made.{CasesMade}
+use Rattle.game_search.specs.Made.{CasesMade, PartMade}
 use Rattle.game_search.specs.Written.{CasesWritten, PartWritten}
 use Rattle.game_search.proofs.Branching.{none_made, go_made, skip_made, open_made, first_skipped, cut_more}
 use Rattle.game_search.proofs.Covers.{covers_all}
 use Rattle.game_search.proofs.Fitting.{upper_fits}
 use Rattle.game_search.proofs.Beating.{among_self, among_more, among_as}
-use Rattle.game_search.proofs.Joining.{settled-append, settled_from, or_first, settled_wishes}
+use Rattle.game_search.proofs.Joining.{settled_from, settled_wishes}
 use Rattle.game_search.proofs.Marks.{firsts-append}
+use Rattle.game_search.proofs.Outdone.{ended_first, ended_last}
 use Rattle.game_search.proofs.Sizes.{sizes_none, sizes_skipped}
 use Rattle.game_search.proofs.Stepping.{part_sizes, part_after_less}
 
@@ -168,39 +169,47 @@ module _ (cuts : Bool) (above : ℤ → Bool) (g : Game) (later : List Scope) (i
       positive : (m : ℕ) → ¬ (m ≡ 0) → m ≡ 1 + (m - 1)
       positive m h = omega arith
 
-  -- a case settles the scope, and stands behind one that skips those before it, to which u is the upper value
-  cut_here : cuts ≡ true → list_all is_number vs ≡ true → (u : Option ℤ) (rest : Values) (v : ℤ) (seen : List Seen) (ms : List ℤ) (more : List Seen) (left next_left : ℕ) (now next_now new : List Line) → 1 < length (values_left box x) →
-      is_cover u vs ≡ true → uncovered u vs ≡ v ∷ rest → Settled more ≡ true → ¬ (left ≡ 0) → left ≤ had → (w : Part v seen ms more (left - 1) next_left now next_now) →
-      new ≡ old ++ ((upto_lines u ++ Skip ∷ []) ++ (map step_line w.steps ++ ending_lines w.ending)) → At rest (seen_skipped ∷ more) next_left new
-  cut_here cut numbers u rest v seen ms more left next_left now next_now new many case leaves settled some fell w new_is =
-      let part = map step_line w.steps ++ ending_lines w.ending in
+  -- a case stands behind one that skips those before it, to which u is the upper value: with what was seen before it ends the
+  -- scope
+  behind_skip : cuts ≡ true → list_all is_number vs ≡ true → (u : Option ℤ) (rest : Values) (v : ℤ) (ms : List ℤ) (more : List Seen) (left next_left : ℕ) (new : List Line) (steps : List Step) (e : Ending) → 1 < length (values_left box x) →
+      is_cover u vs ≡ true → uncovered u vs ≡ v ∷ rest → Ended (before ++ seen_skipped ∷ more) ≡ true → ¬ (left ≡ 0) → left ≤ had → PartMade cuts above g later i d (box_to box x (v ∷ [])) h (before ++ seen_skipped ∷ []) ms more (left - 1) next_left steps e →
+      new ≡ old ++ ((upto_lines u ++ Skip ∷ []) ++ (map step_line steps ++ ending_lines e)) → At rest (seen_skipped ∷ more) next_left new
+  behind_skip cut numbers u rest v ms more left next_left new steps e many case leaves ended some fell made new_is =
       let one_less : 1 + (left - 1) ≤ had = less left had some fell in
       let skipped = before ++ seen_skipped ∷ [] in
-      let nothing = settled_wishes g later d more settled in
-      let fewer = among_as (firsts skipped) (firsts before ++ firsts seen) (firsts (before ++ seen)) (sym (firsts-append before seen))
-      (subst (λ ns. AreAmong ns (firsts before ++ firsts seen)) (sym (firsts-append before (seen_skipped ∷ []) ∙ append-nil (firsts before))) (among_more (firsts before) (firsts before) (firsts seen) (among_self (firsts before)))) in
-      let made = part_after_less cuts above g later i d (box_to box x (v ∷ [])) h (before ++ seen) skipped ms more (left - 1) next_left w.steps w.ending nothing settled fewer w.made in
       record {
-        used = 0 + suc (ending_turns w.ending);
-        fell = omega (arith, one_less, w.made.ended.spent);
-        sizes = sizes_with 0 (suc (ending_turns w.ending)) (seen_skipped ∷ []) more (sizes_skipped 0) (sizes_in v seen ms more (left - 1) next_left now next_now w);
-        written = (upto_lines u ++ Skip ∷ []) ++ part;
+        used = 0 + suc (ending_turns e);
+        fell = omega (arith, one_less, made.ended.spent);
+        sizes = sizes_with 0 (suc (ending_turns e)) (seen_skipped ∷ []) more (sizes_skipped 0) (part_sizes cuts above g later i d (box_to box x (v ∷ [])) h skipped ms more (left - 1) next_left steps e made);
+        written = (upto_lines u ++ Skip ∷ []) ++ (map step_line steps ++ ending_lines e);
         now_is = new_is;
         ends = λ bs others last after_new m f.
-            let cs = piece None (go w.steps w.ending) bs in
+            let cs = piece None (go steps e) bs in
             let known = subst (λ xs. CasesMade cuts above g later i d box h x rest (Settled more) xs others next_left last bs) (sym (append_assoc before (seen_skipped ∷ []) more)) m in
-            let gone = go_made cuts above g later i d box h x v rest skipped ms more others (left - 1) next_left last w.steps w.ending bs many made known in
-            let all_settled : Settled (more ++ others) ≡ true = settled-append later (list_after g later d) more others ∙ or_first (Settled more) (Settled others) settled in
+            let gone = go_made cuts above g later i d box h x v rest skipped ms more others (left - 1) next_left last steps e bs many made known in
+            let all_ended : Ended (before ++ seen_skipped ∷ (more ++ others)) ≡ true = ap Ended (sym (append_assoc before (seen_skipped ∷ more) others)) ∙ ended_first above later (list_after g later d) (before ++ seen_skipped ∷ more) others ended in
             record {
               cases = piece u skip cs;
-              lines = f ∙ (ap (λ ls. ls ++ branches_lines bs) new_is ∙ regroup old u w.steps w.ending bs);
+              lines = f ∙ (ap (λ ls. ls ++ branches_lines bs) new_is ∙ regroup old u steps e bs);
               made = cut_more cuts above g later i d box h x vs false before (seen_skipped ∷ (more ++ others)) (1 + (left - 1)) had last (piece u skip cs) cut one_less
-                  (first_skipped cuts above g later i d box h x u vs (v ∷ rest) before (more ++ others) (1 + (left - 1)) last cs case leaves numbers all_settled refl gone);
+                  (first_skipped cuts above g later i d box h x u vs (v ∷ rest) before (more ++ others) (1 + (left - 1)) last cs case leaves numbers all_ended refl gone);
             };
       }
     where
       less : (m n : ℕ) → ¬ (m ≡ 0) → m ≤ n → 1 + (m - 1) ≤ n
       less m n h l = omega arith
+
+  -- it settles the scope by itself, so it may have been gone into after more
+  cut_here : cuts ≡ true → list_all is_number vs ≡ true → (u : Option ℤ) (rest : Values) (v : ℤ) (seen : List Seen) (ms : List ℤ) (more : List Seen) (left next_left : ℕ) (now next_now new : List Line) → 1 < length (values_left box x) →
+      is_cover u vs ≡ true → uncovered u vs ≡ v ∷ rest → Settled more ≡ true → ¬ (left ≡ 0) → left ≤ had → (w : Part v seen ms more (left - 1) next_left now next_now) →
+      new ≡ old ++ ((upto_lines u ++ Skip ∷ []) ++ (map step_line w.steps ++ ending_lines w.ending)) → At rest (seen_skipped ∷ more) next_left new
+  cut_here cut numbers u rest v seen ms more left next_left now next_now new many case leaves settled some fell w new_is =
+      let skipped = before ++ seen_skipped ∷ [] in
+      let nothing = settled_wishes g later d more settled in
+      let fewer = among_as (firsts skipped) (firsts before ++ firsts seen) (firsts (before ++ seen)) (sym (firsts-append before seen))
+      (subst (λ ns. AreAmong ns (firsts before ++ firsts seen)) (sym (firsts-append before (seen_skipped ∷ []) ∙ append-nil (firsts before))) (among_more (firsts before) (firsts before) (firsts seen) (among_self (firsts before)))) in
+      let made = part_after_less cuts above g later i d (box_to box x (v ∷ [])) h (before ++ seen) skipped ms more (left - 1) next_left w.steps w.ending nothing settled fewer w.made in
+      behind_skip cut numbers u rest v ms more left next_left new w.steps w.ending many case leaves (ended_last above later (list_after g later d) before (seen_skipped ∷ more) settled) some fell made new_is
 
   -- after the cases before, whose lines are cut
   pub cut_after : cuts ≡ true → list_all is_number vs ≡ true → (u : Option ℤ) (here rest : Values) (v : ℤ) (seen : List Seen) (ms : List ℤ) (more : List Seen) (left next_left : ℕ) (now next_now new : List Line) → 1 < length (values_left box x) →
@@ -216,3 +225,10 @@ module _ (cuts : Bool) (above : ℤ → Bool) (g : Game) (later : List Scope) (i
   jump_after cut numbers u rest v ms more next_left new many case leaves settled some w =
       let skips = upto_lines u ++ Skip ∷ [] in
       cut_here cut numbers u rest v [] ms more had next_left (old ++ skips) new new many case leaves settled some (omega arith) w (w.lines ∙ append_assoc old skips (map step_line w.steps ++ ending_lines w.ending))
+
+  -- so where the part was seen after the skip: with what was seen before it ends the scope
+  pub jump_behind : cuts ≡ true → list_all is_number vs ≡ true → (u : Option ℤ) (rest : Values) (v : ℤ) (ms : List ℤ) (more : List Seen) (next_left : ℕ) (new : List Line) → 1 < length (values_left box x) →
+      is_cover u vs ≡ true → uncovered u vs ≡ v ∷ rest → Ended (before ++ seen_skipped ∷ more) ≡ true → ¬ (had ≡ 0) → Part v (seen_skipped ∷ []) ms more (had - 1) next_left (old ++ (upto_lines u ++ Skip ∷ [])) new → At rest (seen_skipped ∷ more) next_left new
+  jump_behind cut numbers u rest v ms more next_left new many case leaves ended some w =
+      behind_skip cut numbers u rest v ms more had next_left new w.steps w.ending many case leaves ended some (omega arith) w.made
+      (w.lines ∙ append_assoc old (upto_lines u ++ Skip ∷ []) (map step_line w.steps ++ ending_lines w.ending))

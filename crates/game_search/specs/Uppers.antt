@@ -2,6 +2,7 @@
 use Rattle.std.specs.Prelude.{ℕ, zero, suc, cond, slice_get, Option, None, Some, List, [], ◌∷◌, ◌++◌, take, drop, ℤ}
 use Rattle.std.specs.Ordering.{int_eq}
 use Rattle.qc_model.specs.Domains.{Values, greatest_value}
+use Rattle.qc_model.specs.Verdict.{Seen, seen_skipped}
 use Rattle.proof_tree.specs.Lines.{upto_lines}
 use Rattle.proof_tree.specs.declared.line.Line.{Line}
 use Rattle.proof_tree.specs.declared.line.Line.TheVariants.{Skip}
@@ -33,3 +34,9 @@ abbrev pub skipped_between : Option ℤ → Option ℤ → List Line
 skipped_between None last = []
 skipped_between (Some first) None = []
 skipped_between (Some first) (Some last) = upto_lines (upto_between first last) ++ Skip ∷ []
+
+-- what is seen of it
+abbrev pub seen_between : Option ℤ → Option ℤ → List Seen
+seen_between None last = []
+seen_between (Some first) None = []
+seen_between (Some first) (Some last) = seen_skipped ∷ []

@@ -1,7 +1,8 @@
 //! Which tuple of a scope is tried first.
 //!
-//! It is the tuple that settled the same position before (`residues`, `positions`), where one is kept; else the last tuple that
-//! settled a node of the scope. What is tried is proved as any case is, so bad advice costs turns and time, and nothing else.
+//! It is the tuple that ended the same position before (`residues`, `positions`), where one is kept; else the last tuple that
+//! ended a node of the scope: it settled the node, or gave a bound that the incumbent of the scope right above beats. What is
+//! tried is proved as any case is, so bad advice costs turns and time, and nothing else.
 use crate::positions::Positions;
 use crate::residues::Residues;
 use qc_model::{Kind, ScopeId, VarId};
@@ -26,7 +27,7 @@ const LEAST_SHARE: u32 = 8;
 /// What is known of one scope's advice.
 #[derive(Clone, Copy)]
 struct Standing {
-    /// Whether some tuple settled a node of the scope.
+    /// Whether some tuple ended a node of the scope.
     is_known: bool,
     /// How far the last tuple is trusted, and those of positions.
     last: u8,
@@ -116,9 +117,9 @@ impl Advice {
         }
     }
 
-    /// Takes the tuple of the scope out of the values of all variables, where it settled a node.
-    pub(crate) fn note(&mut self, settled: bool, level: &Level, values: &[i64]) {
-        if !settled {
+    /// Takes the tuple of the scope out of the values of all variables, where it ended a node.
+    pub(crate) fn note(&mut self, is_ended: bool, level: &Level, values: &[i64]) {
+        if !is_ended {
             return;
         }
         if let Some(standing) = self.scopes.get_mut(level.number as usize) {

@@ -9,8 +9,8 @@
 //! and each node looks ahead for a scope that nobody passes. What the leaves of a node come to, joins say (`qc_joins`), one
 //! a scope.
 //!
-//! A first pass keeps of each settled node the case that settled it alone, and tries first the tuple that settled the same
-//! position before, or else a node of the scope. Where that comes to nothing, a second one
+//! A first pass keeps of each settled node the case that settled it alone, and tries first the tuple after which no other
+//! counted at the same position before, or else at a node of the scope. Where that comes to nothing, a second one
 //! goes over the cases in order, so that an open certificate has exactly the turns of the budget.
 #![tactic(auto)]
 

@@ -1,4 +1,4 @@
-//! A table of tuples that settled a position.
+//! A table of tuples that ended a position.
 //!
 //! Each number of a position has one place, which the last tuple that came with such a number has. So memory is taken once, and
 //! what was there goes.

@@ -4,8 +4,8 @@
 //! it is a linear sum, what their terms sum to; where it is a clause, whether one of them satisfies it; where all are to
 //! differ, which values are taken; else their values.
 //! Where all this is the same at two nodes of the scope, the same game is ahead of both, so a tuple that settles the one
-//! settles the other. The number is a hash: two positions may share one by chance, so nothing rests on it but which tuple is
-//! tried first.
+//! settles the other, and one that outdoes it gives the other the same bound. The number is a hash: two positions may share one
+//! by chance, so nothing rests on it but which tuple is tried first.
 use qc_arguments::{Span, arguments, items_at, last_one, numbers_at, one_at};
 use qc_model::{Arg, Argument, Constraint, Meaning, ScopeId, meaning_of};
 use qc_rules::{Level, Levels};

@@ -10,13 +10,14 @@
 //! Where a scope of the player optimises a variable first, each value of it that is worse than the incumbent's is given up
 //! by a bound where a case is gone into. So what the bounds leave out is beaten by what was found.
 //!
-//! In the first pass a node's own tree begins with a try of one tuple, which an advice names: where it settles the scope, all
-//! other values are skipped; where it doesn't, its lines are taken back, and the values are gone over as ever.
+//! In the first pass a node's own tree begins with a try of one tuple, which an advice names: where no other counts after it,
+//! all other values are skipped; where some do, its lines are taken back, and the values are gone over as ever.
 //!
 //! Where a leaf settles its scope, so that no other leaf changes what the node comes to, the cases after it are left
 //! out, and the join isn't told of them. They are left out too where the leaves of a scope of the opponent give a bound that
 //! the incumbent of the scope right above beats. Where no turn is left the cases that remain are left open.
 ghost use Rattle.std.specs.Prelude.{◌≡◌, ◌≤◌, ◌<◌, ◌∷◌, ◌++◌, ◌+◌, ◌*◌, ℤ, suc, Bool, Option, ℕ, [], List, length, drop, true, false, IfOk, IfSome, OnOk, IsTrue};
+ghost use Rattle.qc_model.specs.Demands.{demands};
 ghost use Rattle.qc_model.specs.Domains.{Box, has_value, is_single, values_left};
 ghost use Rattle.qc_model.specs.Game.{is_of_scope};
 ghost use Rattle.qc_model.specs.Verdict.{Seen, lost};
@@ -24,7 +25,7 @@ ghost use Rattle.proof_tree.specs.Cover.{box_to};
 ghost use Rattle.proof_tree.specs.Diligent.{SeesAhead};
 ghost use Rattle.proof_tree.specs.Incumbents.{has_no_worse};
 ghost use Rattle.proof_tree.specs.InPlace.{is_horizon};
-ghost use Rattle.proof_tree.specs.Place.{position};
+ghost use Rattle.proof_tree.specs.Place.{list_after, position};
 ghost use Rattle.qc_levels.specs.Seen.{verdict_of};
 ghost use Rattle.qc_joins.specs.Joins.{game_of, out_of, StandsAt, KeepsAll};
 ghost use Rattle.qc_joins.specs.Verdicts.{verdict_at};
@@ -34,6 +35,7 @@ ghost use Rattle.game_search.specs.Aims.{tracked_at};
 ghost use Rattle.game_search.specs.Beaten.{firsts, seen_bounds};
 ghost use Rattle.game_search.specs.Going.{IsGoing, GoesOn};
 ghost use Rattle.game_search.specs.Rivals.{above_at, StandsAbove, outdoes};
+ghost use Rattle.game_search.specs.Settled.{is_ended as is_ended_by};
 ghost use Rattle.game_search.specs.Told.{IsReady, IsBack, EndingTold, StepsTold, PartTold, CaseTold, CasesTold, BodyTold, NodeTold};
 
 use crate::aim::aim_of;
@@ -41,9 +43,12 @@ use crate::narrowing::narrow;
 use crate::rival::{is_outdone, rival_of};
 use crate::stage::Stage;
 use crate::walk::Walk;
-use crate::writing::{drop_before, last_to_drop, leave_out, put_horizon, put_steps, skip_between};
+use crate::writing::{
+    drop_before, last_to_drop, leave_out, put_horizon, put_steps, skip_and_tell, skip_between,
+};
 use proof_tree::{Line, Step, StepList};
 use prop_engine::Closed;
+use qc_joins::Joins;
 use qc_levels::Found;
 use qc_model::{ScopeId, VarId};
 use qc_rules::{Level, Levels};
@@ -153,8 +158,8 @@ fn own_tree(stage: &Stage, walk: &mut Walk) -> Result<Found, AllocError>
     Ok(verdict(stage.level, walk))
 }
 
-/// The lines of a node's own tree. Where an advised tuple is tried first and settles the scope, they are those of this tuple
-/// alone; where it doesn't, its lines are taken back.
+/// The lines of a node's own tree. Where an advised tuple is tried first and no other counts after it, they are those of this
+/// tuple alone; where some do, its lines are taken back.
 #[cycle(search)]
 fn own_part(stage: &Stage, walk: &mut Walk) -> Result<(), AllocError>
     requires here { IsEntered stage.now.level.now.problem.now stage.now.level.now.number walk.old.remains }
@@ -295,10 +300,21 @@ fn after_tuple(stage: &Stage, walk: &mut Walk) -> Result<(), AllocError>
         walk,
     )?;
     walk.joins.add_node(ScopeId(level.number), below);
-    let is_settled = walk.joins.is_settled(ScopeId(level.number));
-    walk.advice
-        .note(is_settled, level, walk.remains.all_values());
+    let is_last = is_ended(stage, &walk.joins);
+    walk.advice.note(is_last, level, walk.remains.all_values());
     Ok(())
+}
+
+/// Whether no further leaf of the scope counts: it is settled, or outdone by the scope right above.
+fn is_ended(stage: &Stage, joins: &Joins) -> bool
+    requires joins { game_of joins.now ≡ stage.now.level.now.problem.now }
+    ensures { IsTrue result → (xs : List Seen) → StandsAt joins.now stage.now.level.now.number xs → IsTrue (is_ended_by (outdoes stage.now.level.now.problem.now stage.now.level.now.number stage.now.rival) (drop stage.now.level.now.number stage.now.level.now.problem.now.scopes) (list_after stage.now.level.now.problem.now (drop stage.now.level.now.number stage.now.level.now.problem.now.scopes) (demands stage.now.level.now.problem.now stage.now.level.now.number)) xs) }
+{
+    let number = ScopeId(stage.level.number);
+    if joins.is_settled(number) {
+        return true;
+    }
+    is_outdone(stage.rival, joins, number)
 }
 
 /// A branch on x, the next variable of the scope that has more values than one.
@@ -386,8 +402,8 @@ fn with_value(
     Ok(is_whole)
 }
 
-/// A branch on x where the advised value alone is gone into, and whether it settles the scope: then the lines are those of the
-/// branch.
+/// A branch on x where the advised value alone is gone into, and whether no other counts after it: then the lines are those of
+/// the branch.
 #[cycle(search)]
 fn try_branch(stage: &Stage, x: VarId, walk: &mut Walk) -> Result<bool, AllocError>
     requires var { x.0 < stage.now.level.now.stop }
@@ -432,8 +448,8 @@ fn value_to_try(stage: &Stage, x: VarId, walk: &Walk) -> Option<i64>
     Some(value)
 }
 
-/// The cases of a branch on x where this value is gone into before all others, and whether it settles the scope: then the
-/// lines are those of the cases, of which the others are skipped.
+/// The cases of a branch on x where this value is gone into before all others, and whether no other counts after it: then the
+/// lines are those of the cases, of which the others are skipped. In a scope without a rival it has to settle the scope.
 #[cycle(search)]
 fn try_case(stage: &Stage, x: VarId, value: i64, walk: &mut Walk) -> Result<bool, AllocError>
     requires var { x.0 < stage.now.level.now.stop }
@@ -446,6 +462,9 @@ fn try_case(stage: &Stage, x: VarId, value: i64, walk: &mut Walk) -> Result<bool
     ensures told { IfOk result (λ whole. IsTrue whole → (before : List Seen) → IsReady stage.now.level.now.problem.now stage.now.level.now.number walk.old.joins (suc (2 * walk.old.left)) before → CasesTold stage.now.cuts (outdoes stage.now.level.now.problem.now stage.now.level.now.number stage.now.rival) stage.now.level.now.problem.now stage.now.level.now.number walk.old.remains.store.box (scope_number stage.now.horizon) x.0 (values_left walk.old.remains.store.box x.0) before walk.old.left walk.new.left walk.old.lines walk.new.lines walk.new.joins) }
     ensures back { OnOk result (IsBack stage.now.level.now.problem.now stage.now.level.now.number walk.old walk.new) }
 {
+    if stage.rival.is_some() {
+        return try_against_rival(stage, x, value, walk);
+    }
     stage.level.problem.known();
     walk.remains.known();
     let first = walk.remains.first(x);
@@ -461,5 +480,49 @@ fn try_case(stage: &Stage, x: VarId, value: i64, walk: &mut Walk) -> Result<bool
         return Ok(false);
     }
     skip_between(&mut walk.lines, next, Some(last))?;
+    Ok(true)
+}
+
+/// So in a scope that has a rival: the join is told of what is skipped, so that what it stands for is what the lines say. The
+/// value settles the scope, or gives a bound that the rival beats.
+#[cycle(search)]
+fn try_against_rival(
+    stage: &Stage,
+    x: VarId,
+    value: i64,
+    walk: &mut Walk,
+) -> Result<bool, AllocError>
+    requires var { x.0 < stage.now.level.now.stop }
+    requires going { IsGoing stage.now.level.now.problem.now stage.now.level.now.number x.0 walk.old.remains }
+    requires free { is_single (values_left walk.old.remains.store.box x.0) ≡ false }
+    requires value { IsTrue (has_value (values_left walk.old.remains.store.box x.0) value) }
+    requires cuts { IsTrue stage.now.cuts }
+    requires turn { 0 < walk.old.left }
+    requires joins { game_of walk.old.joins ≡ stage.now.level.now.problem.now }
+    ensures told { IfOk result (λ whole. IsTrue whole → (before : List Seen) → IsReady stage.now.level.now.problem.now stage.now.level.now.number walk.old.joins (suc (2 * walk.old.left)) before → CasesTold stage.now.cuts (outdoes stage.now.level.now.problem.now stage.now.level.now.number stage.now.rival) stage.now.level.now.problem.now stage.now.level.now.number walk.old.remains.store.box (scope_number stage.now.horizon) x.0 (values_left walk.old.remains.store.box x.0) before walk.old.left walk.new.left walk.old.lines walk.new.lines walk.new.joins) }
+    ensures back { OnOk result (IsBack stage.now.level.now.problem.now stage.now.level.now.number walk.old walk.new) }
+{
+    stage.level.problem.known();
+    walk.remains.known();
+    let number = ScopeId(stage.level.number);
+    let first = walk.remains.first(x);
+    let last = walk.remains.last(x);
+    let before = walk.remains.previous(x, value);
+    let next = walk.remains.next(x, value);
+    skip_and_tell(
+        &mut walk.lines,
+        &mut walk.joins,
+        number,
+        Some(first),
+        before,
+    )?;
+    walk.left -= 1;
+    if !with_value(stage, x, value, true, walk)? {
+        return Ok(false);
+    }
+    if !is_ended(stage, &walk.joins) {
+        return Ok(false);
+    }
+    skip_and_tell(&mut walk.lines, &mut walk.joins, number, next, Some(last))?;
     Ok(true)
 }

@@ -1,14 +1,17 @@
 //! Lines that are put in or taken out together.
 ghost use Rattle.proof_tree.specs.declared.line.Line.TheVariants.{Skip};
-ghost use Rattle.std.specs.Prelude.{◌≡◌, ◌≤◌, ◌++◌, ◌∷◌, ◌&&◌, [], None, if◌then◌else◌, length, take, drop, map, reverse, IfOk, IfSome, OnOk, IsTrue};
+ghost use Rattle.std.specs.Prelude.{◌≡◌, ◌≤◌, ◌<◌, ◌++◌, ◌∷◌, ◌&&◌, [], None, List, if◌then◌else◌, length, take, drop, map, reverse, IfOk, IfSome, OnOk, IsTrue};
 ghost use Rattle.qc_model.specs.Valid.{is_number};
+ghost use Rattle.qc_model.specs.Verdict.{Seen};
 ghost use Rattle.proof_tree.specs.InPlace.{horizon_below};
 ghost use Rattle.proof_tree.specs.Lines.{horizon_lines, step_line, upto_lines};
 ghost use Rattle.proof_tree.specs.Text.{horizon_fits};
 ghost use Rattle.search_box.specs.Looking.{scope_number};
-ghost use Rattle.game_search.specs.Uppers.{upto_between, skipped_between, without_before};
+ghost use Rattle.qc_joins.specs.Joins.{game_of, StandsAt, KeepsOthers};
+ghost use Rattle.game_search.specs.Uppers.{upto_between, skipped_between, seen_between, without_before};
 
 use proof_tree::{Horizon, Line, Step};
+use qc_joins::Joins;
 use qc_model::ScopeId;
 use std::alloc::AllocError;
 use strategy_arena::Arena;
@@ -84,6 +87,32 @@ pub(crate) fn skip_between(
     match last {
         None => Ok(()),
         Some(last) => leave_out(lines, first, last, Line::Skip),
+    }
+}
+
+/// The same, of which the join of scope i is told.
+pub(crate) fn skip_and_tell(
+    lines: &mut Arena,
+    joins: &mut Joins,
+    i: ScopeId,
+    first: Option<i64>,
+    last: Option<i64>,
+) -> Result<(), AllocError>
+    requires { i.0 < length (game_of joins.old).scopes }
+    ensures lines { OnOk result (lines.new ≡ lines.old ++ skipped_between first last) }
+    ensures told { (xs : List Seen) → StandsAt joins.old i.0 xs → StandsAt joins.new i.0 (xs ++ seen_between first last) }
+    ensures others { KeepsOthers i.0 joins.old joins.new }
+    ensures same { game_of joins.new ≡ game_of joins.old }
+{
+    let Some(first) = first else {
+        return Ok(());
+    };
+    match last {
+        None => Ok(()),
+        Some(last) => {
+            joins.add_skipped(i);
+            leave_out(lines, first, last, Line::Skip)
+        }
     }
 }
 

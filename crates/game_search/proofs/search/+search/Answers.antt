@@ -35,10 +35,10 @@ use Rattle.game_search.specs.Narrowed.{NarrowTold}
 use Rattle.game_search.specs.Rivals.{above_at, StandsAbove, outdoes, IsRival}
 use Rattle.game_search.specs.Settled.{is_outdone}
 use Rattle.game_search.specs.Told.{IsReady, StepsTold, PartTold, CaseTold, BodyTold, NodeTold}
-use Rattle.game_search.specs.Uppers.{upto_between, skipped_between, without_before}
+use Rattle.game_search.specs.Uppers.{upto_between, skipped_between, seen_between, without_before}
 use Rattle.game_search.proofs.Covers.{covers_after, many_of, rest_of}
 use Rattle.game_search.proofs.Fitting.{number_among, place_fits}
-use Rattle.game_search.proofs.Here.{Passing, asked_here, started, ready_again, case_done, case_ready, case_tried, rest_skipped, rest_outdone, rest_opened, rest_none, empty_told, barred_told, few_turns, next_told, pruned_told, part_told, part_more, branch_told, ready_first, node_ended, body_more, whole_node}
+use Rattle.game_search.proofs.Here.{Passing, asked_here, outdone_ends, started, ready_again, case_done, case_ready, case_tried, ready_behind, case_behind, rest_skipped, rest_ended, rest_opened, rest_none, empty_told, barred_told, few_turns, next_told, pruned_told, part_told, part_more, branch_told, ready_first, node_ended, body_more, whole_node}
 use Rattle.game_search.proofs.Losing.{ready_after}
 use Rattle.game_search.proofs.Marks.{firsts_marks}
 use Rattle.game_search.proofs.Outdone.{rival_outdoes}
@@ -142,12 +142,12 @@ cases-returns-then-is_outdone-clause-told t c =
     let r = rest_of vs v c.last-last.result rises numbers c.values.invariant.left c.last-last.ensures in
     let upto = ap (upto_between v) last_is ∙ sym r.upto in
     let same = c.values.invariant.back.game ∙ c.requires.joins in
-    let asked = asked_here g _ l.number c.values.walk.joins c.is_settled.result same c.is_settled.ensures in
-    let outdone : (ys : List Seen) → StandsAt c.values.walk.joins l.number ys → is_outdone (outdoes g l.number c.args.stage.now.rival) ys ≡ true = λ ys s. subst (λ (f : Game). is_outdone (outdoes f l.number c.args.stage.now.rival) ys ≡ true) same (c.is_outdone.ensures c.if-is_outdone.true ys s) in
+    let ends = outdone_ends (outdoes g l.number c.args.stage.now.rival) g l.number c.values.walk.joins
+    (λ ys s. subst (λ (f : Game). is_outdone (outdoes f l.number c.args.stage.now.rival) ys ≡ true) same (c.is_outdone.ensures c.if-is_outdone.true ys s)) in
     on_ok_weaker c.leave_out-then-is_outdone.result
     (λ e xs ready.
-    rest_outdone c.args.stage.now.cuts (outdoes g l.number c.args.stage.now.rival) g l.number b.store.box (scope_number c.args.stage.now.horizon) x vs xs c.args.walk.now.left c.args.walk.now.lines c.args.walk.now.joins ready (values_from v vs) c.values.walk.left c.values.walk.lines c.leave_out-then-is_outdone.new.lines c.values.walk.joins c.add_skipped.new.self c.is_settled.result
-    r.some r.numbers asked c.if-is_settled.false outdone c.add_skipped.ensures.stands (c.values.invariant.goes xs ready) (e ∙ ap (λ o. c.values.walk.lines ++ (upto_lines o ++ Skip ∷ [])) upto))
+    rest_ended c.args.stage.now.cuts (outdoes g l.number c.args.stage.now.rival) g l.number b.store.box (scope_number c.args.stage.now.horizon) x vs xs c.args.walk.now.left c.args.walk.now.lines c.args.walk.now.joins ready (values_from v vs) c.values.walk.left c.values.walk.lines c.leave_out-then-is_outdone.new.lines c.values.walk.joins c.add_skipped.new.self
+    r.some r.numbers ends c.add_skipped.ensures.stands (c.values.invariant.goes xs ready) (e ∙ ap (λ o. c.values.walk.lines ++ (upto_lines o ++ Skip ∷ [])) upto))
     c.leave_out-then-is_outdone.ensures
 
 pub cases-returns-then-is_outdone-clause-back : goal.cases-returns-then-is_outdone-clause-back
@@ -598,3 +598,63 @@ try_case-returns-clause-told t c =
     (c.in_ok-with_value.ensures.told (λ q. c.if-not-branch.false) xs again) in
     case_tried c.args.stage.now.cuts (outdoes g l.number c.args.stage.now.rival) g l.number b.store.box h x vs xs c.args.walk.now.left c.args.walk.now.lines c.args.walk.now.joins ready c.requires.cuts numbers rises c.first-first.result v c.last-last.result c.previous-before.result c.next-next.result c.with_value.new.walk.left c.skip_between.new.lines c.with_value.new.walk.lines
     c.skip_between-2.new.lines c.with_value.new.walk.joins c.is_settled.result many c.first-first.ensures c.last-last.ensures c.requires.value previous next (λ e. absurd (omega (arith, e, c.requires.turn))) asked c.if-not-is_settled.false skipped then_skipped part
+
+pub try_against_rival-returns-then-not-branch-clause-back : goal.try_against_rival-returns-then-not-branch-clause-back
+try_against_rival-returns-then-not-branch-clause-back t c =
+    let l = c.args.stage.now.level.now in
+    let a = c.args.walk.now in
+    both_back l.problem.now l.number a _ c.with_value.new.walk (back_more l.problem.now l.number a a _ (none_back l.problem.now l.number a) refl c.skip_and_tell.ensures.same (λ j xs h s. c.skip_and_tell.ensures.others j xs (λ q. absurd (omega arith)) s) _ c.in_ok-skip_and_tell.ensures.lines (one_fewer a.left))
+    c.in_ok-with_value.ensures.back
+
+pub try_against_rival-returns-then-not-is_ended-clause-back : goal.try_against_rival-returns-then-not-is_ended-clause-back
+try_against_rival-returns-then-not-is_ended-clause-back t c =
+    let l = c.args.stage.now.level.now in
+    let a = c.args.walk.now in
+    both_back l.problem.now l.number a _ c.with_value.new.walk (back_more l.problem.now l.number a a _ (none_back l.problem.now l.number a) refl c.skip_and_tell.ensures.same (λ j xs h s. c.skip_and_tell.ensures.others j xs (λ q. absurd (omega arith)) s) _ c.in_ok-skip_and_tell.ensures.lines (one_fewer a.left))
+    c.in_ok-with_value.ensures.back
+
+pub try_against_rival-returns-clause-back : goal.try_against_rival-returns-clause-back
+try_against_rival-returns-clause-back t c =
+    let l = c.args.stage.now.level.now in
+    let a = c.args.walk.now in
+    let gone = both_back l.problem.now l.number a _ c.with_value.new.walk (back_more l.problem.now l.number a a _ (none_back l.problem.now l.number a) refl c.skip_and_tell.ensures.same (λ j xs h s. c.skip_and_tell.ensures.others j xs (λ q. absurd (omega arith)) s) _ c.in_ok-skip_and_tell.ensures.lines (one_fewer a.left))
+    c.in_ok-with_value.ensures.back in
+    back_more l.problem.now l.number a c.with_value.new.walk _ gone refl c.skip_and_tell-2.ensures.same (λ j xs h s. c.skip_and_tell-2.ensures.others j xs (λ q. absurd (omega arith)) s) _ c.in_ok-skip_and_tell-2.ensures.lines (as_many c.with_value.new.walk.left)
+
+pub try_against_rival-returns-clause-told : goal.try_against_rival-returns-clause-told
+try_against_rival-returns-clause-told t c =
+    let l = c.args.stage.now.level.now in
+    let g = l.problem.now in
+    let b = c.args.walk.now.remains in
+    let x = c.args.x.0 in
+    let v = c.args.value in
+    let low = c.first-first.result in
+    let high = c.last-last.result in
+    let before = c.previous-before.result in
+    let vs = values_left b.store.box x in
+    let h = scope_number c.args.stage.now.horizon in
+    let above = outdoes g l.number c.args.stage.now.rival in
+    let start = c.args.walk.now.joins in
+    let told = c.skip_and_tell.new.joins in
+    let joins = c.with_value.new.walk.joins in
+    let next_joins = c.skip_and_tell-2.new.joins in
+    let declared : is_box_of g b.store.box ≡ true = subst (λ (f : Game). is_box_of f b.store.box ≡ true) c.requires.going.within.here.game c.known-2.ensures.declared in
+    let numbers : list_all is_number vs ≡ true = left_small g b.store.box x c.known.ensures.domains declared in
+    let rises : is_ascending vs ≡ true = sub_ascending b.store.box (declared_box g) x declared in
+    let passed_is : to_z w64 (of_z w64 v) ≡ v = passed v (number_among vs v numbers c.requires.value) in
+    let first_is : to_z w64 (of_z w64 low) ≡ low = passed low (number_among vs low numbers c.first-first.ensures.left) in
+    let last_is : to_z w64 (of_z w64 high) ≡ high = passed high (number_among vs high numbers c.last-last.ensures.left) in
+    let skipped = c.in_ok-skip_and_tell.ensures.lines ∙ ap (λ u. c.args.walk.now.lines ++ skipped_between (Some u) before) first_is in
+    let then_skipped = c.in_ok-skip_and_tell-2.ensures.lines ∙ ap (λ u. c.with_value.new.walk.lines ++ skipped_between c.next-next.result (Some u)) last_is in
+    let added = subst (λ u. (ys : List Seen) → StandsAt start l.number ys → StandsAt told l.number (ys ++ seen_between (Some u) before)) first_is c.skip_and_tell.ensures.told in
+    let then_added = subst (λ u. (ys : List Seen) → StandsAt joins l.number ys → StandsAt next_joins l.number (ys ++ seen_between c.next-next.result (Some u))) last_is c.skip_and_tell-2.ensures.told in
+    let previous = subst (λ u. IsPrevious vs u before) passed_is c.previous-before.ensures in
+    let next = subst (λ u. IsNext vs u c.next-next.result) passed_is c.next-next.ensures in
+    let many = many_of vs v c.requires.free c.requires.value in
+    λ w xs ready.
+    let behind = xs ++ seen_between (Some low) before in
+    let again = ready_behind c.args.stage.now.cuts above g l.number b.store.box h x vs xs c.args.walk.now.left c.args.walk.now.lines start ready (Some low) before told added c.requires.turn in
+    let part = subst (λ u. CaseTold c.args.stage.now.cuts above g l.number (box_to b.store.box x (u ∷ [])) h behind (c.args.walk.now.left - 1) c.with_value.new.walk.left c.skip_and_tell.new.lines c.with_value.new.walk.lines joins) passed_is
+    (c.in_ok-with_value.ensures.told (λ q. c.if-not-branch.false) behind again) in
+    case_behind c.args.stage.now.cuts above g l.number b.store.box h x vs xs c.args.walk.now.left c.args.walk.now.lines start ready c.requires.cuts numbers rises low v high before c.next-next.result c.with_value.new.walk.left c.skip_and_tell.new.lines c.with_value.new.walk.lines c.skip_and_tell-2.new.lines joins next_joins many
+    c.first-first.ensures c.last-last.ensures c.requires.value previous next (λ e. absurd (omega (arith, e, c.requires.turn))) (c.is_ended.ensures c.if-not-is_ended.false) then_added skipped then_skipped part

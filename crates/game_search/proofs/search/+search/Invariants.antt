@@ -35,13 +35,16 @@ abbrev pub decreases-cases : goal.decreases-cases
 decreases-cases l = 10 * ((length l.stage.now.level.now.problem.now.scopes - l.stage.now.level.now.number) + (length l.stage.now.level.now.problem.now.variables - l.x.0)) + 2
 
 abbrev pub decreases-with_value : goal.decreases-with_value
-decreases-with_value l = 10 * ((length l.stage.now.level.now.problem.now.scopes - l.stage.now.level.now.number) + (length l.stage.now.level.now.problem.now.variables - l.x.0)) + 1
+decreases-with_value l = 10 * ((length l.stage.now.level.now.problem.now.scopes - l.stage.now.level.now.number) + (length l.stage.now.level.now.problem.now.variables - l.x.0))
 
 abbrev pub decreases-try_branch : goal.decreases-try_branch
 decreases-try_branch l = 10 * ((length l.stage.now.level.now.problem.now.scopes - l.stage.now.level.now.number) + (length l.stage.now.level.now.problem.now.variables - l.x.0)) + 3
 
 abbrev pub decreases-try_case : goal.decreases-try_case
 decreases-try_case l = 10 * ((length l.stage.now.level.now.problem.now.scopes - l.stage.now.level.now.number) + (length l.stage.now.level.now.problem.now.variables - l.x.0)) + 2
+
+abbrev pub decreases-try_against_rival : goal.decreases-try_against_rival
+decreases-try_against_rival l = 10 * ((length l.stage.now.level.now.problem.now.scopes - l.stage.now.level.now.number) + (length l.stage.now.level.now.problem.now.variables - l.x.0)) + 1
 
 abbrev pub decreases-after_tuple : goal.decreases-after_tuple
 decreases-after_tuple l = 10 * ((length l.stage.now.level.now.problem.now.scopes - l.stage.now.level.now.number) + (length l.stage.now.level.now.problem.now.variables - l.stage.now.level.now.stop)) + 1
