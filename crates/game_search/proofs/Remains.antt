@@ -157,7 +157,7 @@ back_below g k i p a b c d here there store kept joins left more lines back rema
       left = omega (arith, left, n.left, last_left);
     }
 
--- after lines that leave out cases, and a leaf that is skipped
+-- after lines that leave out cases, where the joins of earlier scopes stay
 pub back_more : (g : Game) (i : ℕ) (a b c : Walk) → IsBack g i a b → c.remains ≡ b.remains → game_of c.joins ≡ game_of b.joins → ((j : ℕ) (xs : List Seen) → j < i → StandsAt b.joins j xs → StandsAt c.joins j xs) → (more : List Line) → c.lines ≡ b.lines ++ more → c.left ≤ b.left → IsBack g i a c
 back_more g i a b c p remains game others more lines left =
     both_back g i a b c p
@@ -172,6 +172,10 @@ back_more g i a b c p remains game others more lines left =
       lines = lines;
       left = left;
     })
+
+-- so where the scope's own join was told of it
+pub told_back : (g : Game) (i : ℕ) (a b c : Walk) → IsBack g i a b → c.remains ≡ b.remains → game_of c.joins ≡ game_of b.joins → KeepsOthers i b.joins c.joins → (more : List Line) → c.lines ≡ b.lines ++ more → c.left ≤ b.left → IsBack g i a c
+told_back g i a b c p remains game others more lines left = back_more g i a b c p remains game (λ j xs h s. others j xs (λ e. absurd (omega (arith, h, e))) s) more lines left
 
 -- after a part that was gone into from a smaller box, which was undone
 pub undone_back : (g : Game) (i : ℕ) (a m c d : Walk) → LeadsOn a.remains m.remains → game_of m.joins ≡ game_of a.joins → KeepsOthers i a.joins m.joins → m.lines ≡ a.lines → m.left ≡ a.left → IsBack g i m c → d.remains.game ≡ c.remains.game → d.remains.store.box ≡ a.remains.store.box → d.remains.store.past ≡ a.remains.store.past →

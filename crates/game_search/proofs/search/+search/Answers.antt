@@ -43,7 +43,7 @@ use Rattle.game_search.proofs.Losing.{ready_after}
 use Rattle.game_search.proofs.Marks.{firsts_marks}
 use Rattle.game_search.proofs.Outdone.{rival_outdoes}
 use Rattle.game_search.proofs.Bools.{both}
-use Rattle.game_search.proofs.Remains.{as_many, none_back, both_back, back_after, back_below, back_more, case_back, cut_back, entered_back, line_back, lines_both, one_fewer, taken_back, tuple_back, undone_back}
+use Rattle.game_search.proofs.Remains.{as_many, none_back, both_back, back_after, back_below, back_more, case_back, cut_back, entered_back, line_back, lines_both, one_fewer, taken_back, told_back, tuple_back, undone_back}
 use Rattle.game_search.proofs.search.+search.Goals as goal
 
 pub after_tuple-returns-then-not-tuple_allowed-clause-told : goal.after_tuple-returns-then-not-tuple_allowed-clause-told
@@ -153,7 +153,7 @@ cases-returns-then-is_outdone-clause-told t c =
 pub cases-returns-then-is_outdone-clause-back : goal.cases-returns-then-is_outdone-clause-back
 cases-returns-then-is_outdone-clause-back t c =
     on_ok_weaker c.leave_out-then-is_outdone.result
-    (λ e. back_more c.args.stage.now.level.now.problem.now c.args.stage.now.level.now.number c.args.walk.now c.values.walk _ c.values.invariant.back refl c.add_skipped.ensures.same (λ j xs h s. c.add_skipped.ensures.others j xs (λ q. absurd (omega arith)) s)
+    (λ e. told_back c.args.stage.now.level.now.problem.now c.args.stage.now.level.now.number c.args.walk.now c.values.walk _ c.values.invariant.back refl c.add_skipped.ensures.same c.add_skipped.ensures.others
     _ e (as_many c.values.walk.left))
     c.leave_out-then-is_outdone.ensures
 
@@ -182,7 +182,7 @@ cases-returns-then-walk-eq0-clause-told t c =
 pub cases-returns-then-walk-eq0-clause-back : goal.cases-returns-then-walk-eq0-clause-back
 cases-returns-then-walk-eq0-clause-back t c =
     on_ok_weaker c.leave_out-then-walk-eq0.result
-    (λ e. back_more c.args.stage.now.level.now.problem.now c.args.stage.now.level.now.number c.args.walk.now c.values.walk _ c.values.invariant.back refl c.add_skipped-then-walk-eq0.ensures.same (λ j xs h s. c.add_skipped-then-walk-eq0.ensures.others j xs (λ q. absurd (omega arith)) s)
+    (λ e. told_back c.args.stage.now.level.now.problem.now c.args.stage.now.level.now.number c.args.walk.now c.values.walk _ c.values.invariant.back refl c.add_skipped-then-walk-eq0.ensures.same c.add_skipped-then-walk-eq0.ensures.others
     _ e (as_many c.values.walk.left))
     c.leave_out-then-walk-eq0.ensures
 
@@ -603,23 +603,23 @@ pub try_against_rival-returns-then-not-branch-clause-back : goal.try_against_riv
 try_against_rival-returns-then-not-branch-clause-back t c =
     let l = c.args.stage.now.level.now in
     let a = c.args.walk.now in
-    both_back l.problem.now l.number a _ c.with_value.new.walk (back_more l.problem.now l.number a a _ (none_back l.problem.now l.number a) refl c.skip_and_tell.ensures.same (λ j xs h s. c.skip_and_tell.ensures.others j xs (λ q. absurd (omega arith)) s) _ c.in_ok-skip_and_tell.ensures.lines (one_fewer a.left))
+    both_back l.problem.now l.number a _ c.with_value.new.walk (told_back l.problem.now l.number a a _ (none_back l.problem.now l.number a) refl c.skip_and_tell.ensures.same c.skip_and_tell.ensures.others _ c.in_ok-skip_and_tell.ensures.lines (one_fewer a.left))
     c.in_ok-with_value.ensures.back
 
 pub try_against_rival-returns-then-not-is_ended-clause-back : goal.try_against_rival-returns-then-not-is_ended-clause-back
 try_against_rival-returns-then-not-is_ended-clause-back t c =
     let l = c.args.stage.now.level.now in
     let a = c.args.walk.now in
-    both_back l.problem.now l.number a _ c.with_value.new.walk (back_more l.problem.now l.number a a _ (none_back l.problem.now l.number a) refl c.skip_and_tell.ensures.same (λ j xs h s. c.skip_and_tell.ensures.others j xs (λ q. absurd (omega arith)) s) _ c.in_ok-skip_and_tell.ensures.lines (one_fewer a.left))
+    both_back l.problem.now l.number a _ c.with_value.new.walk (told_back l.problem.now l.number a a _ (none_back l.problem.now l.number a) refl c.skip_and_tell.ensures.same c.skip_and_tell.ensures.others _ c.in_ok-skip_and_tell.ensures.lines (one_fewer a.left))
     c.in_ok-with_value.ensures.back
 
 pub try_against_rival-returns-clause-back : goal.try_against_rival-returns-clause-back
 try_against_rival-returns-clause-back t c =
     let l = c.args.stage.now.level.now in
     let a = c.args.walk.now in
-    let gone = both_back l.problem.now l.number a _ c.with_value.new.walk (back_more l.problem.now l.number a a _ (none_back l.problem.now l.number a) refl c.skip_and_tell.ensures.same (λ j xs h s. c.skip_and_tell.ensures.others j xs (λ q. absurd (omega arith)) s) _ c.in_ok-skip_and_tell.ensures.lines (one_fewer a.left))
+    let gone = both_back l.problem.now l.number a _ c.with_value.new.walk (told_back l.problem.now l.number a a _ (none_back l.problem.now l.number a) refl c.skip_and_tell.ensures.same c.skip_and_tell.ensures.others _ c.in_ok-skip_and_tell.ensures.lines (one_fewer a.left))
     c.in_ok-with_value.ensures.back in
-    back_more l.problem.now l.number a c.with_value.new.walk _ gone refl c.skip_and_tell-2.ensures.same (λ j xs h s. c.skip_and_tell-2.ensures.others j xs (λ q. absurd (omega arith)) s) _ c.in_ok-skip_and_tell-2.ensures.lines (as_many c.with_value.new.walk.left)
+    told_back l.problem.now l.number a c.with_value.new.walk _ gone refl c.skip_and_tell-2.ensures.same c.skip_and_tell-2.ensures.others _ c.in_ok-skip_and_tell-2.ensures.lines (as_many c.with_value.new.walk.left)
 
 pub try_against_rival-returns-clause-told : goal.try_against_rival-returns-clause-told
 try_against_rival-returns-clause-told t c =
