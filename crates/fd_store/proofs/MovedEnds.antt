@@ -44,25 +44,32 @@ count_inside words c a e h l m w =
     place : (k : ℕ) → 64 * c.start + (a + k) ≡ 64 * c.start + a + k
     place k = omega arith
 
--- a cell without gaps
-pub count_dense : (words : List ℕ) (c : Cell) (a e : ℕ) → IsCell words c → c.size ≡ c.end - c.first → c.first ≤ a → a ≤ e → e ≤ c.end →
-    e - a ≡ count_below (λ k. is_kept words c k && is_inside a e k) c.width
-count_dense words c a e i d h l m = sym
-    (count_inside words c a e h l m i.within ∙ full (e - a) (λ k q. ap (is_set words) (place k q) ∙ all (a + k - c.first) (omega arith)))
+-- each place between the ends of a cell without gaps is set
+pub set_dense : (words : List ℕ) (c : Cell) (k : ℕ) → IsCell words c → c.size ≡ c.end - c.first → c.first ≤ k → k < c.end → is_set words (64 * c.start + k) ≡ true
+set_dense words c k i d h l = ap (is_set words) place ∙ all (k - c.first) (omega arith)
   where
-    whole : count_below (λ k. is_kept words c k && is_inside c.first c.end k) c.width ≡ count_below (is_kept words c) c.width
-    whole = count_agree (is_kept words c) (λ k. is_kept words c k && is_inside c.first c.end k) c.width (λ k q. twice (is_inside c.first c.end k) (is_set words (64 * c.start + k)))
+    whole : count_below (λ j. is_kept words c j && is_inside c.first c.end j) c.width ≡ count_below (is_kept words c) c.width
+    whole = count_agree (is_kept words c) (λ j. is_kept words c j && is_inside c.first c.end j) c.width (λ j q. twice (is_inside c.first c.end j) (is_set words (64 * c.start + j)))
       where
         twice : (b s : Bool) → ((b && s) && b) ≡ (b && s)
         twice true s = grind arith
         twice false s = refl
 
-    all : (k : ℕ) → k < c.end - c.first → is_set words (64 * c.start + c.first + k) ≡ true
-    all = count_full (λ k. is_set words (64 * c.start + c.first + k)) (c.end - c.first)
+    all : (j : ℕ) → j < c.end - c.first → is_set words (64 * c.start + c.first + j) ≡ true
+    all = count_full (λ j. is_set words (64 * c.start + c.first + j)) (c.end - c.first)
         (sym (count_inside words c c.first c.end (omega arith) i.order (omega arith) i.within) ∙ (whole ∙ (sym i.size ∙ d)))
 
-    place : (k : ℕ) → k < e - a → 64 * c.start + a + k ≡ 64 * c.start + c.first + (a + k - c.first)
-    place k q = omega arith
+    place : 64 * c.start + k ≡ 64 * c.start + c.first + (k - c.first)
+    place = omega arith
+
+-- so many are left of it
+pub count_dense : (words : List ℕ) (c : Cell) (a e : ℕ) → IsCell words c → c.size ≡ c.end - c.first → c.first ≤ a → a ≤ e → e ≤ c.end →
+    e - a ≡ count_below (λ k. is_kept words c k && is_inside a e k) c.width
+count_dense words c a e i d h l m = sym
+    (count_inside words c a e h l m i.within ∙ full (e - a) (λ k q. ap (is_set words) (place k) ∙ set_dense words c (a + k) i d (omega arith) (omega arith)))
+  where
+    place : (k : ℕ) → 64 * c.start + a + k ≡ 64 * c.start + (a + k)
+    place k = omega arith
 
     full : (n : ℕ) → ((k : ℕ) → k < n → is_set words (64 * c.start + a + k) ≡ true) → count_below (λ k. is_set words (64 * c.start + a + k)) n ≡ n
     full zero f = refl

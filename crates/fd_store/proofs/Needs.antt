@@ -1,6 +1,6 @@
 -- The least and the greatest value of a cell, and the places that a removal takes.
-use Rattle.std.proofs.Common.{◌≡◌, ◌⊎◌, inl, inr, ℕ, List, ◌+◌, ◌-◌, ◌*◌, ◌/◌, ◌<◌, ◌≤◌, Bool, true, false, not, ◌&&◌, cond, length, get_or, refl, sym, ap, ◌∙◌, arith, ℤ, [], ◌∷◌}
-use Rattle.std.specs.Prelude.{pos, ◌+ℤ◌, ◌-ℤ◌, nat_abs, int_lt, int_le, nat_le, nat_lt}
+use Rattle.std.proofs.Common.{◌≡◌, ◌⊎◌, inl, inr, ℕ, List, ◌+◌, ◌-◌, ◌*◌, ◌/◌, ◌<◌, ◌≤◌, Bool, true, false, not, ◌&&◌, cond, length, get_or, refl, sym, ap, subst, ◌∙◌, arith, ℤ, [], ◌∷◌}
+use Rattle.std.specs.Prelude.{pos, ◌+ℤ◌, ◌-ℤ◌, ◌≤ℤ◌, nat_abs, int_lt, int_le, nat_le, nat_lt}
 use Rattle.std.specs.Int.{int_min, int_max}
 use Rattle.std.proofs.lemmas.Bool.Decides.{nat_tests}
 use Rattle.std.proofs.lemmas.Int.{ints}
@@ -142,3 +142,26 @@ takes_no_span t x c lo hi a e i h at s l = takes_none t x c lo hi i h at (λ k q
     stays k true p =
         let w = kept_inside (is_set t.words.items (64 * c.start + k)) c.first c.end k p in
         ap not (sym (apart k) ∙ span_within c lo hi a e k s w.0 w.1)
+
+-- places of a cell are few
+words_few : (a b : ℤ) → b ≤ℤ (a +ℤ pos 1048576) → words_between a b ≤ 16400
+words_few a b h = by (int_lt b a) refl
+  where
+    by : (t : Bool) → int_lt b a ≡ t → cond t 0 (nat_abs (b -ℤ a) / 64 + 2) ≤ 16400
+    by true e = omega arith
+    by false e = omega (arith, near)
+      where
+        near : nat_abs (b -ℤ a) ≤ 1048576
+        near = grind (arith, ints)
+
+pub need_few : (words : List ℕ) (c : Cell) (lo hi : ℤ) → IsCell words c → removal_need (cell_values words c) lo hi ≤ 16400
+need_few words c lo hi i = elim (near c.first c.end) [
+  | inl l ↦ subst (λ n. n ≤ 16400) (sym (need_of words c lo hi i l)) (words_few (int_max lo (c.base +ℤ pos c.first)) (int_min hi (c.base +ℤ pos (c.end - 1))) (close c.base lo hi c.first c.end (omega (arith, i.within, i.narrow))))
+  | inr l ↦ subst (λ (vs : Values). removal_need vs lo hi ≤ 16400) (sym (cell_none words c l)) (omega arith)
+]
+  where
+    near : (x y : ℕ) → (x < y) ⊎ (y ≤ x)
+    near x y = grind arith
+
+    close : (b lo hi : ℤ) (first end : ℕ) → end ≤ 1048576 → int_min hi (b +ℤ pos (end - 1)) ≤ℤ (int_max lo (b +ℤ pos first) +ℤ pos 1048576)
+    close b lo hi first end h = grind (arith, ints)

@@ -13,6 +13,7 @@ use Rattle.fd_store.specs.Takes.{box_in}
 use Rattle.fd_store.proofs.Values.{HasLeast, values_none, length-values, least_of as least_at, greatest_of as greatest_at}
 use Rattle.fd_store.proofs.Cells.{values_at}
 use Rattle.fd_store.proofs.Counts.{count_some}
+use Rattle.fd_store.proofs.MovedEnds.{set_dense}
 
 -- the values that pass one more test
 values_filter : (f : ℕ → Bool) (p : ℤ → Bool) (v : ℤ) (n : ℕ) → filter p (values_below f v n) ≡ values_below (λ k. f k && p (v +ℤ pos k)) v n
@@ -104,3 +105,25 @@ pub prev_none : (t : Table) (x : ℕ) (c : Cell) (v : ℤ) (e : ℕ) → x < len
     ((k : ℕ) → c.first ≤ k → k < c.end → nat_lt k e ≡ int_le (c.base +ℤ pos k) v) → None ≡ greatest_of (values_up_to v (values_left (box_in t) x))
 prev_none t x c v e h at l test = sym (ap greatest_of (up_to_is t x c v h at
     ∙ values_none (λ k. is_kept t.words.items c k && int_le (c.base +ℤ pos k) v) c.base c.width (λ k m. none_prev (is_set t.words.items (64 * c.start + k)) (int_le (c.base +ℤ pos k) v) c.first c.end e k l (test k))))
+
+-- where no place between the ends is missing
+pub next_dense : (t : Table) (x : ℕ) (c : Cell) (v : ℤ) (a : ℕ) → x < length t.cells.items → get_or t.cells.items x c ≡ c → IsCell t.words.items c → c.size ≡ c.end - c.first → c.first ≤ a → a < c.end →
+    ((k : ℕ) → c.first ≤ k → k < c.end → nat_le a k ≡ int_le v (c.base +ℤ pos k)) → Some (c.base +ℤ pos a) ≡ least_of (values_from v (values_left (box_in t) x))
+next_dense t x c v a h at i d low l test =
+    ap (λ k. Some (c.base +ℤ pos k)) place
+    ∙ next_found t x c v a (64 * c.start + a) h at i low test (omega arith) (omega arith) (set_dense t.words.items c a i d low l) (λ p m n. absurd (omega arith))
+  where
+    place : a ≡ 64 * c.start + a - 64 * c.start
+    place = omega arith
+
+pub prev_dense : (t : Table) (x : ℕ) (c : Cell) (v : ℤ) (e : ℕ) → x < length t.cells.items → get_or t.cells.items x c ≡ c → IsCell t.words.items c → c.size ≡ c.end - c.first → c.first < e → e ≤ c.end →
+    ((k : ℕ) → c.first ≤ k → k < c.end → nat_lt k e ≡ int_le (c.base +ℤ pos k) v) → Some (c.base +ℤ pos (e - 1)) ≡ greatest_of (values_up_to v (values_left (box_in t) x))
+prev_dense t x c v e h at i d low l test =
+    ap (λ k. Some (c.base +ℤ pos k)) place
+    ∙ prev_found t x c v e (64 * c.start + e) h at i l test (omega arith) (omega arith) (ap (is_set t.words.items) last ∙ set_dense t.words.items c (e - 1) i d (omega arith) (omega arith)) (λ p m n. absurd (omega arith))
+  where
+    place : e - 1 ≡ 64 * c.start + e - 1 - 64 * c.start
+    place = omega arith
+
+    last : 64 * c.start + e - 1 ≡ 64 * c.start + (e - 1)
+    last = omega arith

@@ -1,5 +1,5 @@
 -- The least of the values from low on is the least of those from low to high, where there is one; and the greatest alike.
-use Rattle.std.proofs.Common.{◌≡◌, Bool, true, false, ◌&&◌, cond, [], ◌∷◌, refl, ap, ◌∙◌, arith, ℤ, None, Some}
+use Rattle.std.proofs.Common.{◌≡◌, Bool, true, false, ◌&&◌, cond, [], ◌∷◌, refl, sym, ap, ◌∙◌, arith, ℤ, None, Some}
 use Rattle.std.specs.Prelude.{◌≤ℤ◌, ◌<ℤ◌, int_lt, int_le}
 use Rattle.std.proofs.lemmas.Int.{ints}
 use Rattle.qc_model.specs.Domains.{Values, is_none_left, least_from, greatest_from, least_value, greatest_value, values_within}
@@ -160,3 +160,53 @@ max_found low high n vs f e = greatest_found n (values_up_to high vs) e ∙ grea
 
 pub max_missed : (low high : ℤ) (vs : Values) → is_none_left (values_within low high vs) ≡ false → None ≡ greatest_of (values_up_to high vs) → ⊥
 max_missed low high vs f e = let none : is_none_left (values_within low high vs) ≡ true = none_up_to low high vs (greatest_missed (values_up_to high vs) e) in cc
+
+-- a single number within which some value lies is that value
+least_stays : (v : ℤ) (vs : Values) → least_from v (values_within v v vs) ≡ v
+least_stays v [] = refl
+least_stays v (w ∷ ws) = by (int_le v w) (int_le w v) refl refl (least_stays v ws)
+  where
+    by : (a b : Bool) → int_le v w ≡ a → int_le w v ≡ b → least_from v (values_within v v ws) ≡ v → least_from v (cond (a && b) (w ∷ values_within v v ws) (values_within v v ws)) ≡ v
+    by true true e f q = ap (λ b. least_from (cond b w v) (values_within v v ws)) no_less ∙ q
+      where
+        no_less : int_lt w v ≡ false
+        no_less = grind (arith, ints)
+    by true false e f q = q
+    by false b e f q = q
+
+greatest_stays : (v : ℤ) (vs : Values) → greatest_from v (values_within v v vs) ≡ v
+greatest_stays v [] = refl
+greatest_stays v (w ∷ ws) = by (int_le v w) (int_le w v) refl refl (greatest_stays v ws)
+  where
+    by : (a b : Bool) → int_le v w ≡ a → int_le w v ≡ b → greatest_from v (values_within v v ws) ≡ v → greatest_from v (cond (a && b) (w ∷ values_within v v ws) (values_within v v ws)) ≡ v
+    by true true e f q = ap (λ b. greatest_from (cond b w v) (values_within v v ws)) no_more ∙ q
+      where
+        no_more : int_lt v w ≡ false
+        no_more = grind (arith, ints)
+    by true false e f q = q
+    by false b e f q = q
+
+same_number : (v w : ℤ) → int_le v w ≡ true → int_le w v ≡ true → w ≡ v
+same_number v w e f = grind (arith, ints)
+
+pub single_least : (v : ℤ) (vs : Values) → is_none_left (values_within v v vs) ≡ false → v ≡ least_value (values_within v v vs)
+single_least v [] h = cc
+single_least v (w ∷ ws) h = by (int_le v w) (int_le w v) refl refl h (single_least v ws)
+  where
+    by : (a b : Bool) → int_le v w ≡ a → int_le w v ≡ b → is_none_left (cond (a && b) (w ∷ values_within v v ws) (values_within v v ws)) ≡ false →
+        (is_none_left (values_within v v ws) ≡ false → v ≡ least_value (values_within v v ws)) →
+        v ≡ least_value (cond (a && b) (w ∷ values_within v v ws) (values_within v v ws))
+    by true true e f h q = sym (ap (λ m. least_from m (values_within v v ws)) (same_number v w e f) ∙ least_stays v ws)
+    by true false e f h q = q h
+    by false b e f h q = q h
+
+pub single_greatest : (v : ℤ) (vs : Values) → is_none_left (values_within v v vs) ≡ false → v ≡ greatest_value (values_within v v vs)
+single_greatest v [] h = cc
+single_greatest v (w ∷ ws) h = by (int_le v w) (int_le w v) refl refl h (single_greatest v ws)
+  where
+    by : (a b : Bool) → int_le v w ≡ a → int_le w v ≡ b → is_none_left (cond (a && b) (w ∷ values_within v v ws) (values_within v v ws)) ≡ false →
+        (is_none_left (values_within v v ws) ≡ false → v ≡ greatest_value (values_within v v ws)) →
+        v ≡ greatest_value (cond (a && b) (w ∷ values_within v v ws) (values_within v v ws))
+    by true true e f h q = sym (ap (λ m. greatest_from m (values_within v v ws)) (same_number v w e f) ∙ greatest_stays v ws)
+    by true false e f h q = q h
+    by false b e f h q = q h

@@ -4,7 +4,7 @@ ghost use Rattle.fd_store.specs.Places.{is_kept, is_inside, count_below};
 ghost use Rattle.fd_store.specs.Sound.{IsCell};
 ghost use Rattle.fd_store.specs.Takes.{Takes, IsSoundTable};
 
-use crate::table::{Cell, Table};
+use crate::table::{Cell, Table, has_no_gap};
 use crate::words::{count_set, end_of_set, next_set};
 
 impl Table {
@@ -17,7 +17,7 @@ impl Table {
         requires end { e ≤ cell.end }
         ensures { result ≡ count_below (λ k. is_kept self.now.words.items cell k && is_inside a e k) cell.width }
     {
-        if cell.size == cell.end - cell.first {
+        if has_no_gap(cell) {
             return e - a;
         }
         let start = 64 * cell.start;

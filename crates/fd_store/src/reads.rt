@@ -1,5 +1,5 @@
 //! What a table tells of one variable.
-ghost use Rattle.std.specs.Prelude.{◌≡◌, ◌<◌, ◌≤◌, ◌+◌, ℕ, false, true, length, drop};
+ghost use Rattle.std.specs.Prelude.{◌≡◌, ◌<◌, ◌≤◌, ◌+◌, ℕ, ℤ, false, true, length, drop};
 ghost use Rattle.std.specs.List.{list_all};
 ghost use Rattle.qc_model.specs.Valid.{is_number};
 ghost use Rattle.qc_model.specs.Domains.{values_left, is_none_left, least_value, greatest_value, has_value, is_ascending};
@@ -9,7 +9,7 @@ ghost use Rattle.fd_store.specs.Trail.{cells_before};
 ghost use Rattle.fd_store.specs.Takes.{IsSoundTable, box_in};
 
 use crate::cuts::{end_of, offset_of, place_of, value_at};
-use crate::table::Table;
+use crate::table::{Table, has_no_gap};
 use crate::words::{end_of_set, has_place, next_set};
 
 impl Table {
@@ -84,6 +84,9 @@ impl Table {
         if a >= cell.end {
             return None;
         }
+        if has_no_gap(cell) {
+            return Some(value_at(cell.base, a));
+        }
         let start = 64 * cell.start;
         let place = next_set(
             self.words.as_slice(),
@@ -104,6 +107,9 @@ impl Table {
         if e <= cell.first {
             return None;
         }
+        if has_no_gap(cell) {
+            return Some(value_at(cell.base, e - 1));
+        }
         let start = 64 * cell.start;
         let end = end_of_set(
             self.words.as_slice(),
@@ -111,6 +117,15 @@ impl Table {
             start + e as usize,
         );
         Some(value_at(cell.base, (end - 1 - start) as u32))
+    }
+
+    // No removal takes many places.
+    pub(crate) fn need_known(&self, x: usize)
+        requires sound { IsSoundTable self.now }
+        requires var { x < length self.now.cells.items }
+        ensures { (lo hi : ℤ) → removal_need (values_left (box_in self.now) x) lo hi ≤ 16400 }
+    {
+        let _cell = self.cell(x);
     }
 
     // How many places a removal takes at most.

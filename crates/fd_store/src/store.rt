@@ -1,5 +1,5 @@
 //! The store as its callers see it.
-ghost use Rattle.std.specs.Prelude.{◌≡◌, ◌<◌, ◌≤◌, ◌+◌, ℕ, false, true, [], length, IfOk, OnOk};
+ghost use Rattle.std.specs.Prelude.{◌≡◌, ◌<◌, ◌≤◌, ◌+◌, ℕ, ℤ, false, true, [], length, IfOk, OnOk};
 ghost use Rattle.qc_model.specs.Domains.{declared_box, values_left, is_none_left, least_value, greatest_value, has_value, is_single, is_ascending, box_without, values_within, values_outside};
 ghost use Rattle.std.specs.List.{list_all};
 ghost use Rattle.qc_model.specs.Valid.{is_number};
@@ -129,8 +129,10 @@ impl Store {
         requires left { is_none_left (values_within lo hi (values_left self.now.box x.0)) ≡ false }
         ensures { result ≡ least_value (values_within lo hi (values_left self.now.box x.0)) }
     {
-        // some value is within, so the next one from lo is
-        let _ = hi;
+        // some value is within: a single number is it, and else the next one from lo is
+        if lo == hi {
+            return lo;
+        }
         match self.next(x, lo) {
             Some(v) => v,
             None => unreachable!(),
@@ -143,8 +145,10 @@ impl Store {
         requires left { is_none_left (values_within lo hi (values_left self.now.box x.0)) ≡ false }
         ensures { result ≡ greatest_value (values_within lo hi (values_left self.now.box x.0)) }
     {
-        // some value is within, so the last one up to hi is
-        let _ = lo;
+        // some value is within: a single number is it, and else the last one up to hi is
+        if lo == hi {
+            return hi;
+        }
         match self.prev(x, hi) {
             Some(v) => v,
             None => unreachable!(),
@@ -176,6 +180,14 @@ impl Store {
         ensures most { result ≤ 16400 }
     {
         self.table.need(x.0 as usize, lo, hi)
+    }
+
+    /// No removal from x needs more than 16,400 places of the trail.
+    pub fn need_known(&self, x: VarId)
+        requires { x.0 < length self.now.box }
+        ensures { (lo hi : ℤ) → removal_need (values_left self.now.box x.0) lo hi ≤ 16400 }
+    {
+        self.table.need_known(x.0 as usize);
     }
 
     /// Makes sure that the trail takes n more places with no new memory. The box and the past boxes stay, also after a

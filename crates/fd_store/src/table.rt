@@ -1,5 +1,5 @@
 //! The words, the cells and the trail of a store, and the two ways in which a cell changes.
-ghost use Rattle.std.specs.Prelude.{◌≡◌, ◌<◌, ◌≤◌, ◌+◌, [], ◌∷◌, ◌++◌, length, set, slice_index, slice_index_or};
+ghost use Rattle.std.specs.Prelude.{◌≡◌, ◌<◌, ◌≤◌, ◌+◌, ◌-◌, true, [], ◌∷◌, ◌++◌, length, set, slice_index, slice_index_or};
 ghost use Rattle.fd_store.specs.Sound.{IsCell};
 ghost use Rattle.fd_store.specs.Takes.{IsSoundTable};
 
@@ -17,6 +17,14 @@ pub(crate) struct Cell {
     pub(crate) first: u32,
     pub(crate) end: u32,
     pub(crate) size: u32,
+}
+
+// Whether each value between a cell's ends is left, so that no word need be read.
+pub(crate) fn has_no_gap(cell: Cell) -> bool
+    requires { cell.first ≤ cell.end }
+    ensures { result ≡ true → cell.size ≡ cell.end - cell.first }
+{
+    cell.size == cell.end - cell.first
 }
 
 /// A place of the trail: what a word and a cell were before a change.

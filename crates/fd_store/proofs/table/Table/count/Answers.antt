@@ -2,9 +2,9 @@ use Rattle.std.proofs.Common.{◌∙◌, arith}
 use Rattle.fd_store.proofs.MovedEnds.{count_dense, place_count}
 use Rattle.fd_store.proofs.table.Table.count.Goals as goal
 
-pub returns-then-cell : goal.returns-then-cell
-returns-then-cell c =
-    count_dense c.args.self.now.words.items c.args.cell c.args.a c.args.e c.requires.right c.if-cell.true c.requires.first (omega arith) c.requires.end
+pub returns-then-has_no_gap : goal.returns-then-has_no_gap
+returns-then-has_no_gap c =
+    count_dense c.args.self.now.words.items c.args.cell c.args.a c.args.e c.requires.right (c.has_no_gap.ensures c.if-has_no_gap.true) c.requires.first (omega arith) c.requires.end
 
 pub returns : goal.returns
 returns c =
