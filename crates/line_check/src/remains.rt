@@ -105,8 +105,7 @@ impl Remains {
         ensures fewer { (large : Box) → is_sub_box self.old.box large ≡ true → is_sub_box self.new.box large ≡ true }
     {
         self.store.trail_known();
-        // at most PLACES
-        let _need = self.store.trail_need(x, lo, hi);
+        self.store.need_known(x);
         match self.store.remove(x, lo, hi) {
             Removed::Emptied => self.empty = true,
             Removed::Nothing => {}

@@ -1,8 +1,9 @@
 -- Sums of terms, one by one.
-use Rattle.std.proofs.Common.{◌≡◌, ◌⊎◌, inl, inr, ℕ, ◌+◌, ◌<◌, ◌≤◌, ◌^◌, Bool, true, false, not, ◌&&◌, List, [], ◌∷◌, length, map, drop, get_or, min, leb, refl, sym, ap, ◌∙◌, arith, ℤ}
-use Rattle.std.specs.Prelude.{pos, ◌+ℤ◌, ◌*ℤ◌, unsigned_abs}
+use Rattle.std.proofs.Common.{◌≡◌, ◌⊎◌, inl, inr, ℕ, zero, suc, ◌+◌, ◌<◌, ◌≤◌, ◌^◌, Bool, true, false, not, ◌&&◌, List, [], ◌∷◌, length, map, drop, get_or, min, leb, refl, sym, ap, ◌∙◌, arith, ℤ}
+use Rattle.std.specs.Prelude.{pos, negsuc, ◌+ℤ◌, ◌*ℤ◌, ◌≤ℤ◌, int_lt, unsigned_abs}
 use Rattle.std.specs.List.{list_all}
 use Rattle.std.specs.Int.{int_min, int_max}
+use Rattle.std.proofs.Math.IntN.{zero-*ℤ, suc_ℤ-*ℤ, pred_ℤ-*ℤ}
 use Rattle.std.proofs.Math.Nat.{mul-le-mul}
 use Rattle.std.proofs.lemmas.Int.{ints, unsigned_abs-mul}
 use Rattle.std.proofs.lemmas.List.{at_drop_more, at_drop_all, get_or-map}
@@ -18,6 +19,7 @@ use Rattle.qc_model.specs.Valid.{is_number}
 use Rattle.qc_model.proofs.Readable.{first, second}
 use Rattle.qc_arguments.proofs.Values.{value_passes, has_least, has_greatest}
 use Rattle.qc_refuter.specs.Met.{is_domain_left, is_open}
+use Rattle.qc_refuter.proofs.Fill.{least_to_greatest}
 
 -- two products stand twice in the list of four
 hull : (p q : ℤ) → range_of_list (p ∷ q ∷ p ∷ q ∷ []) ≡ range_of (int_min p q) (int_max p q)
@@ -110,3 +112,69 @@ item_left box items k a h = get_or-map (left_to box) items k a [] h
 
 pub open_at : (box : Box) (items : List Arg) (k : ℕ) (a : Arg) → k < length items → list_all (is_open box) items ≡ true → is_open box (get_or items k a) ≡ true
 open_at box items k a h t = and_at (list_all (is_open box)) (is_open box) refl (λ _ _. refl) items k a h t
+
+-- the end of an item at which its term is least, and that at which it is greatest
+no_lower : (p : ℕ) (u v : ℤ) → u ≤ℤ v → (pos p *ℤ u) ≤ℤ (pos p *ℤ v)
+no_lower zero u v h = omega (arith, ints, zero-*ℤ u, zero-*ℤ v)
+no_lower (suc p) u v h = omega (arith, ints, suc_ℤ-*ℤ (pos p) u, suc_ℤ-*ℤ (pos p) v, no_lower p u v h, h)
+
+no_higher : (n : ℕ) (u v : ℤ) → u ≤ℤ v → (negsuc n *ℤ v) ≤ℤ (negsuc n *ℤ u)
+no_higher zero u v h = omega (arith, ints, pred_ℤ-*ℤ (pos 0) u, pred_ℤ-*ℤ (pos 0) v, zero-*ℤ u, zero-*ℤ v, h)
+no_higher (suc n) u v h = omega (arith, ints, pred_ℤ-*ℤ (negsuc n) u, pred_ℤ-*ℤ (negsuc n) v, no_higher n u v h, h)
+
+rises : (n u v : ℤ) → int_lt n (pos 0) ≡ false → u ≤ℤ v → (n *ℤ u) ≤ℤ (n *ℤ v)
+rises (pos p) u v e h = no_lower p u v h
+rises (negsuc n) u v e h = cc
+
+falls : (n u v : ℤ) → int_lt n (pos 0) ≡ true → u ≤ℤ v → (n *ℤ v) ≤ℤ (n *ℤ u)
+falls (pos p) u v e h = absurd (never p e)
+  where
+    never : (p : ℕ) → int_lt (pos p) (pos 0) ≡ true → ⊥
+    never p e = grind (arith, ints)
+falls (negsuc n) u v e h = no_higher n u v h
+
+lesser : (p q : ℤ) → p ≤ℤ q → p ≡ int_min p q
+lesser p q h = grind (arith, ints)
+
+lesser_last : (p q : ℤ) → q ≤ℤ p → q ≡ int_min p q
+lesser_last p q h = grind (arith, ints)
+
+greater : (p q : ℤ) → p ≤ℤ q → q ≡ int_max p q
+greater p q h = grind (arith, ints)
+
+greater_first : (p q : ℤ) → q ≤ℤ p → p ≡ int_max p q
+greater_first p q h = grind (arith, ints)
+
+pub rising_least : (n : ℤ) (d : Values) → int_lt n (pos 0) ≡ false → n *ℤ least_value d ≡ (product (point n) (span d)).from
+rising_least n d e =
+    lesser (n *ℤ least_value d) (n *ℤ greatest_value d) (rises n (least_value d) (greatest_value d) e (least_to_greatest d)) ∙ sym (ap (λ (r : Range). r.from) (hull (n *ℤ least_value d) (n *ℤ greatest_value d)))
+
+pub falling_least : (n : ℤ) (d : Values) → int_lt n (pos 0) ≡ true → n *ℤ greatest_value d ≡ (product (point n) (span d)).from
+falling_least n d e =
+    lesser_last (n *ℤ least_value d) (n *ℤ greatest_value d) (falls n (least_value d) (greatest_value d) e (least_to_greatest d)) ∙ sym (ap (λ (r : Range). r.from) (hull (n *ℤ least_value d) (n *ℤ greatest_value d)))
+
+pub rising_greatest : (n : ℤ) (d : Values) → int_lt n (pos 0) ≡ false → n *ℤ greatest_value d ≡ (product (point n) (span d)).to
+rising_greatest n d e =
+    greater (n *ℤ least_value d) (n *ℤ greatest_value d) (rises n (least_value d) (greatest_value d) e (least_to_greatest d)) ∙ sym (ap (λ (r : Range). r.to) (hull (n *ℤ least_value d) (n *ℤ greatest_value d)))
+
+pub falling_greatest : (n : ℤ) (d : Values) → int_lt n (pos 0) ≡ true → n *ℤ least_value d ≡ (product (point n) (span d)).to
+falling_greatest n d e =
+    greater_first (n *ℤ least_value d) (n *ℤ greatest_value d) (falls n (least_value d) (greatest_value d) e (least_to_greatest d)) ∙ sym (ap (λ (r : Range). r.to) (hull (n *ℤ least_value d) (n *ℤ greatest_value d)))
+
+-- one end of a sum, one term more
+end_more : (sum term one rest more all : ℤ) → term ≡ one → rest ≡ one +ℤ more → sum +ℤ rest ≡ all → (sum +ℤ term) +ℤ more ≡ all
+end_more sum term one rest more all e f h = omega (arith, ints, e, f, h)
+
+pub least_more : (ns : List ℤ) (ds : List Values) (k : ℕ) (sum term all : ℤ) → k < length ns → k < length ds → term ≡ (product (point (get_or ns k (pos 0))) (span (get_or ds k []))).from →
+    sum +ℤ (sum_range (drop k ns) (drop k ds)).from ≡ all → (sum +ℤ term) +ℤ (sum_range (drop (k + 1) ns) (drop (k + 1) ds)).from ≡ all
+least_more ns ds k sum term all l m e h =
+    end_more sum term (product (point (get_or ns k (pos 0))) (span (get_or ds k []))).from (sum_range (drop k ns) (drop k ds)).from (sum_range (drop (k + 1) ns) (drop (k + 1) ds)).from all e (ap (λ (r : Range). r.from) (sum_step ns ds k l m)) h
+
+pub greatest_more : (ns : List ℤ) (ds : List Values) (k : ℕ) (sum term all : ℤ) → k < length ns → k < length ds → term ≡ (product (point (get_or ns k (pos 0))) (span (get_or ds k []))).to →
+    sum +ℤ (sum_range (drop k ns) (drop k ds)).to ≡ all → (sum +ℤ term) +ℤ (sum_range (drop (k + 1) ns) (drop (k + 1) ds)).to ≡ all
+greatest_more ns ds k sum term all l m e h =
+    end_more sum term (product (point (get_or ns k (pos 0))) (span (get_or ds k []))).to (sum_range (drop k ns) (drop k ds)).to (sum_range (drop (k + 1) ns) (drop (k + 1) ds)).to all e (ap (λ (r : Range). r.to) (sum_step ns ds k l m)) h
+
+-- and none more
+pub end_none : (sum rest all : ℤ) → sum +ℤ rest ≡ all → rest ≡ pos 0 → sum ≡ all
+end_none sum rest all h e = omega (arith, ints, h, e)

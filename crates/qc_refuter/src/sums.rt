@@ -49,21 +49,7 @@ fn ordered(p: i64, q: i64) -> Reach
     }
 }
 
-// What a factor times an argument can be, as a view shows it.
-fn term_shown(factor: i64, arg: Arg, view: &View) -> Reach
-    requires factor { IsTrue (is_number factor) }
-    requires open { IsTrue (is_open (seen view.now) arg) }
-    ensures value { range_of result.from result.to ≡ product_of (point factor) (span (left_to (seen view.now) arg)) }
-    ensures small_from { unsigned_abs result.from ≤ 10 ^ 18 }
-    ensures small_to { unsigned_abs result.to ≤ 10 ^ 18 }
-{
-    ordered(
-        product(factor, least(arg, view)),
-        product(factor, greatest(arg, view)),
-    )
-}
-
-// What it can be on the box of a store.
+// What a factor times an argument can be on the box of a store.
 fn term_left(factor: i64, arg: Arg, store: &Store) -> Reach
     requires factor { IsTrue (is_number factor) }
     requires open { IsTrue (is_open store.now.box arg) }
@@ -83,56 +69,78 @@ fn term_left(factor: i64, arg: Arg, store: &Store) -> Reach
     }
 }
 
-// Whether the view shows all that is left to the argument: a number, or another variable than the view's.
-fn is_whole(arg: Arg, view: &View) -> bool
-    ensures { result ≡ true → left_to (seen view.now) arg ≡ left_to view.now.store.now.box arg }
-{
-    match arg {
-        Arg::Num(_) => true,
-        Arg::Var(y) => y.0 != view.x.0,
-    }
-}
-
-// The same, with one look at an argument that the view shows whole.
-fn term(factor: i64, arg: Arg, view: &View) -> Reach
+// The least that a factor times an argument can be, as a view shows it.
+fn least_term(factor: i64, arg: Arg, view: &View) -> i64
     requires factor { IsTrue (is_number factor) }
     requires open { IsTrue (is_open (seen view.now) arg) }
-    ensures value { range_of result.from result.to ≡ product_of (point factor) (span (left_to (seen view.now) arg)) }
-    ensures small_from { unsigned_abs result.from ≤ 10 ^ 18 }
-    ensures small_to { unsigned_abs result.to ≤ 10 ^ 18 }
+    ensures value { result ≡ (product_of (point factor) (span (left_to (seen view.now) arg))).from }
+    ensures small { unsigned_abs result ≤ 10 ^ 18 }
 {
-    if is_whole(arg, view) {
-        term_left(factor, arg, view.store)
+    if factor < 0 {
+        product(factor, greatest(arg, view))
     } else {
-        term_shown(factor, arg, view)
+        product(factor, least(arg, view))
     }
 }
 
-// At most 1,000 terms.
-pub(crate) fn sum_of(factors: &[i64], items: &[Arg], view: &View) -> Extent
+// The greatest that it can be.
+fn greatest_term(factor: i64, arg: Arg, view: &View) -> i64
+    requires factor { IsTrue (is_number factor) }
+    requires open { IsTrue (is_open (seen view.now) arg) }
+    ensures value { result ≡ (product_of (point factor) (span (left_to (seen view.now) arg))).to }
+    ensures small { unsigned_abs result ≤ 10 ^ 18 }
+{
+    if factor < 0 {
+        product(factor, least(arg, view))
+    } else {
+        product(factor, greatest(arg, view))
+    }
+}
+
+// The least that a sum of at most 1,000 terms can be. Mostly one end of a sum tells enough, and then the other isn't read.
+fn least_sum(factors: &[i64], items: &[Arg], view: &View) -> i128
     requires factors { IsTrue (list_all is_number factors.now) }
     requires items { IsTrue (list_all (is_open (seen view.now)) items.now) }
     requires few { length items.now ≤ 1000 }
-    ensures value { range_of result.from result.to ≡ sum_range factors.now (map (left_to (seen view.now)) items.now) }
-    ensures small_from { unsigned_abs result.from ≤ 10 ^ 21 }
-    ensures small_to { unsigned_abs result.to ≤ 10 ^ 21 }
+    ensures { result ≡ (sum_range factors.now (map (left_to (seen view.now)) items.now)).from }
 {
     let count = factors.len().min(items.len());
-    let mut from: i128 = 0;
-    let mut to: i128 = 0;
+    let mut sum: i128 = 0;
     for k in 0..count {
-        let one = term(factors[k], items[k], view);
-        from += one.from as i128;
-        to += one.to as i128;
+        sum += least_term(factors[k], items[k], view) as i128;
     }
-    Extent { from, to }
+    sum
 }
 
-fn sum_at(args: &[Argument], view: &View) -> Extent
-    requires { IsTrue (are_met (seen view.now) args.now) }
-    ensures { range_of result.from result.to ≡ sum_in (lefts (seen view.now) args.now) }
+// The greatest that it can be.
+fn greatest_sum(factors: &[i64], items: &[Arg], view: &View) -> i128
+    requires factors { IsTrue (list_all is_number factors.now) }
+    requires items { IsTrue (list_all (is_open (seen view.now)) items.now) }
+    requires few { length items.now ≤ 1000 }
+    ensures { result ≡ (sum_range factors.now (map (left_to (seen view.now)) items.now)).to }
 {
-    sum_of(numbers_met(args, 0, view), items_met(args, 1, view), view)
+    let count = factors.len().min(items.len());
+    let mut sum: i128 = 0;
+    for k in 0..count {
+        sum += greatest_term(factors[k], items[k], view) as i128;
+    }
+    sum
+}
+
+// The least that the sum of the arguments can be.
+fn least_in(args: &[Argument], view: &View) -> i128
+    requires { IsTrue (are_met (seen view.now) args.now) }
+    ensures { result ≡ (sum_in (lefts (seen view.now) args.now)).from }
+{
+    least_sum(numbers_met(args, 0, view), items_met(args, 1, view), view)
+}
+
+// The greatest that it can be.
+fn greatest_in(args: &[Argument], view: &View) -> i128
+    requires { IsTrue (are_met (seen view.now) args.now) }
+    ensures { result ≡ (sum_in (lefts (seen view.now) args.now)).to }
+{
+    greatest_sum(numbers_met(args, 0, view), items_met(args, 1, view), view)
 }
 
 // The sum can't be the third argument.
@@ -140,8 +148,10 @@ pub(crate) fn sum_equal_refuted(args: &[Argument], view: &View) -> bool
     requires { IsTrue (are_met (seen view.now) args.now) }
     ensures { result ≡ refuted_as SumEqual (lefts (seen view.now) args.now) }
 {
-    let sum = sum_at(args, view);
-    sum.to < least_at(args, 2, view) as i128 || (greatest_at(args, 2, view) as i128) < sum.from
+    if (greatest_at(args, 2, view) as i128) < least_in(args, view) {
+        return true;
+    }
+    greatest_in(args, view) < least_at(args, 2, view) as i128
 }
 
 // The sum can only be the least value of the third argument.
@@ -149,23 +159,22 @@ pub(crate) fn sum_equal_entailed(args: &[Argument], view: &View) -> bool
     requires { IsTrue (are_met (seen view.now) args.now) }
     ensures { result ≡ entailed_as SumEqual (lefts (seen view.now) args.now) }
 {
-    let sum = sum_at(args, view);
     let number = least_at(args, 2, view) as i128;
-    sum.from == number && sum.to == number
+    least_in(args, view) == number && greatest_in(args, view) == number
 }
 
 pub(crate) fn sum_at_most_refuted(args: &[Argument], view: &View) -> bool
     requires { IsTrue (are_met (seen view.now) args.now) }
     ensures { result ≡ refuted_as SumAtMost (lefts (seen view.now) args.now) }
 {
-    (greatest_at(args, 2, view) as i128) < sum_at(args, view).from
+    (greatest_at(args, 2, view) as i128) < least_in(args, view)
 }
 
 pub(crate) fn sum_at_most_entailed(args: &[Argument], view: &View) -> bool
     requires { IsTrue (are_met (seen view.now) args.now) }
     ensures { result ≡ entailed_as SumAtMost (lefts (seen view.now) args.now) }
 {
-    sum_at(args, view).to <= least_at(args, 2, view) as i128
+    greatest_in(args, view) <= least_at(args, 2, view) as i128
 }
 
 pub(crate) fn sum_different_refuted(args: &[Argument], view: &View) -> bool

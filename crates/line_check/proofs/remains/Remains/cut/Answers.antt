@@ -21,7 +21,10 @@ no_some : (r : Removed) → Some ≡ r → r ≡ Emptied → ⊥
 no_some r e f = let p : Some ≡ Emptied = e ∙ f in cc
 
 pub remove-requires-clause-room : goal.remove-requires-clause-room
-remove-requires-clause-room c = omega (arith, c.trail_need-need.ensures.need, c.trail_need-need.ensures.most, room_now c.self.inside.store c.self.invariant.1 c.trail_known.ensures)
+remove-requires-clause-room c =
+    let lo_fits : SFits w64 c.args.lo = search rules in
+    let hi_fits : SFits w64 c.args.hi = search rules in
+    simp to_z-of_z (omega (arith, c.need_known.ensures c.args.lo c.args.hi, room_now c.self.inside.store c.self.invariant.1 c.trail_known.ensures))
 
 pub invariant_of-self-in-Nothing : goal.invariant_of-self-in-Nothing
 invariant_of-self-in-Nothing c =
