@@ -29,23 +29,28 @@ pub(crate) fn literal<'a>(text: &'a [u8], wanted: &[u8]) -> Result<&'a [u8], Par
 }
 
 // The value with one more digit, where it is at most so far from 0.
+#[inline(always)]
 pub(crate) fn with_digit(value: u64, byte: u8, most: u64) -> Option<u64>
     requires { (9 ≤ most) × (most ≤ 2 ^ 62) }
     ensures { MatchOption result ((48 ≤ byte) → (byte ≤ 57) → most < 10 * value + (byte - 48)) (λ sum. (48 ≤ byte) × (byte ≤ 57) × (sum ≡ 10 * value + (byte - 48)) × (sum ≤ most)) }
 {
     match byte {
         b'0'..=b'9' => {
-            let digit = u64::from(byte - b'0');
-            if value <= (most - digit) / 10 {
-                Some(10 * value + digit)
-            } else {
-                None
+            // a tenth of the most is the same for each digit
+            if value > most / 10 {
+                return None;
             }
+            let sum = 10 * value + u64::from(byte - b'0');
+            if sum > most {
+                return None;
+            }
+            Some(sum)
         }
         _ => None,
     }
 }
 
+#[inline(always)]
 fn digits(text: &[u8], first: u64, most: u64, end: u8) -> Result<(u64, &[u8]), PartFault>
     requires { (9 ≤ most) × (most ≤ 2 ^ 62) × (end < 48) × (1 ≤ first) × (first ≤ most) }
     ensures ok { IfOk result (λ r. (decimal first ++ text.now ≡ decimal r.0 ++ end ∷ r.1.now) × (1 ≤ r.0) × (r.0 ≤ most) × Passes (some_digits most first end ∷ []) text.now r.1.now) }
@@ -80,6 +85,7 @@ pub(crate) fn number(text: &[u8], most: u64, end: u8) -> Result<(u64, &[u8]), Pa
 }
 
 // A number that the text counts from 1, and the byte after it.
+#[inline(always)]
 pub(crate) fn place(text: &[u8], most: u64, end: u8) -> Result<(u16, &[u8]), PartFault>
     requires { (9 ≤ most) × (most ≤ 20000) × (end < 48) }
     ensures ok { IfOk result (λ r. (text.now ≡ place_text r.0 ++ end ∷ r.1.now) × IsTrue (is_place most r.0) × Passes (a_number most end ∷ []) text.now r.1.now) }
