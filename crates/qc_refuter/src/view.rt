@@ -1,6 +1,6 @@
 //! What is left to an argument.
-ghost use Rattle.std.specs.Prelude.{◌≡◌, ◌<◌, ◌≤ℤ◌, ℤ, IsTrue, length, pos, negsuc};
-ghost use Rattle.qc_model.specs.Domains.{box_within, values_left, values_within, least_value, greatest_value, has_value, is_single};
+ghost use Rattle.std.specs.Prelude.{◌≡◌, ◌<◌, ◌≤ℤ◌, ℤ, IsTrue, IsFalse, length, pos, negsuc};
+ghost use Rattle.qc_model.specs.Domains.{box_within, values_left, values_within, least_value, greatest_value, has_value, is_none_left, is_single};
 ghost use Rattle.qc_model.specs.Refuted.{left_to};
 ghost use Rattle.fd_store.specs.Held.{values_from, least_of};
 ghost use Rattle.qc_refuter.specs.Met.{seen, is_open};
@@ -29,7 +29,18 @@ pub(crate) fn whole(store: &Store) -> View
     }
 }
 
-/// The least value left to an argument.
+// The least value that the view shows of its own variable.
+#[inline(never)]
+fn least_shown(view: &View) -> i64
+    requires x { view.now.x.0 < length view.now.store.now.box }
+    requires left { IsFalse (is_none_left (values_within view.now.lo view.now.hi (values_left view.now.store.now.box view.now.x.0))) }
+    ensures { result ≡ least_value (values_within view.now.lo view.now.hi (values_left view.now.store.now.box view.now.x.0)) }
+{
+    view.store.min_in(view.x, view.lo, view.hi)
+}
+
+/// The least value left to an argument. Most are whole in the view, so that look is made in line.
+#[inline(always)]
 pub(crate) fn least(arg: Arg, view: &View) -> i64
     requires { IsTrue (is_open (seen view.now) arg) }
     ensures { result ≡ least_value (left_to (seen view.now) arg) }
@@ -38,7 +49,7 @@ pub(crate) fn least(arg: Arg, view: &View) -> i64
         Arg::Num(n) => n,
         Arg::Var(y) => {
             if y.0 == view.x.0 {
-                view.store.min_in(y, view.lo, view.hi)
+                least_shown(view)
             } else {
                 view.store.min(y)
             }
@@ -46,7 +57,18 @@ pub(crate) fn least(arg: Arg, view: &View) -> i64
     }
 }
 
-/// The greatest value left to an argument.
+// The greatest value that the view shows of its own variable.
+#[inline(never)]
+fn greatest_shown(view: &View) -> i64
+    requires x { view.now.x.0 < length view.now.store.now.box }
+    requires left { IsFalse (is_none_left (values_within view.now.lo view.now.hi (values_left view.now.store.now.box view.now.x.0))) }
+    ensures { result ≡ greatest_value (values_within view.now.lo view.now.hi (values_left view.now.store.now.box view.now.x.0)) }
+{
+    view.store.max_in(view.x, view.lo, view.hi)
+}
+
+/// The greatest value left to an argument. Most are whole in the view, so that look is made in line.
+#[inline(always)]
 pub(crate) fn greatest(arg: Arg, view: &View) -> i64
     requires { IsTrue (is_open (seen view.now) arg) }
     ensures { result ≡ greatest_value (left_to (seen view.now) arg) }
@@ -55,7 +77,7 @@ pub(crate) fn greatest(arg: Arg, view: &View) -> i64
         Arg::Num(n) => n,
         Arg::Var(y) => {
             if y.0 == view.x.0 {
-                view.store.max_in(y, view.lo, view.hi)
+                greatest_shown(view)
             } else {
                 view.store.max(y)
             }
