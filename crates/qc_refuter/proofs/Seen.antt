@@ -1,7 +1,8 @@
 -- What a view shows of one variable.
-use Rattle.std.proofs.Common.{◌≡◌, ◌≢◌, inl, inr, ℕ, Bool, true, false, not, ◌&&◌, ◌||◌, [], ◌∷◌, refl, sym, ap, ◌∙◌, arith, ℤ}
-use Rattle.std.specs.Prelude.{int_lt, int_le, ◌≤ℤ◌}
+use Rattle.std.proofs.Common.{◌≡◌, ◌≢◌, inl, inr, ℕ, Bool, true, false, not, ◌&&◌, ◌||◌, cond, [], ◌∷◌, refl, sym, ap, ◌∙◌, arith, ℤ}
+use Rattle.std.specs.Prelude.{pos, negsuc, int_lt, int_le, ◌≤ℤ◌}
 use Rattle.std.specs.List.{list_any, list_all}
+use Rattle.std.proofs.lemmas.Bool.Decides.{nat_tests}
 use Rattle.std.proofs.lemmas.Int.{ints}
 use Rattle.std.proofs.lemmas.List.{get_or-set_other}
 use Rattle.qc_model.specs.declared.problem.Arg.{Arg}
@@ -92,3 +93,13 @@ misses_all d e f = by (list_any (has_value e) d) (none d (λ v a. f v (has_it d 
     by : (b : Bool) → b ≡ false → false ≡ not (not b)
     by true h = cc
     by false h = refl
+
+-- the whole range keeps all numbers
+pub all_within : (vs : Values) → list_all is_number vs ≡ true → values_within (negsuc 999999999) (pos 1000000000) vs ≡ vs
+all_within [] h = refl
+all_within (v ∷ vs) h =
+    ap (λ b. cond b (v ∷ values_within (negsuc 999999999) (pos 1000000000) vs) (values_within (negsuc 999999999) (pos 1000000000) vs)) (inside v (first (is_number v) (list_all is_number vs) h))
+    ∙ ap (λ us. v ∷ us) (all_within vs (second (is_number v) (list_all is_number vs) h))
+  where
+    inside : (v : ℤ) → is_number v ≡ true → is_within (negsuc 999999999) (pos 1000000000) v ≡ true
+    inside v h = grind (arith, nat_tests, ints)

@@ -74,6 +74,10 @@ abs_sum a b = grind (arith, ints)
 pub at_end : (a b k : ℕ) → min a b ≤ k → (a ≤ k) ⊎ (b ≤ k)
 at_end a b k h = elim (leb a k) as (λ t. leb a k ≡ t → (a ≤ k) ⊎ (b ≤ k)) [ true ↦ λ e. inl (leb-true a k e) | false ↦ λ e. inr (grind (arith, nat_tests)) ] refl
 
+pub some_left : (d : Values) → is_domain_left d ≡ true → is_none_left d ≡ false
+some_left [] h = cc
+some_left (v ∷ vs) h = refl
+
 pub least_small : (d : Values) → is_domain_left d ≡ true → is_number (least_value d) ≡ true
 least_small d h =
     let p = first (not (is_none_left d) && is_ascending d) (list_all is_number d) h in

@@ -1,3 +1,4 @@
+pub mod Shown
 pub mod Met
 pub mod Spanned
 pub mod Full

@@ -9,7 +9,7 @@ use Rattle.qc_model.specs.Domains.{Values, Box, box_within, is_none_left, is_asc
 use Rattle.qc_model.specs.Left.{Lefts}
 use Rattle.qc_model.specs.Refuted.{left_to}
 use Rattle.qc_model.specs.Valid.{is_number, is_set}
-use Rattle.qc_refuter.specs.declared.view.View.{View}
+use Rattle.qc_refuter.specs.declared.shown.View.{View}
 
 -- the box that a view shows
 abbrev pub seen : View → Box

@@ -5,7 +5,8 @@ ghost use Rattle.qc_model.specs.Refuted.{left_to};
 ghost use Rattle.qc_refuter.specs.Commons.{AllBelow, IsNext};
 ghost use Rattle.qc_refuter.specs.Met.{seen, is_open};
 
-use crate::view::{View, least, next};
+use crate::shown::View;
+use crate::view::{least, next};
 use qc_model::Arg;
 
 // From v to the second's next value, and from there to the first's.

@@ -7,7 +7,8 @@ ghost use Rattle.qc_refuter.specs.Met.{seen, lefts, are_met};
 
 use crate::common::meet;
 use crate::reading::{arg_met, greatest_at, least_at};
-use crate::view::{View, is_fixed, least};
+use crate::shown::View;
+use crate::view::{is_fixed, least};
 use qc_model::Argument;
 
 // No value is left to both.

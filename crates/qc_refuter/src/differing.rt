@@ -10,8 +10,9 @@ ghost use Rattle.qc_refuter.specs.Met.{seen, lefts, are_met, is_open};
 ghost use Rattle.qc_refuter.specs.Stretches.{AreEndsOf};
 
 use crate::reading::items_met;
+use crate::shown::View;
 use crate::stretches::{Ends, MOST_ITEMS, are_too_many};
-use crate::view::{View, greatest, least};
+use crate::view::{greatest, least};
 use qc_arguments::width;
 use qc_model::{Arg, Argument};
 

@@ -10,7 +10,8 @@ ghost use Rattle.qc_refuter.specs.Met.{seen, lefts, are_met, is_open};
 
 use crate::common::meet;
 use crate::reading::{arg_met, items_met, numbers_met};
-use crate::view::{View, greatest, has, least};
+use crate::shown::View;
+use crate::view::{greatest, has, least};
 use qc_model::{Arg, Argument};
 
 // The first of so many places, counted from 0, that b may name, whose numbers count from 1.

@@ -9,7 +9,8 @@ ghost use Rattle.qc_model.specs.Refuted.{left_to, refuted_as};
 ghost use Rattle.qc_refuter.specs.Met.{seen, lefts, are_met, is_open};
 
 use crate::reading::{greatest_at, items_met, least_at};
-use crate::view::{View, greatest, least};
+use crate::shown::View;
+use crate::view::{greatest, least};
 use qc_model::{Arg, Argument};
 
 /// The numbers from one to another.

@@ -12,7 +12,8 @@ ghost use Rattle.qc_arguments.specs.Asked.{IsAsked};
 ghost use Rattle.qc_refuter.specs.Met.{seen, is_open};
 ghost use Rattle.qc_refuter.specs.Full.{held, ends_past, first_sum, AreWidest};
 
-use crate::view::{View, greatest, least, whole};
+use crate::shown::View;
+use crate::view::{greatest, least, whole};
 use fd_store::Store;
 use qc_arguments::width;
 use qc_model::{Arg, Constraint, Problem};

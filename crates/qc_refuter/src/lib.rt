@@ -12,6 +12,7 @@ mod ends;
 mod full;
 mod members;
 mod reading;
+mod shown;
 mod spans;
 mod stretches;
 mod sums;

@@ -14,7 +14,8 @@ ghost use Rattle.qc_refuter.specs.Members.{IsMemberFrom, NoMemberFrom};
 ghost use Rattle.qc_refuter.specs.Met.{seen, lefts, are_met, is_open};
 
 use crate::reading::arg_met;
-use crate::view::{View, greatest, least, next};
+use crate::shown::View;
+use crate::view::{greatest, least, next};
 use qc_arguments::{contains, members_at};
 use qc_model::{Arg, Argument, Set};
 

@@ -8,7 +8,8 @@ ghost use Rattle.qc_model.specs.Refuted.{left_to};
 ghost use Rattle.qc_model.specs.Valid.{is_number};
 ghost use Rattle.qc_refuter.specs.Met.{seen, lefts, are_met, is_open};
 
-use crate::view::{View, greatest, least};
+use crate::shown::View;
+use crate::view::{greatest, least};
 use qc_model::{Arg, Argument};
 
 /// A variable or a number.

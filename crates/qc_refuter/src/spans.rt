@@ -8,7 +8,8 @@ ghost use Rattle.qc_refuter.specs.Met.{seen, lefts, are_met, is_open};
 ghost use Rattle.qc_refuter.specs.Spanned.{range_in, is_small};
 
 use crate::reading::arg_met;
-use crate::view::{View, greatest, least};
+use crate::shown::View;
+use crate::view::{greatest, least};
 use fd_interval::{Span, abs, add, div, mul, rem, span_of};
 use qc_model::{Arg, Argument};
 

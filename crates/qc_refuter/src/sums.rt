@@ -13,7 +13,8 @@ ghost use Rattle.qc_refuter.specs.Met.{seen, lefts, are_met, is_open};
 
 use crate::ends::Reach;
 use crate::reading::{greatest_at, items_met, least_at, numbers_met};
-use crate::view::{View, greatest, least};
+use crate::shown::View;
+use crate::view::{greatest, least};
 use fd_store::Store;
 use qc_model::{Arg, Argument, Constraint, Problem};
 

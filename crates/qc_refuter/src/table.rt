@@ -11,7 +11,8 @@ ghost use Rattle.qc_arguments.specs.Asked.{IsAsked};
 ghost use Rattle.qc_refuter.specs.Met.{seen, lefts, are_met};
 
 use crate::reading::last_met;
-use crate::view::{View, has, whole};
+use crate::shown::{Ends, View};
+use crate::view::{has, whole};
 use crate::{comparisons, differing, elements, ends, members, spans, sums, truths};
 use fd_store::Store;
 use qc_arguments::arguments;
@@ -135,7 +136,17 @@ pub fn rule_refutes_in(
     ensures { result ≡ refuted_by rule.now (box_within store.now.box x.0 lo hi) }
 {
     problem.known();
-    let view = View { store, x, lo, hi };
+    let ends = Ends {
+        least: store.min_in(x, lo, hi),
+        greatest: store.max_in(x, lo, hi),
+    };
+    let view = View {
+        store,
+        x,
+        lo,
+        hi,
+        ends,
+    };
     refutes_view(rule, &view)
 }
 

@@ -10,7 +10,8 @@ ghost use Rattle.qc_model.specs.Refuted.{left_to, refuted_as};
 ghost use Rattle.qc_refuter.specs.Met.{seen, lefts, are_met, is_open};
 
 use crate::reading::{arg_met, items_met, least_at};
-use crate::view::{View, is_fixed, least};
+use crate::shown::View;
+use crate::view::{is_fixed, least};
 use qc_model::{Arg, Argument};
 
 fn is_fixed_at(args: &[Argument], place: usize, view: &View) -> bool

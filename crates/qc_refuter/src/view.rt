@@ -1,45 +1,52 @@
 //! What is left to an argument.
-ghost use Rattle.std.specs.Prelude.{◌≡◌, ◌<◌, ◌≤ℤ◌, ℤ, IsTrue, IsFalse, length, pos, negsuc};
-ghost use Rattle.qc_model.specs.Domains.{box_within, values_left, values_within, least_value, greatest_value, has_value, is_none_left, is_single};
+ghost use Rattle.std.specs.Prelude.{◌≡◌, ◌<◌, ◌≤ℤ◌, ℤ, IsTrue, length, pos, negsuc};
+ghost use Rattle.qc_model.specs.Domains.{box_within, values_left, values_within, least_value, greatest_value, has_value, is_single};
 ghost use Rattle.qc_model.specs.Refuted.{left_to};
 ghost use Rattle.fd_store.specs.Held.{values_from, least_of};
+ghost use Rattle.qc_refuter.specs.Shown.{HasEnds};
 ghost use Rattle.qc_refuter.specs.Met.{seen, is_open};
 
+use crate::shown::{Ends, View};
 use fd_store::Store;
 use qc_model::{Arg, VarId};
 
-/// A store in which x keeps only its values from lo to hi.
-#[derive(Clone, Copy)]
-pub(crate) struct View<'a> {
-    pub(crate) store: &'a Store,
-    pub(crate) x: VarId,
-    pub(crate) lo: i64,
-    pub(crate) hi: i64,
+// The ends of the first variable's values, where it has some.
+fn first_ends(store: &Store) -> Ends
+    ensures { HasEnds result (values_within (negsuc 999999999) (pos 1000000000) (values_left store.now.box 0)) }
+{
+    let none = Ends {
+        least: 0,
+        greatest: 0,
+    };
+    if store.count() == 0 {
+        return none;
+    }
+    let first = VarId(0);
+    if store.size(first) == 0 {
+        return none;
+    }
+    store.known(first);
+    Ends {
+        least: store.min(first),
+        greatest: store.max(first),
+    }
 }
 
 /// The whole range of numbers keeps every value.
 pub(crate) fn whole(store: &Store) -> View
     ensures { seen result ≡ box_within store.now.box 0 (negsuc 999999999) (pos 1000000000) }
 {
+    let ends = first_ends(store);
     View {
         store,
         x: VarId(0),
         lo: -1_000_000_000,
         hi: 1_000_000_000,
+        ends,
     }
 }
 
-// The least value that the view shows of its own variable.
-#[inline(never)]
-fn least_shown(view: &View) -> i64
-    requires x { view.now.x.0 < length view.now.store.now.box }
-    requires left { IsFalse (is_none_left (values_within view.now.lo view.now.hi (values_left view.now.store.now.box view.now.x.0))) }
-    ensures { result ≡ least_value (values_within view.now.lo view.now.hi (values_left view.now.store.now.box view.now.x.0)) }
-{
-    view.store.min_in(view.x, view.lo, view.hi)
-}
-
-/// The least value left to an argument. Most are whole in the view, so that look is made in line.
+/// The least value left to an argument.
 #[inline(always)]
 pub(crate) fn least(arg: Arg, view: &View) -> i64
     requires { IsTrue (is_open (seen view.now) arg) }
@@ -49,7 +56,7 @@ pub(crate) fn least(arg: Arg, view: &View) -> i64
         Arg::Num(n) => n,
         Arg::Var(y) => {
             if y.0 == view.x.0 {
-                least_shown(view)
+                view.ends.least
             } else {
                 view.store.min(y)
             }
@@ -57,17 +64,7 @@ pub(crate) fn least(arg: Arg, view: &View) -> i64
     }
 }
 
-// The greatest value that the view shows of its own variable.
-#[inline(never)]
-fn greatest_shown(view: &View) -> i64
-    requires x { view.now.x.0 < length view.now.store.now.box }
-    requires left { IsFalse (is_none_left (values_within view.now.lo view.now.hi (values_left view.now.store.now.box view.now.x.0))) }
-    ensures { result ≡ greatest_value (values_within view.now.lo view.now.hi (values_left view.now.store.now.box view.now.x.0)) }
-{
-    view.store.max_in(view.x, view.lo, view.hi)
-}
-
-/// The greatest value left to an argument. Most are whole in the view, so that look is made in line.
+/// The greatest value left to an argument.
 #[inline(always)]
 pub(crate) fn greatest(arg: Arg, view: &View) -> i64
     requires { IsTrue (is_open (seen view.now) arg) }
@@ -77,7 +74,7 @@ pub(crate) fn greatest(arg: Arg, view: &View) -> i64
         Arg::Num(n) => n,
         Arg::Var(y) => {
             if y.0 == view.x.0 {
-                greatest_shown(view)
+                view.ends.greatest
             } else {
                 view.store.max(y)
             }
