@@ -1,5 +1,5 @@
 -- Boxes that look the same, and what the laws ask of them and of the tree.
-use Rattle.std.proofs.Common.{◌≡◌, ℕ, zero, suc, ◌<◌, true, false, [], ◌∷◌, length, refl, arith, None}
+use Rattle.std.proofs.Common.{◌≡◌, ℕ, zero, suc, ◌<◌, true, false, [], ◌∷◌, length, drop, refl, arith, None}
 use Rattle.std.specs.Prelude.{pos, codes, IsTrue, IsFalse}
 use Rattle.qc_model.specs.declared.problem.Kind.TheVariants.{Exists}
 use Rattle.qc_model.specs.declared.problem.Arg.TheVariants.{Var, Num}
@@ -7,6 +7,7 @@ use Rattle.qc_model.specs.declared.problem.Argument.TheVariants.{One}
 use Rattle.qc_model.specs.declared.problem.Pred.TheVariants.{IntLt}
 use Rattle.qc_model.specs.declared.problem.Domain.TheVariants.{Range}
 use Rattle.qc_model.specs.Content.{Game}
+use Rattle.qc_model.specs.Demands.{demands}
 use Rattle.qc_model.specs.Domains.{Box, values_left, is_none_left}
 use Rattle.proof_tree.specs.Tree.{Tree, tree, cases, empty}
 use Rattle.proof_tree.specs.InPlace.{in_place}
@@ -51,7 +52,7 @@ own_removal = tree None (cases (prune 1 (pos 0) (pos 1) 0 ∷ []) empty)
 own_looks : looks game own_removal 1 ≡ true
 own_looks = refl
 
-in_both : (in_place game own_removal (scope Exists ∷ []) 1 [] x_is_0 None ≡ true) × (in_place game own_removal (scope Exists ∷ []) 1 [] x_is_1 None ≡ true)
+in_both : (in_place game own_removal (drop 1 game.scopes) 1 (demands game 1) x_is_0 None ≡ true) × (in_place game own_removal (drop 1 game.scopes) 1 (demands game 1) x_is_1 None ≡ true)
 in_both = (refl, refl)
 
 -- 1 isn't below 0, so any value of any variable may be removed; x has 0 in one of the boxes alone
@@ -61,7 +62,7 @@ foreign_removal = tree None (cases (prune 0 (pos 0) (pos 0) 1 ∷ []) empty)
 foreign_looks_away : (looks game foreign_removal 1 ≡ false) × (owns game foreign_removal 1 ≡ false)
 foreign_looks_away = (refl, refl)
 
-in_one : (in_place game foreign_removal (scope Exists ∷ []) 1 [] x_is_0 None ≡ true) × (in_place game foreign_removal (scope Exists ∷ []) 1 [] x_is_1 None ≡ false)
+in_one : (in_place game foreign_removal (drop 1 game.scopes) 1 (demands game 1) x_is_0 None ≡ true) × (in_place game foreign_removal (drop 1 game.scopes) 1 (demands game 1) x_is_1 None ≡ false)
 in_one = (refl, refl)
 
 -- a variable that nothing looks at counts where it has no value left
@@ -71,5 +72,5 @@ none_for_x = [] ∷ (pos 0 ∷ pos 1 ∷ []) ∷ []
 abbrev nothing_left : Tree
 nothing_left = tree None (cases [] empty)
 
-empty_in_one : (in_place game nothing_left (scope Exists ∷ []) 1 [] none_for_x None ≡ true) × (in_place game nothing_left (scope Exists ∷ []) 1 [] x_is_0 None ≡ false)
+empty_in_one : (in_place game nothing_left (drop 1 game.scopes) 1 (demands game 1) none_for_x None ≡ true) × (in_place game nothing_left (drop 1 game.scopes) 1 (demands game 1) x_is_0 None ≡ false)
 empty_in_one = (refl, refl)

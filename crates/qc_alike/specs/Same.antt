@@ -12,7 +12,7 @@ use Rattle.proof_tree.specs.Incumbents.{keeps}
 use Rattle.proof_tree.specs.Diligent.{closes, Foresees}
 
 -- The tree of a node of scope i, which has the list d, is in place in b, comes to the same as in a, and is in order, keeps
--- its incumbents, closes its boxes and sees ahead in b where it does in a. Later has the scopes from i on, and h is the
+-- its incumbents, closes its boxes and sees ahead in b where it does in a; later has the scopes from i on, and h is the
 -- horizon in force. The plans that it shows in a and in b may differ: they have the values of a position.
 pub record DoesAlike (g : Game) (t : Tree) (later : List Scope) (i : ℕ) (d : List Condition) (a b : Box) (h : Option ℕ) : Type 0 where
   pub placed : IsTrue (in_place g t later i d b h)
