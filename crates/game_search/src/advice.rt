@@ -1,8 +1,10 @@
 //! Which tuple of a scope is tried first.
 //!
 //! It is the tuple that ended the same position before (`residues`, `positions`), where one is kept; else the last tuple that
-//! ended a node of the scope: it settled the node, or gave a bound that the incumbent of the scope right above beats. What is
-//! tried is proved as any case is, so bad advice costs turns and time, and nothing else.
+//! ended a node of the scope, or what a free search finds (`looks`). A tuple ends a node where it settles it, or gives a bound
+//! that the incumbent of the scope right above beats. What is tried is proved as any case is, so bad advice costs turns and
+//! time, and nothing else.
+use crate::looks::Looks;
 use crate::positions::Positions;
 use crate::residues::Residues;
 use qc_model::{Kind, ScopeId, VarId};
@@ -14,6 +16,9 @@ const FIRST_TRUST: u8 = 4;
 
 /// How much advice can be trusted.
 const MOST_TRUST: u8 = 32;
+
+/// What a try that fails costs of the trust, where one that serves earns 1.
+const LOST_TRUST: u8 = 2;
 
 /// The widest tuple that is kept for a position.
 const MOST_WIDTH: usize = 32;
@@ -37,21 +42,29 @@ struct Standing {
     met: u32,
     /// Whether the last one had.
     was_met: bool,
+    /// The number of the position that the search is at, where a tuple may be kept for it.
+    position: Option<u64>,
 }
 
 /// For each scope the values of the last tuple, in the places of its variables, the tuples of positions, and how far both are
 /// trusted: a try that serves makes up for one that fails.
 #[derive(Drop)]
-pub(crate) struct Advice {
+pub(crate) struct Advice<'p> {
     values: Vec<i64>,
     scopes: Vec<Standing>,
     residues: Residues,
     positions: Positions,
+    looks: Looks<'p>,
 }
 
-impl Advice {
-    /// No advice for any scope. Only with `tries` positions are kept later. It fails only where memory runs out.
-    pub(crate) fn new(alloc: Global, levels: &Levels, tries: bool) -> Result<Advice, AllocError> {
+impl<'p> Advice<'p> {
+    /// No advice for any scope. Only with `tries` positions are kept later, and tuples looked for. It fails only where memory
+    /// runs out.
+    pub(crate) fn new(
+        alloc: Global,
+        levels: &Levels<'p>,
+        tries: bool,
+    ) -> Result<Advice<'p>, AllocError> {
         levels.problem.known();
         let standing = Standing {
             is_known: false,
@@ -60,47 +73,91 @@ impl Advice {
             notes: 0,
             met: 0,
             was_met: false,
+            position: None,
         };
         let values = vec![in alloc; 0i64; levels.problem.variables()]?;
         let scopes = vec![in alloc; standing; levels.problem.scopes()]?;
         let wanted = wanted_scopes(alloc, levels, tries)?;
         let residues = Residues::new(alloc, levels, wanted.as_slice())?;
         let positions = Positions::new(alloc, widest(levels, wanted.as_slice()))?;
+        let looks = Looks::new(alloc, levels, tries);
         Ok(Advice {
             values,
             scopes,
             residues,
             positions,
+            looks,
         })
     }
 
-    /// Whether there is a tuple that is worth a try at a node of the scope, where variables have these values.
-    pub(crate) fn is_asked(&self, level: &Level, values: &[i64]) -> bool {
+    /// Begins a node of the scope, where variables have these values and so many turns are left: finds the number of its
+    /// position, and looks for a tuple where that is worth it. It fails only where memory runs out.
+    pub(crate) fn enter(
+        &mut self,
+        level: &Level,
+        values: &[i64],
+        left: u64,
+    ) -> Result<(), AllocError> {
+        let position = self.number(level, values);
+        if let Some(standing) = self.scopes.get_mut(level.number as usize) {
+            standing.position = position;
+        }
+        if self.looks.look(level, values, left)? {
+            self.take_found(level);
+        }
+        Ok(())
+    }
+
+    /// Ends a node of the scope, where so many turns are left.
+    pub(crate) fn leave(&mut self, level: &Level, left: u64) {
+        self.looks.learn(level, left);
+    }
+
+    /// From now on the tuple that was looked for is the scope's, and worth a try.
+    fn take_found(&mut self, level: &Level) {
+        for x in level.from..level.stop {
+            if let Some(place) = self.values.get_mut(x) {
+                *place = self.looks.value(x);
+            }
+        }
+        if let Some(standing) = self.scopes.get_mut(level.number as usize) {
+            standing.is_known = true;
+            standing.last = standing.last.max(1);
+        }
+    }
+
+    /// Whether there is a tuple that is worth a try at the node of the scope.
+    pub(crate) fn is_asked(&self, level: &Level) -> bool {
         match self.scopes.get(level.number as usize) {
             Some(standing) => {
-                standing.is_known && (standing.last > 0 || self.kept(level, values).is_some())
+                standing.is_known && (standing.last > 0 || self.kept(level).is_some())
             }
             None => false,
         }
     }
 
     /// The value that x has in the tuple of its scope.
-    pub(crate) fn value(&self, level: &Level, x: VarId, values: &[i64]) -> i64 {
+    pub(crate) fn value(&self, level: &Level, x: VarId) -> i64 {
         let x = x.0 as usize;
-        if let Some(number) = self.kept(level, values) {
+        if let Some(number) = self.kept(level) {
             return self.positions.value(number, x.saturating_sub(level.from));
         }
         value_at(self.values.as_slice(), x)
     }
 
     /// The number of the scope's position, where a tuple is kept for it.
-    fn kept(&self, level: &Level, values: &[i64]) -> Option<u64> {
-        let number = self.number(level, values)?;
+    fn kept(&self, level: &Level) -> Option<u64> {
+        let number = self.position(level)?;
         if self.positions.has(number) {
             Some(number)
         } else {
             None
         }
+    }
+
+    /// The number of the position that the search is at in the scope.
+    fn position(&self, level: &Level) -> Option<u64> {
+        self.scopes.get(level.number as usize)?.position
     }
 
     /// The number of the scope's position, where it is worth to be looked up.
@@ -128,7 +185,7 @@ impl Advice {
         for x in level.from..level.stop {
             self.copy(x, values);
         }
-        if let Some(number) = self.number(level, values) {
+        if let Some(number) = self.position(level) {
             self.keep(number, level, values);
         }
     }
@@ -153,8 +210,8 @@ impl Advice {
     }
 
     /// Learns whether a try of the scope's tuple served.
-    pub(crate) fn tell(&mut self, level: &Level, values: &[i64], served: bool) {
-        let is_kept = self.kept(level, values).is_some();
+    pub(crate) fn tell(&mut self, level: &Level, served: bool) {
+        let is_kept = self.kept(level).is_some();
         if let Some(standing) = self.scopes.get_mut(level.number as usize) {
             standing.tell(is_kept, served);
         }
@@ -193,7 +250,7 @@ fn value_at(values: &[i64], x: usize) -> i64 {
 
 fn trusted_then(left: u8, served: bool) -> u8 {
     if !served {
-        return left.saturating_sub(1);
+        return left.saturating_sub(LOST_TRUST);
     }
     if left < MOST_TRUST { left + 1 } else { left }
 }
@@ -214,7 +271,7 @@ fn wanted_scopes(alloc: Global, levels: &Levels, tries: bool) -> Result<Vec<bool
 }
 
 /// Whether something may be demanded after the scope, where something may be before.
-fn demands_after(level: &Level, before: bool) -> bool {
+pub(crate) fn demands_after(level: &Level, before: bool) -> bool {
     match level.kind {
         Kind::Exists => before || level.has_condition,
         Kind::Forall => before

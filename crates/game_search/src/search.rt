@@ -154,7 +154,10 @@ fn own_tree(stage: &Stage, walk: &mut Walk) -> Result<Found, AllocError>
 {
     stage.level.problem.known();
     walk.remains.known();
+    walk.advice
+        .enter(stage.level, walk.remains.all_values(), walk.left)?;
     own_part(stage, walk)?;
+    walk.advice.leave(stage.level, walk.left);
     Ok(verdict(stage.level, walk))
 }
 
@@ -173,8 +176,7 @@ fn own_part(stage: &Stage, walk: &mut Walk) -> Result<(), AllocError>
     }
     let start = walk.lines.len();
     let is_whole = closed_part(stage, true, walk)?;
-    walk.advice
-        .tell(stage.level, walk.remains.all_values(), is_whole);
+    walk.advice.tell(stage.level, is_whole);
     if is_whole {
         return Ok(());
     }
@@ -187,7 +189,7 @@ fn own_part(stage: &Stage, walk: &mut Walk) -> Result<(), AllocError>
 fn is_advised(stage: &Stage, walk: &Walk) -> bool
     ensures { IsTrue result → IsTrue stage.now.cuts }
 {
-    stage.cuts && walk.advice.is_asked(stage.level, walk.remains.all_values())
+    stage.cuts && walk.advice.is_asked(stage.level)
 }
 
 /// A scope's own tree in the box as it is closed. With `tries` only advised values are gone into, and whether that is enough
@@ -441,7 +443,7 @@ fn value_to_try(stage: &Stage, x: VarId, walk: &Walk) -> Option<i64>
     if walk.left == 0 {
         return None;
     }
-    let value = walk.advice.value(stage.level, x, walk.remains.all_values());
+    let value = walk.advice.value(stage.level, x);
     if !walk.remains.has(x, value) {
         return None;
     }

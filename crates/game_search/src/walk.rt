@@ -16,5 +16,5 @@ pub(crate) struct Walk<'p> {
     pub(crate) lines: Arena,
     pub(crate) kept: Vec<Line>,
     pub(crate) left: u64,
-    pub(crate) advice: Advice,
+    pub(crate) advice: Advice<'p>,
 }

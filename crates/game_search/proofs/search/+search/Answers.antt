@@ -360,7 +360,7 @@ pub own_tree-verdict-requires : goal.own_tree-verdict-requires
 own_tree-verdict-requires t c =
     let l = c.args.stage.now.level.now in
     let back = c.in_ok-own_part.ensures.back in
-    record { here = entered_back l.problem.now l.number c.args.walk.now c.own_part.new.walk back c.requires.here; joins = back.game ∙ c.requires.joins }
+    record { here = entered_back l.problem.now l.number _ c.own_part.new.walk back c.requires.here; joins = back.game ∙ c.requires.joins }
 
 pub own_tree-returns-clause-told : goal.own_tree-returns-clause-told
 own_tree-returns-clause-told t c =
@@ -377,7 +377,11 @@ own_tree-returns-clause-told t c =
 pub own_tree-returns-clause-back : goal.own_tree-returns-clause-back
 own_tree-returns-clause-back t c =
     let l = c.args.stage.now.level.now in
-    back_more l.problem.now l.number c.args.walk.now c.own_part.new.walk c.verdict.new.walk c.in_ok-own_part.ensures.back c.verdict.ensures.remains c.verdict.ensures.game (λ j xs h s. c.verdict.ensures.joins j xs s) [] (c.verdict.ensures.lines ∙ sym (append-nil c.own_part.new.walk.lines)) (omega (arith, c.verdict.ensures.left))
+    let g = l.problem.now in
+    let i = l.number in
+    let a = c.args.walk.now in
+    let back = both_back g i a _ c.own_part.new.walk (cut_back g i a a _ (none_back g i a) refl refl refl refl) c.in_ok-own_part.ensures.back in
+    back_more g i a _ c.verdict.new.walk back c.verdict.ensures.remains c.verdict.ensures.game (λ j xs h s. c.verdict.ensures.joins j xs s) [] (c.verdict.ensures.lines ∙ sym (append-nil c.own_part.new.walk.lines)) (omega (arith, c.verdict.ensures.left))
 
 pub own_part-returns-clause-told : goal.own_part-returns-clause-told
 own_part-returns-clause-told t c =
