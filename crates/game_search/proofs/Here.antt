@@ -544,7 +544,7 @@ node_ended cuts above g i h valid scope box last_box b numbers apart outdoes ahe
     (λ xs s. verdict_long g i (position g i box) xs scope s) (λ xs n s l. verdict_sized g i (position g i box) xs n valid numbers s l)))
 
 -- a node that nobody passes
-stuck_own : (later : List Scope) (g : Game) (d : List Condition) (a : List ℤ) → (stuck_finding later g d a).own ≡ None
+pub stuck_own : (later : List Scope) (g : Game) (d : List Condition) (a : List ℤ) → (stuck_finding later g d a).own ≡ None
 stuck_own [] g d a = refl
 stuck_own (s ∷ later) g d a = by s.kind
   where

@@ -19,3 +19,4 @@ pub mod Ruling
 pub mod Losing
 pub mod Outdone
 pub mod Rivals
+pub mod Knowing

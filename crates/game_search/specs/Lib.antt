@@ -12,3 +12,4 @@ pub mod Aims
 pub mod Props
 pub mod Narrowed
 pub mod Rivals
+pub mod Known

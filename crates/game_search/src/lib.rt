@@ -18,6 +18,7 @@ mod advice;
 mod aim;
 mod attempts;
 mod certify;
+mod known;
 mod looks;
 mod narrowing;
 mod positions;

@@ -1,0 +1,267 @@
+-- Trees that are right wherever the position looks the same, in games where nothing is optimised.
+use Rattle.std.proofs.Common.{◌≡◌, ◌≤◌, ◌<◌, ◌+◌, ◌*◌, ◌-◌, ◌∙◌, inl, inr, ℕ, zero, suc, Bool, true, false, ◌&&◌, List, [], ◌∷◌, ◌++◌, map, length, drop, take, refl, sym, ap, subst, arith, Option, None, Some, ℤ}
+use Rattle.std.specs.Prelude.{◌⊎◌, is_none, nat_lt, slice_get}
+use Rattle.std.specs.List.{list_all}
+use Rattle.std.proofs.lemmas.List.Folds.{list_all-append}
+use Rattle.std.proofs.lemmas.Bool.Decides.{nat_tests}
+use Rattle.qc_model.specs.declared.problem.Condition.{Condition}
+use Rattle.qc_model.specs.declared.problem.Kind.{Kind}
+use Rattle.qc_model.specs.declared.problem.Kind.TheVariants.{Exists, Forall}
+use Rattle.qc_model.specs.declared.problem.Scope.{Scope}
+use Rattle.qc_model.specs.Content.{Game}
+use Rattle.qc_model.specs.Demands.{demands, demands_from, demands_after}
+use Rattle.qc_model.specs.Domains.{Box, declared_box, values_left}
+use Rattle.qc_model.specs.Game.{before}
+use Rattle.qc_model.specs.Verdict.{Verdict, lost, exact, at_most, unknown, Seen}
+use Rattle.qc_arguments.proofs.Boxes.{some_left, sub_length}
+use Rattle.qc_alike.specs.Alike.{is_looked_at, AreAlike}
+use Rattle.qc_alike.specs.EachStep.{horizon_passes, each_step, body_passes, ending_passes, branches_pass, case_passes}
+use Rattle.qc_alike.specs.Looking.{has_variable, looks, step_owns}
+use Rattle.qc_alike.proofs.Alike.{does_alike}
+use Rattle.proof_tree.specs.declared.line.Line.{Line}
+use Rattle.proof_tree.specs.declared.line.Line.TheVariants.{Dot}
+use Rattle.proof_tree.specs.declared.tree.Horizon.{Horizon}
+use Rattle.proof_tree.specs.declared.tree.Step.{Step}
+use Rattle.proof_tree.specs.declared.tree.Step.TheVariants.{Prune, Bound}
+use Rattle.proof_tree.specs.Counts.{turns_of, opens_of}
+use Rattle.proof_tree.specs.Lines.{step_line, horizon_lines, upto_lines, tree_lines, body_lines, ending_lines, branches_lines, case_lines}
+use Rattle.proof_tree.specs.Place.{position}
+use Rattle.proof_tree.specs.Read.{read}
+use Rattle.proof_tree.specs.Tree.{Tree, tree, Body, stuck, goal, cases, Ending, empty, barred, next, branch, Branches, no_more, piece, Case, skip, left_open, go}
+use Rattle.qc_joins.specs.Joins.{StandsAt, IsLong}
+use Rattle.qc_joins.specs.Sizes.{IsSized}
+use Rattle.qc_joins.specs.Verdicts.{scope_own, kind_own}
+use Rattle.qc_joins.specs.declared.joins.Joins.{Joins}
+use Rattle.game_search.specs.Known.{ask_nothing, IsLike, decided_as, is_decided_as, IsDecided, IsKnownBy, IsKnown, line_owns}
+use Rattle.game_search.specs.Made.{NodeMade}
+use Rattle.game_search.specs.Own.{IsOwnSized}
+use Rattle.game_search.specs.Settled.{is_vague_verdict}
+use Rattle.game_search.specs.Told.{NodeTold}
+use Rattle.game_search.proofs.Bools.{two, both, below_is}
+use Rattle.game_search.proofs.Here.{stuck_own}
+use Rattle.game_search.proofs.Joining.{own_so}
+
+-- boxes that are like the same values look the same
+pub likes_alike : (g : Game) (i : ℕ) (vs : List ℤ) (a b : Box) → IsLike g i vs a → IsLike g i vs b → AreAlike g i a b
+likes_alike g i vs a b p q =
+    let size = sub_length a (declared_box g) p.declared ∙ sym (sub_length b (declared_box g) q.declared) in
+    record {
+      size = size;
+      same = λ x e. by x (nat_lt x (before g i)) refl e;
+      others = λ x h e. (some_left a x p.full h, some_left b x q.full (subst (λ n. x < n) size h));
+    }
+  where
+    past : (x n : ℕ) → nat_lt x n ≡ false → n ≤ x
+    past x n e = grind (arith, nat_tests)
+
+    by : (x : ℕ) (c : Bool) → nat_lt x (before g i) ≡ c → is_looked_at g i x ≡ true → values_left a x ≡ values_left b x
+    by x true e l = let h = below_is x (before g i) e in p.fixed x h l ∙ sym (q.fixed x h l)
+    by x false e l = let h = past x (before g i) e in p.fresh x h ∙ sym (q.fresh x h)
+
+-- where no scope has a condition nothing is demanded
+demanded_none : (g : Game) (ss : List Scope) (i : ℕ) → ask_nothing ss ≡ true → demands_from g (take i ss) [] ≡ []
+demanded_none g [] zero e = refl
+demanded_none g [] (suc i) e = refl
+demanded_none g (s ∷ ss) zero e = refl
+demanded_none g (s ∷ ss) (suc i) e =
+    let p = both (is_none s.condition) (ask_nothing ss) e in
+    ap (demands_from g (take i ss)) (after s.kind s.condition p.0) ∙ demanded_none g ss i p.1
+  where
+    after : (k : Kind) (o : Option Condition) → is_none o ≡ true → demands_after g k o [] ≡ []
+    after Exists None e = refl
+    after Exists (Some c) e = cc
+    after Forall o e = refl
+
+pub no_demands : (g : Game) (i : ℕ) → ask_nothing g.scopes ≡ true → demands g i ≡ []
+no_demands g i e = demanded_none g g.scopes i e
+
+later_none : (ss : List Scope) (i : ℕ) → ask_nothing ss ≡ true → ask_nothing (drop i ss) ≡ true
+later_none [] zero e = refl
+later_none [] (suc i) e = refl
+later_none (s ∷ ss) zero e = e
+later_none (s ∷ ss) (suc i) e = later_none ss i (both (is_none s.condition) (ask_nothing ss) e).1
+
+-- and no node has a value of its own
+own_none_of : (g : Game) (later : List Scope) (d : List Condition) (xs : List Seen) → ask_nothing later ≡ true → scope_own later g d xs ≡ None
+own_none_of g [] d xs e = refl
+own_none_of g (s ∷ later) d xs e = by s.kind s.condition (both (is_none s.condition) (ask_nothing later) e).0
+  where
+    by : (k : Kind) (o : Option Condition) → is_none o ≡ true → kind_own k o g d xs ≡ None
+    by Exists None e = refl
+    by Exists (Some c) e = cc
+    by Forall o e = refl
+
+read_none : (g : Game) (t : Tree) (later : List Scope) (i : ℕ) (d : List Condition) (box : Box) → ask_nothing later ≡ true → (read g t later i d box).own ≡ None
+read_none g (tree z stuck) later i d box e = stuck_own later g d (position g i box)
+read_none g (tree z goal) later i d box e = refl
+read_none g (tree z (cases steps end)) later i d box e = own_so g later i d (position g i box) _ ∙ own_none_of g later d _ e
+
+-- an exact vector has no value
+pub exact_none : (g : Game) (i : ℕ) (w : List ℤ) → ask_nothing g.scopes ≡ true → IsLong g i (exact w) → is_decided_as true (exact w) ≡ true
+exact_none g i w e long = by w (long ∙ ap length (no_demands g i e))
+  where
+    by : (w : List ℤ) → length w ≡ 0 → is_decided_as true (exact w) ≡ true
+    by [] q = refl
+    by (n ∷ w) q = absurd (omega (arith, q))
+
+decided_is : (won : Bool) (v : Verdict) → is_decided_as won v ≡ true → v ≡ decided_as won
+decided_is true lost e = cc
+decided_is true (exact []) e = refl
+decided_is true (exact (n ∷ v)) e = cc
+decided_is true (at_most p) e = cc
+decided_is true unknown e = cc
+decided_is false lost e = refl
+decided_is false (exact v) e = cc
+decided_is false (at_most p) e = cc
+decided_is false unknown e = cc
+
+-- a node that came to lost or exact with a turn left
+pub decided_here : (above : ℤ → Bool) (g : Game) (i : ℕ) (box : Box) (h : Option ℕ) (v : Verdict) (won : Bool) (had left : ℕ) (t : Tree) → ask_nothing g.scopes ≡ true → is_decided_as won v ≡ true → 0 < left →
+    NodeMade true above g (drop i g.scopes) i (demands g i) box h v had left t → IsDecided g i h won (had - left) t box
+decided_here above g i box h v won had left t plain comes some m = record {
+  placed = m.placed;
+  verdict = ap (is_decided_as won) m.verdict ∙ comes;
+  own = read_none g t (drop i g.scopes) i (demands g i) box (later_none g.scopes i plain);
+  settled = m.settled;
+  lasts = m.lasts;
+  ones = m.ones;
+  apart = m.apart;
+  fits = m.fits;
+  few = omega (arith, m.spent, some);
+  opens = by m.opens;
+  keeps = m.keeps;
+  closed = m.closed;
+  foreseen = m.foreseen;
+}
+  where
+    by : ((opens_of t ≡ 0) ⊎ (left ≡ 0)) → opens_of t ≡ 0
+    by (inl e) = e
+    by (inr e) = absurd (omega (arith, some, e))
+
+-- so wherever the position looks the same
+decided_alike : (g : Game) (i : ℕ) (h : Option ℕ) (won : Bool) (turns : ℕ) (t : Tree) (a b : Box) → looks g t i ≡ true → AreAlike g i a b → IsDecided g i h won turns t a → IsDecided g i h won turns t b
+decided_alike g i h won turns t a b look alike d =
+    let s = does_alike g t i a b h alike look d.placed in
+    record {
+      placed = s.placed;
+      verdict = ap (is_decided_as won) (sym s.verdict) ∙ d.verdict;
+      own = sym s.own ∙ d.own;
+      settled = sym s.settled ∙ d.settled;
+      lasts = d.lasts;
+      ones = d.ones;
+      apart = d.apart;
+      fits = d.fits;
+      few = d.few;
+      opens = d.opens;
+      keeps = sym s.kept ∙ d.keeps;
+      closed = sym s.closed ∙ d.closed;
+      foreseen = s.foreseen d.foreseen;
+    }
+
+pub node_known : (above : ℤ → Bool) (g : Game) (i : ℕ) (box : Box) (h : Option ℕ) (vs : List ℤ) (v : Verdict) (won : Bool) (had left : ℕ) (t : Tree) (ls : List Line) → ask_nothing g.scopes ≡ true → is_decided_as won v ≡ true → 0 < left → IsLike g i vs box → looks g t i ≡ true → ls ≡ tree_lines t →
+    NodeMade true above g (drop i g.scopes) i (demands g i) box h v had left t → IsKnown g i h vs won (had - left) ls
+node_known above g i box h vs v won had left t ls plain comes some like look e m =
+    let d = decided_here above g i box h v won had left t plain comes some m in
+    (t, record { lines = e; decided = λ b other. decided_alike g i h won (had - left) t box b look (likes_alike g i vs box b like other) d })
+
+-- a node that is decided is made
+decided_made : (above : ℤ → Bool) (g : Game) (i : ℕ) (h : Option ℕ) (won : Bool) (turns had : ℕ) (t : Tree) (box : Box) → ask_nothing g.scopes ≡ true → turns ≤ had → IsDecided g i h won turns t box →
+    NodeMade true above g (drop i g.scopes) i (demands g i) box h (decided_as won) had (had - turns) t
+decided_made above g i h won turns had t box plain enough d = record {
+  placed = d.placed;
+  verdict = decided_is won _ d.verdict;
+  settled = d.settled;
+  lasts = d.lasts;
+  ones = d.ones;
+  apart = d.apart;
+  fits = d.fits;
+  spent = omega (arith, d.few, enough);
+  exact = λ e. cc;
+  opens = inl d.opens;
+  gap = λ o. sure won;
+  long = long won;
+  sized = sized won;
+  own = subst (IsOwnSized (suc (2 * turns_of t))) (sym d.own) tt;
+  keeps = d.keeps;
+  closed = d.closed;
+  foreseen = d.foreseen;
+}
+  where
+    sure : (b : Bool) → is_vague_verdict above (decided_as b) ≡ false
+    sure true = refl
+    sure false = refl
+
+    long : (b : Bool) → IsLong g i (decided_as b)
+    long true = sym (ap length (no_demands g i plain))
+    long false = tt
+
+    sized : (b : Bool) → IsSized (suc (2 * turns_of t)) (decided_as b)
+    sized true = λ k. omega arith
+    sized false = tt
+
+-- what stands at a node that is known
+pub known_told : (above : ℤ → Bool) (g : Game) (i : ℕ) (box : Box) (h : Option ℕ) (vs : List ℤ) (v : Verdict) (won : Bool) (turns had left : ℕ) (ls old new : List Line) (joins : Joins) → ask_nothing g.scopes ≡ true → turns ≤ had → left ≡ had - turns → v ≡ decided_as won → IsLike g i vs box →
+    new ≡ old ++ ls → StandsAt joins i [] → IsKnown g i h vs won turns ls → NodeTold true above g i box h v had left old new joins
+known_told above g i box h vs v won turns had left ls old new joins plain enough f e like q stands k =
+    let d = k.1.decided box like in
+    let made = decided_made above g i h won turns had k.0 box plain enough d in
+    let made_as = subst (λ u. NodeMade true above g (drop i g.scopes) i (demands g i) box h u had (had - turns) k.0) (sym e) made in
+    record {
+      written = record {
+        tree = k.0;
+        lines = subst (λ ms. new ≡ old ++ ms) k.1.lines q;
+        made = subst (λ n. NodeMade true above g (drop i g.scopes) i (demands g i) box h v had n k.0) (sym f) made_as;
+      };
+      own = λ s. record { stood = []; stands = stands; is_own = d.own ∙ sym (own_none_of g (drop i g.scopes) (demands g i) [] (later_none g.scopes i plain)) };
+    }
+
+-- a tree whose lines remove values of their constraints' own variables
+parts_pass : (p : Line → Bool) (xs ys : List Line) → list_all p (xs ++ ys) ≡ true → (list_all p xs ≡ true) × (list_all p ys ≡ true)
+parts_pass p xs ys e = both (list_all p xs) (list_all p ys) (sym (list_all-append p xs ys) ∙ e)
+
+module _ (g : Game) where
+  abbrev Owns : List Line → Type 0
+  Owns ls = list_all (line_owns g) ls ≡ true
+
+  steps_own : (steps : List Step) (i : ℕ) → Owns (map step_line steps) → list_all (step_owns g i) steps ≡ true
+  steps_own [] i e = refl
+  steps_own (Prune x low high c ∷ steps) i e =
+      let p = both (has_variable x.0 (slice_get g.constraints c.0)) (list_all (line_owns g) (map step_line steps)) e in
+      two _ _ p.0 (steps_own steps i p.1)
+  steps_own (Bound x low high ∷ steps) i e = steps_own steps i e
+
+  horizon_owns : (z : Option Horizon) (i : ℕ) → Owns (horizon_lines z) → horizon_passes (step_owns g) z i ≡ true
+  horizon_owns None i e = refl
+  horizon_owns (Some z) i e = steps_own z.steps i (parts_pass (line_owns g) (map step_line z.steps) (Dot ∷ []) e).0
+
+  mutual
+    pub tree_owns : (t : Tree) (i : ℕ) → Owns (tree_lines t) → each_step (step_owns g) t i ≡ true
+    tree_owns (tree z c) i e =
+        let p = parts_pass (line_owns g) (horizon_lines z) (body_lines c) e in
+        two _ _ (horizon_owns z i p.0) (body_owns c i p.1)
+
+    body_owns : (c : Body) (i : ℕ) → Owns (body_lines c) → body_passes (step_owns g) c i ≡ true
+    body_owns stuck i e = refl
+    body_owns goal i e = refl
+    body_owns (cases steps end) i e =
+        let p = parts_pass (line_owns g) (map step_line steps) (ending_lines end) e in
+        two _ _ (steps_own steps i p.0) (ending_owns end i p.1)
+
+    ending_owns : (end : Ending) (i : ℕ) → Owns (ending_lines end) → ending_passes (step_owns g) end i ≡ true
+    ending_owns empty i e = refl
+    ending_owns barred i e = refl
+    ending_owns (next t) i e = tree_owns t (suc i) e
+    ending_owns (branch x bs) i e = branches_own bs i (parts_pass (line_owns g) (branches_lines bs) (Dot ∷ []) e).0
+
+    branches_own : (bs : Branches) (i : ℕ) → Owns (branches_lines bs) → branches_pass (step_owns g) bs i ≡ true
+    branches_own no_more i e = refl
+    branches_own (piece upto c bs) i e =
+        let p = parts_pass (line_owns g) (upto_lines upto ++ case_lines c) (branches_lines bs) e in
+        two _ _ (case_owns c i (parts_pass (line_owns g) (upto_lines upto) (case_lines c) p.0).1) (branches_own bs i p.1)
+
+    case_owns : (c : Case) (i : ℕ) → Owns (case_lines c) → case_passes (step_owns g) c i ≡ true
+    case_owns skip i e = refl
+    case_owns left_open i e = refl
+    case_owns (go steps end) i e =
+        let p = parts_pass (line_owns g) (map step_line steps) (ending_lines end) e in
+        two _ _ (steps_own steps i p.0) (ending_owns end i p.1)

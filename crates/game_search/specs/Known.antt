@@ -1,0 +1,89 @@
+-- Nodes that a search has settled: which lines stand wherever the position looks the same.
+use Rattle.std.specs.Prelude.{◌≡◌, ◌≤◌, ◌<◌, ℕ, Bool, true, false, not, ◌&&◌, Option, None, List, [], ◌∷◌, drop, slice_get, slice_index_or, is_none, IsTrue, IsFalse, ℤ, pos}
+use Rattle.std.specs.List.{list_all}
+use Rattle.qc_model.specs.declared.problem.Scope.{Scope}
+use Rattle.qc_model.specs.Content.{Game}
+use Rattle.qc_model.specs.Demands.{demands}
+use Rattle.qc_model.specs.Domains.{Box, declared_box, values_left, has_empty}
+use Rattle.qc_model.specs.Game.{before}
+use Rattle.qc_model.specs.Verdict.{Verdict, lost, exact, at_most, unknown, is_none_of}
+use Rattle.qc_arguments.specs.Asked.{is_box_of}
+use Rattle.qc_alike.specs.Alike.{is_looked_at}
+use Rattle.qc_alike.specs.Looking.{has_variable}
+use Rattle.proof_tree.specs.Tree.{Tree}
+use Rattle.proof_tree.specs.Pieces.{each_case, goes_at_one}
+use Rattle.proof_tree.specs.Counts.{turns_of, opens_of}
+use Rattle.proof_tree.specs.Diligent.{closes, Foresees}
+use Rattle.proof_tree.specs.InPlace.{in_place}
+use Rattle.proof_tree.specs.Incumbents.{keeps}
+use Rattle.proof_tree.specs.Lines.{tree_lines}
+use Rattle.proof_tree.specs.Order.{opens_last, is_joined, settled_last}
+use Rattle.proof_tree.specs.Read.{read}
+use Rattle.proof_tree.specs.Text.{tree_fits}
+use Rattle.proof_tree.specs.declared.line.Line.{Line}
+use Rattle.proof_tree.specs.declared.line.Line.TheVariants.{Horizon, Prune, Bound, Dot, Stuck, Goal, Empty, Barred, Next, Branch, Skip, Open, Range}
+use Rattle.proof_tree.specs.declared.tree.Version.TheVariants.{Two}
+
+-- none of the scopes has a condition, so that nothing is optimised
+abbrev pub ask_nothing : List Scope → Bool
+ask_nothing ss = list_all (λ s. is_none s.condition) ss
+
+-- a box of the game at scope i: each variable from there on has its declared values, and each earlier one that is looked
+-- at from there on has the single value that stands at its place
+pub record IsLike (g : Game) (i : ℕ) (vs : List ℤ) (box : Box) : Type 0 where
+  pub declared : IsTrue (is_box_of g box)
+  pub full : IsFalse (has_empty box)
+  pub fresh : (x : ℕ) → before g i ≤ x → values_left box x ≡ values_left (declared_box g) x
+  pub fixed : (x : ℕ) → x < before g i → IsTrue (is_looked_at g i x) → values_left box x ≡ slice_index_or vs x (pos 0) ∷ []
+
+-- what a node comes to that is decided where nothing is optimised
+abbrev pub decided_as : Bool → Verdict
+decided_as true = exact []
+decided_as false = lost
+
+abbrev pub is_decided_as : Bool → Verdict → Bool
+is_decided_as won lost = not won
+is_decided_as won (exact v) = won && is_none_of v
+is_decided_as won (at_most p) = false
+is_decided_as won unknown = false
+
+-- the tree of a node of scope i in this box, below the horizon h: it has what a certificate asks for, leaves nothing open, and
+-- takes so many turns at most
+pub record IsDecided (g : Game) (i : ℕ) (h : Option ℕ) (won : Bool) (turns : ℕ) (t : Tree) (box : Box) : Type 0 where
+  pub placed : IsTrue (in_place g t (drop i g.scopes) i (demands g i) box h)
+  pub verdict : IsTrue (is_decided_as won (read g t (drop i g.scopes) i (demands g i) box).verdict)
+  pub own : (read g t (drop i g.scopes) i (demands g i) box).own ≡ None
+  pub settled : IsTrue (settled_last g t (drop i g.scopes) i (demands g i) box)
+  pub lasts : IsTrue (each_case opens_last t)
+  pub ones : IsTrue (each_case goes_at_one t)
+  pub apart : IsTrue (each_case is_joined t)
+  pub fits : IsTrue (tree_fits Two t)
+  pub few : turns_of t ≤ turns
+  pub opens : opens_of t ≡ 0
+  pub keeps : IsTrue (keeps g t (drop i g.scopes) i (demands g i) box)
+  pub closed : IsTrue (closes g t (drop i g.scopes) i box)
+  pub foreseen : Foresees g t (drop i g.scopes) i box h
+
+-- the lines are those of the tree, which decides each node of scope i whose box is like these values
+pub record IsKnownBy (g : Game) (i : ℕ) (h : Option ℕ) (vs : List ℤ) (won : Bool) (turns : ℕ) (ls : List Line) (t : Tree) : Type 0 where
+  pub lines : ls ≡ tree_lines t
+  pub decided : (box : Box) → IsLike g i vs box → IsDecided g i h won turns t box
+
+abbrev pub IsKnown : Game → ℕ → Option ℕ → List ℤ → Bool → ℕ → List Line → Type 0
+IsKnown g i h vs won turns ls = (t : Tree) × IsKnownBy g i h vs won turns ls t
+
+-- a line that removes values removes those of one of its constraint's own variables
+abbrev pub line_owns : Game → Line → Bool
+line_owns g (Horizon k) = true
+line_owns g (Prune x low high c) = has_variable x.0 (slice_get g.constraints c.0)
+line_owns g (Bound x low high) = true
+line_owns g Dot = true
+line_owns g Stuck = true
+line_owns g Goal = true
+line_owns g Empty = true
+line_owns g Barred = true
+line_owns g Next = true
+line_owns g (Branch x) = true
+line_owns g Skip = true
+line_owns g Open = true
+line_owns g (Range high) = true
