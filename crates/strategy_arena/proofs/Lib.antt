@@ -1,4 +1,4 @@
 mod Parts
 mod FittingLines
 mod ReadParts
-mod UniqueLines
+pub mod UniqueLines

@@ -217,6 +217,10 @@ mutual
 pub same_tree : (t u : Tree) (lines rest : List Line) → lines ≡ tree_lines u ++ rest → lines ≡ tree_lines t → u ≡ t
 same_tree t u lines rest e f = (tree_unique u t rest [] (sym e ∙ (f ∙ sym (append-nil (tree_lines t))))).0
 
+-- two trees with the same lines are the same
+pub only_tree : (t u : Tree) (lines : List Line) → lines ≡ tree_lines t → lines ≡ tree_lines u → t ≡ u
+only_tree t u lines e f = same_tree u t lines [] (e ∙ sym (append-nil (tree_lines t))) f
+
 pub if_ok : {X E : Type 0} {P Q : X → Type 0} (r : Result X E) → ((x : X) → P x → Q x) → IfOk r P → IfOk r Q
 if_ok (Ok x) f p = f x p
 if_ok (Err e) f p = tt
