@@ -1,7 +1,8 @@
 -- Trees that are right wherever the position looks the same, in games where nothing is optimised.
 use Rattle.std.proofs.Common.{◌≡◌, ◌≤◌, ◌<◌, ◌+◌, ◌*◌, ◌-◌, ◌∙◌, inl, inr, ℕ, zero, suc, Bool, true, false, ◌&&◌, List, [], ◌∷◌, ◌++◌, map, length, drop, take, refl, sym, ap, subst, arith, Option, None, Some, ℤ}
-use Rattle.std.specs.Prelude.{◌⊎◌, is_none, nat_lt, slice_get}
+use Rattle.std.specs.Prelude.{◌⊎◌, is_none, nat_lt, slice_get, slice_index_or, pos}
 use Rattle.std.specs.List.{list_all}
+use Rattle.std.proofs.lemmas.List.{get_or_past}
 use Rattle.std.proofs.lemmas.List.Folds.{list_all-append}
 use Rattle.std.proofs.lemmas.Bool.Decides.{nat_tests}
 use Rattle.qc_model.specs.declared.problem.Condition.{Condition}
@@ -10,9 +11,10 @@ use Rattle.qc_model.specs.declared.problem.Kind.TheVariants.{Exists, Forall}
 use Rattle.qc_model.specs.declared.problem.Scope.{Scope}
 use Rattle.qc_model.specs.Content.{Game}
 use Rattle.qc_model.specs.Demands.{demands, demands_from, demands_after}
-use Rattle.qc_model.specs.Domains.{Box, declared_box, values_left}
+use Rattle.qc_model.specs.Domains.{Values, Box, declared_box, values_left, box_values, is_single, least_value}
 use Rattle.qc_model.specs.Game.{before}
 use Rattle.qc_model.specs.Verdict.{Verdict, lost, exact, at_most, unknown, Seen}
+use Rattle.qc_arguments.specs.Asked.{is_box_of}
 use Rattle.qc_arguments.proofs.Boxes.{some_left, sub_length}
 use Rattle.qc_alike.specs.Alike.{is_looked_at, AreAlike}
 use Rattle.qc_alike.specs.EachStep.{horizon_passes, each_step, body_passes, ending_passes, branches_pass, case_passes}
@@ -32,6 +34,8 @@ use Rattle.qc_joins.specs.Joins.{StandsAt, IsLong}
 use Rattle.qc_joins.specs.Sizes.{IsSized}
 use Rattle.qc_joins.specs.Verdicts.{scope_own, kind_own}
 use Rattle.qc_joins.specs.declared.joins.Joins.{Joins}
+use Rattle.search_box.specs.Boxed.{Boxed}
+use Rattle.search_box.specs.Entered.{IsEntered}
 use Rattle.game_search.specs.Known.{ask_nothing, IsLike, decided_as, is_decided_as, IsDecided, IsKnownBy, IsKnown, line_owns}
 use Rattle.game_search.specs.Made.{NodeMade}
 use Rattle.game_search.specs.Own.{IsOwnSized}
@@ -40,6 +44,41 @@ use Rattle.game_search.specs.Told.{NodeTold}
 use Rattle.game_search.proofs.Bools.{two, both, below_is}
 use Rattle.game_search.proofs.Here.{stuck_own}
 use Rattle.game_search.proofs.Joining.{own_so}
+
+past : (x n : ℕ) → nat_lt x n ≡ false → n ≤ x
+past x n e = grind (arith, nat_tests)
+
+-- the value of a variable that has one left
+single_stands : (box : Box) (n x : ℕ) → x < n → x < length box → list_all is_single (take n box) ≡ true → values_left box x ≡ slice_index_or (box_values (take n box)) x (pos 0) ∷ []
+single_stands [] n x h l e = absurd (omega arith)
+single_stands (d ∷ box) zero x h l e = absurd (omega arith)
+single_stands (d ∷ box) (suc n) zero h l e = one d (both (is_single d) (list_all is_single (take n box)) e).0
+  where
+    one : (d : Values) → is_single d ≡ true → d ≡ least_value d ∷ []
+    one [] e = cc
+    one (v ∷ []) e = refl
+    one (v ∷ w ∷ vs) e = cc
+single_stands (d ∷ box) (suc n) (suc x) h l e = single_stands box n x (omega arith) (omega arith) (both (is_single d) (list_all is_single (take n box)) e).1
+
+-- the box of a node is like the values that stand at the position
+pub like_here : (g : Game) (i : ℕ) (b : Boxed) (vs : List ℤ) → IsEntered g i b → is_box_of b.game b.store.box ≡ true → before g i ≤ length b.store.box →
+    ((x : ℕ) → before g i ≤ x → x < length b.store.box → values_left b.store.box x ≡ values_left (declared_box g) x) →
+    ((x : ℕ) → x < before g i → is_looked_at g i x ≡ true → slice_index_or vs x (pos 0) ≡ slice_index_or (position g i b.store.box) x (pos 0)) → IsLike g i vs b.store.box
+like_here g i b vs here declared few fresh agrees = record {
+  declared = own;
+  full = here.full;
+  fresh = λ x h. by x (nat_lt x (length b.store.box)) refl h;
+  fixed = λ x h l. single_stands b.store.box (before g i) x h (omega (arith, h, few)) here.fixed ∙ ap (λ v. v ∷ []) (sym (agrees x h l));
+}
+  where
+    own : is_box_of g b.store.box ≡ true
+    own = subst (λ (k : Game). is_box_of k b.store.box ≡ true) here.game declared
+
+    by : (x : ℕ) (c : Bool) → nat_lt x (length b.store.box) ≡ c → before g i ≤ x → values_left b.store.box x ≡ values_left (declared_box g) x
+    by x true e h = fresh x h (below_is x (length b.store.box) e)
+    by x false e h =
+        let l = past x (length b.store.box) e in
+        get_or_past b.store.box x [] l ∙ sym (get_or_past (declared_box g) x [] (subst (λ n. n ≤ x) (sub_length b.store.box (declared_box g) own) l))
 
 -- boxes that are like the same values look the same
 pub likes_alike : (g : Game) (i : ℕ) (vs : List ℤ) (a b : Box) → IsLike g i vs a → IsLike g i vs b → AreAlike g i a b
@@ -51,9 +90,6 @@ likes_alike g i vs a b p q =
       others = λ x h e. (some_left a x p.full h, some_left b x q.full (subst (λ n. x < n) size h));
     }
   where
-    past : (x n : ℕ) → nat_lt x n ≡ false → n ≤ x
-    past x n e = grind (arith, nat_tests)
-
     by : (x : ℕ) (c : Bool) → nat_lt x (before g i) ≡ c → is_looked_at g i x ≡ true → values_left a x ≡ values_left b x
     by x true e l = let h = below_is x (before g i) e in p.fixed x h l ∙ sym (q.fixed x h l)
     by x false e l = let h = past x (before g i) e in p.fresh x h ∙ sym (q.fresh x h)

@@ -87,3 +87,10 @@ line_owns g (Branch x) = true
 line_owns g Skip = true
 line_owns g Open = true
 line_owns g (Range high) = true
+
+-- the lines that are known for these values stand at the node of scope i in this box, where so many turns are left
+pub record StandsHere (g : Game) (i : ℕ) (h : Option ℕ) (left : ℕ) (box : Box) (vs : List ℤ) (won : Bool) (turns : ℕ) (ls : List Line) : Type 0 where
+  pub plain : IsTrue (ask_nothing g.scopes)
+  pub few : turns ≤ left
+  pub like : IsLike g i vs box
+  pub known : IsKnown g i h vs won turns ls

@@ -161,7 +161,7 @@ fn value_of(x: u16, values: &[i64]) -> i64 {
     }
 }
 
-fn mixed(hash: u64, value: i64) -> u64 {
+pub(crate) fn mixed(hash: u64, value: i64) -> u64 {
     (hash.rotate_left(27) ^ value.cast_unsigned()).wrapping_mul(MIX)
 }
 
