@@ -19,7 +19,7 @@ use Rattle.qc_arguments.proofs.Boxes.{some_left, sub_length}
 use Rattle.qc_alike.specs.Alike.{is_looked_at, AreAlike}
 use Rattle.qc_alike.specs.EachStep.{horizon_passes, each_step, body_passes, ending_passes, branches_pass, case_passes}
 use Rattle.qc_alike.specs.Looking.{has_variable, looks, step_owns}
-use Rattle.qc_alike.proofs.Alike.{does_alike}
+use Rattle.qc_alike.proofs.Alike.{does_alike, own_looks}
 use Rattle.proof_tree.specs.declared.line.Line.{Line}
 use Rattle.proof_tree.specs.declared.line.Line.TheVariants.{Dot}
 use Rattle.proof_tree.specs.declared.tree.Horizon.{Horizon}
@@ -30,13 +30,15 @@ use Rattle.proof_tree.specs.Lines.{step_line, horizon_lines, upto_lines, tree_li
 use Rattle.proof_tree.specs.Place.{position}
 use Rattle.proof_tree.specs.Read.{read}
 use Rattle.proof_tree.specs.Tree.{Tree, tree, Body, stuck, goal, cases, Ending, empty, barred, next, branch, Branches, no_more, piece, Case, skip, left_open, go}
+use Rattle.qc_levels.specs.Seen.{verdict_of}
+use Rattle.qc_levels.specs.declared.leaves.Found.{Found}
 use Rattle.qc_joins.specs.Joins.{StandsAt, IsLong}
 use Rattle.qc_joins.specs.Sizes.{IsSized}
 use Rattle.qc_joins.specs.Verdicts.{scope_own, kind_own}
 use Rattle.qc_joins.specs.declared.joins.Joins.{Joins}
 use Rattle.search_box.specs.Boxed.{Boxed}
 use Rattle.search_box.specs.Entered.{IsEntered}
-use Rattle.game_search.specs.Known.{ask_nothing, IsLike, decided_as, is_decided_as, IsDecided, IsKnownBy, IsKnown, line_owns}
+use Rattle.game_search.specs.Known.{ask_nothing, IsLike, decided_as, is_decided_as, IsDecided, IsKnownBy, IsKnown, IsFinished, ends_as, line_owns}
 use Rattle.game_search.specs.Made.{NodeMade}
 use Rattle.game_search.specs.Own.{IsOwnSized}
 use Rattle.game_search.specs.Settled.{is_vague_verdict}
@@ -301,3 +303,17 @@ module _ (g : Game) where
     case_owns (go steps end) i e =
         let p = parts_pass (line_owns g) (map step_line steps) (ending_lines end) e in
         two _ _ (steps_own steps i p.0) (ending_owns end i p.1)
+
+-- so where a node is finished that is decided, its lines are known
+pub finished_known : (g : Game) (i : ℕ) (box : Box) (h : Option ℕ) (found : Found) (won : Bool) (had left : ℕ) (vs : List ℤ) (ls : List Line) → ask_nothing g.scopes ≡ true → ((v : List ℤ) → ends_as won (verdict_of found v) ≡ true) → 0 < left → IsLike g i vs box → list_all (line_owns g) ls ≡ true →
+    IsFinished g i box h found had left ls → IsKnown g i h vs won (had - left) ls
+finished_known g i box h found won had left vs ls plain ends some like own f =
+    let owned = tree_owns g f.tree i (subst (λ ms. list_all (line_owns g) ms ≡ true) f.lines own) in
+    node_known f.above g i box h vs (verdict_of found f.vector) won had left f.tree ls plain (by won (verdict_of found f.vector) (ends f.vector) f.made.long) some like (own_looks g f.tree i box h owned f.made.placed) f.lines f.made
+  where
+    by : (b : Bool) (v : Verdict) → ends_as b v ≡ true → IsLong g i v → is_decided_as b v ≡ true
+    by b lost e l = e
+    by true (exact w) e l = exact_none g i w plain l
+    by false (exact w) e l = cc
+    by b (at_most p) e l = cc
+    by b unknown e l = cc

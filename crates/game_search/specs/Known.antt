@@ -7,6 +7,8 @@ use Rattle.qc_model.specs.Demands.{demands}
 use Rattle.qc_model.specs.Domains.{Box, declared_box, values_left, has_empty}
 use Rattle.qc_model.specs.Game.{before}
 use Rattle.qc_model.specs.Verdict.{Verdict, lost, exact, at_most, unknown, is_none_of}
+use Rattle.qc_levels.specs.Seen.{verdict_of}
+use Rattle.qc_levels.specs.declared.leaves.Found.{Found}
 use Rattle.qc_arguments.specs.Asked.{is_box_of}
 use Rattle.qc_alike.specs.Alike.{is_looked_at}
 use Rattle.qc_alike.specs.Looking.{has_variable}
@@ -23,6 +25,7 @@ use Rattle.proof_tree.specs.Text.{tree_fits}
 use Rattle.proof_tree.specs.declared.line.Line.{Line}
 use Rattle.proof_tree.specs.declared.line.Line.TheVariants.{Horizon, Prune, Bound, Dot, Stuck, Goal, Empty, Barred, Next, Branch, Skip, Open, Range}
 use Rattle.proof_tree.specs.declared.tree.Version.TheVariants.{Two}
+use Rattle.game_search.specs.Made.{NodeMade}
 
 -- none of the scopes has a condition, so that nothing is optimised
 abbrev pub ask_nothing : List Scope → Bool
@@ -94,3 +97,19 @@ pub record StandsHere (g : Game) (i : ℕ) (h : Option ℕ) (left : ℕ) (box : 
   pub few : turns ≤ left
   pub like : IsLike g i vs box
   pub known : IsKnown g i h vs won turns ls
+
+-- lost, or exact where won
+abbrev pub ends_as : Bool → Verdict → Bool
+ends_as won lost = not won
+ends_as won (exact v) = won
+ends_as won (at_most p) = false
+ends_as won unknown = false
+
+-- the lines are those of a node of scope i in this box, below the horizon h, by a search that cuts; it came to what was found,
+-- and the turns that were left fell from had to left
+pub record IsFinished (g : Game) (i : ℕ) (box : Box) (h : Option ℕ) (found : Found) (had left : ℕ) (ls : List Line) : Type 0 where
+  pub above : ℤ → Bool
+  pub vector : List ℤ
+  pub tree : Tree
+  pub lines : ls ≡ tree_lines tree
+  pub made : NodeMade true above g (drop i g.scopes) i (demands g i) box h (verdict_of found vector) had left tree

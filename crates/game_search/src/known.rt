@@ -1,9 +1,10 @@
 //! Nodes that were settled before, whose lines stand wherever the position looks the same.
-ghost use Rattle.std.specs.Prelude.{◌≡◌, ◌<◌, ◌≤◌, ◌++◌, ◌-◌, ℕ, ℤ, Bool, true, List, [], Option, drop, length, IfSome, IsTrue};
+ghost use Rattle.std.specs.Prelude.{◌≡◌, ◌<◌, ◌≤◌, ◌++◌, ◌-◌, ℕ, ℤ, Bool, true, List, [], Option, drop, length, IfOk, IfSome, IsTrue};
 ghost use Rattle.std.specs.List.{All, list_all};
 ghost use Rattle.std.proofs.Props.{props};
 ghost use Rattle.qc_alike.specs.Looking.{looks, owns};
 ghost use Rattle.qc_joins.specs.Joins.{StandsAt};
+ghost use Rattle.qc_levels.specs.Seen.{verdict_of};
 ghost use Rattle.qc_joins.specs.declared.joins.Joins.{Joins};
 ghost use Rattle.qc_model.specs.Content.{Game};
 ghost use Rattle.qc_model.specs.Demands.{demands};
@@ -15,18 +16,28 @@ ghost use Rattle.proof_tree.specs.declared.line.Line.{Line as ProofLine};
 ghost use Rattle.search_box.specs.Entered.{IsEntered};
 ghost use Rattle.search_box.specs.Looking.{scope_number};
 ghost use Rattle.game_search.specs.Props.{known_prop};
-ghost use Rattle.game_search.specs.Known.{ask_nothing, decided_as, is_decided_as, IsKnown, IsLike, StandsHere, line_owns};
+ghost use Rattle.game_search.specs.Known.{ask_nothing, decided_as, is_decided_as, IsFinished, IsKnown, IsLike, StandsHere, ends_as, line_owns};
 ghost use Rattle.game_search.specs.Made.{NodeMade};
 ghost use Rattle.game_search.specs.Told.{NodeTold};
 
 use crate::likeness::{is_like, looks_at};
+use crate::owning::are_owning;
 use crate::residues::mixed;
 use proof_tree::Line;
+use qc_levels::Found;
 use qc_model::{Problem, ScopeId, VarId};
-use qc_rules::Level;
+use qc_rules::{Level, Levels};
 use search_box::SearchBox;
+use std::alloc::{AllocError, Global};
 
-/// How many bits of a position's hash are left out of its place, so that there are 65,536 places.
+/// How many nodes are kept at most.
+const PLACES: usize = 65_536;
+
+/// How many lines a node has at most that is kept, and how many all have together.
+const MOST_LINES: usize = 4_096;
+const MOST_LINES_IN_ALL: usize = 4_194_304;
+
+/// How many bits of a position's hash are left out of its place, so that there are as many places.
 const REST_BITS: u32 = 48;
 
 /// The laws of nodes that are known, in games where nothing is optimised. The lines of a node that came to lost or to
@@ -90,7 +101,147 @@ pub(crate) struct KnownNodes<'p> {
     ghost same: { All (λ n. n.problem.now ≡ problem.now) nodes.items } by { Prim.hlevel props },
 }
 
+/// What a node came to, and how many turns were left before it and after it.
+#[derive(Clone, Copy)]
+pub(crate) struct NodeEnd {
+    pub(crate) found: Found,
+    pub(crate) had: u64,
+    pub(crate) left: u64,
+}
+
+/// Whether the node was won. None comes where that isn't known.
+fn is_won(found: Found) -> Option<bool>
+    ensures { IfSome result (λ won. (v : List ℤ) → IsTrue (ends_as won (verdict_of found v))) }
+{
+    match found {
+        Found::Lost => Some(false),
+        Found::Exact => Some(true),
+        Found::AtMost(_) => None,
+        Found::Unknown => None,
+    }
+}
+
+/// Whether no scope has a condition.
+fn asks_nothing(problem: &Problem) -> bool
+    ensures { IsTrue result → IsTrue (ask_nothing problem.now.scopes) }
+{
+    problem.known();
+    for i in 0..problem.scopes() {
+        if problem.scope(ScopeId(i as u8)).condition.is_some() {
+            return false;
+        }
+    }
+    true
+}
+
 impl<'p> KnownNodes<'p> {
+    /// No node yet. Nodes are kept only where that is wanted and nothing is optimised. It fails only where memory runs out.
+    pub(crate) fn new(
+        alloc: Global,
+        levels: &Levels<'p>,
+        wanted: bool,
+    ) -> Result<KnownNodes<'p>, AllocError>
+        ensures { IfOk result (λ known. known.problem.now ≡ levels.now.problem.now) }
+    {
+        let problem = levels.problem;
+        let is_on = wanted && asks_nothing(problem);
+        let places = vec![in alloc; 0u32; if is_on { PLACES } else { 0 }]?;
+        Ok(KnownNodes {
+            problem,
+            is_on,
+            places,
+            nodes: Vec::new(alloc),
+            lines: 0,
+        })
+    }
+
+    /// Keeps the lines of a node, where it is decided, a turn is left, and its position is one that can be met again.
+    pub(crate) fn keep(
+        &mut self,
+        alloc: Global,
+        level: &Level,
+        horizon: Option<ScopeId>,
+        remains: &SearchBox,
+        end: NodeEnd,
+        lines: &[Line],
+    ) -> Result<(), AllocError>
+        requires game { level.now.problem.now ≡ self.old.problem.now }
+        requires here { IsEntered level.now.problem.now level.now.number remains.now }
+        requires finished { IsFinished level.now.problem.now level.now.number remains.now.store.box (scope_number horizon) end.found end.had end.left lines.now }
+        ensures { self.new.problem.now ≡ self.old.problem.now }
+    {
+        if !self.is_on || end.left == 0 || lines.len() > MOST_LINES {
+            return Ok(());
+        }
+        let Some(won) = is_won(end.found) else {
+            return Ok(());
+        };
+        let values = Vec::from_slice(alloc, remains.values_before(level))?;
+        if !is_like(level, remains, values.as_slice()) || !are_owning(alloc, self.problem, lines)? {
+            return Ok(());
+        }
+        let node = KnownNode {
+            problem: self.problem,
+            scope: ScopeId(level.number),
+            horizon,
+            values,
+            won,
+            turns: end.had.saturating_sub(end.left),
+            lines: Vec::from_slice(alloc, lines)?,
+        };
+        self.put(level, node)
+    }
+
+    /// Puts a node into the place of its position, where what was there goes. Where all would have too many lines together, all
+    /// others go first.
+    fn put(&mut self, level: &Level, node: KnownNode<'p>) -> Result<(), AllocError>
+        requires { node.problem.now ≡ self.old.problem.now }
+        ensures { self.new.problem.now ≡ self.old.problem.now }
+    {
+        if self.lines.saturating_add(node.len()) > MOST_LINES_IN_ALL {
+            self.forget();
+        }
+        self.lines = self.lines.saturating_add(node.len());
+        match self.node_of(level, node.values.as_slice()) {
+            Some(at) => self.replace(at, node),
+            None => self.add(level, node)?,
+        }
+        Ok(())
+    }
+
+    /// Puts a node in place of another.
+    fn replace(&mut self, at: usize, node: KnownNode<'p>)
+        requires { node.problem.now ≡ self.old.problem.now }
+        ensures { self.new.problem.now ≡ self.old.problem.now }
+    {
+        if at < self.nodes.len() {
+            self.lines = self.lines.saturating_sub(self.nodes[at].len());
+            self.nodes[at] = node;
+        }
+    }
+
+    /// Puts a node where none is.
+    fn add(&mut self, level: &Level, node: KnownNode<'p>) -> Result<(), AllocError>
+        requires { node.problem.now ≡ self.old.problem.now }
+        ensures { self.new.problem.now ≡ self.old.problem.now }
+    {
+        let place = place_of(level, node.values.as_slice());
+        self.nodes.push(node)?;
+        if let Some(number) = self.places.get_mut(place) {
+            *number = self.nodes.len().min(PLACES) as u32;
+        }
+        Ok(())
+    }
+
+    /// Has no node any more.
+    fn forget(&mut self)
+        ensures { self.new.problem.now ≡ self.old.problem.now }
+    {
+        self.nodes.clear();
+        self.places.fill(0);
+        self.lines = 0;
+    }
+
     /// The node that is known for this position, where as many turns are left as it took.
     pub(crate) fn find(
         &self,

@@ -22,6 +22,7 @@ mod known;
 mod likeness;
 mod looks;
 mod narrowing;
+mod owning;
 mod positions;
 mod residues;
 mod rival;
