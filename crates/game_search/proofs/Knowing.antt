@@ -1,6 +1,6 @@
 -- Trees that are right wherever the position looks the same, in games where nothing is optimised.
 use Rattle.std.proofs.Common.{◌≡◌, ◌≤◌, ◌<◌, ◌+◌, ◌*◌, ◌-◌, ◌∙◌, inl, inr, ℕ, zero, suc, Bool, true, false, ◌&&◌, List, [], ◌∷◌, ◌++◌, map, length, drop, take, refl, sym, ap, subst, arith, Option, None, Some, ℤ}
-use Rattle.std.specs.Prelude.{◌⊎◌, is_none, nat_lt, slice_get, slice_index_or, pos}
+use Rattle.std.specs.Prelude.{◌⊎◌, is_none, is_some, nat_lt, slice_get, slice_index_or, pos}
 use Rattle.std.specs.List.{list_all}
 use Rattle.std.proofs.lemmas.List.{get_or_past}
 use Rattle.std.proofs.lemmas.List.Folds.{list_all-append}
@@ -13,6 +13,7 @@ use Rattle.qc_model.specs.Content.{Game}
 use Rattle.qc_model.specs.Demands.{demands, demands_from, demands_after}
 use Rattle.qc_model.specs.Domains.{Values, Box, declared_box, values_left, box_values, is_single, least_value}
 use Rattle.qc_model.specs.Game.{before}
+use Rattle.qc_model.specs.ForallVerdict.{goal_verdict}
 use Rattle.qc_model.specs.Verdict.{Verdict, lost, exact, at_most, unknown, Seen}
 use Rattle.qc_arguments.specs.Asked.{is_box_of}
 use Rattle.qc_arguments.proofs.Boxes.{some_left, sub_length}
@@ -32,20 +33,22 @@ use Rattle.proof_tree.specs.Read.{read}
 use Rattle.proof_tree.specs.Tree.{Tree, tree, Body, stuck, goal, cases, Ending, empty, barred, next, branch, Branches, no_more, piece, Case, skip, left_open, go}
 use Rattle.qc_levels.specs.Seen.{verdict_of}
 use Rattle.qc_levels.specs.declared.leaves.Found.{Found}
-use Rattle.qc_joins.specs.Joins.{StandsAt, IsLong}
+use Rattle.qc_joins.specs.Joins.{StandsAt, IsLong, out_of}
 use Rattle.qc_joins.specs.Sizes.{IsSized}
 use Rattle.qc_joins.specs.Verdicts.{scope_own, kind_own}
 use Rattle.qc_joins.specs.declared.joins.Joins.{Joins}
 use Rattle.search_box.specs.Boxed.{Boxed}
 use Rattle.search_box.specs.Entered.{IsEntered}
-use Rattle.game_search.specs.Known.{ask_nothing, IsLike, decided_as, is_decided_as, IsDecided, IsKnownBy, IsKnown, IsFinished, ends_as, line_owns}
+use Rattle.game_search.specs.Known.{ask_nothing, IsLike, decided_as, is_decided_as, IsDecided, IsKnownBy, IsKnown, IsFinished, StandsHere, ends_as, line_owns}
 use Rattle.game_search.specs.Made.{NodeMade}
 use Rattle.game_search.specs.Own.{IsOwnSized}
 use Rattle.game_search.specs.Settled.{is_vague_verdict}
 use Rattle.game_search.specs.Told.{NodeTold}
+use Rattle.game_search.specs.declared.walk.Walk.{Walk}
 use Rattle.game_search.proofs.Bools.{two, both, below_is}
 use Rattle.game_search.proofs.Here.{stuck_own}
 use Rattle.game_search.proofs.Joining.{own_so}
+use Rattle.game_search.proofs.Progress.{drop_front}
 
 past : (x n : ℕ) → nat_lt x n ≡ false → n ≤ x
 past x n e = grind (arith, nat_tests)
@@ -317,3 +320,51 @@ finished_known g i box h found won had left vs ls plain ends some like own f =
     by false (exact w) e l = cc
     by b (at_most p) e l = cc
     by b unknown e l = cc
+
+-- the goal that holds comes to what a node does that is won, and the other one to what a lost one does
+goal_decided : (g : Game) (won : Bool) (d : List Condition) (a : List ℤ) → d ≡ [] → goal_verdict g won d a ≡ decided_as won
+goal_decided g won d a e = ap (λ dd. goal_verdict g won dd a) e ∙ by won
+  where
+    by : (b : Bool) → goal_verdict g b [] a ≡ decided_as b
+    by true = refl
+    by false = refl
+
+-- the lines that stand here
+pub stands_told : (cuts : Bool) (above : ℤ → Bool) (g : Game) (i : ℕ) (box : Box) (h : Option ℕ) (vs : List ℤ) (v : Verdict) (won : Bool) (turns had left n : ℕ) (a : List ℤ) (ls old new : List Line) (joins : Joins) → cuts ≡ true → StandsHere g i h had box vs won turns ls → left ≡ had - turns → v ≡ goal_verdict g won (demands g n) a →
+    new ≡ old ++ ls → StandsAt joins i [] → NodeTold cuts above g i box h v had left old new joins
+stands_told cuts above g i box h vs v won turns had left n a ls old new joins cut s f q e stands =
+    subst (λ b. NodeTold b above g i box h v had left old new joins) (sym cut)
+    (known_told above g i box h vs v won turns had left ls old new joins s.plain s.few f (q ∙ goal_decided g won (demands g n) a (no_demands g n s.plain)) s.like e stands s.known)
+
+-- a scope that has a condition or none, in a list of scopes
+pub none_goes_on : (ss : List Scope) (i : ℕ) (s : Scope) → slice_get ss i ≡ Some s → is_some s.condition ≡ false → ask_nothing (drop (suc i) ss) ≡ ask_nothing (drop i ss)
+none_goes_on [] zero s e f = cc
+none_goes_on [] (suc i) s e f = cc
+none_goes_on (t ∷ ss) zero s e f =
+    let q : t ≡ s = cc in
+    sym (ap (λ b. b && ask_nothing ss) (none t.condition (ap (λ (u : Scope). is_some u.condition) q ∙ f)))
+  where
+    none : (o : Option Condition) → is_some o ≡ false → is_none o ≡ true
+    none None e = refl
+    none (Some c) e = cc
+none_goes_on (t ∷ ss) (suc i) s e f = none_goes_on ss i s e f
+
+-- what was told of a node says that it is finished
+pub node_finished : (cuts : Bool) (above : ℤ → Bool) (g : Game) (i : ℕ) (box now : Box) (h : Option ℕ) (found : Found) (vector : List ℤ) (had left start : ℕ) (old new : List Line) (joins : Joins) → cuts ≡ true → now ≡ box → start ≡ length old → NodeTold cuts above g i box h (verdict_of found vector) had left old new joins →
+    IsFinished g i now h found had left (drop start new)
+node_finished cuts above g i box now h found vector had left start old new joins cut same e w = record {
+  above = above;
+  vector = vector;
+  tree = w.written.tree;
+  lines = ap (λ n. drop n new) e ∙ (ap (drop (length old)) w.written.lines ∙ drop_front old (tree_lines w.written.tree));
+  made = subst (λ (b : Box). NodeMade true above g (drop i g.scopes) i (demands g i) b h (verdict_of found vector) had left w.written.tree) (sym same)
+      (subst (λ b. NodeMade b above g (drop i g.scopes) i (demands g i) box h (verdict_of found vector) had left w.written.tree) cut w.written.made);
+}
+
+-- what was told stays so where the joins, the turns and the lines do
+pub kept_told : (cuts : Bool) (above : ℤ → Bool) (g : Game) (i : ℕ) (box : Box) (h : Option ℕ) (found : Found) (a b c : Walk) → c.joins ≡ b.joins → c.left ≡ b.left → c.lines ≡ b.lines → NodeTold cuts above g i box h (verdict_of found (out_of b.joins)) a.left b.left a.lines b.lines b.joins →
+    NodeTold cuts above g i box h (verdict_of found (out_of c.joins)) a.left c.left a.lines c.lines c.joins
+kept_told cuts above g i box h found a b c joins left lines w =
+    subst (λ (js : Joins). NodeTold cuts above g i box h (verdict_of found (out_of js)) a.left c.left a.lines c.lines js) (sym joins)
+    (subst (λ n. NodeTold cuts above g i box h (verdict_of found (out_of b.joins)) a.left n a.lines c.lines b.joins) (sym left)
+    (subst (λ ls. NodeTold cuts above g i box h (verdict_of found (out_of b.joins)) a.left b.left a.lines ls b.joins) (sym lines) w))

@@ -49,7 +49,7 @@ pub take_front : (xs ys : List Line) → take (length xs) (xs ++ ys) ≡ xs
 take_front [] ys = refl
 take_front (x ∷ xs) ys = ap (λ ls. x ∷ ls) (take_front xs ys)
 
-drop_front : (xs ys : List Line) → drop (length xs) (xs ++ ys) ≡ ys
+pub drop_front : (xs ys : List Line) → drop (length xs) (xs ++ ys) ≡ ys
 drop_front [] ys = refl
 drop_front (x ∷ xs) ys = drop_front xs ys
 

@@ -255,3 +255,11 @@ as_many n = omega arith
 
 pub one_fewer : (n : ℕ) → n - 1 ≤ n
 one_fewer n = omega arith
+
+-- after something that changes none of this
+pub same_back : (g : Game) (i : ℕ) (a b c : Walk) → IsBack g i a b → c.remains ≡ b.remains → c.joins ≡ b.joins → c.lines ≡ b.lines → c.left ≡ b.left → IsBack g i a c
+same_back g i a b c p remains joins lines left = line_back g i a b c p remains joins left [] (lines ∙ sym (append-nil b.lines))
+
+-- from a walk that has the same of all this
+pub back_from : (g : Game) (i : ℕ) (a r b : Walk) → IsBack g i r b → r.remains ≡ a.remains → r.joins ≡ a.joins → r.lines ≡ a.lines → r.left ≡ a.left → IsBack g i a b
+back_from g i a r b p remains joins lines left = both_back g i a r b (same_back g i a a r (none_back g i a) remains joins lines left) p

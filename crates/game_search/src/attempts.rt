@@ -9,6 +9,7 @@ ghost use Rattle.game_search.specs.Solution.{SolutionLines, outcome_by};
 ghost use Rattle.game_search.specs.Attempted.{Attempted};
 
 use crate::advice::Advice;
+use crate::known::KnownNodes;
 use crate::search::node;
 use crate::walk::Walk;
 use proof_tree::{Outcome, cases_are_few};
@@ -95,6 +96,7 @@ pub(crate) fn attempt(
     let remains = SearchBox::new(alloc, levels.problem)?;
     let joins = Joins::new(alloc, levels.problem)?;
     let advice = Advice::new(alloc, levels, cuts)?;
+    let known = KnownNodes::new(alloc, levels, cuts)?;
     let mut walk = Walk {
         alloc,
         remains,
@@ -103,6 +105,7 @@ pub(crate) fn attempt(
         kept: Vec::new(alloc),
         left: turns,
         advice,
+        known,
     };
     let found = node(levels, cuts, None, 0, &mut walk)?;
     let own = first_own(levels.problem, &walk.joins);

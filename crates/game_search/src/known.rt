@@ -1,26 +1,16 @@
 //! Nodes that were settled before, whose lines stand wherever the position looks the same.
-ghost use Rattle.std.specs.Prelude.{◌≡◌, ◌<◌, ◌≤◌, ◌++◌, ◌-◌, ℕ, ℤ, Bool, true, List, [], Option, drop, length, IfOk, IfSome, IsTrue};
-ghost use Rattle.std.specs.List.{All, list_all};
+//!
+//! Nothing is kept where a scope has a condition. So a node that is decided is lost, or exact with no value.
+ghost use Rattle.std.specs.Prelude.{◌≡◌, ◌<◌, Some, List, ℤ, length, slice_get, IfOk, IfSome, IsTrue};
+ghost use Rattle.std.specs.List.{All};
 ghost use Rattle.std.proofs.Props.{props};
-ghost use Rattle.qc_alike.specs.Looking.{looks, owns};
-ghost use Rattle.qc_joins.specs.Joins.{StandsAt};
 ghost use Rattle.qc_levels.specs.Seen.{verdict_of};
-ghost use Rattle.qc_joins.specs.declared.joins.Joins.{Joins};
-ghost use Rattle.qc_model.specs.Content.{Game};
-ghost use Rattle.qc_model.specs.Demands.{demands};
-ghost use Rattle.qc_model.specs.Domains.{Box};
-ghost use Rattle.qc_model.specs.Verdict.{Verdict};
-ghost use Rattle.proof_tree.specs.Lines.{tree_lines};
-ghost use Rattle.proof_tree.specs.Tree.{Tree};
-ghost use Rattle.proof_tree.specs.declared.line.Line.{Line as ProofLine};
 ghost use Rattle.search_box.specs.Entered.{IsEntered};
 ghost use Rattle.search_box.specs.Looking.{scope_number};
 ghost use Rattle.game_search.specs.Props.{known_prop};
-ghost use Rattle.game_search.specs.Known.{ask_nothing, decided_as, is_decided_as, IsFinished, IsKnown, IsLike, StandsHere, ends_as, line_owns};
-ghost use Rattle.game_search.specs.Made.{NodeMade};
-ghost use Rattle.game_search.specs.Told.{NodeTold};
+ghost use Rattle.game_search.specs.Known.{ask_nothing, IsFinished, IsKnown, StandsHere, ends_as};
 
-use crate::likeness::{is_like, looks_at};
+use crate::likeness::{is_fresh, is_like, looks_at};
 use crate::owning::are_owning;
 use crate::residues::mixed;
 use proof_tree::Line;
@@ -35,20 +25,11 @@ const PLACES: usize = 65_536;
 
 /// How many lines a node has at most that is kept, and how many all have together.
 const MOST_LINES: usize = 4_096;
+
 const MOST_LINES_IN_ALL: usize = 4_194_304;
 
 /// How many bits of a position's hash are left out of its place, so that there are as many places.
 const REST_BITS: u32 = 48;
-
-/// The laws of nodes that are known, in games where nothing is optimised. The lines of a node that came to lost or to
-/// exact with a turn left, and whose removals are of variables that are looked at, are known. Where lines are known, they
-/// stand at each node of the scope whose box is like the values, if as many turns are left as they took. And removals of
-/// the constraints' own variables are told by the lines.
-pub(crate) fn known_nodes_stand()
-    ensures known { (above : ℤ → Bool) (g : Game) (i : ℕ) (box : Box) (h : Option ℕ) (vs : List ℤ) (v : Verdict) (won : Bool) (had left : ℕ) (t : Tree) (ls : List ProofLine) → IsTrue (ask_nothing g.scopes) → IsTrue (is_decided_as won v) → 0 < left → IsLike g i vs box → IsTrue (looks g t i) → ls ≡ tree_lines t → NodeMade true above g (drop i g.scopes) i (demands g i) box h v had left t → IsKnown g i h vs won (had - left) ls }
-    ensures told { (above : ℤ → Bool) (g : Game) (i : ℕ) (box : Box) (h : Option ℕ) (vs : List ℤ) (v : Verdict) (won : Bool) (turns had left : ℕ) (ls old new : List ProofLine) (joins : Joins) → IsTrue (ask_nothing g.scopes) → turns ≤ had → left ≡ had - turns → v ≡ decided_as won → IsLike g i vs box → new ≡ old ++ ls → StandsAt joins i [] → IsKnown g i h vs won turns ls → NodeTold true above g i box h v had left old new joins }
-    ensures owns { (g : Game) (t : Tree) (i : ℕ) → IsTrue (list_all (line_owns g) (tree_lines t)) → IsTrue (owns g t i) }
-{}
 
 /// A node that was settled where nothing is optimised: its scope, the horizon in force, the values of the variables before
 /// the scope, whether it was won, how many turns it took at most, and the lines that stand there.
@@ -57,14 +38,21 @@ pub(crate) struct KnownNode<'p> {
     problem: &'p Problem,
     scope: ScopeId,
     horizon: Option<ScopeId>,
-    values: Vec<i64>,
-    won: bool,
-    turns: u64,
-    lines: Vec<Line>,
+    pub(crate) values: Vec<i64>,
+    pub(crate) won: bool,
+    pub(crate) turns: u64,
+    pub(crate) lines: Vec<Line>,
     ghost known: { IsKnown problem.now scope.0 (scope_number horizon) values.items won turns lines.items } by { known_prop problem.now scope.0 (scope_number horizon) values.items won turns lines.items },
 }
 
 impl<'p> KnownNode<'p> {
+    /// Its lines.
+    pub(crate) fn lines(&self) -> &[Line]
+        ensures { result.now ≡ self.now.lines.items }
+    {
+        self.lines.as_slice()
+    }
+
     /// How many lines it has.
     pub(crate) fn len(&self) -> usize
         ensures { result ≡ length self.now.lines.items }
@@ -94,7 +82,7 @@ pub(crate) struct KnownNodes<'p> {
     is_on: bool,
     /// For each place the number of its node and one, or 0.
     places: Vec<u32>,
-    nodes: Vec<KnownNode<'p>>,
+    pub(crate) nodes: Vec<KnownNode<'p>>,
     /// How many lines are kept together.
     lines: usize,
     ghost plain: { IsTrue is_on → IsTrue (ask_nothing problem.now.scopes) },
@@ -155,7 +143,22 @@ impl<'p> KnownNodes<'p> {
         })
     }
 
-    /// Keeps the lines of a node, where it is decided, a turn is left, and its position is one that can be met again.
+    /// Whether a node is kept that has so many lines: it is decided, a turn is left, and its position can be met again.
+    pub(crate) fn is_wanted(
+        &self,
+        level: &Level,
+        remains: &SearchBox,
+        end: NodeEnd,
+        lines: usize,
+    ) -> bool {
+        self.is_on
+            && end.left > 0
+            && lines <= MOST_LINES
+            && is_won(end.found).is_some()
+            && is_fresh(level, remains)
+    }
+
+    /// Keeps the lines of a node that is wanted.
     pub(crate) fn keep(
         &mut self,
         alloc: Global,
@@ -170,7 +173,7 @@ impl<'p> KnownNodes<'p> {
         requires finished { IsFinished level.now.problem.now level.now.number remains.now.store.box (scope_number horizon) end.found end.had end.left lines.now }
         ensures { self.new.problem.now ≡ self.old.problem.now }
     {
-        if !self.is_on || end.left == 0 || lines.len() > MOST_LINES {
+        if !self.is_on || end.left == 0 {
             return Ok(());
         }
         let Some(won) = is_won(end.found) else {
@@ -242,28 +245,41 @@ impl<'p> KnownNodes<'p> {
         self.lines = 0;
     }
 
-    /// The node that is known for this position, where as many turns are left as it took.
+    /// The number of the node that is known for this position, where as many turns are left as it took.
     pub(crate) fn find(
         &self,
         level: &Level,
         horizon: Option<ScopeId>,
         left: u64,
         remains: &SearchBox,
-    ) -> Option<&KnownNode<'p>>
+    ) -> Option<usize>
         requires game { level.now.problem.now ≡ self.now.problem.now }
         requires here { IsEntered level.now.problem.now level.now.number remains.now }
-        ensures { IfSome result (λ n. StandsHere self.now.problem.now level.now.number (scope_number horizon) left remains.now.store.box n.now.values.items n.now.won n.now.turns n.now.lines.items) }
+        ensures within { IfSome result (λ at. at < length self.now.nodes.items) }
+        ensures stands { IfSome result (λ at. IfSome (slice_get self.now.nodes.items at) (λ n. StandsHere level.now.problem.now level.now.number (scope_number horizon) left remains.now.store.box n.values.items n.won n.turns n.lines.items)) }
     {
         if !self.is_on {
             return None;
         }
         let at = self.node_of(level, remains.values_before(level))?;
-        let node = self.nodes.get(at)?;
+        if at >= self.nodes.len() {
+            return None;
+        }
+        let node = self.node(at);
         let is_it = node.scope.0 == level.number
             && is_same(node.horizon, horizon)
             && node.turns <= left
             && is_like(level, remains, node.values.as_slice());
-        if is_it { Some(node) } else { None }
+        if is_it { Some(at) } else { None }
+    }
+
+    /// The node with this number.
+    pub(crate) fn node(&self, at: usize) -> &KnownNode<'p>
+        requires { at < length self.now.nodes.items }
+        ensures node { slice_get self.now.nodes.items at ≡ Some result.now }
+        ensures problem { result.now.problem.now ≡ self.now.problem.now }
+    {
+        &self.nodes[at]
     }
 
     /// The number of the node in the position's place.

@@ -19,6 +19,7 @@ mod aim;
 mod attempts;
 mod certify;
 mod known;
+mod laws;
 mod likeness;
 mod looks;
 mod narrowing;

@@ -19,7 +19,7 @@ pub(crate) fn looks_at(_level: &Level, _x: VarId) -> bool
 }
 
 /// Whether each variable from the scope's first on has all its declared values left.
-fn is_fresh(_level: &Level, _remains: &SearchBox) -> bool
+pub(crate) fn is_fresh(_level: &Level, _remains: &SearchBox) -> bool
     ensures { IsTrue result → (x : ℕ) → before _level.now.problem.now _level.now.number ≤ x → x < length _remains.now.store.box → values_left _remains.now.store.box x ≡ values_left (declared_box _level.now.problem.now) x }
 {
     // none is known to have

@@ -16,7 +16,7 @@
 //! Where a leaf settles its scope, so that no other leaf changes what the node comes to, the cases after it are left
 //! out, and the join isn't told of them. They are left out too where the leaves of a scope of the opponent give a bound that
 //! the incumbent of the scope right above beats. Where no turn is left the cases that remain are left open.
-ghost use Rattle.std.specs.Prelude.{◌≡◌, ◌≤◌, ◌<◌, ◌∷◌, ◌++◌, ◌+◌, ◌*◌, ℤ, suc, Bool, Option, ℕ, [], List, length, drop, true, false, IfOk, IfSome, OnOk, IsTrue};
+ghost use Rattle.std.specs.Prelude.{◌≡◌, ◌≤◌, ◌<◌, ◌∷◌, ◌++◌, ◌+◌, ◌*◌, ℤ, suc, Bool, Option, ℕ, [], List, length, drop, true, false, IfOk, IfSome, OnOk, IsTrue, slice_get};
 ghost use Rattle.qc_model.specs.Demands.{demands};
 ghost use Rattle.qc_model.specs.Domains.{Box, has_value, is_single, values_left};
 ghost use Rattle.qc_model.specs.Game.{is_of_scope};
@@ -34,17 +34,20 @@ ghost use Rattle.search_box.specs.Looking.{scope_number};
 ghost use Rattle.game_search.specs.Aims.{tracked_at};
 ghost use Rattle.game_search.specs.Beaten.{firsts, seen_bounds};
 ghost use Rattle.game_search.specs.Going.{IsGoing, GoesOn};
+ghost use Rattle.game_search.specs.Known.{IsFinished, StandsHere};
 ghost use Rattle.game_search.specs.Rivals.{above_at, StandsAbove, outdoes};
 ghost use Rattle.game_search.specs.Settled.{is_ended as is_ended_by};
 ghost use Rattle.game_search.specs.Told.{IsReady, IsBack, EndingTold, StepsTold, PartTold, CaseTold, CasesTold, BodyTold, NodeTold};
 
 use crate::aim::aim_of;
+use crate::known::NodeEnd;
 use crate::narrowing::narrow;
 use crate::rival::{is_outdone, rival_of};
 use crate::stage::Stage;
 use crate::walk::Walk;
 use crate::writing::{
-    drop_before, last_to_drop, leave_out, put_horizon, put_steps, skip_and_tell, skip_between,
+    copied_from, drop_before, last_to_drop, leave_out, put_all, put_horizon, put_steps, skip_and_tell,
+    skip_between,
 };
 use proof_tree::{Line, Step, StepList};
 use prop_engine::Closed;
@@ -75,6 +78,79 @@ pub(crate) fn node(
     if number as usize == levels.problem.scopes() {
         return at_goal(levels, horizon, number, walk);
     }
+    if let Some(at) = known_at(levels, cuts, horizon, number, walk) {
+        return put_known(levels, cuts, horizon, number, at, walk);
+    }
+    searched_node(levels, cuts, horizon, number, walk)
+}
+
+/// The number of the node that is known for the position, in the first pass. The first scope has one node.
+fn known_at(
+    levels: &Levels,
+    cuts: bool,
+    horizon: Option<ScopeId>,
+    number: u8,
+    walk: &Walk,
+) -> Option<usize>
+    requires scope { number < length levels.now.problem.now.scopes }
+    requires here { IsEntered levels.now.problem.now number walk.now.remains }
+    requires joins { game_of walk.now.joins ≡ levels.now.problem.now }
+    ensures cuts { IfSome result (λ at. IsTrue cuts) }
+    ensures within { IfSome result (λ at. at < length walk.now.known.nodes.items) }
+    ensures stands { IfSome result (λ at. IfSome (slice_get walk.now.known.nodes.items at) (λ n. StandsHere levels.now.problem.now number (scope_number horizon) walk.now.left walk.now.remains.store.box n.values.items n.won n.turns n.lines.items)) }
+{
+    if !cuts || number == 0 {
+        return None;
+    }
+    let level = levels.level(ScopeId(number));
+    walk.known.find(level, horizon, walk.left, &walk.remains)
+}
+
+/// The node of a scope that is known for the position, whose lines are copied.
+fn put_known(
+    levels: &Levels,
+    cuts: bool,
+    horizon: Option<ScopeId>,
+    number: u8,
+    at: usize,
+    walk: &mut Walk,
+) -> Result<Found, AllocError>
+    requires scope { number < length levels.now.problem.now.scopes }
+    requires joins { game_of walk.old.joins ≡ levels.now.problem.now }
+    requires cuts { IsTrue cuts }
+    requires within { at < length walk.old.known.nodes.items }
+    requires stands { IfSome (slice_get walk.old.known.nodes.items at) (λ n. StandsHere levels.now.problem.now number (scope_number horizon) walk.old.left walk.old.remains.store.box n.values.items n.won n.turns n.lines.items) }
+    ensures told { IfOk result (λ found. (above : ℤ → Bool) → NodeTold cuts above levels.now.problem.now number walk.old.remains.store.box (scope_number horizon) (verdict_of found (out_of walk.new.joins)) walk.old.left walk.new.left walk.old.lines walk.new.lines walk.new.joins) }
+    ensures back { OnOk result (IsBack levels.now.problem.now number walk.old walk.new) }
+{
+    levels.problem.known();
+    let node = walk.known.node(at);
+    put_all(&mut walk.lines, node.lines())?;
+    walk.left = walk.left.saturating_sub(node.turns);
+    walk.joins.clear(ScopeId(number));
+    // a node that is won comes to what the goal does where it holds, and one that is lost to what it does else
+    Ok(walk.joins.goal(node.won, walk.remains.all_values()))
+}
+
+/// The node of a scope that is searched. In the first pass its lines are kept, where they can be of use again.
+#[cycle(search)]
+fn searched_node(
+    levels: &Levels,
+    cuts: bool,
+    horizon: Option<ScopeId>,
+    number: u8,
+    walk: &mut Walk,
+) -> Result<Found, AllocError>
+    requires scope { number < length levels.now.problem.now.scopes }
+    requires horizon { IfSome horizon (λ h. h.0 ≤ length levels.now.problem.now.scopes) }
+    requires here { IsEntered levels.now.problem.now number walk.old.remains }
+    requires joins { game_of walk.old.joins ≡ levels.now.problem.now }
+    ensures told { IfOk result (λ found. walk.old.left < 2147483648 → (up : List Seen) → StandsAbove walk.old.joins number up → NodeTold cuts (above_at levels.now.problem.now number up) levels.now.problem.now number walk.old.remains.store.box (scope_number horizon) (verdict_of found (out_of walk.new.joins)) walk.old.left walk.new.left walk.old.lines walk.new.lines walk.new.joins) }
+    ensures back { OnOk result (IsBack levels.now.problem.now number walk.old walk.new) }
+{
+    levels.problem.known();
+    let had = walk.left;
+    let start = walk.lines.len();
     let ahead = walk.remains.look_ahead(levels, ScopeId(number), horizon)?;
     let below = put_horizon(&mut walk.lines, horizon, ahead)?;
     let level = levels.level(ScopeId(number));
@@ -89,7 +165,46 @@ pub(crate) fn node(
         aim: aim_of(levels.problem, &walk.joins, ScopeId(number)),
         rival: rival_of(&walk.joins, ScopeId(number)),
     };
-    own_tree(&stage, walk)
+    let found = own_tree(&stage, walk)?;
+    let end = NodeEnd {
+        found,
+        had,
+        left: walk.left,
+    };
+    keep_node(levels, cuts, horizon, number, start, end, walk)?;
+    Ok(found)
+}
+
+/// Keeps the lines of a node from `start` on, in the first pass, where they can be of use again.
+fn keep_node(
+    levels: &Levels,
+    cuts: bool,
+    horizon: Option<ScopeId>,
+    number: u8,
+    start: usize,
+    end: NodeEnd,
+    walk: &mut Walk,
+) -> Result<(), AllocError>
+    requires scope { number < length levels.now.problem.now.scopes }
+    requires here { IsEntered levels.now.problem.now number walk.old.remains }
+    requires joins { game_of walk.old.joins ≡ levels.now.problem.now }
+    requires finished { IsTrue cuts → end.had < 2147483648 → IsFinished levels.now.problem.now number walk.old.remains.store.box (scope_number horizon) end.found end.had end.left (drop start walk.old.lines) }
+    ensures remains { walk.new.remains ≡ walk.old.remains }
+    ensures joins { walk.new.joins ≡ walk.old.joins }
+    ensures left { walk.new.left ≡ walk.old.left }
+    ensures lines { OnOk result (walk.new.lines ≡ walk.old.lines) }
+{
+    if !cuts || end.had >= 2_147_483_648 || number == 0 || start > walk.lines.len() {
+        return Ok(());
+    }
+    let level = levels.level(ScopeId(number));
+    let len = walk.lines.len() - start;
+    if !walk.known.is_wanted(level, &walk.remains, end, len) {
+        return Ok(());
+    }
+    let lines = copied_from(walk.alloc, &mut walk.lines, &mut walk.kept, start)?;
+    walk.known
+        .keep(walk.alloc, level, horizon, &walk.remains, end, &lines)
 }
 
 fn is_here(horizon: Option<ScopeId>, number: u8) -> bool

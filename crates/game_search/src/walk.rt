@@ -1,5 +1,9 @@
 //! What changes on the way through a game.
+ghost use Rattle.std.specs.Prelude.{◌≡◌};
+ghost use Rattle.qc_joins.specs.Joins.{game_of};
+
 use crate::advice::Advice;
+use crate::known::KnownNodes;
 use proof_tree::Line;
 use qc_joins::Joins;
 use search_box::SearchBox;
@@ -7,7 +11,7 @@ use std::alloc::Global;
 use strategy_arena::Arena;
 
 /// The values left, what was seen in each scope on the way, the lines written, room for lines that are moved, how many cases
-/// may still be gone into, and which tuples are tried first.
+/// may still be gone into, which tuples are tried first, and which nodes are known.
 #[derive(Drop)]
 pub(crate) struct Walk<'p> {
     pub(crate) alloc: Global,
@@ -17,4 +21,6 @@ pub(crate) struct Walk<'p> {
     pub(crate) kept: Vec<Line>,
     pub(crate) left: u64,
     pub(crate) advice: Advice<'p>,
+    pub(crate) known: KnownNodes<'p>,
+    ghost same: { known.problem.now ≡ game_of joins },
 }

@@ -13,7 +13,7 @@ ghost use Rattle.game_search.specs.Uppers.{upto_between, skipped_between, seen_b
 use proof_tree::{Horizon, Line, Step};
 use qc_joins::Joins;
 use qc_model::ScopeId;
-use std::alloc::AllocError;
+use std::alloc::{AllocError, Global};
 use strategy_arena::Arena;
 
 fn line_of(step: Step) -> Line
@@ -169,6 +169,50 @@ fn put_back(lines: &mut Arena, kept: &mut Vec<Line>) -> Result<(), AllocError>
 {
     while let Some(line) = kept.pop() {
         lines.put(line)?;
+    }
+    Ok(())
+}
+
+/// A copy of the lines from place `at` on, which stay where they are.
+pub(crate) fn copied_from(
+    alloc: Global,
+    lines: &mut Arena,
+    kept: &mut Vec<Line>,
+    at: usize,
+) -> Result<Vec<Line>, AllocError>
+    requires place { at ≤ length lines.old }
+    ensures copy { IfOk result (λ copy. copy.items ≡ drop at lines.old) }
+    ensures same { OnOk result (lines.new ≡ lines.old) }
+{
+    kept.clear();
+    set_aside(lines, kept, at)?;
+    let mut copy = Vec::with_capacity(alloc, kept.len())?;
+    put_back_both(lines, &mut copy, kept)?;
+    Ok(copy)
+}
+
+/// Appends the lines that were taken off, the last one first, and so to a copy.
+fn put_back_both(
+    lines: &mut Arena,
+    copy: &mut Vec<Line>,
+    kept: &mut Vec<Line>,
+) -> Result<(), AllocError>
+    ensures lines { OnOk result (lines.new ≡ lines.old ++ reverse kept.old.items) }
+    ensures copy { OnOk result (copy.new.items ≡ copy.old.items ++ reverse kept.old.items) }
+{
+    while let Some(line) = kept.pop() {
+        lines.put(line)?;
+        copy.push(line)?;
+    }
+    Ok(())
+}
+
+/// Appends these lines.
+pub(crate) fn put_all(lines: &mut Arena, more: &[Line]) -> Result<(), AllocError>
+    ensures { OnOk result (lines.new ≡ lines.old ++ more.now) }
+{
+    for line in more {
+        lines.put(*line)?;
     }
     Ok(())
 }

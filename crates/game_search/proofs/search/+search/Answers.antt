@@ -39,11 +39,12 @@ use Rattle.game_search.specs.Uppers.{upto_between, skipped_between, seen_between
 use Rattle.game_search.proofs.Covers.{covers_after, many_of, rest_of}
 use Rattle.game_search.proofs.Fitting.{number_among, place_fits}
 use Rattle.game_search.proofs.Here.{Passing, asked_here, outdone_ends, started, ready_again, case_done, case_ready, case_tried, ready_behind, case_behind, rest_skipped, rest_ended, rest_opened, rest_none, empty_told, barred_told, few_turns, next_told, pruned_told, part_told, part_more, branch_told, ready_first, node_ended, body_more, whole_node}
+use Rattle.game_search.proofs.Knowing.{node_finished, kept_told}
 use Rattle.game_search.proofs.Losing.{ready_after}
 use Rattle.game_search.proofs.Marks.{firsts_marks}
 use Rattle.game_search.proofs.Outdone.{rival_outdoes}
 use Rattle.game_search.proofs.Bools.{both}
-use Rattle.game_search.proofs.Remains.{as_many, none_back, both_back, back_after, back_below, back_more, case_back, cut_back, entered_back, line_back, lines_both, one_fewer, taken_back, told_back, tuple_back, undone_back}
+use Rattle.game_search.proofs.Remains.{as_many, none_back, both_back, back_after, back_below, back_more, case_back, cut_back, entered_back, line_back, lines_both, one_fewer, taken_back, told_back, tuple_back, undone_back, back_from, same_back}
 use Rattle.game_search.proofs.search.+search.Goals as goal
 
 pub after_tuple-returns-then-not-tuple_allowed-clause-told : goal.after_tuple-returns-then-not-tuple_allowed-clause-told
@@ -269,8 +270,8 @@ cases-values-preserved t c =
           c.values.walk.lines c.with_value.new.walk.lines c.drop_before.new.lines c.values.walk.joins c.with_value.new.walk.joins c.is_settled.result c.is_settled-in-values.result many at covers asked c.if-is_settled.false c.if-walk-eq0.false asked_then c.last_to_drop-dropped.ensures p part (c.in_ok-drop_before.ensures ∙ there));
     }
 
-pub node-returns-then-is_here-clause-told : goal.node-returns-then-is_here-clause-told
-node-returns-then-is_here-clause-told t c =
+pub searched_node-returns-then-is_here-clause-told : goal.searched_node-returns-then-is_here-clause-told
+searched_node-returns-then-is_here-clause-told t c =
     let g = c.args.levels.now.problem.now in
     let level = c.level-level.result.now in
     let k = level.problem.now in
@@ -289,30 +290,65 @@ node-returns-then-is_here-clause-told t c =
     c.in_ok-below.ensures.lines (subst (λ (u : Box). BodyTold c.args.cuts a g c.args.number u h v c.args.walk.now.left c.stuck.new.walk.left c.put_horizon.new.lines c.stuck.new.walk.lines c.stuck.new.walk.joins) c.look_ahead.ensures.content body_here))
     c.stuck.ensures.told
 
-pub node-returns-then-is_here-clause-back : goal.node-returns-then-is_here-clause-back
-node-returns-then-is_here-clause-back t c =
+pub searched_node-returns-then-is_here-clause-back : goal.searched_node-returns-then-is_here-clause-back
+searched_node-returns-then-is_here-clause-back t c =
     let look = c.in_ok-ahead.ensures in
     on_ok_weaker c.stuck.result
     (λ e. back_after c.args.levels.now.problem.now _ c.args.number _ c.level-level.ensures.problem c.level-level.ensures.number c.args.walk.now _ c.stuck.new.walk look.game look.content look.past look.values refl refl _ c.in_ok-below.ensures.lines e) c.stuck.ensures.back
 
-pub node-invariant_of-stage-clause-aimed : goal.node-invariant_of-stage-clause-aimed
-node-invariant_of-stage-clause-aimed t c =
+pub searched_node-invariant_of-stage-clause-aimed : goal.searched_node-invariant_of-stage-clause-aimed
+searched_node-invariant_of-stage-clause-aimed t c =
     let level = c.level-level.result.now in
     let aim = c.aim_of.result in
     let here = subst (λ (f : Game). IsAimed f c.args.number aim) (sym c.level-level.ensures.problem) c.aim_of.ensures in
     subst (λ n. IsAimed level.problem.now n aim) (sym c.level-level.ensures.number) here
 
-pub node-invariant_of-stage-clause-rivalled : goal.node-invariant_of-stage-clause-rivalled
-node-invariant_of-stage-clause-rivalled t c =
+pub searched_node-invariant_of-stage-clause-rivalled : goal.searched_node-invariant_of-stage-clause-rivalled
+searched_node-invariant_of-stage-clause-rivalled t c =
     let level = c.level-level.result.now in
     let rival = c.rival_of.result in
     let here = subst (λ (f : Game). IsRival f c.args.number rival) (c.requires.joins ∙ sym c.level-level.ensures.problem) c.rival_of.ensures.sense in
     subst (λ n. IsRival level.problem.now n rival) (sym c.level-level.ensures.number) here
 
-pub node-returns-clause-told : goal.node-returns-clause-told
-node-returns-clause-told t c =
+pub searched_node-keep_node-requires : goal.searched_node-keep_node-requires
+searched_node-keep_node-requires t c =
     let g = c.args.levels.now.problem.now in
     let i = c.args.number in
+    let a = c.args.walk.now in
+    let w = c.own_tree.new.walk in
+    let level = c.level-level.result.now in
+    let k = level.problem.now in
+    let box = a.remains.store.box in
+    let now = c.look_ahead.new.self.store.box in
+    let look = c.in_ok-ahead.ensures in
+    let ahead = look.answer in
+    let h = scope_number c.in_ok-below.below in
+    let found = c.in_ok-found.found in
+    let v = verdict_of found (out_of w.joins) in
+    let own = outdoes k level.number c.rival_of.result in
+    let sees = subst (SeesAhead g (drop i g.scopes) i box) (sym c.in_ok-below.ensures.below) ahead.foreseen in
+    let sees_now = subst (λ (u : Box). SeesAhead g (drop i g.scopes) i u h) (sym look.content) sees in
+    let sees_at = subst (λ n. SeesAhead g (drop n g.scopes) n now h) (sym c.level-level.ensures.number) sees_now in
+    let sees_here = subst (λ (f : Game). SeesAhead f (drop level.number f.scopes) level.number now h) (sym c.level-level.ensures.problem) sees_at in
+    let back = back_after g k i level.number c.level-level.ensures.problem c.level-level.ensures.number a _ w look.game look.content look.past look.values refl refl _ c.in_ok-below.ensures.lines c.in_ok-found.ensures.back in
+    record {
+      scope = c.requires.scope;
+      here = entered_back g i a w back c.requires.here;
+      joins = back.game ∙ c.requires.joins;
+      finished = λ cut few.
+          let body = c.in_ok-found.ensures.told few sees_here in
+          let body_at = subst (λ (f : Game). BodyTold c.args.cuts own f level.number now h v a.left w.left c.put_horizon.new.lines w.lines w.joins) c.level-level.ensures.problem body in
+          let body_here = subst (λ n. BodyTold c.args.cuts own g n now h v a.left w.left c.put_horizon.new.lines w.lines w.joins) c.level-level.ensures.number body_at in
+          let told = whole_node c.args.cuts own g i box (scope_number c.args.horizon) h c.in_ok-ahead.ahead v a.left w.left a.lines c.put_horizon.new.lines w.lines w.joins ahead.placed ahead.fits c.in_ok-below.ensures.below c.in_ok-below.ensures.lines
+          (subst (λ (u : Box). BodyTold c.args.cuts own g i u h v a.left w.left c.put_horizon.new.lines w.lines w.joins) look.content body_here) in
+          node_finished c.args.cuts own g i box w.remains.store.box (scope_number c.args.horizon) found (out_of w.joins) a.left w.left c.len-start.result a.lines w.lines w.joins cut back.box c.len-start.ensures told;
+    }
+
+pub searched_node-returns-clause-told : goal.searched_node-returns-clause-told
+searched_node-returns-clause-told t c =
+    let g = c.args.levels.now.problem.now in
+    let i = c.args.number in
+    let w = c.own_tree.new.walk in
     let level = c.level-level.result.now in
     let k = level.problem.now in
     let box = c.args.walk.now.remains.store.box in
@@ -320,29 +356,31 @@ node-returns-clause-told t c =
     let look = c.in_ok-ahead.ensures in
     let ahead = look.answer in
     let h = scope_number c.in_ok-below.below in
+    let found = c.in_ok-found.found in
     let sees = subst (SeesAhead g (drop i g.scopes) i box) (sym c.in_ok-below.ensures.below) ahead.foreseen in
     let sees_now = subst (λ (u : Box). SeesAhead g (drop i g.scopes) i u h) (sym look.content) sees in
     let sees_at = subst (λ n. SeesAhead g (drop n g.scopes) n now h) (sym c.level-level.ensures.number) sees_now in
     let sees_here = subst (λ (f : Game). SeesAhead f (drop level.number f.scopes) level.number now h) (sym c.level-level.ensures.problem) sees_at in
-    IfOk-weaker c.own_tree.result _ _
-    (λ found e few up stands.
+    λ few up stands.
     let a = above_at g i up in
-    let v = verdict_of found (out_of c.own_tree.new.walk.joins) in
+    let v = verdict_of found (out_of w.joins) in
     let rival = c.rival_of.result in
     let own = outdoes k level.number rival in
     let beats : (n : ℤ) → own n ≡ true → a n ≡ true = λ n q. subst (λ (f : Game). above_at f i up n ≡ true) c.requires.joins (c.rival_of.ensures.beats up stands n (both _ _ q).1) in
-    let body = body_more c.args.cuts own a k level.number now h v c.args.walk.now.left c.own_tree.new.walk.left c.put_horizon.new.lines c.own_tree.new.walk.lines c.own_tree.new.walk.joins beats (e few sees_here) in
-    let body_at = subst (λ (f : Game). BodyTold c.args.cuts a f level.number now h v c.args.walk.now.left c.own_tree.new.walk.left c.put_horizon.new.lines c.own_tree.new.walk.lines c.own_tree.new.walk.joins) c.level-level.ensures.problem body in
-    let body_here = subst (λ n. BodyTold c.args.cuts a g n now h v c.args.walk.now.left c.own_tree.new.walk.left c.put_horizon.new.lines c.own_tree.new.walk.lines c.own_tree.new.walk.joins) c.level-level.ensures.number body_at in
-    whole_node c.args.cuts a g i box (scope_number c.args.horizon) h c.in_ok-ahead.ahead v c.args.walk.now.left c.own_tree.new.walk.left c.args.walk.now.lines c.put_horizon.new.lines c.own_tree.new.walk.lines c.own_tree.new.walk.joins ahead.placed ahead.fits c.in_ok-below.ensures.below c.in_ok-below.ensures.lines
-    (subst (λ (u : Box). BodyTold c.args.cuts a g i u h v c.args.walk.now.left c.own_tree.new.walk.left c.put_horizon.new.lines c.own_tree.new.walk.lines c.own_tree.new.walk.joins) look.content body_here))
-    c.own_tree.ensures.told
+    let body = body_more c.args.cuts own a k level.number now h v c.args.walk.now.left w.left c.put_horizon.new.lines w.lines w.joins beats (c.in_ok-found.ensures.told few sees_here) in
+    let body_at = subst (λ (f : Game). BodyTold c.args.cuts a f level.number now h v c.args.walk.now.left w.left c.put_horizon.new.lines w.lines w.joins) c.level-level.ensures.problem body in
+    let body_here = subst (λ n. BodyTold c.args.cuts a g n now h v c.args.walk.now.left w.left c.put_horizon.new.lines w.lines w.joins) c.level-level.ensures.number body_at in
+    let told = whole_node c.args.cuts a g i box (scope_number c.args.horizon) h c.in_ok-ahead.ahead v c.args.walk.now.left w.left c.args.walk.now.lines c.put_horizon.new.lines w.lines w.joins ahead.placed ahead.fits c.in_ok-below.ensures.below c.in_ok-below.ensures.lines
+    (subst (λ (u : Box). BodyTold c.args.cuts a g i u h v c.args.walk.now.left w.left c.put_horizon.new.lines w.lines w.joins) look.content body_here) in
+    kept_told c.args.cuts a g i box (scope_number c.args.horizon) found c.args.walk.now w c.keep_node.new.walk c.keep_node.ensures.joins c.keep_node.ensures.left c.in_ok-keep_node.ensures.lines told
 
-pub node-returns-clause-back : goal.node-returns-clause-back
-node-returns-clause-back t c =
+pub searched_node-returns-clause-back : goal.searched_node-returns-clause-back
+searched_node-returns-clause-back t c =
     let look = c.in_ok-ahead.ensures in
-    on_ok_weaker c.own_tree.result
-    (λ e. back_after c.args.levels.now.problem.now _ c.args.number _ c.level-level.ensures.problem c.level-level.ensures.number c.args.walk.now _ c.own_tree.new.walk look.game look.content look.past look.values refl refl _ c.in_ok-below.ensures.lines e) c.own_tree.ensures.back
+    let g = c.args.levels.now.problem.now in
+    let i = c.args.number in
+    let back = back_after g _ i _ c.level-level.ensures.problem c.level-level.ensures.number c.args.walk.now _ c.own_tree.new.walk look.game look.content look.past look.values refl refl _ c.in_ok-below.ensures.lines c.in_ok-found.ensures.back in
+    same_back g i c.args.walk.now c.own_tree.new.walk c.keep_node.new.walk back c.keep_node.ensures.remains c.keep_node.ensures.joins c.in_ok-keep_node.ensures.lines c.keep_node.ensures.left
 
 pub over_values-returns-clause-told : goal.over_values-returns-clause-told
 over_values-returns-clause-told t c =
@@ -407,7 +445,7 @@ own_part-returns-clause-back t c =
     let g = l.problem.now in
     let i = l.number in
     let a = c.args.walk.now in
-    let back = c.in_ok-is_whole.ensures.back in
+    let back = back_from g i a _ c.closed_part-2.new.walk c.in_ok-is_whole.ensures.back refl refl refl refl in
     let stand : c.cut.new.self ≡ a.lines = c.cut.ensures ∙ taken_back a.lines c.closed_part-2.new.walk.lines back.written c.len-start.result back.lines c.len-start.ensures in
     both_back g i a _ c.closed_part-3.new.walk (cut_back g i a c.closed_part-2.new.walk _ back refl refl stand refl) c.in_ok-closed_part-2.ensures.back
 

@@ -11,7 +11,10 @@ use Rattle.game_search.proofs.Here.{Passing}
 use Rattle.game_search.proofs.search.+search.Given as goal
 
 abbrev pub decreases-node : goal.decreases-node
-decreases-node l = 10 * ((length l.levels.now.problem.now.scopes - l.number) + (length l.levels.now.problem.now.variables - before l.levels.now.problem.now l.number)) + 9
+decreases-node l = 10 * ((length l.levels.now.problem.now.scopes - l.number) + (length l.levels.now.problem.now.variables - before l.levels.now.problem.now l.number)) + 10
+
+abbrev pub decreases-searched_node : goal.decreases-searched_node
+decreases-searched_node l = 10 * ((length l.levels.now.problem.now.scopes - l.number) + (length l.levels.now.problem.now.variables - before l.levels.now.problem.now l.number)) + 9
 
 abbrev pub decreases-own_tree : goal.decreases-own_tree
 decreases-own_tree l = 10 * ((length l.stage.now.level.now.problem.now.scopes - l.stage.now.level.now.number) + (length l.stage.now.level.now.problem.now.variables - l.stage.now.level.now.from)) + 8

@@ -1,5 +1,5 @@
 use Rattle.game_search.proofs.Knowing.{node_known, known_told, tree_owns}
-use Rattle.game_search.proofs.known.known_nodes_stand.Goals as goal
+use Rattle.game_search.proofs.laws.known_nodes_stand.Goals as goal
 
 pub returns-clause-known : goal.returns-clause-known
 returns-clause-known c = node_known

@@ -1,0 +1,30 @@
+use Rattle.std.proofs.Common.{◌≡◌, ◌∙◌, ◌++◌, ◌-◌, [], subst, length, List}
+use Rattle.std.specs.Prelude.{IfSome}
+use Rattle.qc_model.specs.Content.{Game}
+use Rattle.qc_model.specs.Demands.{demands}
+use Rattle.qc_model.specs.ForallVerdict.{goal_verdict}
+use Rattle.qc_levels.specs.Seen.{verdict_of}
+use Rattle.qc_joins.specs.Joins.{out_of}
+use Rattle.proof_tree.specs.declared.line.Line.{Line}
+use Rattle.search_box.specs.Looking.{scope_number}
+use Rattle.game_search.specs.Known.{StandsHere}
+use Rattle.game_search.specs.declared.known.KnownNode.{KnownNode}
+use Rattle.game_search.proofs.Knowing.{stands_told}
+use Rattle.game_search.proofs.search.put_known.Goals as goal
+
+pub returns-clause-told : goal.returns-clause-told
+returns-clause-told c =
+    let g = c.args.levels.now.problem.now in
+    let a = c.args.walk.now in
+    let i = c.args.number in
+    let h = scope_number c.args.horizon in
+    let box = a.remains.store.box in
+    let node = c.node-node.result.now in
+    let joins = c.goal.new.self in
+    let values = c.all_values.result.now in
+    let v = verdict_of c.goal.result (out_of joins) in
+    let here = subst (λ o. IfSome o (λ (n : KnownNode). StandsHere g i h a.left box n.values.items n.won n.turns n.lines.items)) c.node-node.ensures.node c.requires.stands in
+    let comes = subst (λ (u : Game). v ≡ goal_verdict u node.won (demands u (length u.scopes)) values) (c.clear.ensures.same ∙ c.requires.joins) c.goal.ensures.verdict in
+    let written = subst (λ (ls : List Line). c.put_all.new.lines ≡ a.lines ++ ls) c.lines.ensures c.in_ok-put_all.ensures in
+    λ above.
+    stands_told c.args.cuts above g i box h node.values.items v node.won node.turns a.left _ (length g.scopes) values node.lines.items a.lines c.put_all.new.lines joins c.requires.cuts here c.saturating_sub-walk.ensures comes written (c.goal.ensures.all i [] c.clear.ensures.stands)
