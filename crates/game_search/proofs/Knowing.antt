@@ -1,5 +1,5 @@
 -- Trees that are right wherever the position looks the same, in games where nothing is optimised.
-use Rattle.std.proofs.Common.{◌≡◌, ◌≤◌, ◌<◌, ◌+◌, ◌*◌, ◌-◌, ◌∙◌, inl, inr, ℕ, zero, suc, Bool, true, false, ◌&&◌, List, [], ◌∷◌, ◌++◌, map, length, drop, take, refl, sym, ap, subst, arith, Option, None, Some, ℤ}
+use Rattle.std.proofs.Common.{◌≡◌, ◌≤◌, ◌<◌, ◌*◌, ◌-◌, ◌∙◌, inl, inr, ℕ, zero, suc, Bool, true, false, ◌&&◌, List, [], ◌∷◌, ◌++◌, map, length, drop, take, refl, sym, ap, subst, arith, Option, None, Some, ℤ}
 use Rattle.std.specs.Prelude.{◌⊎◌, is_none, is_some, nat_lt, slice_get, slice_index_or, pos}
 use Rattle.std.specs.List.{list_all}
 use Rattle.std.proofs.lemmas.List.{get_or_past}
@@ -39,7 +39,7 @@ use Rattle.qc_joins.specs.Verdicts.{scope_own, kind_own}
 use Rattle.qc_joins.specs.declared.joins.Joins.{Joins}
 use Rattle.search_box.specs.Boxed.{Boxed}
 use Rattle.search_box.specs.Entered.{IsEntered}
-use Rattle.game_search.specs.Known.{ask_nothing, IsLike, decided_as, is_decided_as, IsDecided, IsKnownBy, IsKnown, IsFinished, StandsHere, ends_as, line_owns}
+use Rattle.game_search.specs.Known.{ask_nothing, IsLike, decided_as, is_decided_as, IsDecided, IsKnown, IsFinished, StandsHere, ends_as, line_owns}
 use Rattle.game_search.specs.Made.{NodeMade}
 use Rattle.game_search.specs.Own.{IsOwnSized}
 use Rattle.game_search.specs.Settled.{is_vague_verdict}
