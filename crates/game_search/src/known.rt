@@ -10,20 +10,24 @@ ghost use Rattle.search_box.specs.Looking.{scope_number};
 ghost use Rattle.game_search.specs.Props.{known_prop};
 ghost use Rattle.game_search.specs.Known.{ask_nothing, IsFinished, IsKnown, StandsHere, ends_as};
 
-use crate::likeness::{is_fresh, is_like, looks_at};
+use crate::likeness::is_like;
 use crate::owning::are_owning;
 use crate::residues::mixed;
 use proof_tree::Line;
 use qc_levels::Found;
 use qc_model::{Problem, ScopeId, VarId};
 use qc_rules::{Level, Levels};
+use qc_sight::Sight;
 use search_box::SearchBox;
 use std::alloc::{AllocError, Global};
 
 /// How many nodes are kept at most.
 const PLACES: usize = 65_536;
 
-/// How many lines a node has at most that is kept, and how many all have together.
+/// How many lines a node has at least that is kept: what is shorter is searched as fast as it is looked up and copied.
+const LEAST_LINES: usize = 8;
+
+/// How many it has at most, and how many all have together.
 const MOST_LINES: usize = 4_096;
 
 const MOST_LINES_IN_ALL: usize = 4_194_304;
@@ -78,6 +82,8 @@ fn is_same(a: Option<ScopeId>, b: Option<ScopeId>) -> bool
 #[derive(Drop)]
 pub(crate) struct KnownNodes<'p> {
     pub(crate) problem: &'p Problem,
+    /// Which variables tell a position from another.
+    pub(crate) sight: Sight<'p>,
     /// Whether nodes are kept. Then nothing is optimised.
     is_on: bool,
     /// For each place the number of its node and one, or 0.
@@ -85,6 +91,7 @@ pub(crate) struct KnownNodes<'p> {
     pub(crate) nodes: Vec<KnownNode<'p>>,
     /// How many lines are kept together.
     lines: usize,
+    ghost seen: { sight ≡ problem.now },
     ghost plain: { IsTrue is_on → IsTrue (ask_nothing problem.now.scopes) },
     ghost same: { All (λ n. n.problem.now ≡ problem.now) nodes.items } by { Prim.hlevel props },
 }
@@ -133,9 +140,11 @@ impl<'p> KnownNodes<'p> {
     {
         let problem = levels.problem;
         let is_on = wanted && asks_nothing(problem);
+        let sight = Sight::new(alloc, levels)?;
         let places = vec![in alloc; 0u32; if is_on { PLACES } else { 0 }]?;
         Ok(KnownNodes {
             problem,
+            sight,
             is_on,
             places,
             nodes: Vec::new(alloc),
@@ -153,9 +162,10 @@ impl<'p> KnownNodes<'p> {
     ) -> bool {
         self.is_on
             && end.left > 0
+            && lines >= LEAST_LINES
             && lines <= MOST_LINES
             && is_won(end.found).is_some()
-            && is_fresh(level, remains)
+            && remains.is_fresh(level)
     }
 
     /// Keeps the lines of a node that is wanted.
@@ -180,7 +190,9 @@ impl<'p> KnownNodes<'p> {
             return Ok(());
         };
         let values = Vec::from_slice(alloc, remains.values_before(level))?;
-        if !is_like(level, remains, values.as_slice()) || !are_owning(alloc, self.problem, lines)? {
+        if !is_like(&self.sight, level, remains, values.as_slice())
+            || !are_owning(alloc, self.problem, lines)?
+        {
             return Ok(());
         }
         let node = KnownNode {
@@ -228,7 +240,7 @@ impl<'p> KnownNodes<'p> {
         requires { node.problem.now ≡ self.old.problem.now }
         ensures { self.new.problem.now ≡ self.old.problem.now }
     {
-        let place = place_of(level, node.values.as_slice());
+        let place = self.place_of(level, node.values.as_slice());
         self.nodes.push(node)?;
         if let Some(number) = self.places.get_mut(place) {
             *number = self.nodes.len().min(PLACES) as u32;
@@ -269,7 +281,7 @@ impl<'p> KnownNodes<'p> {
         let is_it = node.scope.0 == level.number
             && is_same(node.horizon, horizon)
             && node.turns <= left
-            && is_like(level, remains, node.values.as_slice());
+            && is_like(&self.sight, level, remains, node.values.as_slice());
         if is_it { Some(at) } else { None }
     }
 
@@ -284,23 +296,23 @@ impl<'p> KnownNodes<'p> {
 
     /// The number of the node in the position's place.
     fn node_of(&self, level: &Level, values: &[i64]) -> Option<usize> {
-        match self.places.get(place_of(level, values)) {
+        match self.places.get(self.place_of(level, values)) {
             Some(number) => (*number as usize).checked_sub(1),
             None => None,
         }
     }
-}
 
-/// The place of a position: a hash of the scope and of the values of the variables before it that are looked at.
-fn place_of(level: &Level, values: &[i64]) -> usize {
-    level.problem.known();
-    let mut hash = mixed(0, level.number as i64);
-    for x in 0..level.from {
-        if looks_at(level, VarId(x as u16)) {
-            if let Some(value) = values.get(x) {
-                hash = mixed(hash, *value);
+    /// The place of a position: a hash of the scope and of the values of the variables before it that are looked at.
+    fn place_of(&self, level: &Level, values: &[i64]) -> usize {
+        level.problem.known();
+        let mut hash = mixed(0, level.number as i64);
+        for x in 0..level.from {
+            if self.sight.looks_at(ScopeId(level.number), VarId(x as u16)) {
+                if let Some(value) = values.get(x) {
+                    hash = mixed(hash, *value);
+                }
             }
         }
+        (hash >> REST_BITS) as usize
     }
-    (hash >> REST_BITS) as usize
 }

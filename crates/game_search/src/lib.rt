@@ -19,7 +19,6 @@ mod aim;
 mod attempts;
 mod certify;
 mod known;
-mod laws;
 mod likeness;
 mod looks;
 mod narrowing;

@@ -46,7 +46,7 @@ use crate::rival::{is_outdone, rival_of};
 use crate::stage::Stage;
 use crate::walk::Walk;
 use crate::writing::{
-    copied_from, drop_before, last_to_drop, leave_out, put_all, put_horizon, put_steps, skip_and_tell,
+    copied_from, drop_before, last_to_drop, leave_out, put_horizon, put_steps, skip_and_tell,
     skip_between,
 };
 use proof_tree::{Line, Step, StepList};
@@ -125,7 +125,7 @@ fn put_known(
 {
     levels.problem.known();
     let node = walk.known.node(at);
-    put_all(&mut walk.lines, node.lines())?;
+    walk.lines.put_all(node.lines())?;
     walk.left = walk.left.saturating_sub(node.turns);
     walk.joins.clear(ScopeId(number));
     // a node that is won comes to what the goal does where it holds, and one that is lost to what it does else
@@ -202,7 +202,7 @@ fn keep_node(
     if !walk.known.is_wanted(level, &walk.remains, end, len) {
         return Ok(());
     }
-    let lines = copied_from(walk.alloc, &mut walk.lines, &mut walk.kept, start)?;
+    let lines = copied_from(walk.alloc, &walk.lines, start)?;
     walk.known
         .keep(walk.alloc, level, horizon, &walk.remains, end, &lines)
 }

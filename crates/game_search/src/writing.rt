@@ -173,46 +173,12 @@ fn put_back(lines: &mut Arena, kept: &mut Vec<Line>) -> Result<(), AllocError>
     Ok(())
 }
 
-/// A copy of the lines from place `at` on, which stay where they are.
-pub(crate) fn copied_from(
-    alloc: Global,
-    lines: &mut Arena,
-    kept: &mut Vec<Line>,
-    at: usize,
-) -> Result<Vec<Line>, AllocError>
-    requires place { at ≤ length lines.old }
-    ensures copy { IfOk result (λ copy. copy.items ≡ drop at lines.old) }
-    ensures same { OnOk result (lines.new ≡ lines.old) }
+/// A copy of the lines from place `at` on.
+pub(crate) fn copied_from(alloc: Global, lines: &Arena, at: usize) -> Result<Vec<Line>, AllocError>
+    requires { at ≤ length lines.now }
+    ensures { IfOk result (λ copy. copy.items ≡ drop at lines.now) }
 {
-    kept.clear();
-    set_aside(lines, kept, at)?;
-    let mut copy = Vec::with_capacity(alloc, kept.len())?;
-    put_back_both(lines, &mut copy, kept)?;
+    let mut copy = Vec::with_capacity(alloc, lines.len().saturating_sub(at))?;
+    lines.copy_from(at, &mut copy)?;
     Ok(copy)
-}
-
-/// Appends the lines that were taken off, the last one first, and so to a copy.
-fn put_back_both(
-    lines: &mut Arena,
-    copy: &mut Vec<Line>,
-    kept: &mut Vec<Line>,
-) -> Result<(), AllocError>
-    ensures lines { OnOk result (lines.new ≡ lines.old ++ reverse kept.old.items) }
-    ensures copy { OnOk result (copy.new.items ≡ copy.old.items ++ reverse kept.old.items) }
-{
-    while let Some(line) = kept.pop() {
-        lines.put(line)?;
-        copy.push(line)?;
-    }
-    Ok(())
-}
-
-/// Appends these lines.
-pub(crate) fn put_all(lines: &mut Arena, more: &[Line]) -> Result<(), AllocError>
-    ensures { OnOk result (lines.new ≡ lines.old ++ more.now) }
-{
-    for line in more {
-        lines.put(*line)?;
-    }
-    Ok(())
 }
