@@ -32,6 +32,11 @@ const MOST_LINES: usize = 4_096;
 
 const MOST_LINES_IN_ALL: usize = 4_194_304;
 
+/// How many nodes are kept before it is asked whether that serves, and one in so many that has to have been met again then.
+const FIRST_NODES: u32 = 1_024;
+
+const LEAST_SHARE: u32 = 8;
+
 /// How many bits of a position's hash are left out of its place, so that there are as many places.
 const REST_BITS: u32 = 48;
 
@@ -91,6 +96,9 @@ pub(crate) struct KnownNodes<'p> {
     pub(crate) nodes: Vec<KnownNode<'p>>,
     /// How many lines are kept together.
     lines: usize,
+    /// How many nodes were kept, and how often one was met again.
+    kept: u32,
+    met: u32,
     ghost seen: { sight ≡ problem.now },
     ghost plain: { IsTrue is_on → IsTrue (ask_nothing problem.now.scopes) },
     ghost same: { All (λ n. n.problem.now ≡ problem.now) nodes.items } by { Prim.hlevel props },
@@ -149,6 +157,8 @@ impl<'p> KnownNodes<'p> {
             places,
             nodes: Vec::new(alloc),
             lines: 0,
+            kept: 0,
+            met: 0,
         })
     }
 
@@ -161,6 +171,7 @@ impl<'p> KnownNodes<'p> {
         lines: usize,
     ) -> bool {
         self.is_on
+            && (self.kept < FIRST_NODES || self.met >= self.kept / LEAST_SHARE)
             && end.left > 0
             && lines >= LEAST_LINES
             && lines <= MOST_LINES
@@ -217,6 +228,7 @@ impl<'p> KnownNodes<'p> {
             self.forget();
         }
         self.lines = self.lines.saturating_add(node.len());
+        self.kept = self.kept.saturating_add(1);
         match self.node_of(level, node.values.as_slice()) {
             Some(at) => self.replace(at, node),
             None => self.add(level, node)?,
@@ -246,6 +258,13 @@ impl<'p> KnownNodes<'p> {
             *number = self.nodes.len().min(PLACES) as u32;
         }
         Ok(())
+    }
+
+    /// Learns that a node was met again.
+    pub(crate) fn tell_met(&mut self)
+        ensures { self.new.problem.now ≡ self.old.problem.now }
+    {
+        self.met = self.met.saturating_add(1);
     }
 
     /// Has no node any more.

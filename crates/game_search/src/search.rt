@@ -129,7 +129,9 @@ fn put_known(
     walk.left = walk.left.saturating_sub(node.turns);
     walk.joins.clear(ScopeId(number));
     // a node that is won comes to what the goal does where it holds, and one that is lost to what it does else
-    Ok(walk.joins.goal(node.won, walk.remains.all_values()))
+    let found = walk.joins.goal(node.won, walk.remains.all_values());
+    walk.known.tell_met();
+    Ok(found)
 }
 
 /// The node of a scope that is searched. In the first pass its lines are kept, where they can be of use again.

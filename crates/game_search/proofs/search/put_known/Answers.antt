@@ -20,11 +20,11 @@ returns-clause-told c =
     let h = scope_number c.args.horizon in
     let box = a.remains.store.box in
     let node = c.node-node.result.now in
-    let joins = c.goal.new.self in
+    let joins = c.goal-found.new.self in
     let values = c.all_values.result.now in
-    let v = verdict_of c.goal.result (out_of joins) in
+    let v = verdict_of c.goal-found.result (out_of joins) in
     let here = subst (λ o. IfSome o (λ (n : KnownNode). StandsHere g i h a.left box n.values.items n.won n.turns n.lines.items)) c.node-node.ensures.node c.requires.stands in
-    let comes = subst (λ (u : Game). v ≡ goal_verdict u node.won (demands u (length u.scopes)) values) (c.clear.ensures.same ∙ c.requires.joins) c.goal.ensures.verdict in
+    let comes = subst (λ (u : Game). v ≡ goal_verdict u node.won (demands u (length u.scopes)) values) (c.clear.ensures.same ∙ c.requires.joins) c.goal-found.ensures.verdict in
     let written = subst (λ (ls : List Line). c.put_all.new.self ≡ a.lines ++ ls) c.lines.ensures c.in_ok-put_all.ensures.put in
     λ above.
-    stands_told c.args.cuts above g i box h node.values.items v node.won node.turns a.left _ (length g.scopes) values node.lines.items a.lines c.put_all.new.self joins c.requires.cuts here c.saturating_sub-walk.ensures comes written (c.goal.ensures.all i [] c.clear.ensures.stands)
+    stands_told c.args.cuts above g i box h node.values.items v node.won node.turns a.left _ (length g.scopes) values node.lines.items a.lines c.put_all.new.self joins c.requires.cuts here c.saturating_sub-walk.ensures comes written (c.goal-found.ensures.all i [] c.clear.ensures.stands)
