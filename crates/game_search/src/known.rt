@@ -27,14 +27,16 @@ const PLACES: usize = 65_536;
 /// How many lines a node has at least that is kept: what is shorter is searched as fast as it is looked up and copied.
 const LEAST_LINES: usize = 8;
 
-/// How many it has at most, and how many all have together.
+/// How many lines it has at most.
 const MOST_LINES: usize = 4_096;
 
+/// How many lines all nodes have together at most.
 const MOST_LINES_IN_ALL: usize = 4_194_304;
 
-/// How many nodes are kept before it is asked whether that serves, and one in so many that has to have been met again then.
+/// How many nodes are kept before it is asked whether that serves.
 const FIRST_NODES: u32 = 1_024;
 
+/// One in so many of the nodes that were kept has to have been met again, else no more are.
 const LEAST_SHARE: u32 = 8;
 
 /// How many bits of a position's hash are left out of its place, so that there are as many places.
