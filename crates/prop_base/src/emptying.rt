@@ -45,8 +45,7 @@ fn variable_in(problem: &Problem, rule: &Constraint, argument: &Argument) -> Opt
     }
 }
 
-/// The first variable among the arguments of the constraint. None comes exactly where it has none.
-pub fn first_variable(problem: &Problem, rule: &Constraint) -> Option<VarId>
+fn first_variable(problem: &Problem, rule: &Constraint) -> Option<VarId>
     requires { IsTrue (list_all (argument_sees problem.now.variables rule.now.owner.0) rule.now.args) }
     ensures none { IfNone result (variables_of rule.now.args ≡ []) }
     ensures some { IfSome result (λ x. IsTrue (arg_sees problem.now.variables rule.now.owner.0 (Var x))) }
@@ -59,8 +58,54 @@ pub fn first_variable(problem: &Problem, rule: &Constraint) -> Option<VarId>
     None
 }
 
-/// Takes all values of the first variable of a constraint that refutes the box, where it has one.
-pub fn empty_first(
+/// The last variable among x and the items, in the order of the problem's.
+fn last_among(problem: &Problem, rule: &Constraint, items: &[Arg], x: VarId) -> VarId
+    requires items { IsTrue (list_all (arg_sees problem.now.variables rule.now.owner.0) items.now) }
+    requires x { IsTrue (arg_sees problem.now.variables rule.now.owner.0 (Var x)) }
+    ensures { IsTrue (arg_sees problem.now.variables rule.now.owner.0 (Var result)) }
+{
+    let _ = (problem.constraints(), rule.pred);
+    let mut last = x;
+    for item in items {
+        if let Arg::Var(y) = *item
+            && y.0 > last.0
+        {
+            last = y;
+        }
+    }
+    last
+}
+
+/// So among x and the argument's variables.
+fn last_in(problem: &Problem, rule: &Constraint, argument: &Argument, x: VarId) -> VarId
+    requires argument { IsTrue (argument_sees problem.now.variables rule.now.owner.0 argument.now) }
+    requires x { IsTrue (arg_sees problem.now.variables rule.now.owner.0 (Var x)) }
+    ensures { IsTrue (arg_sees problem.now.variables rule.now.owner.0 (Var result)) }
+{
+    match argument {
+        Argument::One(Arg::Var(y)) if y.0 > x.0 => *y,
+        Argument::Many(items) => last_among(problem, rule, items.items(), x),
+        _ => x,
+    }
+}
+
+/// The last variable among the arguments of the constraint, in the order of the problem's. None comes exactly where it has
+/// none.
+pub fn last_variable(problem: &Problem, rule: &Constraint) -> Option<VarId>
+    requires { IsTrue (list_all (argument_sees problem.now.variables rule.now.owner.0) rule.now.args) }
+    ensures none { IfNone result (variables_of rule.now.args ≡ []) }
+    ensures some { IfSome result (λ x. IsTrue (arg_sees problem.now.variables rule.now.owner.0 (Var x))) }
+{
+    let mut last = first_variable(problem, rule)?;
+    for argument in arguments(rule) {
+        last = last_in(problem, rule, argument, last);
+    }
+    Some(last)
+}
+
+/// Takes all values of the last variable of a constraint that refutes the box, where it has one: what is known of variables
+/// further ahead then still holds, so that the same lines stand wherever the constraint sees the same of those before.
+pub fn empty_last(
     problem: &Problem,
     c: ConId,
     rule: &Constraint,
@@ -75,7 +120,7 @@ pub fn empty_first(
     ensures whole { IfOk result IsAllOrNone }
 {
     problem.known();
-    let Some(x) = first_variable(problem, rule) else {
+    let Some(x) = last_variable(problem, rule) else {
         return Ok(Filtered::Stable);
     };
     let cut = Cut {

@@ -6,7 +6,7 @@
 //! any predicate: it tries the least and the greatest value of each variable of the constraint by a refuter, and removes
 //! those that are refuted, each with as many values beside it as are refuted as one range, until none is. Faster filters
 //! take its place one by one; their contract is the same. Where they find that a constraint refutes the whole box,
-//! `empty_first` takes all values of one variable.
+//! `empty_last` takes all values of its last variable.
 #![tactic(auto)]
 
 mod answer;
@@ -21,7 +21,7 @@ mod removal;
 pub use answer::Filtered;
 pub use cuts::Cut;
 pub use cutting::{Cutter, filter_by_cuts};
-pub use emptying::{empty_first, first_variable};
+pub use emptying::{empty_last, last_variable};
 pub use ends::filter_by_ends;
 pub use refuting::Refuter;
 pub use removal::prune;

@@ -10,7 +10,7 @@ ghost use Rattle.prop_bool.specs.Literals.{both_truths, truth_number};
 use crate::findings::Finding;
 use fd_store::Store;
 use proof_tree::StepList;
-use prop_base::{Cut, Filtered, empty_first, filter_by_ends, prune};
+use prop_base::{Cut, Filtered, empty_last, filter_by_ends, prune};
 use prop_compare::Table;
 use qc_model::{ConId, Constraint, Problem, VarId};
 use std::alloc::AllocError;
@@ -67,7 +67,7 @@ pub(crate) fn act(
 {
     match finding {
         Finding::Nothing => Ok(Filtered::Stable),
-        Finding::Refuted => empty_first(problem, c, rule, store, steps),
+        Finding::Refuted => empty_last(problem, c, rule, store, steps),
         Finding::Loses(x, value) => {
             lose(problem, c, rule, x, value, store, steps)?;
             Ok(Filtered::Changed)

@@ -17,7 +17,7 @@ use crate::ranges::{equal_ranges, ordered_ranges};
 use crate::reading::{is_fixed, least};
 use fd_store::Store;
 use proof_tree::StepList;
-use prop_base::{Filtered, empty_first};
+use prop_base::{Filtered, empty_last};
 use qc_model::{Arg, ConId, Constraint, Problem};
 use std::alloc::AllocError;
 
@@ -41,7 +41,7 @@ fn keep_ranges(
     ensures answer { IfOk result (λ f. IsFiltered f rule.now store.new.box steps.old steps.new) }
 {
     let Some(keep) = keep else {
-        return empty_first(problem, c, rule, store, steps);
+        return empty_last(problem, c, rule, store, steps);
     };
     let narrowed = narrow_both(problem, c, rule, a, b, keep, store, steps)?;
     if narrowed {
@@ -141,7 +141,7 @@ pub(crate) fn different(
     ensures answer { IfOk result (λ f. IsFiltered f rule.now store.new.box steps.old steps.new) }
 {
     if are_one(a, b, store) {
-        return empty_first(problem, c, rule, store, steps);
+        return empty_last(problem, c, rule, store, steps);
     }
     if is_fixed(a, store) {
         return lose_value(problem, c, rule, a, b, store, steps);

@@ -8,7 +8,7 @@ ghost use Rattle.prop_different.specs.Different.{IsDifferent};
 use crate::rounds::settle_all;
 use fd_store::Store;
 use proof_tree::StepList;
-use prop_base::{Filtered, filter_by_ends, first_variable};
+use prop_base::{Filtered, filter_by_ends, last_variable};
 use prop_compare::Table;
 use qc_arguments::{arguments, is_repeated, items_at};
 use qc_model::{Arg, ConId, Constraint, Problem};
@@ -31,7 +31,7 @@ fn filter_items(
     ensures pruning { IsPruning (is_just c.0) problem.now store.old store.new steps.old steps.new }
     ensures answer { IfOk result (λ f. IsFiltered f rule.now store.new.box steps.old steps.new) }
 {
-    let Some(spare) = first_variable(problem, rule) else {
+    let Some(spare) = last_variable(problem, rule) else {
         return Ok(Filtered::Stable);
     };
     let mut buffer = [0u16; MOST_ITEMS];

@@ -15,7 +15,7 @@ use crate::slacks::slack;
 use crate::tighten::tighten_all;
 use fd_store::Store;
 use proof_tree::StepList;
-use prop_base::{Filtered, empty_first, filter_by_ends};
+use prop_base::{Filtered, empty_last, filter_by_ends};
 use prop_compare::Table;
 use qc_model::{Arg, ConId, Constraint, Problem};
 use std::alloc::AllocError;
@@ -49,7 +49,7 @@ pub(crate) fn filter_at_most(
     }
     let least = least_of(factors, items, negative, store);
     if (bound as i128) < least {
-        return empty_first(problem, c, rule, store, steps);
+        return empty_last(problem, c, rule, store, steps);
     }
     let s = slack(bound, least);
     if tighten_all(problem, c, rule, factors, items, negative, s, store, steps)? {

@@ -17,7 +17,7 @@ ghost use Rattle.qc_arguments.specs.Repeats.{has_repeat};
 use crate::missing::missing_value;
 use fd_store::Store;
 use proof_tree::StepList;
-use prop_base::{Cut, Filtered, empty_first, filter_by_ends, prune};
+use prop_base::{Cut, Filtered, empty_last, filter_by_ends, prune};
 use prop_compare::Table;
 use qc_arguments::{is_repeated, is_same};
 use qc_model::{Arg, ConId, Constraint, Problem};
@@ -87,7 +87,7 @@ fn decide(
 {
     let sum = sum_extent(problem, rule, factors, items, store);
     if is_only(sum, bound) {
-        empty_first(problem, c, rule, store, steps)
+        empty_last(problem, c, rule, store, steps)
     } else {
         Ok(Filtered::Stable)
     }

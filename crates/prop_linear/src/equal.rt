@@ -15,7 +15,7 @@ use crate::rounds::tighten_round;
 use crate::slacks::{excess, slack};
 use fd_store::Store;
 use proof_tree::StepList;
-use prop_base::{Filtered, empty_first, filter_by_ends};
+use prop_base::{Filtered, empty_last, filter_by_ends};
 use prop_compare::Table;
 use qc_model::{Arg, ConId, Constraint, Problem};
 use qc_refuter::sum_extent;
@@ -48,10 +48,10 @@ fn run_round(
     problem.known();
     let sum = sum_extent(problem, rule, factors, items, store);
     if (bound as i128) < sum.from {
-        return empty_first(problem, c, rule, store, steps);
+        return empty_last(problem, c, rule, store, steps);
     }
     if sum.to < bound as i128 {
-        return empty_first(problem, c, rule, store, steps);
+        return empty_last(problem, c, rule, store, steps);
     }
     let s = slack(bound, sum.from);
     let t = excess(sum.to, bound);

@@ -4,8 +4,8 @@ use Rattle.prop_compare.proofs.Losing.{swapped, tested_swapped, unfixed_keeps}
 use Rattle.prop_compare.proofs.Sides.{alike_same, pair_flipped}
 use Rattle.prop_compare.proofs.engines.different.Goals as goal
 
-pub empty_first-requires-clause-refuted : goal.empty_first-requires-clause-refuted
-empty_first-requires-clause-refuted c =
+pub empty_last-requires-clause-refuted : goal.empty_last-requires-clause-refuted
+empty_last-requires-clause-refuted c =
     let box = c.args.store.now.box in
     c.requires.tested box (alike_same c.args.a c.args.b box) ∙ (sym c.are_one.ensures ∙ c.if-are_one.true)
 

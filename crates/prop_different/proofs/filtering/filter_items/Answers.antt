@@ -4,8 +4,8 @@ use Rattle.prop_base.specs.Closed.{keeps_at}
 use Rattle.prop_base.proofs.Whole.{all_seen}
 use Rattle.prop_different.proofs.filtering.filter_items.Goals as goal
 
-pub first_variable-requires : goal.first_variable-requires
-first_variable-requires c = all_seen c.args.problem.now c.args.rule.now c.args.store.now.box c.requires.asked
+pub last_variable-requires : goal.last_variable-requires
+last_variable-requires c = all_seen c.args.problem.now c.args.rule.now c.args.store.now.box c.requires.asked
 
 pub returns-in_default-clause-answer : goal.returns-in_default-clause-answer
 returns-in_default-clause-answer c =

@@ -6,8 +6,8 @@ use mir.Syntax.{w64, w128}
 use Rattle.prop_linear.proofs.Alike.{alike_same}
 use Rattle.prop_linear.proofs.at_most.filter_at_most.Goals as goal
 
-pub empty_first-requires-clause-refuted : goal.empty_first-requires-clause-refuted
-empty_first-requires-clause-refuted c =
+pub empty_last-requires-clause-refuted : goal.empty_last-requires-clause-refuted
+empty_last-requires-clause-refuted c =
     let b_fits : SFits w64 c.args.bound = search rules in
     let wide : SFits w128 c.args.bound = search rules in
     let l_fits : SFits w128 c.least_of-least.result = search rules in

@@ -10,8 +10,8 @@ use Rattle.prop_linear.proofs.Found.{placed}
 use Rattle.prop_linear.proofs.Loose.{none_loose}
 use Rattle.prop_linear.proofs.different.decide.Goals as goal
 
-pub empty_first-requires-clause-refuted : goal.empty_first-requires-clause-refuted
-empty_first-requires-clause-refuted c =
+pub empty_last-requires-clause-refuted : goal.empty_last-requires-clause-refuted
+empty_last-requires-clause-refuted c =
     let b_fits : SFits w64 c.args.bound = search rules in
     let f_fits : SFits w128 c.sum_extent-sum.result.from = search rules in
     let t_fits : SFits w128 c.sum_extent-sum.result.to = search rules in

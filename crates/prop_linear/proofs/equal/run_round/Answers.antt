@@ -17,8 +17,8 @@ use Rattle.prop_linear.proofs.Still.{same_box, rounded, never_changed}
 use Rattle.prop_linear.proofs.Found.{placed}
 use Rattle.prop_linear.proofs.equal.run_round.Goals as goal
 
-pub empty_first-requires-clause-refuted : goal.empty_first-requires-clause-refuted
-empty_first-requires-clause-refuted c =
+pub empty_last-requires-clause-refuted : goal.empty_last-requires-clause-refuted
+empty_last-requires-clause-refuted c =
     let b_fits : SFits w64 c.args.bound = search rules in
     let wide : SFits w128 c.args.bound = search rules in
     let f_fits : SFits w128 c.sum_extent-sum.result.from = search rules in
@@ -26,8 +26,8 @@ empty_first-requires-clause-refuted c =
     let t = simp to_z-of_z at c.if-bound-sum.true in
     balanced_over c.args.rule.now c.args.factors.now c.args.items.now c.args.bound c.args.store.now.box (range_of c.sum_extent-sum.result.from c.sum_extent-sum.result.to) c.requires.balanced c.sum_extent-sum.ensures.value t
 
-pub empty_first-requires-then-sum-bound-clause-refuted : goal.empty_first-requires-then-sum-bound-clause-refuted
-empty_first-requires-then-sum-bound-clause-refuted c =
+pub empty_last-requires-then-sum-bound-clause-refuted : goal.empty_last-requires-then-sum-bound-clause-refuted
+empty_last-requires-then-sum-bound-clause-refuted c =
     let b_fits : SFits w64 c.args.bound = search rules in
     let wide : SFits w128 c.args.bound = search rules in
     let f_fits : SFits w128 c.sum_extent-sum.result.from = search rules in
@@ -37,7 +37,7 @@ empty_first-requires-then-sum-bound-clause-refuted c =
 
 pub returns-then-sum-bound-clause-answer : goal.returns-then-sum-bound-clause-answer
 returns-then-sum-bound-clause-answer c =
-    rounded (is_just c.args.c.0) c.args.problem.now c.args.rule.now _ _ _ _ _ c.empty_first-then-sum-bound.ensures.pruning c.empty_first-then-sum-bound.ensures.answer
+    rounded (is_just c.args.c.0) c.args.problem.now c.args.rule.now _ _ _ _ _ c.empty_last-then-sum-bound.ensures.pruning c.empty_last-then-sum-bound.ensures.answer
 
 pub excess-t-requires-clause-greatest : goal.excess-t-requires-clause-greatest
 excess-t-requires-clause-greatest c =
@@ -94,7 +94,7 @@ returns-else-branch-clause-answer c =
     (c.in_ok-tighten_round.ensures.full, same, ap (λ b. keeps_ends b r) still ∙ keeps)
 
 pub returns-then-bound-sum-clause-alike : goal.returns-then-bound-sum-clause-alike
-returns-then-bound-sum-clause-alike c = never_changed (AlikeOutside c.args.items.now c.args.store.now.box c.empty_first.new.store.box) c.empty_first.result c.empty_first.ensures.whole
+returns-then-bound-sum-clause-alike c = never_changed (AlikeOutside c.args.items.now c.args.store.now.box c.empty_last.new.store.box) c.empty_last.result c.empty_last.ensures.whole
 
 pub returns-then-sum-bound-clause-alike : goal.returns-then-sum-bound-clause-alike
-returns-then-sum-bound-clause-alike c = never_changed (AlikeOutside c.args.items.now c.args.store.now.box c.empty_first-then-sum-bound.new.store.box) c.empty_first-then-sum-bound.result c.empty_first-then-sum-bound.ensures.whole
+returns-then-sum-bound-clause-alike c = never_changed (AlikeOutside c.args.items.now c.args.store.now.box c.empty_last-then-sum-bound.new.store.box) c.empty_last-then-sum-bound.result c.empty_last-then-sum-bound.ensures.whole
