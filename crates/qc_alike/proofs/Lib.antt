@@ -1,4 +1,13 @@
 pub mod Boxes
+pub mod Filling
+pub mod Positions
+pub mod ByValue
+pub mod Arrays
+pub mod Terms
+pub mod Starting
+pub mod Sums
+pub mod Clauses
+pub mod Seeing
 pub mod Rules
 pub mod Named
 pub mod Removals
@@ -10,6 +19,5 @@ pub mod Ordered
 pub mod Keeping
 pub mod Mixed
 pub mod Foreseeing
-pub mod Owning
 pub mod Alike
 mod Examples

@@ -18,7 +18,7 @@ use Rattle.qc_model.specs.Block.{of_kind, no_condition_to}
 use Rattle.qc_arguments.proofs.Bools.{or_left, or_right}
 use Rattle.proof_tree.specs.Place.{Tracked, next_scopes, list_after, owner_of, tracked_target, tracked_first, tracked_variable}
 use Rattle.qc_alike.specs.Alike.{constrains, is_variable, mentions, condition_mentions, is_named, is_seen, is_looked_at}
-use Rattle.qc_alike.proofs.Rules.{any_of, get_among}
+use Rattle.qc_alike.proofs.Filling.{any_of, get_among}
 
 abbrev pub IsNamed : Game → Target → Type 0
 IsNamed g t = (x : ℕ) → mentions g x t ≡ true → is_named g x ≡ true

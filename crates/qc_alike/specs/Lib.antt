@@ -1,4 +1,5 @@
 pub mod Alike
 pub mod EachStep
 pub mod Looking
+pub mod Reading
 pub mod Same

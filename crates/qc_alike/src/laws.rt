@@ -6,7 +6,7 @@ ghost use Rattle.qc_model.specs.Demands.{demands};
 ghost use Rattle.proof_tree.specs.Tree.{Tree};
 ghost use Rattle.proof_tree.specs.InPlace.{in_place};
 ghost use Rattle.qc_alike.specs.Alike.{AreAlike};
-ghost use Rattle.qc_alike.specs.Looking.{looks, owns};
+ghost use Rattle.qc_alike.specs.Looking.{looks};
 ghost use Rattle.qc_alike.specs.Same.{DoesAlike};
 
 /// Where two boxes look the same from scope i on, a tree of a node of scope i, or of the goal, whose removals are
@@ -14,12 +14,6 @@ ghost use Rattle.qc_alike.specs.Same.{DoesAlike};
 /// the same value of the scope's own condition in both; and it is in order, keeps its incumbents, closes its boxes
 /// and sees ahead in both or in neither. This is so of any game, and of any horizon in force.
 pub fn trees_do_alike()
-    ensures placed { (g : Game) (t : Tree) (i : ℕ) (a b : Box) (h : Option ℕ) → AreAlike g i a b → IsTrue (looks g t i) → in_place g t (drop i g.scopes) i (demands g i) a h ≡ in_place g t (drop i g.scopes) i (demands g i) b h }
-    ensures node { (g : Game) (t : Tree) (i : ℕ) (a b : Box) (h : Option ℕ) → AreAlike g i a b → IsTrue (looks g t i) → IsTrue (in_place g t (drop i g.scopes) i (demands g i) a h) → DoesAlike g t (drop i g.scopes) i (demands g i) a b h }
-{}
-
-/// A tree in place whose removals are each of one of its constraint's own variables has removals of variables
-/// that are looked at alone.
-pub fn own_removals_look()
-    ensures { (g : Game) (t : Tree) (i : ℕ) (box : Box) (h : Option ℕ) → IsTrue (owns g t i) → IsTrue (in_place g t (drop i g.scopes) i (demands g i) box h) → IsTrue (looks g t i) }
+    ensures placed { (g : Game) (t : Tree) (i : ℕ) (a b : Box) (h : Option ℕ) → AreAlike g i a b → IsTrue (looks g i t) → in_place g t (drop i g.scopes) i (demands g i) a h ≡ in_place g t (drop i g.scopes) i (demands g i) b h }
+    ensures node { (g : Game) (t : Tree) (i : ℕ) (a b : Box) (h : Option ℕ) → AreAlike g i a b → IsTrue (looks g i t) → IsTrue (in_place g t (drop i g.scopes) i (demands g i) a h) → DoesAlike g t (drop i g.scopes) i (demands g i) a b h }
 {}
