@@ -1,31 +1,41 @@
 //! What is looked at, told from one number for each variable.
-ghost use Rattle.std.specs.Prelude.{◌≡◌, IfOk};
-ghost use Rattle.qc_alike.specs.Alike.{is_looked_at};
+ghost use Rattle.std.specs.Prelude.{◌≡◌, nat_le, map, IfOk, IsTrue};
+ghost use Rattle.qc_alike.specs.Alike.{is_looked_at, sees};
+ghost use Rattle.qc_model.specs.Content.{Rule};
+ghost use Rattle.qc_model.specs.Lists.{Among};
+ghost use Rattle.qc_sight.specs.Seeing.{SeeAlike};
 
-use crate::sources::{mark_seen, own_scopes};
-use qc_model::{Problem, ScopeId, VarId};
+use crate::clauses::are_clauses_alike;
+use crate::reading::{Reading, reading_of};
+use crate::sources::{mark_seen, own_scopes, telling_rules};
+use crate::sums::are_sums_alike;
+use qc_arguments::arguments;
+use qc_model::{Constraint, Problem, ScopeId, VarId};
 use qc_rules::Levels;
 use std::alloc::{AllocError, Global};
 use std::marker::Model;
 
 /// Which variables are looked at from each scope on: its own and later ones, those that a constraint from there on, or
-/// of the goal, mentions, and those of conditions and aggregates. A clause sees the game.
+/// of the goal, reads by value, and those of conditions and aggregates; and what sums and clauses see of the others. A
+/// contract sees the game.
 #[derive(Drop)]
 pub struct Sight<'p> {
     problem: &'p Problem,
     // For each variable the last scope from which on it is looked at.
     upto: Vec<u8>,
+    // The sums and clauses, in order.
+    telling: Vec<&'p Constraint>,
 }
 
 impl<'p> Model for Sight<'p> {
     ghost use Rattle.qc_model.specs.Content.{Game};
-    ghost use Rattle.qc_sight.specs.Marks.{AreMarksOf};
+    ghost use Rattle.qc_sight.specs.Seeing.{IsSightOf};
 
     ghost Value = { Game };
 
     ghost view = { λ s. s.problem.now };
 
-    ghost invariant = { λ s. AreMarksOf s.problem.now s.upto.items };
+    ghost invariant = { λ s. IsSightOf s.problem.now s.upto.items s.telling.items };
 }
 
 impl<'p> Sight<'p> {
@@ -37,7 +47,12 @@ impl<'p> Sight<'p> {
         problem.known();
         let mut upto = own_scopes(alloc, problem)?;
         mark_seen(alloc, problem, &mut upto)?;
-        Ok(Sight { problem, upto })
+        let telling = telling_rules(alloc, problem)?;
+        Ok(Sight {
+            problem,
+            upto,
+            telling,
+        })
     }
 
     /// Whether x is looked at from scope i on. It takes constant time and no memory.
@@ -49,4 +64,42 @@ impl<'p> Sight<'p> {
             None => true,
         }
     }
+
+    /// Whether each constraint of a scope from i on, or of the goal, sees the same of both values of the first variables,
+    /// besides what it reads by value: a sum comes to the same, and a clause is satisfied by both, or by neither and has the
+    /// same values. A sum that overflows 128 bits counts as different. It takes no memory.
+    pub fn sees_alike(&self, i: ScopeId, kept: &[i64], here: &[i64]) -> bool
+        ensures { IsTrue result → SeeAlike self.now i.0 kept.now here.now }
+    {
+        are_rules_alike(self, i, &self.telling, kept, here)
+    }
+}
+
+/// Whether the constraint sees the same of both values.
+fn is_rule_alike(sight: &Sight, i: ScopeId, rule: &Constraint, kept: &[i64], here: &[i64]) -> bool
+    ensures { IsTrue result → sees sight.now i.0 kept.now rule.now ≡ sees sight.now i.0 here.now rule.now }
+{
+    match reading_of(rule) {
+        Reading::Sum => are_sums_alike(arguments(rule), kept, here),
+        Reading::Clause => are_clauses_alike(sight, i, rule, kept, here),
+        Reading::Value => true,
+    }
+}
+
+/// Whether each of these constraints that is of a scope from i on, or of the goal, sees the same of both values.
+fn are_rules_alike(
+    sight: &Sight,
+    i: ScopeId,
+    rules: &[&Constraint],
+    kept: &[i64],
+    here: &[i64],
+) -> bool
+    ensures { IsTrue result → (c : Rule) → Among c (map (λ r. r.now) rules.now) → IsTrue (nat_le i.0 c.owner.0) → sees sight.now i.0 kept.now c ≡ sees sight.now i.0 here.now c }
+{
+    for rule in rules {
+        if i.0 <= rule.owner.0 && !is_rule_alike(sight, i, rule, kept, here) {
+            return false;
+        }
+    }
+    true
 }

@@ -1,12 +1,14 @@
 //! What looks at a variable: its own scope, constraints, conditions and aggregates.
-ghost use Rattle.std.specs.Prelude.{◌≡◌, map, IfOk, OnOk};
+ghost use Rattle.std.specs.Prelude.{◌≡◌, ◌++◌, ◌∷◌, [], cond, filter, map, IfOk, OnOk};
 ghost use Rattle.std.specs.List.{list_any};
 ghost use Rattle.qc_model.specs.Demands.{target_within as target_within_of};
 ghost use Rattle.qc_alike.specs.Alike.{constrains, mentions, condition_mentions, is_seen};
 ghost use Rattle.qc_sight.specs.Marks.{AddsMarks};
+ghost use Rattle.qc_sight.specs.Seeing.{tells};
 
 use crate::marks::{EVERY_SCOPE, raise, raise_all};
-use qc_arguments::{arguments, own_variables};
+use crate::reading::{is_telling, reading_of, variables_by_value};
+use qc_arguments::arguments;
 use qc_model::{ConId, Condition, Constraint, Problem, ScopeId, Target, VarId};
 use std::alloc::{AllocError, Global};
 
@@ -21,15 +23,16 @@ pub(crate) fn own_scopes(alloc: Global, problem: &Problem) -> Result<Vec<u8>, Al
     Ok(upto)
 }
 
+/// Has the variables that the constraint reads by value looked at from its scope on.
 fn mark_constraint(alloc: Global, rule: &Constraint, upto: &mut [u8]) -> Result<(), AllocError>
     ensures { OnOk result (AddsMarks (λ i y. constrains i y rule.now) upto.old upto.new) }
 {
-    let variables = own_variables(alloc, arguments(rule))?;
+    let variables = variables_by_value(alloc, reading_of(rule), arguments(rule))?;
     raise_all(upto, &variables, rule.owner.0);
     Ok(())
 }
 
-/// Has the variables of each constraint looked at from its scope on.
+/// Has the variables that each constraint reads by value looked at from its scope on.
 fn mark_constraints(alloc: Global, problem: &Problem, upto: &mut [u8]) -> Result<(), AllocError>
     ensures { OnOk result (AddsMarks (λ i y. list_any (constrains i y) problem.now.constraints) upto.old upto.new) }
 {
@@ -88,7 +91,7 @@ fn mark_aggregates(problem: &Problem, upto: &mut [u8])
     }
 }
 
-/// Has each variable looked at from where a constraint, a condition or an aggregate mentions it.
+/// Has each variable looked at from where a constraint reads its value, or a condition or an aggregate mentions it.
 pub(crate) fn mark_seen(alloc: Global, problem: &Problem, upto: &mut [u8]) -> Result<(), AllocError>
     ensures { OnOk result (AddsMarks (λ i y. is_seen problem.now i y) upto.old upto.new) }
 {
@@ -96,4 +99,29 @@ pub(crate) fn mark_seen(alloc: Global, problem: &Problem, upto: &mut [u8]) -> Re
     mark_conditions(problem, upto);
     mark_aggregates(problem, upto);
     Ok(())
+}
+
+/// Appends the constraint where it sees values other than by themselves.
+fn push_telling<'p>(rules: &mut Vec<&'p Constraint>, rule: &'p Constraint) -> Result<(), AllocError>
+    ensures { OnOk result (map (λ r. r.now) rules.new.items ≡ map (λ r. r.now) rules.old.items ++ cond (tells rule.now) (rule.now ∷ []) []) }
+{
+    if is_telling(reading_of(rule)) {
+        rules.push(rule)?;
+    }
+    Ok(())
+}
+
+/// The constraints that see values other than by themselves: sums and clauses.
+pub(crate) fn telling_rules<'p>(
+    alloc: Global,
+    problem: &'p Problem,
+) -> Result<Vec<&'p Constraint>, AllocError>
+    ensures { IfOk result (λ rules. map (λ r. r.now) rules.items ≡ filter tells problem.now.constraints) }
+{
+    problem.known();
+    let mut rules = Vec::new(alloc);
+    for k in 0..problem.constraints() {
+        push_telling(&mut rules, problem.constraint(ConId(k as u16)))?;
+    }
+    Ok(rules)
 }

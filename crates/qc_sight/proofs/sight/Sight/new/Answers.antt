@@ -9,5 +9,8 @@ invariant_of-result c =
     let g = c.args.levels.now.problem.now in
     let old = c.in_ok-upto.upto in
     let new = c.mark_seen.new.upto in
-    subst (AreMarksOf g) (sym (with_items_is old new (c.in_ok-mark_seen.ensures.count ∙ c.deref_mut.ensures.len)))
-    (marks_are g c.deref_mut.result.now new c.known.ensures (c.deref_mut.ensures.value ∙ c.in_ok-upto.ensures) c.in_ok-mark_seen.ensures)
+    record {
+      marks = subst (AreMarksOf g) (sym (with_items_is old new (c.in_ok-mark_seen.ensures.count ∙ c.deref_mut.ensures.len)))
+          (marks_are g c.deref_mut.result.now new c.known.ensures (c.deref_mut.ensures.value ∙ c.in_ok-upto.ensures) c.in_ok-mark_seen.ensures);
+      rules = c.in_ok-telling.ensures;
+    }
