@@ -1,6 +1,6 @@
 -- Trees that are right wherever the position looks the same, in games where nothing is optimised.
 use Rattle.std.proofs.Common.{◌≡◌, ◌≤◌, ◌<◌, ◌*◌, ◌-◌, ◌∙◌, inl, inr, ℕ, zero, suc, Bool, true, false, ◌&&◌, List, [], ◌∷◌, ◌++◌, map, length, drop, take, refl, sym, ap, subst, arith, Option, None, Some, ℤ}
-use Rattle.std.specs.Prelude.{◌⊎◌, is_none, is_some, nat_lt, slice_get, slice_index_or, pos}
+use Rattle.std.specs.Prelude.{◌⊎◌, is_none, is_some, nat_le, nat_lt, ◌||◌, slice_get, slice_index_or, pos}
 use Rattle.std.specs.List.{list_all}
 use Rattle.std.proofs.lemmas.List.{get_or_past}
 use Rattle.std.proofs.lemmas.List.Folds.{list_all-append}
@@ -16,11 +16,11 @@ use Rattle.qc_model.specs.Game.{before}
 use Rattle.qc_model.specs.ForallVerdict.{goal_verdict}
 use Rattle.qc_model.specs.Verdict.{Verdict, lost, exact, at_most, unknown, Seen}
 use Rattle.qc_arguments.specs.Asked.{is_box_of}
-use Rattle.qc_arguments.proofs.Boxes.{some_left, sub_length}
-use Rattle.qc_alike.specs.Alike.{is_looked_at, AreAlike}
-use Rattle.qc_alike.specs.EachStep.{horizon_passes, each_step, body_passes, ending_passes, branches_pass, case_passes}
-use Rattle.qc_alike.specs.Looking.{has_variable, looks, step_owns}
-use Rattle.qc_alike.proofs.Alike.{does_alike, own_looks}
+use Rattle.qc_arguments.proofs.Boxes.{sub_length}
+use Rattle.qc_alike.specs.Alike.{is_looked_at, is_seen, AreAlike}
+use Rattle.qc_alike.specs.EachStep.{horizon_passes, body_passes, ending_passes, branches_pass, case_passes}
+use Rattle.qc_alike.specs.Looking.{looks, step_looks}
+use Rattle.qc_alike.proofs.Alike.{does_alike}
 use Rattle.proof_tree.specs.declared.line.Line.{Line}
 use Rattle.proof_tree.specs.declared.line.Line.TheVariants.{Dot}
 use Rattle.proof_tree.specs.declared.tree.Horizon.{Horizon}
@@ -39,7 +39,7 @@ use Rattle.qc_joins.specs.Verdicts.{scope_own, kind_own}
 use Rattle.qc_joins.specs.declared.joins.Joins.{Joins}
 use Rattle.search_box.specs.Boxed.{Boxed}
 use Rattle.search_box.specs.Entered.{IsEntered}
-use Rattle.game_search.specs.Known.{ask_nothing, IsLike, decided_as, is_decided_as, IsDecided, IsKnown, IsFinished, StandsHere, ends_as, line_owns}
+use Rattle.game_search.specs.Known.{ask_nothing, IsLike, decided_as, is_decided_as, IsDecided, IsKnown, IsFinished, StandsHere, ends_as, line_looks}
 use Rattle.game_search.specs.Made.{NodeMade}
 use Rattle.game_search.specs.Own.{IsOwnSized}
 use Rattle.game_search.specs.Settled.{is_vague_verdict}
@@ -66,16 +66,20 @@ single_stands (d ∷ box) (suc n) zero h l e = one d (both (is_single d) (list_a
 single_stands (d ∷ box) (suc n) (suc x) h l e = single_stands box n x (omega arith) (omega arith) (both (is_single d) (list_all is_single (take n box)) e).1
 
 -- the box of a node is like the values that stand at the position
-pub like_here : (g : Game) (i : ℕ) (b : Boxed) (vs : List ℤ) → IsEntered g i b → is_box_of b.game b.store.box ≡ true → before g i ≤ length b.store.box →
-    ((x : ℕ) → before g i ≤ x → x < length b.store.box → values_left b.store.box x ≡ values_left (declared_box g) x) →
-    ((x : ℕ) → x < before g i → is_looked_at g i x ≡ true → slice_index_or vs x (pos 0) ≡ slice_index_or (position g i b.store.box) x (pos 0)) → IsLike g i vs b.store.box
-like_here g i b vs here declared few fresh agrees = record {
+pub like_here : (g : Game) (i : ℕ) (b : Boxed) → IsEntered g i b → is_box_of b.game b.store.box ≡ true → before g i ≤ length b.store.box →
+    ((x : ℕ) → before g i ≤ x → x < length b.store.box → values_left b.store.box x ≡ values_left (declared_box g) x) → IsLike g i (position g i b.store.box) b.store.box
+like_here g i b here declared few fresh = record {
   declared = own;
   full = here.full;
   fresh = λ x h. by x (nat_lt x (length b.store.box)) refl h;
-  fixed = λ x h l. single_stands b.store.box (before g i) x h (omega (arith, h, few)) here.fixed ∙ ap (λ v. v ∷ []) (sym (agrees x h l));
+  single = λ x h. subst (λ (d : Values). is_single d ≡ true) (sym (stands x h)) refl;
+  fixed = λ x h l. stands x h;
+  seen = λ c m o. refl;
 }
   where
+    stands : (x : ℕ) → x < before g i → values_left b.store.box x ≡ slice_index_or (position g i b.store.box) x (pos 0) ∷ []
+    stands x h = single_stands b.store.box (before g i) x h (omega (arith, h, few)) here.fixed
+
     own : is_box_of g b.store.box ≡ true
     own = subst (λ (k : Game). is_box_of k b.store.box ≡ true) here.game declared
 
@@ -92,9 +96,21 @@ likes_alike g i vs a b p q =
     record {
       size = size;
       same = λ x e. by x (nat_lt x (before g i)) refl e;
-      others = λ x h e. (some_left a x p.full h, some_left b x q.full (subst (λ n. x < n) size h));
+      others = λ x h e. let k = unseen x e in (p.single x k, q.single x k);
+      rules = λ c m o. sym (p.seen c m o) ∙ q.seen c m o;
     }
   where
+    -- what isn't looked at comes before the scope
+    unseen : (x : ℕ) → is_looked_at g i x ≡ false → x < before g i
+    unseen x e = under (before g i) x (neither (nat_le (before g i) x) (is_seen g i x) e)
+      where
+        under : (n x : ℕ) → nat_le n x ≡ false → x < n
+        under n x e = grind (arith, nat_tests)
+
+        neither : (a b : Bool) → (a || b) ≡ false → a ≡ false
+        neither true b e = cc
+        neither false b e = refl
+
     by : (x : ℕ) (c : Bool) → nat_lt x (before g i) ≡ c → is_looked_at g i x ≡ true → values_left a x ≡ values_left b x
     by x true e l = let h = below_is x (before g i) e in p.fixed x h l ∙ sym (q.fixed x h l)
     by x false e l = let h = past x (before g i) e in p.fresh x h ∙ sym (q.fresh x h)
@@ -180,7 +196,7 @@ decided_here above g i box h v won had left t plain comes some m = record {
     by (inr e) = absurd (omega (arith, some, e))
 
 -- so wherever the position looks the same
-decided_alike : (g : Game) (i : ℕ) (h : Option ℕ) (won : Bool) (turns : ℕ) (t : Tree) (a b : Box) → looks g t i ≡ true → AreAlike g i a b → IsDecided g i h won turns t a → IsDecided g i h won turns t b
+decided_alike : (g : Game) (i : ℕ) (h : Option ℕ) (won : Bool) (turns : ℕ) (t : Tree) (a b : Box) → looks g i t ≡ true → AreAlike g i a b → IsDecided g i h won turns t a → IsDecided g i h won turns t b
 decided_alike g i h won turns t a b look alike d =
     let s = does_alike g t i a b h alike look d.placed in
     record {
@@ -199,7 +215,7 @@ decided_alike g i h won turns t a b look alike d =
       foreseen = s.foreseen d.foreseen;
     }
 
-pub node_known : (above : ℤ → Bool) (g : Game) (i : ℕ) (box : Box) (h : Option ℕ) (vs : List ℤ) (v : Verdict) (won : Bool) (had left : ℕ) (t : Tree) (ls : List Line) → ask_nothing g.scopes ≡ true → is_decided_as won v ≡ true → 0 < left → IsLike g i vs box → looks g t i ≡ true → ls ≡ tree_lines t →
+pub node_known : (above : ℤ → Bool) (g : Game) (i : ℕ) (box : Box) (h : Option ℕ) (vs : List ℤ) (v : Verdict) (won : Bool) (had left : ℕ) (t : Tree) (ls : List Line) → ask_nothing g.scopes ≡ true → is_decided_as won v ≡ true → 0 < left → IsLike g i vs box → looks g i t ≡ true → ls ≡ tree_lines t →
     NodeMade true above g (drop i g.scopes) i (demands g i) box h v had left t → IsKnown g i h vs won (had - left) ls
 node_known above g i box h vs v won had left t ls plain comes some like look e m =
     let d = decided_here above g i box h v won had left t plain comes some m in
@@ -256,63 +272,63 @@ known_told above g i box h vs v won turns had left ls old new joins plain enough
       own = λ s. record { stood = []; stands = stands; is_own = d.own ∙ sym (own_none_of g (drop i g.scopes) (demands g i) [] (later_none g.scopes i plain)) };
     }
 
--- a tree whose lines remove values of their constraints' own variables
+-- a tree whose lines remove values of variables that are looked at
 parts_pass : (p : Line → Bool) (xs ys : List Line) → list_all p (xs ++ ys) ≡ true → (list_all p xs ≡ true) × (list_all p ys ≡ true)
 parts_pass p xs ys e = both (list_all p xs) (list_all p ys) (sym (list_all-append p xs ys) ∙ e)
 
-module _ (g : Game) where
-  abbrev Owns : List Line → Type 0
-  Owns ls = list_all (line_owns g) ls ≡ true
+module _ (g : Game) (i : ℕ) where
+  abbrev Look : List Line → Type 0
+  Look ls = list_all (line_looks g i) ls ≡ true
 
-  steps_own : (steps : List Step) (i : ℕ) → Owns (map step_line steps) → list_all (step_owns g i) steps ≡ true
-  steps_own [] i e = refl
-  steps_own (Prune x low high c ∷ steps) i e =
-      let p = both (has_variable x.0 (slice_get g.constraints c.0)) (list_all (line_owns g) (map step_line steps)) e in
-      two _ _ p.0 (steps_own steps i p.1)
-  steps_own (Bound x low high ∷ steps) i e = steps_own steps i e
+  steps_look : (steps : List Step) → Look (map step_line steps) → list_all (step_looks g i) steps ≡ true
+  steps_look [] e = refl
+  steps_look (Prune x low high c ∷ steps) e =
+      let p = both (is_looked_at g i x.0) (list_all (line_looks g i) (map step_line steps)) e in
+      two _ _ p.0 (steps_look steps p.1)
+  steps_look (Bound x low high ∷ steps) e = steps_look steps e
 
-  horizon_owns : (z : Option Horizon) (i : ℕ) → Owns (horizon_lines z) → horizon_passes (step_owns g) z i ≡ true
-  horizon_owns None i e = refl
-  horizon_owns (Some z) i e = steps_own z.steps i (parts_pass (line_owns g) (map step_line z.steps) (Dot ∷ []) e).0
+  horizon_looks : (z : Option Horizon) → Look (horizon_lines z) → horizon_passes (step_looks g i) z ≡ true
+  horizon_looks None e = refl
+  horizon_looks (Some z) e = steps_look z.steps (parts_pass (line_looks g i) (map step_line z.steps) (Dot ∷ []) e).0
 
   mutual
-    pub tree_owns : (t : Tree) (i : ℕ) → Owns (tree_lines t) → each_step (step_owns g) t i ≡ true
-    tree_owns (tree z c) i e =
-        let p = parts_pass (line_owns g) (horizon_lines z) (body_lines c) e in
-        two _ _ (horizon_owns z i p.0) (body_owns c i p.1)
+    pub tree_looks : (t : Tree) → Look (tree_lines t) → looks g i t ≡ true
+    tree_looks (tree z c) e =
+        let p = parts_pass (line_looks g i) (horizon_lines z) (body_lines c) e in
+        two _ _ (horizon_looks z p.0) (body_looks c p.1)
 
-    body_owns : (c : Body) (i : ℕ) → Owns (body_lines c) → body_passes (step_owns g) c i ≡ true
-    body_owns stuck i e = refl
-    body_owns goal i e = refl
-    body_owns (cases steps end) i e =
-        let p = parts_pass (line_owns g) (map step_line steps) (ending_lines end) e in
-        two _ _ (steps_own steps i p.0) (ending_owns end i p.1)
+    body_looks : (c : Body) → Look (body_lines c) → body_passes (step_looks g i) c ≡ true
+    body_looks stuck e = refl
+    body_looks goal e = refl
+    body_looks (cases steps end) e =
+        let p = parts_pass (line_looks g i) (map step_line steps) (ending_lines end) e in
+        two _ _ (steps_look steps p.0) (ending_looks end p.1)
 
-    ending_owns : (end : Ending) (i : ℕ) → Owns (ending_lines end) → ending_passes (step_owns g) end i ≡ true
-    ending_owns empty i e = refl
-    ending_owns barred i e = refl
-    ending_owns (next t) i e = tree_owns t (suc i) e
-    ending_owns (branch x bs) i e = branches_own bs i (parts_pass (line_owns g) (branches_lines bs) (Dot ∷ []) e).0
+    ending_looks : (end : Ending) → Look (ending_lines end) → ending_passes (step_looks g i) end ≡ true
+    ending_looks empty e = refl
+    ending_looks barred e = refl
+    ending_looks (next t) e = tree_looks t e
+    ending_looks (branch x bs) e = branches_look bs (parts_pass (line_looks g i) (branches_lines bs) (Dot ∷ []) e).0
 
-    branches_own : (bs : Branches) (i : ℕ) → Owns (branches_lines bs) → branches_pass (step_owns g) bs i ≡ true
-    branches_own no_more i e = refl
-    branches_own (piece upto c bs) i e =
-        let p = parts_pass (line_owns g) (upto_lines upto ++ case_lines c) (branches_lines bs) e in
-        two _ _ (case_owns c i (parts_pass (line_owns g) (upto_lines upto) (case_lines c) p.0).1) (branches_own bs i p.1)
+    branches_look : (bs : Branches) → Look (branches_lines bs) → branches_pass (step_looks g i) bs ≡ true
+    branches_look no_more e = refl
+    branches_look (piece upto c bs) e =
+        let p = parts_pass (line_looks g i) (upto_lines upto ++ case_lines c) (branches_lines bs) e in
+        two _ _ (case_looks c (parts_pass (line_looks g i) (upto_lines upto) (case_lines c) p.0).1) (branches_look bs p.1)
 
-    case_owns : (c : Case) (i : ℕ) → Owns (case_lines c) → case_passes (step_owns g) c i ≡ true
-    case_owns skip i e = refl
-    case_owns left_open i e = refl
-    case_owns (go steps end) i e =
-        let p = parts_pass (line_owns g) (map step_line steps) (ending_lines end) e in
-        two _ _ (steps_own steps i p.0) (ending_owns end i p.1)
+    case_looks : (c : Case) → Look (case_lines c) → case_passes (step_looks g i) c ≡ true
+    case_looks skip e = refl
+    case_looks left_open e = refl
+    case_looks (go steps end) e =
+        let p = parts_pass (line_looks g i) (map step_line steps) (ending_lines end) e in
+        two _ _ (steps_look steps p.0) (ending_looks end p.1)
 
 -- so where a node is finished that is decided, its lines are known
-pub finished_known : (g : Game) (i : ℕ) (box : Box) (h : Option ℕ) (found : Found) (won : Bool) (had left : ℕ) (vs : List ℤ) (ls : List Line) → ask_nothing g.scopes ≡ true → ((v : List ℤ) → ends_as won (verdict_of found v) ≡ true) → 0 < left → IsLike g i vs box → list_all (line_owns g) ls ≡ true →
+pub finished_known : (g : Game) (i : ℕ) (box : Box) (h : Option ℕ) (found : Found) (won : Bool) (had left : ℕ) (vs : List ℤ) (ls : List Line) → ask_nothing g.scopes ≡ true → ((v : List ℤ) → ends_as won (verdict_of found v) ≡ true) → 0 < left → IsLike g i vs box → list_all (line_looks g i) ls ≡ true →
     IsFinished g i box h found had left ls → IsKnown g i h vs won (had - left) ls
-finished_known g i box h found won had left vs ls plain ends some like own f =
-    let owned = tree_owns g f.tree i (subst (λ ms. list_all (line_owns g) ms ≡ true) f.lines own) in
-    node_known f.above g i box h vs (verdict_of found f.vector) won had left f.tree ls plain (by won (verdict_of found f.vector) (ends f.vector) f.made.long) some like (own_looks g f.tree i box h owned f.made.placed) f.lines f.made
+finished_known g i box h found won had left vs ls plain ends some like look f =
+    let looked = tree_looks g i f.tree (subst (λ ms. list_all (line_looks g i) ms ≡ true) f.lines look) in
+    node_known f.above g i box h vs (verdict_of found f.vector) won had left f.tree ls plain (by won (verdict_of found f.vector) (ends f.vector) f.made.long) some like looked f.lines f.made
   where
     by : (b : Bool) (v : Verdict) → ends_as b v ≡ true → IsLong g i v → is_decided_as b v ≡ true
     by b lost e l = e

@@ -1,17 +1,17 @@
 -- Nodes that a search has settled: which lines stand wherever the position looks the same.
-use Rattle.std.specs.Prelude.{◌≡◌, ◌≤◌, ◌<◌, ℕ, Bool, true, false, not, ◌&&◌, Option, None, List, [], ◌∷◌, drop, slice_get, slice_index_or, is_none, IsTrue, IsFalse, ℤ, pos}
+use Rattle.std.specs.Prelude.{◌≡◌, ◌≤◌, ◌<◌, ℕ, Bool, true, false, not, ◌&&◌, Option, None, List, [], ◌∷◌, drop, slice_index_or, is_none, IsTrue, IsFalse, ℤ, pos}
 use Rattle.std.specs.List.{list_all}
 use Rattle.qc_model.specs.declared.problem.Scope.{Scope}
 use Rattle.qc_model.specs.Content.{Game}
 use Rattle.qc_model.specs.Demands.{demands}
-use Rattle.qc_model.specs.Domains.{Box, declared_box, values_left, has_empty}
+use Rattle.qc_model.specs.Domains.{Box, declared_box, values_left, has_empty, is_single}
 use Rattle.qc_model.specs.Game.{before}
 use Rattle.qc_model.specs.Verdict.{Verdict, lost, exact, at_most, unknown, is_none_of}
 use Rattle.qc_levels.specs.Seen.{verdict_of}
 use Rattle.qc_levels.specs.declared.leaves.Found.{Found}
 use Rattle.qc_arguments.specs.Asked.{is_box_of}
 use Rattle.qc_alike.specs.Alike.{is_looked_at}
-use Rattle.qc_alike.specs.Looking.{has_variable}
+use Rattle.qc_sight.specs.Seeing.{SeeAlike}
 use Rattle.proof_tree.specs.Tree.{Tree}
 use Rattle.proof_tree.specs.Pieces.{each_case, goes_at_one}
 use Rattle.proof_tree.specs.Counts.{turns_of, opens_of}
@@ -19,6 +19,7 @@ use Rattle.proof_tree.specs.Diligent.{closes, Foresees}
 use Rattle.proof_tree.specs.InPlace.{in_place}
 use Rattle.proof_tree.specs.Incumbents.{keeps}
 use Rattle.proof_tree.specs.Lines.{tree_lines}
+use Rattle.proof_tree.specs.Place.{position}
 use Rattle.proof_tree.specs.Order.{opens_last, is_joined, settled_last}
 use Rattle.proof_tree.specs.Read.{read}
 use Rattle.proof_tree.specs.Text.{tree_fits}
@@ -31,13 +32,16 @@ use Rattle.game_search.specs.Made.{NodeMade}
 abbrev pub ask_nothing : List Scope → Bool
 ask_nothing ss = list_all (λ s. is_none s.condition) ss
 
--- a box of the game at scope i: each variable from there on has its declared values, and each earlier one that is looked
--- at from there on has the single value that stands at its place
+-- a box of the game at scope i: each variable from there on has its declared values, each earlier one has one value left, and
+-- each earlier one that is looked at from there on has the value that stands at its place; each constraint from there on sees
+-- the same of the position as of these values
 pub record IsLike (g : Game) (i : ℕ) (vs : List ℤ) (box : Box) : Type 0 where
   pub declared : IsTrue (is_box_of g box)
   pub full : IsFalse (has_empty box)
   pub fresh : (x : ℕ) → before g i ≤ x → values_left box x ≡ values_left (declared_box g) x
+  pub single : (x : ℕ) → x < before g i → IsTrue (is_single (values_left box x))
   pub fixed : (x : ℕ) → x < before g i → IsTrue (is_looked_at g i x) → values_left box x ≡ slice_index_or vs x (pos 0) ∷ []
+  pub seen : SeeAlike g i vs (position g i box)
 
 -- what a node comes to that is decided where nothing is optimised
 abbrev pub decided_as : Bool → Verdict
@@ -75,21 +79,21 @@ pub record IsKnownBy (g : Game) (i : ℕ) (h : Option ℕ) (vs : List ℤ) (won 
 abbrev pub IsKnown : Game → ℕ → Option ℕ → List ℤ → Bool → ℕ → List Line → Type 0
 IsKnown g i h vs won turns ls = (t : Tree) × IsKnownBy g i h vs won turns ls t
 
--- a line that removes values removes those of one of its constraint's own variables
-abbrev pub line_owns : Game → Line → Bool
-line_owns g (Horizon k) = true
-line_owns g (Prune x low high c) = has_variable x.0 (slice_get g.constraints c.0)
-line_owns g (Bound x low high) = true
-line_owns g Dot = true
-line_owns g Stuck = true
-line_owns g Goal = true
-line_owns g Empty = true
-line_owns g Barred = true
-line_owns g Next = true
-line_owns g (Branch x) = true
-line_owns g Skip = true
-line_owns g Open = true
-line_owns g (Range high) = true
+-- a line that removes values removes those of a variable that is looked at from scope i on
+abbrev pub line_looks : Game → ℕ → Line → Bool
+line_looks g i (Horizon k) = true
+line_looks g i (Prune x low high c) = is_looked_at g i x.0
+line_looks g i (Bound x low high) = true
+line_looks g i Dot = true
+line_looks g i Stuck = true
+line_looks g i Goal = true
+line_looks g i Empty = true
+line_looks g i Barred = true
+line_looks g i Next = true
+line_looks g i (Branch x) = true
+line_looks g i Skip = true
+line_looks g i Open = true
+line_looks g i (Range high) = true
 
 -- the lines that are known for these values stand at the node of scope i in this box, where so many turns are left
 pub record StandsHere (g : Game) (i : ℕ) (h : Option ℕ) (left : ℕ) (box : Box) (vs : List ℤ) (won : Bool) (turns : ℕ) (ls : List Line) : Type 0 where

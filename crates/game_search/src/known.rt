@@ -10,14 +10,11 @@ ghost use Rattle.search_box.specs.Looking.{scope_number};
 ghost use Rattle.game_search.specs.Props.{known_prop};
 ghost use Rattle.game_search.specs.Known.{ask_nothing, IsFinished, IsKnown, StandsHere, ends_as};
 
-use crate::likeness::is_like;
-use crate::owning::are_owning;
-use crate::residues::mixed;
+use crate::likeness::Likeness;
 use proof_tree::Line;
 use qc_levels::Found;
-use qc_model::{Problem, ScopeId, VarId};
+use qc_model::{Problem, ScopeId};
 use qc_rules::{Level, Levels};
-use qc_sight::Sight;
 use search_box::SearchBox;
 use std::alloc::{AllocError, Global};
 
@@ -39,16 +36,17 @@ const FIRST_NODES: u32 = 1_024;
 /// One in so many of the nodes that were kept has to have been met again, else no more are.
 const LEAST_SHARE: u32 = 8;
 
-/// How many bits of a position's hash are left out of its place, so that there are as many places.
+/// How many bits of a position's number are left out of its place, so that there are as many places.
 const REST_BITS: u32 = 48;
 
-/// A node that was settled where nothing is optimised: its scope, the horizon in force, the values of the variables before
-/// the scope, whether it was won, how many turns it took at most, and the lines that stand there.
+/// A node that was settled where nothing is optimised: its scope, the horizon in force, the number of its position and the
+/// values of the variables before the scope, whether it was won, how many turns it took at most, and the lines that stand there.
 #[derive(Drop)]
 pub(crate) struct KnownNode<'p> {
     problem: &'p Problem,
     scope: ScopeId,
     horizon: Option<ScopeId>,
+    number: u64,
     pub(crate) values: Vec<i64>,
     pub(crate) won: bool,
     pub(crate) turns: u64,
@@ -85,15 +83,13 @@ fn is_same(a: Option<ScopeId>, b: Option<ScopeId>) -> bool
     }
 }
 
-/// The nodes that are known, each in a place by a hash of its position.
+/// The nodes that are known, each in a place by the number of its position.
 #[derive(Drop)]
 pub(crate) struct KnownNodes<'p> {
     pub(crate) problem: &'p Problem,
-    /// Which variables tell a position from another.
-    pub(crate) sight: Sight<'p>,
-    /// Whether nodes are kept. Then nothing is optimised.
-    is_on: bool,
-    /// For each place the number of its node and one, or 0.
+    /// What positions are compared by, where nodes are kept.
+    likeness: Option<Likeness<'p>>,
+    /// For each place that of its node in the list and one, or 0.
     places: Vec<u32>,
     pub(crate) nodes: Vec<KnownNode<'p>>,
     /// How many lines are kept together.
@@ -101,8 +97,7 @@ pub(crate) struct KnownNodes<'p> {
     /// How many nodes were kept, and how often one was met again.
     kept: u32,
     met: u32,
-    ghost seen: { sight ≡ problem.now },
-    ghost plain: { IsTrue is_on → IsTrue (ask_nothing problem.now.scopes) },
+    ghost compared: { IfSome likeness (λ l. l.problem.now ≡ problem.now) } by { Prim.hlevel props },
     ghost same: { All (λ n. n.problem.now ≡ problem.now) nodes.items } by { Prim.hlevel props },
 }
 
@@ -148,14 +143,11 @@ impl<'p> KnownNodes<'p> {
     ) -> Result<KnownNodes<'p>, AllocError>
         ensures { IfOk result (λ known. known.problem.now ≡ levels.now.problem.now) }
     {
-        let problem = levels.problem;
-        let is_on = wanted && asks_nothing(problem);
-        let sight = Sight::new(alloc, levels)?;
-        let places = vec![in alloc; 0u32; if is_on { PLACES } else { 0 }]?;
+        let likeness = likeness_for(alloc, levels, wanted)?;
+        let places = vec![in alloc; 0u32; if likeness.is_some() { PLACES } else { 0 }]?;
         Ok(KnownNodes {
-            problem,
-            sight,
-            is_on,
+            problem: levels.problem,
+            likeness,
             places,
             nodes: Vec::new(alloc),
             lines: 0,
@@ -172,7 +164,7 @@ impl<'p> KnownNodes<'p> {
         end: NodeEnd,
         lines: usize,
     ) -> bool {
-        self.is_on
+        self.likeness.is_some()
             && (self.kept < FIRST_NODES || self.met >= self.kept / LEAST_SHARE)
             && end.left > 0
             && lines >= LEAST_LINES
@@ -189,40 +181,62 @@ impl<'p> KnownNodes<'p> {
         horizon: Option<ScopeId>,
         remains: &SearchBox,
         end: NodeEnd,
-        lines: &[Line],
+        lines: Vec<Line>,
     ) -> Result<(), AllocError>
         requires game { level.now.problem.now ≡ self.old.problem.now }
         requires here { IsEntered level.now.problem.now level.now.number remains.now }
-        requires finished { IsFinished level.now.problem.now level.now.number remains.now.store.box (scope_number horizon) end.found end.had end.left lines.now }
+        requires finished { IsFinished level.now.problem.now level.now.number remains.now.store.box (scope_number horizon) end.found end.had end.left lines.items }
         ensures { self.new.problem.now ≡ self.old.problem.now }
     {
-        if !self.is_on || end.left == 0 {
-            return Ok(());
+        match self.node_for(alloc, level, horizon, remains, end, lines)? {
+            Some(node) => self.put(node),
+            None => Ok(()),
         }
-        let Some(won) = is_won(end.found) else {
-            return Ok(());
+    }
+
+    /// The node to keep of these lines, where they stand wherever the position looks the same.
+    fn node_for(
+        &self,
+        alloc: Global,
+        level: &Level,
+        horizon: Option<ScopeId>,
+        remains: &SearchBox,
+        end: NodeEnd,
+        lines: Vec<Line>,
+    ) -> Result<Option<KnownNode<'p>>, AllocError>
+        requires game { level.now.problem.now ≡ self.now.problem.now }
+        requires here { IsEntered level.now.problem.now level.now.number remains.now }
+        requires finished { IsFinished level.now.problem.now level.now.number remains.now.store.box (scope_number horizon) end.found end.had end.left lines.items }
+        ensures { IfOk result (λ found. IfSome found (λ node. node.problem.now ≡ self.now.problem.now)) }
+    {
+        let Some(likeness) = &self.likeness else {
+            return Ok(None);
         };
-        let values = Vec::from_slice(alloc, remains.values_before(level))?;
-        if !is_like(&self.sight, level, remains, values.as_slice())
-            || !are_owning(alloc, self.problem, lines)?
-        {
-            return Ok(());
+        let Some(won) = is_won(end.found) else {
+            return Ok(None);
+        };
+        let here = remains.values_before(level);
+        let Some(number) = likeness.number(level, horizon, here) else {
+            return Ok(None);
+        };
+        if end.left == 0 || !likeness.stand_alike(level, remains, lines.as_slice()) {
+            return Ok(None);
         }
-        let node = KnownNode {
+        Ok(Some(KnownNode {
             problem: self.problem,
             scope: ScopeId(level.number),
             horizon,
-            values,
+            number,
+            values: Vec::from_slice(alloc, here)?,
             won,
             turns: end.had.saturating_sub(end.left),
-            lines: Vec::from_slice(alloc, lines)?,
-        };
-        self.put(level, node)
+            lines,
+        }))
     }
 
     /// Puts a node into the place of its position, where what was there goes. Where all would have too many lines together, all
     /// others go first.
-    fn put(&mut self, level: &Level, node: KnownNode<'p>) -> Result<(), AllocError>
+    fn put(&mut self, node: KnownNode<'p>) -> Result<(), AllocError>
         requires { node.problem.now ≡ self.old.problem.now }
         ensures { self.new.problem.now ≡ self.old.problem.now }
     {
@@ -231,9 +245,9 @@ impl<'p> KnownNodes<'p> {
         }
         self.lines = self.lines.saturating_add(node.len());
         self.kept = self.kept.saturating_add(1);
-        match self.node_of(level, node.values.as_slice()) {
+        match self.node_with(node.number) {
             Some(at) => self.replace(at, node),
-            None => self.add(level, node)?,
+            None => self.add(node)?,
         }
         Ok(())
     }
@@ -250,14 +264,14 @@ impl<'p> KnownNodes<'p> {
     }
 
     /// Puts a node where none is.
-    fn add(&mut self, level: &Level, node: KnownNode<'p>) -> Result<(), AllocError>
+    fn add(&mut self, node: KnownNode<'p>) -> Result<(), AllocError>
         requires { node.problem.now ≡ self.old.problem.now }
         ensures { self.new.problem.now ≡ self.old.problem.now }
     {
-        let place = self.place_of(level, node.values.as_slice());
+        let place = place_of(node.number);
         self.nodes.push(node)?;
-        if let Some(number) = self.places.get_mut(place) {
-            *number = self.nodes.len().min(PLACES) as u32;
+        if let Some(kept) = self.places.get_mut(place) {
+            *kept = self.nodes.len().min(PLACES) as u32;
         }
         Ok(())
     }
@@ -278,7 +292,7 @@ impl<'p> KnownNodes<'p> {
         self.lines = 0;
     }
 
-    /// The number of the node that is known for this position, where as many turns are left as it took.
+    /// The place in the list of the node that is known for this position, where as many turns are left as it took.
     pub(crate) fn find(
         &self,
         level: &Level,
@@ -291,22 +305,24 @@ impl<'p> KnownNodes<'p> {
         ensures within { IfSome result (λ at. at < length self.now.nodes.items) }
         ensures stands { IfSome result (λ at. IfSome (slice_get self.now.nodes.items at) (λ n. StandsHere level.now.problem.now level.now.number (scope_number horizon) left remains.now.store.box n.values.items n.won n.turns n.lines.items)) }
     {
-        if !self.is_on {
+        let Some(likeness) = &self.likeness else {
             return None;
-        }
-        let at = self.node_of(level, remains.values_before(level))?;
+        };
+        let number = likeness.number(level, horizon, remains.values_before(level))?;
+        let at = self.node_with(number)?;
         if at >= self.nodes.len() {
             return None;
         }
         let node = self.node(at);
-        let is_it = node.scope.0 == level.number
+        let is_it = node.number == number
+            && node.scope.0 == level.number
             && is_same(node.horizon, horizon)
             && node.turns <= left
-            && is_like(&self.sight, level, remains, node.values.as_slice());
+            && likeness.is_like(level, remains, node.values.as_slice());
         if is_it { Some(at) } else { None }
     }
 
-    /// The node with this number.
+    /// The node that stands at this place of the list.
     pub(crate) fn node(&self, at: usize) -> &KnownNode<'p>
         requires { at < length self.now.nodes.items }
         ensures node { slice_get self.now.nodes.items at ≡ Some result.now }
@@ -315,25 +331,31 @@ impl<'p> KnownNodes<'p> {
         &self.nodes[at]
     }
 
-    /// The number of the node in the position's place.
-    fn node_of(&self, level: &Level, values: &[i64]) -> Option<usize> {
-        match self.places.get(self.place_of(level, values)) {
-            Some(number) => (*number as usize).checked_sub(1),
+    /// The node in the place of positions with this number, by its place in the list.
+    fn node_with(&self, number: u64) -> Option<usize> {
+        match self.places.get(place_of(number)) {
+            Some(at) => (*at as usize).checked_sub(1),
             None => None,
         }
     }
+}
 
-    /// The place of a position: a hash of the scope and of the values of the variables before it that are looked at.
-    fn place_of(&self, level: &Level, values: &[i64]) -> usize {
-        level.problem.known();
-        let mut hash = mixed(0, level.number as i64);
-        for x in 0..level.from {
-            if self.sight.looks_at(ScopeId(level.number), VarId(x as u16)) {
-                if let Some(value) = values.get(x) {
-                    hash = mixed(hash, *value);
-                }
-            }
-        }
-        (hash >> REST_BITS) as usize
+/// The place of positions with this number.
+fn place_of(number: u64) -> usize {
+    (number >> REST_BITS) as usize
+}
+
+/// What positions are compared by, where nodes are kept: that is wanted, and nothing is optimised.
+fn likeness_for<'p>(
+    alloc: Global,
+    levels: &Levels<'p>,
+    wanted: bool,
+) -> Result<Option<Likeness<'p>>, AllocError>
+    ensures { IfOk result (λ found. IfSome found (λ likeness. likeness.problem.now ≡ levels.now.problem.now)) }
+{
+    if !wanted || !asks_nothing(levels.problem) {
+        return Ok(None);
     }
+    let likeness = Likeness::new(alloc, levels)?;
+    Ok(Some(likeness))
 }

@@ -206,7 +206,7 @@ fn keep_node(
     }
     let lines = copied_from(walk.alloc, &walk.lines, start)?;
     walk.known
-        .keep(walk.alloc, level, horizon, &walk.remains, end, &lines)
+        .keep(walk.alloc, level, horizon, &walk.remains, end, lines)
 }
 
 fn is_here(horizon: Option<ScopeId>, number: u8) -> bool
