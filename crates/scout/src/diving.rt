@@ -50,7 +50,7 @@ fn step(level: &Level, ground: &mut Ground) -> Result<Option<Outcome>, AllocErro
     ensures fewer { IfOk result (λ o. o ≡ None → ground.new.turns < ground.old.turns) }
 {
     level.problem.known();
-    let Some(x) = smallest(&ground.store, level.from, level.stop) else {
+    let Some(x) = smallest(&ground.store, level.from, level.stop, ground.wish) else {
         read_values(&ground.store, level.from, level.stop, &mut ground.values);
         return Ok(Some(Outcome::Found));
     };
@@ -58,7 +58,13 @@ fn step(level: &Level, ground: &mut Ground) -> Result<Option<Outcome>, AllocErro
         return Ok(Some(Outcome::Spent));
     }
     ground.turns -= 1;
-    let value = value_to_take(&ground.store, x, ground.varies, &mut ground.chance);
+    let value = value_to_take(
+        &ground.store,
+        x,
+        ground.wish,
+        ground.varies,
+        &mut ground.chance,
+    );
     match with_value(level, x, value, ground)? {
         Outcome::Found => Ok(Some(Outcome::Found)),
         Outcome::Spent => Ok(Some(Outcome::Spent)),

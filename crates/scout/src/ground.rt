@@ -2,10 +2,18 @@
 use crate::chance::Chance;
 use fd_store::Store;
 use prop_engine::Engine;
+use qc_model::{Sense, VarId};
 use std::alloc::Global;
 
+/// The variable whose best value is looked for.
+#[derive(Clone, Copy)]
+pub(crate) struct Wish {
+    pub(crate) sense: Sense,
+    pub(crate) objective: VarId,
+}
+
 /// The values left, what closes them, a place for one value of each variable, how many values may still be taken, and
-/// how values are chosen.
+/// how variables and values are chosen.
 #[derive(Drop)]
 pub(crate) struct Ground {
     pub(crate) alloc: Global,
@@ -14,5 +22,6 @@ pub(crate) struct Ground {
     pub(crate) values: Vec<i64>,
     pub(crate) turns: u64,
     pub(crate) varies: bool,
+    pub(crate) wish: Option<Wish>,
     pub(crate) chance: Chance,
 }

@@ -19,6 +19,13 @@ const FIRST_TURNS: u64 = 100;
 /// How many runs there are at most.
 const MOST_RUNS: u32 = 16;
 
+/// How runs ended, and how many turns they left.
+#[derive(Clone, Copy)]
+pub(crate) struct Ended {
+    pub(crate) outcome: Outcome,
+    pub(crate) left: u64,
+}
+
 /// Gives the variables before the scope their values, and searches for a tuple of the scope.
 #[tactic(auto, using(crate::proofs::Going::went_more, crate::proofs::Going::went_back))]
 pub(crate) fn search_from(
@@ -36,13 +43,31 @@ pub(crate) fn search_from(
     }
     match close_all(level, ground)? {
         Closed::Empty => Ok(false),
-        Closed::Open => with_restarts(level, turns, ground),
+        Closed::Open => is_there_one(level, turns, ground),
     }
+}
+
+/// Whether a tuple is found in a box that is closed.
+fn is_there_one(level: &Level, turns: u64, ground: &mut Ground) -> Result<bool, AllocError>
+    requires sound { IsSound level.now.problem.now ground.old.engine ground.old.store }
+    requires closed { IsClosedFor (is_between level.now.in_force.first level.now.in_force.end) level.now.problem.now ground.old.store.box }
+    ensures back { CameBack level.now.problem.now ground.old.store ground.new.engine ground.new.store }
+{
+    let ended = with_restarts(level, turns, ground)?;
+    Ok(is_found(ended.outcome))
+}
+
+pub(crate) fn is_found(outcome: Outcome) -> bool {
+    matches!(outcome, Outcome::Found)
 }
 
 /// Gives the variables before the scope their values, and says whether these are left to them.
 #[tactic(auto, using(crate::proofs::Going::went_same, crate::proofs::Going::went_more, crate::proofs::Going::went_narrowed))]
-fn place_before(level: &Level, before: &[i64], ground: &mut Ground) -> Result<bool, AllocError>
+pub(crate) fn place_before(
+    level: &Level,
+    before: &[i64],
+    ground: &mut Ground,
+) -> Result<bool, AllocError>
     requires sound { IsSound level.now.problem.now ground.old.engine ground.old.store }
     requires full { IsFalse (has_empty ground.old.store.box) }
     ensures went { Went level.now.problem.now ground.old.store ground.new.engine ground.new.store }
@@ -63,7 +88,11 @@ fn place_before(level: &Level, before: &[i64], ground: &mut Ground) -> Result<bo
 /// Runs again and again, with more turns each time, until a tuple is found, none is left, or all turns are spent. The
 /// first run takes values in order.
 #[tactic(auto, using(crate::proofs::Going::back_same, crate::proofs::Going::back_more, crate::proofs::Going::closed_back))]
-fn with_restarts(level: &Level, turns: u64, ground: &mut Ground) -> Result<bool, AllocError>
+pub(crate) fn with_restarts(
+    level: &Level,
+    turns: u64,
+    ground: &mut Ground,
+) -> Result<Ended, AllocError>
     requires sound { IsSound level.now.problem.now ground.old.engine ground.old.store }
     requires closed { IsClosedFor (is_between level.now.in_force.first level.now.in_force.end) level.now.problem.now ground.old.store.box }
     ensures back { CameBack level.now.problem.now ground.old.store ground.new.engine ground.new.store }
@@ -72,19 +101,31 @@ fn with_restarts(level: &Level, turns: u64, ground: &mut Ground) -> Result<bool,
     let mut limit = FIRST_TURNS;
     for round in 0..MOST_RUNS {
         if left == 0 {
-            return Ok(false);
+            return Ok(spent());
         }
         ground.varies = round > 0;
         ground.turns = left.min(limit);
         left = left.saturating_sub(limit);
         limit = limit.saturating_mul(2);
-        match run(level, ground)? {
-            Outcome::Found => return Ok(true),
-            Outcome::Lost => return Ok(false),
-            Outcome::Spent => {}
+        let outcome = run(level, ground)?;
+        left = left.saturating_add(ground.turns);
+        if is_over(outcome) {
+            return Ok(Ended { outcome, left });
         }
     }
-    Ok(false)
+    Ok(spent())
+}
+
+/// Whether it is known if there is a tuple.
+fn is_over(outcome: Outcome) -> bool {
+    !matches!(outcome, Outcome::Spent)
+}
+
+fn spent() -> Ended {
+    Ended {
+        outcome: Outcome::Spent,
+        left: 0,
+    }
 }
 
 /// One search within its turns. The store is as before.

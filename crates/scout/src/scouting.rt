@@ -2,11 +2,12 @@
 ghost use Rattle.std.specs.Prelude.{◌≡◌, IfOk};
 
 use crate::chance::Chance;
-use crate::ground::Ground;
+use crate::ground::{Ground, Wish};
+use crate::improving::best_from;
 use crate::restarts::search_from;
 use fd_store::Store;
 use prop_engine::Engine;
-use qc_model::{Problem, ScopeId};
+use qc_model::{Problem, ScopeId, Sense, VarId};
 use qc_rules::Levels;
 use std::alloc::{AllocError, Global};
 use std::marker::Model;
@@ -49,6 +50,7 @@ impl<'p> Scout<'p> {
             values,
             turns: 0,
             varies: false,
+            wish: None,
             chance: Chance::new(),
         };
         Ok(Scout { levels, ground })
@@ -64,10 +66,37 @@ impl<'p> Scout<'p> {
             return Ok(false);
         }
         let level = self.levels.level(scope);
+        self.ground.wish = None;
         let mark = self.ground.store.mark();
         let found = search_from(level, before, turns, &mut self.ground);
         self.ground.store.undo_to(mark);
         found
+    }
+
+    /// Looks for tuples of the scope as `look` does, with better and better values of the objective, which is a variable of
+    /// the scope: the best value that it found. The tuple then stands in the places of the scope's variables.
+    pub fn look_best(
+        &mut self,
+        scope: ScopeId,
+        before: &[i64],
+        turns: u64,
+        sense: Sense,
+        objective: VarId,
+    ) -> Result<Option<i64>, AllocError>
+        ensures { self.new ≡ self.old }
+    {
+        let scopes = self.levels.problem.scopes();
+        if scopes <= scope.0 as usize {
+            return Ok(None);
+        }
+        let level = self.levels.level(scope);
+        let at = objective.0 as usize;
+        if at < level.from || at >= level.stop {
+            return Ok(None);
+        }
+        let wish = Wish { sense, objective };
+        self.ground.wish = Some(wish);
+        best_from(level, before, turns, wish, &mut self.ground)
     }
 
     /// The values in the places of all variables.
