@@ -17,9 +17,9 @@ use Rattle.qc_model.specs.ExistsVerdict.{exists_own}
 use Rattle.qc_model.specs.Game.{allows, is_of_scope}
 use Rattle.qc_model.specs.ForallVerdict.{goal_verdict, stuck_verdict}
 use Rattle.qc_model.specs.Valid.{IsValid, is_number}
-use Rattle.qc_model.specs.Verdict.{Verdict, lost, Seen, seen_barred, seen_skipped, seen_node}
+use Rattle.qc_model.specs.Verdict.{Verdict, lost, Seen, seen_barred, seen_skipped, seen_node, exact_vectors}
 use Rattle.proof_tree.specs.Cover.{box_to, is_cover, uncovered}
-use Rattle.proof_tree.specs.Counts.{turns_of, ending_turns}
+use Rattle.proof_tree.specs.Counts.{turns_of, ending_turns, ending_opens}
 use Rattle.proof_tree.specs.Diligent.{SeesAhead}
 use Rattle.proof_tree.specs.Finding.{kind_stuck, stuck_finding}
 use Rattle.proof_tree.specs.Incumbents.{has_no_worse}
@@ -38,7 +38,7 @@ use Rattle.qc_levels.specs.Seen.{verdict_of}
 use Rattle.qc_levels.specs.declared.leaves.Found.{Found}
 use Rattle.qc_joins.specs.Joins.{StandsAt, LeafFits, KeepsAll}
 use Rattle.qc_joins.specs.Joins.{IsLong}
-use Rattle.qc_joins.specs.Sizes.{AreLong, IsSized, HasSizes}
+use Rattle.qc_joins.specs.Sizes.{IsSized, HasSizes}
 use Rattle.qc_joins.specs.Verdicts.{verdict_at, stuck_of, settled_at, own_at, kind_own, scope_own}
 use Rattle.qc_joins.specs.declared.joins.Joins.{Joins}
 use Rattle.qc_joins.proofs.Lengths.{verdict_long, goal_long, stuck_long}
@@ -55,16 +55,17 @@ use Rattle.game_search.specs.Settled.{is_settled, is_outdone, is_ended, is_vague
 use Rattle.game_search.specs.Uppers.{upto_all, upto_between, skipped_between, seen_between, without_before}
 use Rattle.game_search.specs.Made.{NodeMade, EndingMade, StepsMade}
 use Rattle.game_search.specs.Written.{NodeWritten, PartWritten}
-use Rattle.game_search.specs.Told.{IsReady, IsTold, EndingTold, StepsTold, PartTold, CaseTold, CasesTold, BodyTold, NodeTold}
+use Rattle.game_search.specs.Told.{IsReady, IsTold, EndingTold, StepsTold, BoundedSteps, PartTold, BoundedTold, FirstTold, CaseTold, CasesTold, BodyTold, NodeTold}
 use Rattle.game_search.proofs.Beating.{no_worse_yet}
 use Rattle.game_search.proofs.Covers.{covers_before, rest_of}
 use Rattle.game_search.proofs.Joining.{settled_is, settled_so, own_so, own_none, settled-append, or_first, or_none, or_second, neither}
-use Rattle.game_search.proofs.Nodes.{goal_made, node_made, more_beaten, horizon_made, stuck_made, empty_made, next_made, barred_made, branch_made}
+use Rattle.game_search.proofs.Nodes.{goal_made, node_made, part_known, more_beaten, more_done, horizon_made, stuck_made, empty_made, next_made, barred_made, branch_made}
 use Rattle.game_search.proofs.Outdone.{Outdoes, ended_last}
 use Rattle.game_search.proofs.Places.{next_at}
 use Rattle.game_search.proofs.Progress.{Progress, start, taken_from, none, skipped, opened, cut_after, jump_after, jump_behind}
-use Rattle.game_search.proofs.Sizes.{sizes_none, sizes_skipped, own_sized}
-use Rattle.game_search.proofs.Stepping.{part_says, part_long, ending_more}
+use Rattle.game_search.proofs.Sizes.{sizes_none, sizes_skipped, own_sized, own_sized_as}
+use Rattle.game_search.proofs.Stepping.{bare_part, bounded_says, bounded_long, part_long, ending_more}
+use Rattle.game_search.proofs.Sure.{without_marks, vectors_marks, sure_anyway}
 
 some_scope : (n : ℕ) (ss : List Scope) → n < length ss → is_goal (drop n ss) ≡ false
 some_scope n [] h = absurd (omega arith)
@@ -424,9 +425,9 @@ pruned_told g i box left steps p = record {
   worse = no_worse_yet (tracked_at g i) left;
 }
 
-pub part_told : (cuts : Bool) (above : ℤ → Bool) (g : Game) (i : ℕ) (box left_box : Box) (h : Option ℕ) (xs : List Seen) (ms : List ℤ) (had left : ℕ) (old mid new : List Line) (joins : Joins) (steps : List Step) → StepsTold g i box left_box xs ms steps → mid ≡ old ++ map step_line steps →
-    EndingTold cuts above g i left_box h (xs ++ seen_bounds ms) had left mid new joins → PartTold cuts above g i box h xs ms had left old new joins
-part_told cuts above g i box left_box h xs ms had left old mid new joins steps p q w =
+pub bounded_told : (cuts : Bool) (above : ℤ → Bool) (g : Game) (i : ℕ) (box left_box : Box) (h : Option ℕ) (xs : List Seen) (ms : List ℤ) (had left : ℕ) (old mid new : List Line) (joins : Joins) (steps : List Step) → BoundedSteps g i box left_box xs ms steps → mid ≡ old ++ map step_line steps →
+    EndingTold cuts above g i left_box h (xs ++ seen_bounds ms) had left mid new joins → BoundedTold cuts above g i box h xs ms had left old new joins
+bounded_told cuts above g i box left_box h xs ms had left old mid new joins steps p q w =
     let e = w.written.ending in
     record {
       seen = seen_bounds ms ++ w.seen;
@@ -438,12 +439,29 @@ part_told cuts above g i box left_box h xs ms had left old mid new joins steps p
           last = w.seen;
           both = refl;
           stepped = p.stepped;
-          marks_beaten = p.beaten;
           one = p.one;
           ended = subst (λ b. EndingMade cuts above g (drop i g.scopes) i (demands g i) b h (xs ++ seen_bounds ms) w.seen had left e) p.reached w.written.made;
         };
       };
       told = subst (IsTold g i joins) (append_assoc xs (seen_bounds ms) w.seen) w.told;
+    }
+
+-- what beats the marks is one thing more
+pub bare_steps : (g : Game) (i : ℕ) (box left : Box) (xs : List Seen) (ms : List ℤ) (steps : List Step) → StepsTold g i box left xs ms steps → BoundedSteps g i box left xs ms steps
+bare_steps g i box left xs ms steps p = record { reached = p.reached; stepped = p.stepped; one = p.one; worse = p.worse }
+
+pub part_told : (cuts : Bool) (above : ℤ → Bool) (g : Game) (i : ℕ) (box left_box : Box) (h : Option ℕ) (xs : List Seen) (ms : List ℤ) (had left : ℕ) (old new : List Line) (joins : Joins) (steps : List Step) → StepsTold g i box left_box xs ms steps → BoundedTold cuts above g i box h xs ms had left old new joins → PartTold cuts above g i box h xs ms had left old new joins
+part_told cuts above g i box left_box h xs ms had left old new joins steps p w =
+    let m = w.written.made in
+    record {
+      seen = w.seen;
+      written = record {
+        steps = w.written.steps;
+        ending = w.written.ending;
+        lines = w.written.lines;
+        made = record { last = m.last; both = m.both; stepped = m.stepped; marks_beaten = p.beaten; one = m.one; ended = m.ended };
+      };
+      told = w.told;
     }
 
 -- more turns may have been done, whose lines were taken back
@@ -505,27 +523,63 @@ module _ (cuts : Bool) (above : ℤ → Bool) (g : Game) (i : ℕ) (scope : i < 
           own_none g (drop i g.scopes) (demands g i) seen (sym (settled_here g i seen) ∙ q.1)
           ∙ sym (own_none g (drop i g.scopes) (demands g i) t.stood (sym (settled_here g i t.stood) ∙ q.0))
 
-  node_told : is_horizon h i ≡ false → Outdoes g (drop i g.scopes) (demands g i) above → SeesAhead g (drop i g.scopes) i box h → (had left : ℕ) (old new : List Line) (mid joins : Joins) (v : Verdict) → PartTold cuts above g i box h [] [] had left old new mid → ((xs : List Seen) → StandsAt mid i xs → v ≡ verdict_at g i (position g i box) xs) →
-      ((xs : List Seen) → StandsAt mid i xs → StandsAt joins i xs) → ((xs : List Seen) → AreLong g i xs → IsLong g i (verdict_at g i (position g i box) xs)) → ((xs : List Seen) (n : ℕ) → HasSizes n xs → 1 ≤ n → IsSized n (verdict_at g i (position g i box) xs)) →
-      BodyTold cuts above g i box h v had left old new joins
-  node_told apart outdoes ahead had left old new mid joins v w says kept long sized =
+  node_told : is_horizon h i ≡ false → Outdoes g (drop i g.scopes) (demands g i) above → SeesAhead g (drop i g.scopes) i box h → (had left : ℕ) (old new : List Line) (mid joins : Joins) (v : Verdict) (ms : List ℤ) → (w : BoundedTold cuts above g i box h [] ms had left old new mid) → verdict_at g i (position g i box) w.seen ≡ v →
+      (ending_opens w.written.ending ≡ 0 → is_vague_verdict above v ≡ false) → ((xs : List Seen) → StandsAt mid i xs → StandsAt joins i xs) → IsLong g i v → IsSized (suc (2 * ending_turns w.written.ending)) v → IsOwnSized (suc (2 * ending_turns w.written.ending)) (own_at g i w.seen) → BodyTold cuts above g i box h v had left old new joins
+  node_told apart outdoes ahead had left old new mid joins v ms w comes sure kept long sized own_small =
       let later = drop i g.scopes in
       let d = demands g i in
       let p = w.written.made in
       let steps = w.written.steps in
       let e = w.written.ending in
-      let a = position g i box in
-      let sizes = subst (HasSizes (suc (2 * ending_turns e))) (sym p.both) p.ended.sizes in
-      let comes : verdict_at g i a w.seen ≡ v = sym (verdict_told mid w.seen w.told a) ∙ sym (says w.told.stood w.told.stands) in
       let own : (read_body g (cases steps e) later i d box).own ≡ own_at g i w.seen =
-      own_so g later i d a _ ∙ ap (scope_own later g d) (sym (part_says cuts above g later i d box h [] [] w.seen had left steps e p)) in
+      own_so g later i d (position g i box) _ ∙ ap (scope_own later g d) (sym (bounded_says cuts above g later i d box h [] ms w.seen had left steps e p)) in
       record {
         body = cases steps e;
         lines = w.written.lines;
-        made = node_made cuts above g later i d h (some_scope i g.scopes scope) (demands_next g g.scopes i [] scope) apart outdoes box w.seen v had left steps e p comes (subst (IsLong g i) comes (long w.seen (part_long cuts above g later i d box h [] [] w.seen had left steps e p)))
-            (subst (IsSized (suc (2 * ending_turns e))) comes (sized w.seen (suc (2 * ending_turns e)) sizes (omega arith))) (subst (IsOwnSized (suc (2 * ending_turns e))) (sym own) (own_sized g later d (suc (2 * ending_turns e)) w.seen sizes)) ahead;
+        made = node_made cuts above g later i d h (some_scope i g.scopes scope) (demands_next g g.scopes i [] scope) apart outdoes box ms w.seen v had left steps e p comes sure long sized (subst (IsOwnSized (suc (2 * ending_turns e))) (sym own) own_small) ahead;
         own = λ s. record { stood = w.told.stood; stands = kept w.told.stood w.told.stands; is_own = own ∙ own_told mid w.seen w.told };
       }
+
+  -- by what its join answers
+  comes_to : (had left : ℕ) (old new : List Line) (mid : Joins) (v : Verdict) (ms : List ℤ) → ((xs : List Seen) → StandsAt mid i xs → v ≡ verdict_at g i (position g i box) xs) → (w : BoundedTold cuts above g i box h [] ms had left old new mid) → verdict_at g i (position g i box) w.seen ≡ v
+  comes_to had left old new mid v ms says w = sym (verdict_told mid w.seen w.told (position g i box)) ∙ sym (says w.told.stood w.told.stands)
+
+  part_ended : IsValid g → list_all is_number (position g i box) ≡ true → is_horizon h i ≡ false → Outdoes g (drop i g.scopes) (demands g i) above → SeesAhead g (drop i g.scopes) i box h → (had left : ℕ) (old new : List Line) (mid joins : Joins) (v : Verdict) → PartTold cuts above g i box h [] [] had left old new mid →
+      ((xs : List Seen) → StandsAt mid i xs → v ≡ verdict_at g i (position g i box) xs) → ((xs : List Seen) → StandsAt mid i xs → StandsAt joins i xs) → BodyTold cuts above g i box h v had left old new joins
+  part_ended valid numbers apart outdoes ahead had left old new mid joins v w says kept =
+      let later = drop i g.scopes in
+      let d = demands g i in
+      let a = position g i box in
+      let p = w.written.made in
+      let steps = w.written.steps in
+      let e = w.written.ending in
+      let n = suc (2 * ending_turns e) in
+      let u : BoundedTold cuts above g i box h [] [] had left old new mid = record {
+        seen = w.seen;
+        written = record { steps = steps; ending = e; lines = w.written.lines; made = bare_part cuts above g later i d box h [] [] w.seen had left steps e p };
+        told = w.told;
+      } in
+      let comes : verdict_at g i a w.seen ≡ v = comes_to had left old new mid v [] says u in
+      let sizes = subst (HasSizes n) (sym p.both) p.ended.sizes in
+      let sure = part_known cuts above g later i d h (some_scope i g.scopes scope) (demands_next g g.scopes i [] scope) outdoes box w.seen v had left steps e p comes in
+      node_told apart outdoes ahead had left old new mid joins v [] u comes sure kept (subst (IsLong g i) comes (verdict_long g i a w.seen scope (part_long cuts above g later i d box h [] [] w.seen had left steps e p)))
+      (subst (IsSized n) comes (verdict_sized g i a w.seen n valid numbers sizes (omega arith))) (own_sized g later d n w.seen sizes)
+
+  -- so where it is sure what the node comes to: then the marks change nothing
+  first_ended : IsValid g → list_all is_number (position g i box) ≡ true → is_horizon h i ≡ false → Outdoes g (drop i g.scopes) (demands g i) above → SeesAhead g (drop i g.scopes) i box h → (had left : ℕ) (old new : List Line) (mid joins : Joins) (v : Verdict) (ms : List ℤ) → BoundedTold cuts above g i box h [] ms had left old new mid →
+      is_vague_verdict beats_none v ≡ false → ((xs : List Seen) → StandsAt mid i xs → v ≡ verdict_at g i (position g i box) xs) → ((xs : List Seen) → StandsAt mid i xs → StandsAt joins i xs) → BodyTold cuts above g i box h v had left old new joins
+  first_ended valid numbers apart outdoes ahead had left old new mid joins v ms w sure says kept =
+      let later = drop i g.scopes in
+      let d = demands g i in
+      let a = position g i box in
+      let p = w.written.made in
+      let e = w.written.ending in
+      let n = suc (2 * ending_turns e) in
+      let comes : verdict_at g i a w.seen ≡ v = comes_to had left old new mid v ms says w in
+      let with_marks : verdict_at g i a (seen_bounds ms ++ p.last) ≡ v = ap (verdict_at g i a) (sym p.both) ∙ comes in
+      let without : verdict_at g i a p.last ≡ v = without_marks g later d a ms p.last (ap (is_vague_verdict beats_none) with_marks ∙ sure) ∙ with_marks in
+      node_told apart outdoes ahead had left old new mid joins v ms w comes (λ o. sure_anyway above v sure) kept (subst (IsLong g i) comes (verdict_long g i a w.seen scope (bounded_long cuts above g later i d box h [] ms w.seen had left w.written.steps e p)))
+      (subst (IsSized n) without (verdict_sized g i a p.last n valid numbers p.ended.sizes (omega arith))) (own_sized_as g later d n w.seen p.last (ap exact_vectors p.both ∙ vectors_marks ms p.last) p.ended.sizes)
 
 settled_none : (g : Game) (i : ℕ) → settled_at g i [] ≡ false
 settled_none g i = settled_here g i []
@@ -540,8 +594,38 @@ pub node_ended : (cuts : Bool) (above : ℤ → Bool) (g : Game) (i : ℕ) (h : 
 node_ended cuts above g i h valid scope box last_box b numbers apart outdoes ahead had left last_left old new last_new mid joins v told says kept e f =
     subst (λ ls. BodyTold cuts above g i box h v had last_left old ls joins) (sym e)
     (subst (λ n. BodyTold cuts above g i box h v had n old new joins) (sym f)
-    (node_told cuts above g i scope box h apart outdoes ahead had left old new mid joins v told (λ xs s. subst (λ d. v ≡ verdict_at g i (position g i d) xs) b (says xs s)) (λ xs s. kept i xs s)
-    (λ xs s. verdict_long g i (position g i box) xs scope s) (λ xs n s l. verdict_sized g i (position g i box) xs n valid numbers s l)))
+    (part_ended cuts above g i scope box h valid numbers apart outdoes ahead had left old new mid joins v told (λ xs s. subst (λ d. v ≡ verdict_at g i (position g i d) xs) b (says xs s)) (λ xs s. kept i xs s)))
+
+-- so where its own tree begins with a bound, and it is sure what the node comes to
+pub bounded_ended : (cuts : Bool) (above : ℤ → Bool) (g : Game) (i : ℕ) (h : Option ℕ) → IsValid g → i < length g.scopes → (box last_box : Box) → last_box ≡ box → list_all is_number (position g i box) ≡ true → is_horizon h i ≡ false → Outdoes g (drop i g.scopes) (demands g i) above → SeesAhead g (drop i g.scopes) i box h → (had left last_left : ℕ) (old new last_new : List Line) (mid joins : Joins) (v : Verdict) →
+    FirstTold cuts above g i box h had left old new mid → is_vague_verdict beats_none v ≡ false → ((xs : List Seen) → StandsAt mid i xs → v ≡ verdict_at g i (position g i last_box) xs) → KeepsAll mid joins → last_new ≡ new → last_left ≡ left → BodyTold cuts above g i box h v had last_left old last_new joins
+bounded_ended cuts above g i h valid scope box last_box b numbers apart outdoes ahead had left last_left old new last_new mid joins v told sure says kept e f =
+    subst (λ ls. BodyTold cuts above g i box h v had last_left old ls joins) (sym e)
+    (subst (λ n. BodyTold cuts above g i box h v had n old new joins) (sym f)
+    (first_ended cuts above g i scope box h valid numbers apart outdoes ahead had left old new mid joins v told.ms told.part sure (λ xs s. subst (λ d. v ≡ verdict_at g i (position g i d) xs) b (says xs s)) (λ xs s. kept i xs s)))
+
+-- more turns may have been done, whose lines were taken back
+pub body_done : (cuts : Bool) (above : ℤ → Bool) (g : Game) (i : ℕ) (box : Box) (h : Option ℕ) (v : Verdict) (had more left : ℕ) (old new : List Line) (joins : Joins) → cuts ≡ true → had ≤ more → BodyTold cuts above g i box h v had left old new joins → BodyTold cuts above g i box h v more left old new joins
+body_done cuts above g i box h v had more left old new joins cut l w = record {
+  body = w.body;
+  lines = w.lines;
+  made = more_done cuts above g (drop i g.scopes) i (demands g i) box h v had more left (tree None w.body) cut l w.made;
+  own = w.own;
+}
+
+-- the part after a first bound may begin
+pub ready_bounded : (g : Game) (i had : ℕ) (joins : Joins) (ms : List ℤ) → StandsAt joins i (seen_bounds ms) → HasSizes 1 (seen_bounds ms) → had < 2147483648 → IsReady g i joins (suc (2 * had)) (seen_bounds ms)
+ready_bounded g i had joins ms stands one few = record {
+  stands = stands;
+  unsettled = settled_here g i (seen_bounds ms) ∙ unsettled_marks g i ms;
+  size = 1;
+  sizes = one;
+  room = omega (arith, few);
+}
+  where
+    unsettled_marks : (g : Game) (i : ℕ) (ms : List ℤ) → is_settled (drop i g.scopes) (list_after g (drop i g.scopes) (demands g i)) (seen_bounds ms) ≡ false
+    unsettled_marks g i [] = refl
+    unsettled_marks g i (m ∷ ms) = unsettled_marks g i ms
 
 -- a node that nobody passes
 pub stuck_own : (later : List Scope) (g : Game) (d : List Condition) (a : List ℤ) → (stuck_finding later g d a).own ≡ None

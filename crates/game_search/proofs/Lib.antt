@@ -14,6 +14,7 @@ pub mod Remains
 pub mod Solved
 pub mod Trees
 pub mod Marks
+pub mod Sure
 pub mod Beating
 pub mod Ruling
 pub mod Losing

@@ -1,6 +1,6 @@
 -- What a case that is taken does to the box: a bound, and closing after it.
-use Rattle.std.proofs.Common.{◌≡◌, ◌∙◌, ◌≤◌, ◌<◌, ◌+◌, ◌*◌, ℕ, zero, suc, refl, sym, ap, subst, arith, Bool, true, false, not, ◌&&◌, ◌||◌, List, [], ◌∷◌, ◌++◌, length, drop, filter, ℤ, ◌≤ℤ◌, Option, None, Some, Result, Ok, Err, OnOk}
-use Rattle.std.specs.Prelude.{unsigned_abs, cond, int_lt, int_le, set}
+use Rattle.std.proofs.Common.{◌≡◌, ◌∙◌, ◌<◌, ◌+◌, ◌*◌, ℕ, zero, suc, refl, sym, ap, subst, arith, Bool, true, false, not, ◌&&◌, ◌||◌, List, [], ◌∷◌, ◌++◌, length, drop, filter, ℤ, ◌≤ℤ◌, Option, None, Some, Result, Ok, Err, OnOk}
+use Rattle.std.specs.Prelude.{cond, int_lt, int_le, set}
 use Rattle.std.specs.Int.{int_max, int_min}
 use Rattle.std.proofs.lemmas.Int.{ints}
 use Rattle.std.specs.declared.alloc.AllocError.{AllocError}
@@ -27,6 +27,7 @@ use Rattle.proof_tree.specs.Order.{settles}
 use Rattle.proof_tree.specs.Place.{Tracked, tracked_variable, list_after}
 use Rattle.proof_tree.specs.Steps.{after_steps, best_value, step_marks}
 use Rattle.qc_joins.specs.Joins.{StandsAt}
+use Rattle.qc_joins.specs.Sizes.{HasSizes}
 use Rattle.qc_joins.specs.declared.joins.Joins.{Joins}
 use Rattle.prop_engine.specs.declared.answer.Closed.{Closed}
 use Rattle.fd_store.specs.Held.{values_from}
@@ -35,15 +36,16 @@ use Rattle.search_box.specs.Bounds.{tracked_as, IsBounded, IsUnbounded, BoundAns
 use Rattle.search_box.specs.Closes.{IsPruned}
 use Rattle.search_box.specs.declared.bounding.Bounded.{Bounded}
 use Rattle.search_box.proofs.Goings.{steps_reach}
-use Rattle.game_search.specs.Aims.{tracked_at, IsNoWorse, IsWorse, IsWorseHere, NoneWorse}
+use Rattle.game_search.specs.Aims.{tracked_at, IsNoWorse, IsSpan, IsWorse, IsWorseHere, NoneWorse}
 use Rattle.game_search.specs.Beaten.{firsts, seen_bounds}
 use Rattle.game_search.specs.Made.{StepsMade}
-use Rattle.game_search.specs.Narrowed.{NarrowTold}
+use Rattle.game_search.specs.Narrowed.{NarrowTold, FirstNarrowed}
 use Rattle.game_search.specs.Settled.{is_settled}
-use Rattle.game_search.specs.Told.{IsReady}
+use Rattle.game_search.specs.Told.{IsReady, BoundedSteps}
 use Rattle.game_search.specs.declared.aim.Worse.{Worse}
+use Rattle.game_search.proofs.Beating.{no_worse_yet}
 use Rattle.game_search.proofs.Bools.{two, both}
-use Rattle.game_search.proofs.Here.{settled_here}
+use Rattle.game_search.proofs.Here.{settled_here, bare_steps}
 use Rattle.game_search.proofs.Joining.{settled-append, or_none}
 use Rattle.game_search.proofs.Marks.{some_marks}
 use Rattle.game_search.proofs.Sizes.{sizes_none}
@@ -152,6 +154,23 @@ read_set [] x vs h = absurd (omega arith)
 read_set (d ∷ box) zero vs h = refl
 read_set (d ∷ box) (suc x) vs h = read_set box x vs (omega arith)
 
+-- ---- marks
+unnot : (b : Bool) → not b ≡ true → b ≡ false
+unnot true e = cc
+unnot false e = refl
+
+-- one is one of the values that went
+pub mark_is : (g : Game) (i : ℕ) (box : Box) → ((x : ℕ) → list_all is_number (values_left box x) ≡ true) → (w : Worse) → tracked_at g i ≡ Some (tracked_as w.sense w.variable) → (left : Box) (steps : List Step) (b : Bounded) → IsBounded w.sense w.variable w.lo w.hi box left [] steps b →
+    (is_number b.best ≡ true) × (is_within w.lo w.hi b.best ≡ true)
+mark_is g i box numbers w tracked left steps b u =
+    let vs = values_left box w.variable.0 in
+    let p : (ℤ → Bool) = λ v. is_number v && is_within w.lo w.hi v in
+    let some : is_none_left (values_within w.lo w.hi vs) ≡ false = unnot _ (both _ _ (both _ _ (both _ _ (u.placed g (drop i g.scopes) i (demands g i) tracked)).0).0).1 in
+    both _ _ (ap p u.best ∙ best_is p w.sense (values_within w.lo w.hi vs) some (all_filter is_number (is_within w.lo w.hi) vs (numbers w.variable.0)))
+
+mark_small : (v : ℤ) → is_number v ≡ true → HasSizes 1 (seen_bound v ∷ [])
+mark_small v e = sizes_bound 0 [] v (sizes_none 0) (grind (arith, nat_tests))
+
 -- ---- what is given up
 module _ (g : Game) (i : ℕ) (box : Box) (joins : Joins) (before : List Seen) (numbers : (x : ℕ) → list_all is_number (values_left box x) ≡ true) (stands : StandsAt joins i before) where
   -- nothing, since nothing is worse
@@ -191,26 +210,12 @@ module _ (g : Game) (i : ℕ) (box : Box) (joins : Joins) (before : List Seen) (
           stands = subst (StandsAt joins i) (sym (append-nil before)) stands;
         }
 
-    some_within : (left : Box) (steps : List Step) (b : Bounded) → IsBounded w.sense w.variable w.lo w.hi box left [] steps b → is_none_left (values_within w.lo w.hi (values_left box w.variable.0)) ≡ false
-    some_within left steps b u = unnot _ (both _ _ (both _ _ (both _ _ (u.placed g (drop i g.scopes) i (demands g i) m.tracked)).0).0).1
-      where
-        unnot : (b : Bool) → not b ≡ true → b ≡ false
-        unnot true e = cc
-        unnot false e = refl
-
-    -- the mark is one of the values that went
-    pub mark_is : (left : Box) (steps : List Step) (b : Bounded) → IsBounded w.sense w.variable w.lo w.hi box left [] steps b → (is_number b.best ≡ true) × (is_within w.lo w.hi b.best ≡ true)
-    mark_is left steps b u =
-        let vs = values_left box w.variable.0 in
-        let p : (ℤ → Bool) = λ v. is_number v && is_within w.lo w.hi v in
-        both _ _ (ap p u.best ∙ best_is p w.sense (values_within w.lo w.hi vs) (some_within left steps b u) (all_filter is_number (is_within w.lo w.hi) vs (numbers w.variable.0)))
-
     -- the values from lo to hi
     pub some_lost : (left : Box) (steps : List Step) (b : Bounded) (told : Joins) (mark : ℤ) → w.variable.0 < length box → IsBounded w.sense w.variable w.lo w.hi box left [] steps b → mark ≡ b.best → StandsAt told i (before ++ seen_bound mark ∷ []) → NarrowTold g i box left before told steps
     some_lost left steps b told mark inside u same added =
         let vs = values_left box w.variable.0 in
         let bound = Bound w.variable w.lo w.hi in
-        let k = mark_is left steps b u in
+        let k = mark_is g i box numbers w m.tracked left steps b u in
         let one : steps ≡ bound ∷ [] = u.appended in
         let reached : left ≡ after_steps steps box = u.reached ∙ ap (λ ss. after_steps ss box) (sym one) in
         let kept : values_left left w.variable.0 ≡ values_outside w.lo w.hi vs = ap (λ (d : Box). values_left d w.variable.0) u.reached ∙ read_set box w.variable.0 (values_outside w.lo w.hi vs) inside in
@@ -226,34 +231,82 @@ module _ (g : Game) (i : ℕ) (box : Box) (joins : Joins) (before : List Seen) (
               fits = two _ _ u.fits refl;
             });
             beaten = two _ _ (m.goes b.best before k.0 k.1 stands) refl;
-            one = sizes_bound 0 [] b.best (sizes_none 0) (small b.best k.0);
+            one = mark_small b.best k.0;
             worse = ap (λ (t : Option Tracked). has_no_worse t (firsts before) left) m.tracked ∙ each;
           };
           stands = subst (λ n. StandsAt told i (before ++ seen_bound n ∷ [])) same added;
         }
-      where
-        small : (v : ℤ) → is_number v ≡ true → unsigned_abs v ≤ 1000000000
-        small v e = grind (arith, nat_tests)
 
 -- ---- closing after it
-pub closed_told : (g : Game) (i : ℕ) (box mid left : Box) (before : List Seen) (joins : Joins) (given steps : List Step) → NarrowTold g i box mid before joins given → IsPruned g i mid left given steps → is_sub_box left mid ≡ true → NarrowTold g i box left before joins steps
-closed_told g i box mid left before joins given steps n p fewer =
+closed_steps : (g : Game) (i : ℕ) (box mid left : Box) (before : List Seen) (ms : List ℤ) (given steps : List Step) → BoundedSteps g i box mid before ms given → IsPruned g i mid left given steps → is_sub_box left mid ≡ true → BoundedSteps g i box left before ms steps
+closed_steps g i box mid left before ms given steps s p fewer =
     let later = drop i g.scopes in
     let d = demands g i in
-    let s = n.stepped in
     let legal = subst (λ (b : Box). steps_in_place g later i d p.more b ≡ true) s.reached (p.placed d) in
     let unmarked = subst (λ (b : Box). step_marks (tracked_variable g later i (list_after g later d)) p.more b ≡ []) s.reached (p.unmarked (tracked_variable g later i (list_after g later d))) in
     record {
+      reached = p.reached ∙ (ap (after_steps p.more) s.reached ∙ (sym (steps_reach given p.more box) ∙ ap (λ ss. after_steps ss box) (sym p.appended)));
+      stepped = subst (λ (ss : List Step). StepsMade g later i d box ms ss) (sym p.appended) (more_steps_made g later i d box ms given p.more s.stepped legal unmarked p.fits);
+      one = s.one;
+      worse = smaller_no_worse (tracked_at g i) (firsts before) left mid fewer s.worse;
+    }
+
+pub closed_told : (g : Game) (i : ℕ) (box mid left : Box) (before : List Seen) (joins : Joins) (given steps : List Step) → NarrowTold g i box mid before joins given → IsPruned g i mid left given steps → is_sub_box left mid ≡ true → NarrowTold g i box left before joins steps
+closed_told g i box mid left before joins given steps n p fewer =
+    let s = closed_steps g i box mid left before n.ms given steps (bare_steps g i box mid before n.ms given n.stepped) p fewer in
+    record {
       ms = n.ms;
-      stepped = record {
-        reached = p.reached ∙ (ap (after_steps p.more) s.reached ∙ (sym (steps_reach given p.more box) ∙ ap (λ ss. after_steps ss box) (sym p.appended)));
-        stepped = subst (λ (ss : List Step). StepsMade g later i d box n.ms ss) (sym p.appended) (more_steps_made g later i d box n.ms given p.more s.stepped legal unmarked p.fits);
-        beaten = s.beaten;
-        one = s.one;
-        worse = smaller_no_worse (tracked_at g i) (firsts before) left mid fewer s.worse;
-      };
+      stepped = record { reached = s.reached; stepped = s.stepped; beaten = n.stepped.beaten; one = s.one; worse = s.worse };
       stands = n.stands;
     }
+
+-- ---- a bound where a node's own tree begins
+module _ (g : Game) (i : ℕ) (box left : Box) (w : Worse) (m : IsSpan g i w) (low high : ℤ) (l : low ≡ w.lo) (h : high ≡ w.hi) (old new : List Step) (o : old ≡ []) where
+  as_span : (r : Option Bounded) → BoundAnswers w.sense w.variable low high box left old new r → BoundAnswers w.sense w.variable w.lo w.hi box left [] new r
+  as_span r a =
+      subst (λ (ss : List Step). BoundAnswers w.sense w.variable w.lo w.hi box left ss new r) o
+      (subst (λ n. BoundAnswers w.sense w.variable w.lo n box left old new r) h (subst (λ n. BoundAnswers w.sense w.variable n high box left old new r) l a))
+
+  -- nothing is to be given up
+  pub first_none : (joins : Joins) → StandsAt joins i [] → (r : Option Bounded) → r ≡ None → BoundAnswers w.sense w.variable low high box left old new r → FirstNarrowed g i box left joins new
+  first_none joins stands r e a =
+      let u : IsUnbounded w.variable w.lo w.hi box left [] new = subst (BoundAnswers w.sense w.variable w.lo w.hi box left [] new) e (as_span r a) in
+      record {
+        ms = [];
+        stepped = record {
+          reached = u.reached ∙ ap (λ ss. after_steps ss box) (sym u.appended);
+          stepped = subst (λ (ss : List Step). StepsMade g (drop i g.scopes) i (demands g i) box [] ss) (sym u.appended) (record { legal = refl; marked = refl; fits = refl });
+          one = sizes_none 1;
+          worse = no_worse_yet (tracked_at g i) left;
+        };
+        stands = stands;
+      }
+
+  pub first_some : (numbers : (x : ℕ) → list_all is_number (values_left box x) ≡ true) (r : Option Bounded) (b : Bounded) (told : Joins) (mark : ℤ) → r ≡ Some b → BoundAnswers w.sense w.variable low high box left old new r → (is_number b.best ≡ true → mark ≡ b.best) → StandsAt told i (seen_bound mark ∷ []) →
+      FirstNarrowed g i box left told new
+  first_some numbers r b told mark e a same added =
+      let u : IsBounded w.sense w.variable w.lo w.hi box left [] new b = subst (BoundAnswers w.sense w.variable w.lo w.hi box left [] new) e (as_span r a) in
+      let bound = Bound w.variable w.lo w.hi in
+      let k = mark_is g i box numbers w m.tracked left new b u in
+      let one : new ≡ bound ∷ [] = u.appended in
+      record {
+        ms = b.best ∷ [];
+        stepped = record {
+          reached = u.reached ∙ ap (λ ss. after_steps ss box) (sym one);
+          stepped = subst (λ (ss : List Step). StepsMade g (drop i g.scopes) i (demands g i) box (b.best ∷ []) ss) (sym one) (record {
+            legal = u.placed g (drop i g.scopes) i (demands g i) m.tracked;
+            marked = sym (ap (λ (t : Option Tracked). step_marks t (bound ∷ []) box) m.tracked ∙ u.marked);
+            fits = two _ _ u.fits refl;
+          });
+          one = mark_small b.best k.0;
+          worse = no_worse_yet (tracked_at g i) left;
+        };
+        stands = subst (λ n. StandsAt told i (seen_bound n ∷ [])) (same k.0) added;
+      }
+
+-- so after closing
+pub first_closed : (g : Game) (i : ℕ) (box mid left : Box) (joins : Joins) (given steps : List Step) → FirstNarrowed g i box mid joins given → IsPruned g i mid left given steps → is_sub_box left mid ≡ true → FirstNarrowed g i box left joins steps
+first_closed g i box mid left joins given steps n p fewer = record { ms = n.ms; stepped = closed_steps g i box mid left [] n.ms given steps n.stepped p fewer; stands = n.stands }
 
 -- ---- the part that follows may begin
 pub ready_after : (g : Game) (i : ℕ) (box left_box : Box) (first joins : Joins) (left : ℕ) (before : List Seen) (steps : List Step) → (n : NarrowTold g i box left_box before joins steps) → IsReady g i first (2 + 2 * left) before → IsReady g i joins (suc (2 * left)) (before ++ seen_bounds n.ms)
@@ -396,7 +449,7 @@ module _ (g : Game) (i : ℕ) (box left : Box) (joins : Joins) (before : List Se
       NarrowTold g i box left before told new
   bound_some r b told mark e a inside same added =
       let u = subst (BoundAnswers w.sense w.variable w.lo w.hi box left [] new) e (at_ends r a) in
-      some_lost g i box joins before numbers stands w m left new b told mark inside u (same (mark_is g i box joins before numbers stands w m left new b u).0) added
+      some_lost g i box joins before numbers stands w m left new b told mark inside u (same (mark_is g i box numbers w m.tracked left new b u).0) added
 
 pub on_ok : {P : Type 0} (r : Result Closed AllocError) → P → OnOk r P
 on_ok (Ok a) p = p

@@ -15,7 +15,7 @@ use Rattle.qc_model.specs.Verdict.{Verdict, lost, exact, at_most, unknown, Seen,
 use Rattle.qc_model.specs.ExistsVerdict.{some_open}
 use Rattle.qc_model.specs.ForallVerdict.{goal_verdict}
 use Rattle.proof_tree.specs.Tree.{Tree, tree, goal, cases, Ending, barred, next, branch, Branches, Body, stuck, empty}
-use Rattle.proof_tree.specs.Counts.{turns_of, ending_turns, branch_turns}
+use Rattle.proof_tree.specs.Counts.{turns_of, ending_turns, branch_turns, ending_opens}
 use Rattle.proof_tree.specs.Diligent.{SeesAhead}
 use Rattle.proof_tree.specs.Finding.{stuck_finding}
 use Rattle.proof_tree.specs.Incumbents.{has_no_worse}
@@ -30,17 +30,17 @@ use Rattle.proof_tree.specs.declared.tree.Horizon.{Horizon}
 use Rattle.qc_joins.specs.Joins.{IsLong}
 use Rattle.qc_joins.specs.Sizes.{EachHas, IsSized}
 use Rattle.qc_joins.specs.Verdicts.{scope_verdict, scope_wishes}
-use Rattle.game_search.specs.Beaten.{firsts, is_beaten, are_beaten}
+use Rattle.game_search.specs.Beaten.{firsts, seen_bounds, is_beaten, are_beaten}
 use Rattle.game_search.specs.Own.{IsOwnSized}
 use Rattle.game_search.specs.Settled.{is_ended, is_vague_verdict}
-use Rattle.game_search.specs.Made.{NodeMade, EndingMade, PartMade, CasesMade}
+use Rattle.game_search.specs.Made.{NodeMade, EndingMade, PartMade, BoundedMade, CasesMade}
 use Rattle.game_search.proofs.Bools.{two, not_false}
 use Rattle.game_search.proofs.Beating.{among_none, among_self, among_more, among_as, beaten_among, no_worse_among}
 use Rattle.game_search.proofs.Joining.{verdict_so, not_unknown, or_none}
 use Rattle.game_search.proofs.Marks.{firsts-append}
 use Rattle.game_search.proofs.Outdone.{Outdoes, ended_sure, decided}
 use Rattle.game_search.proofs.Sizes.{sizes_of, sizes_none, sizes_barred, sizes_more}
-use Rattle.game_search.proofs.Stepping.{part_says, part_long, part_beaten}
+use Rattle.game_search.proofs.Stepping.{bounded_says, part_long, part_beaten}
 
 -- where the horizon in force is here, it is at most whatever lies ahead
 sees_here : (g : Game) (later : List Scope) (i : ℕ) (box : Box) (h : Option ℕ) → is_horizon h i ≡ true → SeesAhead g later i box h
@@ -91,18 +91,17 @@ goal_made cuts above g i d box h had v f e long sized = record {
     by false = refl
 
 module _ (cuts : Bool) (above : ℤ → Bool) (g : Game) (later : List Scope) (i : ℕ) (d : List Condition) (h : Option ℕ) where
-  -- a node of a scope, by its own tree, where no bound is among its steps
-  pub node_made : is_goal later ≡ false → list_after g later d ≡ demands g (suc i) → is_horizon h i ≡ false → Outdoes g later d above → (box : Box) (seen : List Seen) (v : Verdict) (had left : ℕ) (steps : List Step) (e : Ending) → PartMade cuts above g later i d box h [] [] seen had left steps e →
-      scope_verdict later g d (position g i box) seen ≡ v → IsLong g i v → IsSized (suc (2 * ending_turns e)) v → IsOwnSized (suc (2 * ending_turns e)) (read g (tree None (cases steps e)) later i d box).own →
+  -- a node of a scope, by its own tree, where it is known what the node comes to: its steps may have marks that nothing beats yet
+  pub node_made : is_goal later ≡ false → list_after g later d ≡ demands g (suc i) → is_horizon h i ≡ false → Outdoes g later d above → (box : Box) (ms : List ℤ) (seen : List Seen) (v : Verdict) (had left : ℕ) (steps : List Step) (e : Ending) → BoundedMade cuts above g later i d box h [] ms seen had left steps e →
+      scope_verdict later g d (position g i box) seen ≡ v → (ending_opens e ≡ 0 → is_vague_verdict above v ≡ false) → IsLong g i v → IsSized (suc (2 * ending_turns e)) v → IsOwnSized (suc (2 * ending_turns e)) (read g (tree None (cases steps e)) later i d box).own →
       SeesAhead g later i box h → NodeMade cuts above g later i d box h v had left (tree None (cases steps e))
-  node_made scope same f outdoes box seen v had left steps e p comes long sized own ahead =
+  node_made scope same f outdoes box ms seen v had left steps e p comes sure long sized own ahead =
       let m = p.ended in
       let lm = marks g later i d steps box in
       let ls = leaves g e later i d (after_steps steps box) in
       let a = position g i box in
       let shown : (read g (tree None (cases steps e)) later i d box).verdict ≡ scope_verdict later g d a seen =
-      verdict_so g later i d a (lm ++ ls) ∙ ap (scope_verdict later g d a) (sym (part_says cuts above g later i d box h [] [] seen had left steps e p)) in
-      let each : EachHas (list_after g later d) seen = subst (λ dd. EachHas dd seen) (sym same) (part_long cuts above g later i d box h [] [] seen had left steps e p) in
+      verdict_so g later i d a (lm ++ ls) ∙ ap (scope_verdict later g d a) (sym (bounded_says cuts above g later i d box h [] ms seen had left steps e p)) in
       record {
         placed = two _ _ (two _ _ (two _ _ (not_false (is_horizon h i) f) (not_false (is_goal later) scope)) p.stepped.legal) m.placed;
         verdict = shown ∙ comes;
@@ -114,11 +113,11 @@ module _ (cuts : Bool) (above : ℤ → Bool) (g : Game) (later : List Scope) (i
         spent = m.spent;
         exact = m.exact;
         opens = m.opens;
-        gap = λ o. ap (is_vague_verdict above) (sym comes) ∙ decided above g later d a seen scope outdoes (λ q. ap some_open p.both ∙ m.gap o (ap (is_ended above later (list_after g later d)) (sym p.both) ∙ q)) each (part_beaten cuts above g later i d box h [] [] seen had left steps e p o);
+        gap = sure;
         long = long;
         sized = sized;
         own = own;
-        keeps = m.keeps [] (among_none (firsts []));
+        keeps = m.keeps [] (among_none (firsts (seen_bounds ms)));
         closed = m.closed;
         foreseen = (ahead, m.foreseen);
       }
@@ -126,6 +125,14 @@ module _ (cuts : Bool) (above : ℤ → Bool) (g : Game) (later : List Scope) (i
       by : (b : Bool) → (b ≡ true → is_ended above later (list_after g later d) seen ≡ true) → not (b && is_unknown (scope_verdict later g d (position g i box) seen)) ≡ true
       by true f = ap not (ended_sure above g later d (position g i box) seen scope outdoes (f refl))
       by false f = refl
+
+  -- it is known, where no case is open, and no bound is among the steps
+  pub part_known : is_goal later ≡ false → list_after g later d ≡ demands g (suc i) → Outdoes g later d above → (box : Box) (seen : List Seen) (v : Verdict) (had left : ℕ) (steps : List Step) (e : Ending) → PartMade cuts above g later i d box h [] [] seen had left steps e →
+      scope_verdict later g d (position g i box) seen ≡ v → ending_opens e ≡ 0 → is_vague_verdict above v ≡ false
+  part_known scope same outdoes box seen v had left steps e p comes o =
+      let each : EachHas (list_after g later d) seen = subst (λ dd. EachHas dd seen) (sym same) (part_long cuts above g later i d box h [] [] seen had left steps e p) in
+      ap (is_vague_verdict above) (sym comes)
+      ∙ decided above g later d (position g i box) seen scope outdoes (λ q. ap some_open p.both ∙ p.ended.gap o (ap (is_ended above later (list_after g later d)) (sym p.both) ∙ q)) each (part_beaten cuts above g later i d box h [] [] seen had left steps e p o)
 
   -- a horizon before the node's own lines
   pub horizon_made : (z : Option Horizon) (c : Body) (box : Box) (v : Verdict) (had left : ℕ) → horizon_in_place g z later i box h ≡ true → horizon_fits z ≡ true → NodeMade cuts above g later i d box (horizon_below z h) v had left (tree None c) →
@@ -269,6 +276,28 @@ module _ (cuts : Bool) (above : ℤ → Bool) (g : Game) (later : List Scope) (i
     closed = two _ _ (two _ _ closed earlier) m.closed;
     foreseen = m.foreseen;
   }
+
+-- a node, where more turns may have been done
+pub more_done : (cuts : Bool) (above : ℤ → Bool) (g : Game) (later : List Scope) (i : ℕ) (d : List Condition) (box : Box) (h : Option ℕ) (v : Verdict) (had more left : ℕ) (t : Tree) → cuts ≡ true → had ≤ more → NodeMade cuts above g later i d box h v had left t → NodeMade cuts above g later i d box h v more left t
+more_done cuts above g later i d box h v had more left t cut l m = record {
+  placed = m.placed;
+  verdict = m.verdict;
+  settled = m.settled;
+  lasts = m.lasts;
+  ones = m.ones;
+  apart = m.apart;
+  fits = m.fits;
+  spent = omega (arith, m.spent, l);
+  exact = λ f. let q : true ≡ false = sym cut ∙ f in cc;
+  opens = m.opens;
+  gap = m.gap;
+  long = m.long;
+  sized = m.sized;
+  own = m.own;
+  keeps = m.keeps;
+  closed = m.closed;
+  foreseen = m.foreseen;
+}
 
 -- a node, where the scope right above beats more
 pub more_beaten : (cuts : Bool) (above more : ℤ → Bool) (g : Game) (later : List Scope) (i : ℕ) (d : List Condition) (box : Box) (h : Option ℕ) (v : Verdict) (had left : ℕ) (t : Tree) → ((n : ℤ) → above n ≡ true → more n ≡ true) → NodeMade cuts above g later i d box h v had left t →

@@ -1,6 +1,6 @@
 -- What a scope's own tree aims at, and which values its incumbent rules out.
 use Rattle.std.proofs.Common.{◌≡◌, ◌∙◌, ◌≤◌, ◌<◌, ℕ, zero, suc, refl, sym, ap, subst, arith, Bool, true, false, not, ◌&&◌, ◌||◌, cond, List, [], ◌∷◌, map, length, drop, ℤ, pos, negsuc, ◌+ℤ◌, ◌-ℤ◌, ◌≤ℤ◌, ◌<ℤ◌, ◌+◌, Option, None, Some, inl, inr, add-one, drop_of_length-le}
-use Rattle.std.specs.Prelude.{◌⊎◌, ◌==◌, slice_get, int_lt, int_le, nat_lt, is_none, is_some}
+use Rattle.std.specs.Prelude.{◌⊎◌, ◌==◌, slice_get, int_lt, int_le, nat_lt, is_none, is_some, IfSome}
 use Rattle.std.specs.Int.{int_max, int_min}
 use Rattle.std.specs.Ordering.{int_eq}
 use Rattle.std.proofs.lemmas.Int.{ints}
@@ -34,7 +34,7 @@ use Rattle.qc_joins.proofs.AtScope.{stands_long}
 use Rattle.qc_model.proofs.InOrder.{below_within}
 use Rattle.proof_tree.specs.Place.{owner_of, tracked_target, tracked_first, tracked_variable, next_scopes, list_after}
 use Rattle.search_box.specs.Bounds.{tracked_as}
-use Rattle.game_search.specs.Aims.{tracked_at, sense_of, asks_one, IsAim, IsKept, IsKeptTo, AreRuledOut, IsRuledOut, IsNoWorse, IsWorse, NoneWorse, AreWorse}
+use Rattle.game_search.specs.Aims.{tracked_at, sense_of, asks_one, IsAim, IsKept, IsKeptTo, AreRuledOut, IsRuledOut, IsSpan, IsNoWorse, IsWorse, NoneWorse, AreWorse}
 use Rattle.game_search.specs.Beaten.{firsts, is_beaten}
 use Rattle.game_search.specs.declared.aim.Aim.{Aim}
 use Rattle.game_search.specs.declared.aim.Worse.{Worse}
@@ -418,3 +418,16 @@ none_counted (c ∷ d) b e = sym (e ∙ more (length d))
   where
     more : (n : ℕ) → (suc n == 0) ≡ false
     more n = grind (arith, nat_tests)
+
+-- ---- values that are worse than what was found
+pub span_of : (g : Game) (i : ℕ) (a b : Aim) (best : ℤ) (r : Option Worse) → IsAim g i a → AreRuledOut b best r → b.sense ≡ a.sense → b.variable ≡ a.variable → IfSome r (IsSpan g i)
+span_of g i a b best None m k s x = tt
+span_of g i a b best (Some w) m k s x =
+    let sense = k.sense ∙ s in
+    let variable = k.variable ∙ x in
+    record {
+      tracked = m.tracked ∙ (ap (λ (z : Sense). Some (tracked_as z a.variable)) (sym sense) ∙ ap (λ (y : VarId). Some (tracked_as w.sense y)) (sym variable));
+      exists = subst (λ (y : VarId). y.0 < length g.variables) (sym variable) m.exists;
+      lo = k.lo;
+      hi = k.hi;
+    }

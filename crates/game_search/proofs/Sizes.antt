@@ -1,5 +1,5 @@
 -- How long and how large what was seen is, and a scope's own value.
-use Rattle.std.proofs.Common.{◌≤◌, ◌*◌, ℕ, List, [], ◌∷◌, arith}
+use Rattle.std.proofs.Common.{◌≡◌, ◌≤◌, ◌*◌, ℕ, List, [], ◌∷◌, arith, refl, sym, subst}
 use Rattle.std.specs.Prelude.{cond, Option, Some, None, ℤ, unsigned_abs, Bool, true, false}
 use Rattle.qc_model.specs.declared.problem.Kind.{Kind}
 use Rattle.qc_model.specs.declared.problem.Kind.TheVariants.{Exists, Forall}
@@ -68,9 +68,10 @@ best_under m d (seen_node (exact w) ∷ xs) l = each_under m d w xs (first w (om
 best_under m d (seen_node (at_most p) ∷ xs) l = best_under m d xs (omega (arith, l))
 best_under m d (seen_node unknown ∷ xs) l = best_under m d xs (omega (arith, l))
 
-pub own_sized : (g : Game) (later : List Scope) (d : List Condition) (n : ℕ) (xs : List Seen) → HasSizes n xs → IsOwnSized n (scope_own later g d xs)
-own_sized g [] d n xs h = tt
-own_sized g (s ∷ later) d n xs h = by s.kind s.condition
+-- so where others have the same exact leaves
+pub own_sized_as : (g : Game) (later : List Scope) (d : List Condition) (n : ℕ) (xs ys : List Seen) → exact_vectors xs ≡ exact_vectors ys → HasSizes n ys → IsOwnSized n (scope_own later g d xs)
+own_sized_as g [] d n xs ys e h = tt
+own_sized_as g (s ∷ later) d n xs ys e h = by s.kind s.condition
   where
     of_best : (b : Bool) (w : List ℤ) → FirstUnder (n * 1000000000) w → IsOwnSized n (cond b (Some (first_value w)) None)
     of_best true w f = f.under
@@ -80,5 +81,9 @@ own_sized g (s ∷ later) d n xs h = by s.kind s.condition
     by Exists None = tt
     by Exists (Some c) =
         let dd = demands_after g Exists (Some c) d in
-        of_best (is_exact (exists_verdict (Some c) dd xs)) (best_vector dd (exact_vectors xs)) (best_under (n * 1000000000) dd xs (h 0))
+        of_best (is_exact (exists_verdict (Some c) dd xs)) (best_vector dd (exact_vectors xs))
+        (subst (λ vs. FirstUnder (n * 1000000000) (best_vector dd vs)) (sym e) (best_under (n * 1000000000) dd ys (h 0)))
     by Forall own = tt
+
+pub own_sized : (g : Game) (later : List Scope) (d : List Condition) (n : ℕ) (xs : List Seen) → HasSizes n xs → IsOwnSized n (scope_own later g d xs)
+own_sized g later d n xs h = own_sized_as g later d n xs xs refl h

@@ -26,7 +26,7 @@ use Rattle.qc_joins.specs.Sizes.{AreLong, HasSizes}
 use Rattle.qc_joins.specs.Verdicts.{scope_wishes}
 use Rattle.qc_joins.proofs.Sizing.{sizes_both}
 use Rattle.search_box.proofs.Goings.{placed_both, marks_both}
-use Rattle.game_search.specs.Made.{StepsMade, EndingMade, PartMade}
+use Rattle.game_search.specs.Made.{StepsMade, EndingMade, PartMade, BoundedMade}
 use Rattle.game_search.specs.Beaten.{firsts, seen_bounds, is_beaten, are_beaten, AreAmong}
 use Rattle.game_search.specs.Settled.{is_settled}
 use Rattle.game_search.proofs.Bools.{two, both}
@@ -92,14 +92,21 @@ step-lines-append [] s = refl
 step-lines-append (r ∷ ss) s = ap (λ ls. step_line r ∷ ls) (step-lines-append ss s)
 
 module _ (cuts : Bool) (above : ℤ → Bool) (g : Game) (later : List Scope) (i : ℕ) (d : List Condition) (box : Box) (h : Option ℕ) where
+  -- what beats the marks is one thing more
+  pub bare_part : (before : List Seen) (ms : List ℤ) (seen : List Seen) (had left : ℕ) (steps : List Step) (e : Ending) → PartMade cuts above g later i d box h before ms seen had left steps e → BoundedMade cuts above g later i d box h before ms seen had left steps e
+  bare_part before ms seen had left steps e p = record { last = p.last; both = p.both; stepped = p.stepped; one = p.one; ended = p.ended }
+
   -- what a part says, its marks first
-  pub part_says : (before : List Seen) (ms : List ℤ) (seen : List Seen) (had left : ℕ) (steps : List Step) (e : Ending) → PartMade cuts above g later i d box h before ms seen had left steps e → seen ≡ map seen_of (marks g later i d steps box ++ leaves g e later i d (after_steps steps box))
-  part_says before ms seen had left steps e p =
+  pub bounded_says : (before : List Seen) (ms : List ℤ) (seen : List Seen) (had left : ℕ) (steps : List Step) (e : Ending) → BoundedMade cuts above g later i d box h before ms seen had left steps e → seen ≡ map seen_of (marks g later i d steps box ++ leaves g e later i d (after_steps steps box))
+  bounded_says before ms seen had left steps e p =
       let t = tracked_variable g later i (list_after g later d) in
       let lm = marks g later i d steps box in
       let ls = leaves g e later i d (after_steps steps box) in
       let first : seen_bounds ms ≡ map seen_of lm = ap seen_bounds p.stepped.marked ∙ sym (seen_marks (step_marks t steps box)) in
       p.both ∙ (ap (λ xs. xs ++ p.last) first ∙ (ap (λ xs. map seen_of lm ++ xs) p.ended.says ∙ sym (seen-append lm ls)))
+
+  pub part_says : (before : List Seen) (ms : List ℤ) (seen : List Seen) (had left : ℕ) (steps : List Step) (e : Ending) → PartMade cuts above g later i d box h before ms seen had left steps e → seen ≡ map seen_of (marks g later i d steps box ++ leaves g e later i d (after_steps steps box))
+  part_says before ms seen had left steps e p = bounded_says before ms seen had left steps e (bare_part before ms seen had left steps e p)
 
   -- nothing is seen in its marks that could settle the scope
   pub part_settled : (before : List Seen) (ms : List ℤ) (seen : List Seen) (had left : ℕ) (steps : List Step) (e : Ending) → (p : PartMade cuts above g later i d box h before ms seen had left steps e) → is_settled later (list_after g later d) seen ≡ is_settled later (list_after g later d) p.last
@@ -130,8 +137,11 @@ module _ (cuts : Bool) (above : ℤ → Bool) (g : Game) (later : List Scope) (i
       regroup : (n : ℕ) → 1 + suc (2 * n) ≡ 2 * suc n
       regroup n = omega arith
 
+  pub bounded_long : (before : List Seen) (ms : List ℤ) (seen : List Seen) (had left : ℕ) (steps : List Step) (e : Ending) → BoundedMade cuts above g later i d box h before ms seen had left steps e → AreLong g i seen
+  bounded_long before ms seen had left steps e p = subst (AreLong g i) (sym p.both) (long_marks (demands g (suc i)) ms p.last p.ended.long)
+
   pub part_long : (before : List Seen) (ms : List ℤ) (seen : List Seen) (had left : ℕ) (steps : List Step) (e : Ending) → PartMade cuts above g later i d box h before ms seen had left steps e → AreLong g i seen
-  part_long before ms seen had left steps e p = subst (AreLong g i) (sym p.both) (long_marks (demands g (suc i)) ms p.last p.ended.long)
+  part_long before ms seen had left steps e p = bounded_long before ms seen had left steps e (bare_part before ms seen had left steps e p)
 
   -- where bounds speak of nothing, a part may stand after less
   ending_after_less : (before less seen : List Seen) (had left : ℕ) (e : Ending) → scope_wishes later g d ≡ [] → is_settled later (list_after g later d) seen ≡ true → AreAmong (firsts less) (firsts before) → EndingMade cuts above g later i d box h before seen had left e → EndingMade cuts above g later i d box h less seen had left e

@@ -65,6 +65,13 @@ abbrev pub AreRuledOut : Aim → ℤ → Option Worse → Type 0
 AreRuledOut a best None = (v : ℤ) → IsTrue (is_number v) → IsFalse (beats a.sense a.is_alone best v)
 AreRuledOut a best (Some w) = IsRuledOut a best w
 
+-- the values, from one number to another, of the variable that the scope's own tree optimises first
+pub record IsSpan (g : Game) (i : ℕ) (w : Worse) : Type 0 where
+  pub tracked : tracked_at g i ≡ Some (tracked_as w.sense w.variable)
+  pub exists : w.variable.0 < length g.variables
+  pub lo : IsTrue (is_number w.lo)
+  pub hi : IsTrue (is_number w.hi)
+
 -- no exact leaf of the scope's own tree so far has a better first value than v
 abbrev pub IsNoWorse : Joins → ℕ → Sense → ℤ → Type 0
 IsNoWorse joins i s v = (before : List Seen) → StandsAt joins i before → IsTrue (list_all (λ n. not (is_better s n v)) (firsts before))

@@ -98,6 +98,14 @@ pub record PartMade (cuts : Bool) (above : ℤ → Bool) (g : Game) (later : Lis
   pub one : HasSizes 1 (seen_bounds ms)
   pub ended : EndingMade cuts above g later i d (after_steps steps box) h (before ++ seen_bounds ms) last had left e
 
+-- the same, whatever beats the marks: so a node's own tree may begin with a bound, before anything was seen
+pub record BoundedMade (cuts : Bool) (above : ℤ → Bool) (g : Game) (later : List Scope) (i : ℕ) (d : List Condition) (box : Box) (h : Option ℕ) (before : List Seen) (ms : List ℤ) (seen : List Seen) (had left : ℕ) (steps : List Step) (e : Ending) : Type 0 where
+  pub last : List Seen
+  pub both : seen ≡ seen_bounds ms ++ last
+  pub stepped : StepsMade g later i d box ms steps
+  pub one : HasSizes 1 (seen_bounds ms)
+  pub ended : EndingMade cuts above g later i d (after_steps steps box) h (before ++ seen_bounds ms) last had left e
+
 -- the cases of a branch for the values vs of x, which no earlier case covers; was_settled says whether the scope was
 -- settled before them
 pub record CasesMade (cuts : Bool) (above : ℤ → Bool) (g : Game) (later : List Scope) (i : ℕ) (d : List Condition) (box : Box) (h : Option ℕ) (x : ℕ) (vs : Values) (was_settled : Bool) (before seen : List Seen) (had left : ℕ) (bs : Branches) : Type 0 where

@@ -1,5 +1,5 @@
 -- What a case that is taken does to the box, before its own part begins.
-use Rattle.std.specs.Prelude.{◌≡◌, ℕ, List, ◌++◌, ℤ, IsTrue, IsFalse}
+use Rattle.std.specs.Prelude.{◌≡◌, ℕ, List, [], ◌++◌, ℤ, IsTrue, IsFalse}
 use Rattle.qc_model.specs.Content.{Game}
 use Rattle.qc_model.specs.Domains.{Values, Box, has_empty}
 use Rattle.qc_model.specs.Verdict.{Seen}
@@ -8,7 +8,7 @@ use Rattle.proof_tree.specs.declared.tree.Step.{Step}
 use Rattle.qc_joins.specs.Joins.{StandsAt}
 use Rattle.qc_joins.specs.declared.joins.Joins.{Joins}
 use Rattle.game_search.specs.Beaten.{seen_bounds}
-use Rattle.game_search.specs.Told.{StepsTold}
+use Rattle.game_search.specs.Told.{StepsTold, BoundedSteps}
 use Rattle.game_search.specs.declared.narrowing.GivenUp.{GivenUp}
 use Rattle.game_search.specs.declared.narrowing.GivenUp.TheVariants.{Nothing, Values as SomeValues, All}
 
@@ -17,6 +17,12 @@ pub record NarrowTold (g : Game) (i : ℕ) (box left : Box) (before : List Seen)
   pub ms : List ℤ
   pub stepped : StepsTold g i box left before ms steps
   pub stands : StandsAt joins i (before ++ seen_bounds ms)
+
+-- so where a node's own tree begins with a bound, whatever beats its mark
+pub record FirstNarrowed (g : Game) (i : ℕ) (box left : Box) (joins : Joins) (steps : List Step) : Type 0 where
+  pub ms : List ℤ
+  pub stepped : BoundedSteps g i box left [] ms steps
+  pub stands : StandsAt joins i (seen_bounds ms)
 
 -- some values of the variable went, and no domain is empty
 pub record HasLost (x : ℕ) (old new : Box) : Type 0 where

@@ -1,5 +1,5 @@
 -- What the calls of the search say: the lines that they wrote, and what the joins stand for afterwards.
-use Rattle.std.specs.Prelude.{◌≡◌, ◌≤◌, ◌<◌, ◌+◌, ◌⊎◌, ℕ, Bool, true, false, None, Option, List, ◌++◌, length, drop, ℤ, IsTrue}
+use Rattle.std.specs.Prelude.{◌≡◌, ◌≤◌, ◌<◌, ◌+◌, ◌⊎◌, ℕ, Bool, true, false, None, Option, List, [], ◌++◌, length, drop, ℤ, IsTrue}
 use Rattle.qc_model.specs.Content.{Game}
 use Rattle.qc_model.specs.Demands.{demands}
 use Rattle.qc_model.specs.Domains.{Values, Box}
@@ -20,7 +20,7 @@ use Rattle.search_box.specs.Boxed.{KeepsValues}
 use Rattle.game_search.specs.Aims.{tracked_at}
 use Rattle.game_search.specs.Beaten.{firsts, seen_bounds, are_beaten}
 use Rattle.game_search.specs.Made.{NodeMade, StepsMade}
-use Rattle.game_search.specs.Written.{NodeWritten, EndingWritten, PartWritten, CasesWritten}
+use Rattle.game_search.specs.Written.{NodeWritten, EndingWritten, PartWritten, BoundedWritten, CasesWritten}
 
 -- before a part of scope i's own tree: its join stands for what was seen so far, which doesn't settle the scope, and no
 -- number gets large with so many more
@@ -65,11 +65,29 @@ pub record StepsTold (g : Game) (i : ℕ) (box left : Box) (before : List Seen) 
   pub one : HasSizes 1 (seen_bounds ms)
   pub worse : IsTrue (has_no_worse (tracked_at g i) (firsts before) left)
 
+-- the same, whatever beats the marks
+pub record BoundedSteps (g : Game) (i : ℕ) (box left : Box) (before : List Seen) (ms : List ℤ) (steps : List Step) : Type 0 where
+  pub reached : left ≡ after_steps steps box
+  pub stepped : StepsMade g (drop i g.scopes) i (demands g i) box ms steps
+  pub one : HasSizes 1 (seen_bounds ms)
+  pub worse : IsTrue (has_no_worse (tracked_at g i) (firsts before) left)
+
 -- the lines are those of steps with these marks and an end
 pub record PartTold (cuts : Bool) (above : ℤ → Bool) (g : Game) (i : ℕ) (box : Box) (h : Option ℕ) (before : List Seen) (ms : List ℤ) (had left : ℕ) (old new : List Line) (joins : Joins) : Type 0 where
   pub seen : List Seen
   pub written : PartWritten cuts above g (drop i g.scopes) i (demands g i) box h before ms seen had left old new
   pub told : IsTold g i joins (before ++ seen)
+
+-- the same, whatever beats the marks
+pub record BoundedTold (cuts : Bool) (above : ℤ → Bool) (g : Game) (i : ℕ) (box : Box) (h : Option ℕ) (before : List Seen) (ms : List ℤ) (had left : ℕ) (old new : List Line) (joins : Joins) : Type 0 where
+  pub seen : List Seen
+  pub written : BoundedWritten cuts above g (drop i g.scopes) i (demands g i) box h before ms seen had left old new
+  pub told : IsTold g i joins (before ++ seen)
+
+-- so where a node's own tree begins with a bound
+pub record FirstTold (cuts : Bool) (above : ℤ → Bool) (g : Game) (i : ℕ) (box : Box) (h : Option ℕ) (had left : ℕ) (old new : List Line) (joins : Joins) : Type 0 where
+  pub ms : List ℤ
+  pub part : BoundedTold cuts above g i box h [] ms had left old new joins
 
 -- so in a case that is taken
 pub record CaseTold (cuts : Bool) (above : ℤ → Bool) (g : Game) (i : ℕ) (box : Box) (h : Option ℕ) (before : List Seen) (had left : ℕ) (old new : List Line) (joins : Joins) : Type 0 where

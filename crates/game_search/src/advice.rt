@@ -4,6 +4,8 @@
 //! ended a node of the scope, or what a free search finds (`looks`). A tuple ends a node where it settles it, or gives a bound
 //! that the incumbent of the scope right above beats. What is tried is proved as any case is, so bad advice costs turns and
 //! time, and nothing else.
+use crate::aim::Aim;
+use crate::bests::Bests;
 use crate::looks::Looks;
 use crate::positions::Positions;
 use crate::residues::Residues;
@@ -55,6 +57,7 @@ pub(crate) struct Advice<'p> {
     residues: Residues,
     positions: Positions,
     looks: Looks<'p>,
+    bests: Bests<'p>,
 }
 
 impl<'p> Advice<'p> {
@@ -81,23 +84,27 @@ impl<'p> Advice<'p> {
         let residues = Residues::new(alloc, levels, wanted.as_slice())?;
         let positions = Positions::new(alloc, widest(levels, wanted.as_slice()))?;
         let looks = Looks::new(alloc, levels, tries);
+        let bests = Bests::new(alloc, levels, tries);
         Ok(Advice {
             values,
             scopes,
             residues,
             positions,
             looks,
+            bests,
         })
     }
 
     /// Begins a node of the scope, where variables have these values and so many turns are left: finds the number of its
-    /// position, and looks for a tuple where that is worth it. It fails only where memory runs out.
+    /// position, and looks for a tuple, or for the best value of what it aims at, where that is worth it: the value that was
+    /// found. It fails only where memory runs out.
     pub(crate) fn enter(
         &mut self,
         level: &Level,
+        aim: Option<Aim>,
         values: &[i64],
         left: u64,
-    ) -> Result<(), AllocError> {
+    ) -> Result<Option<i64>, AllocError> {
         let position = self.number(level, values);
         if let Some(standing) = self.scopes.get_mut(level.number as usize) {
             standing.position = position;
@@ -105,12 +112,18 @@ impl<'p> Advice<'p> {
         if self.looks.look(level, values, left)? {
             self.take_found(level);
         }
-        Ok(())
+        self.bests.look(level, aim, values, left)
     }
 
     /// Ends a node of the scope, where so many turns are left.
     pub(crate) fn leave(&mut self, level: &Level, left: u64) {
         self.looks.learn(level, left);
+        self.bests.learn(level, left);
+    }
+
+    /// Learns whether a bound by the best value that was found made it sure what the node comes to.
+    pub(crate) fn tell_bound(&mut self, is_sure: bool) {
+        self.bests.tell(is_sure);
     }
 
     /// From now on the tuple that was looked for is the scope's, and worth a try.

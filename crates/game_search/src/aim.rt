@@ -2,13 +2,14 @@
 //!
 //! Where the list after a scope of the player begins with a variable that no later owner decides first, values of it that
 //! are worse than the best so far needn't be looked at: the incumbent beats whatever comes of them.
-ghost use Rattle.std.specs.Prelude.{◌≡◌, ◌<◌, ◌∷◌, ◌||◌, suc, not, nat_lt, is_none, length, drop, List};
+ghost use Rattle.std.specs.Prelude.{◌≡◌, ◌<◌, ◌∷◌, ◌||◌, ℕ, suc, not, nat_lt, is_none, length, drop, List, IfSome};
 ghost use Rattle.std.specs.Int.{int_max, int_min};
 ghost use Rattle.qc_model.specs.declared.problem.Scope.{Scope};
 ghost use Rattle.qc_model.specs.declared.problem.Sense.TheVariants.{Min, Max};
 ghost use Rattle.qc_model.specs.Block.{no_condition_to};
+ghost use Rattle.qc_model.specs.Content.{Game};
 ghost use Rattle.qc_joins.specs.Joins.{game_of};
-ghost use Rattle.game_search.specs.Aims.{IsAimed, IsKeptTo, AreRuledOut, AreWorse};
+ghost use Rattle.game_search.specs.Aims.{IsAimed, IsKeptTo, IsSpan, AreRuledOut, AreWorse};
 
 use qc_joins::Joins;
 use qc_laws::lists_are_visible;
@@ -147,6 +148,25 @@ pub(crate) fn worse_values(aim: Option<Aim>, joins: &Joins, i: ScopeId) -> Optio
         return None;
     };
     worse_than(aim, best)
+}
+
+/// The values of the aim's variable that are worse than one that was found; ties stay. None comes where there is no aim, or a
+/// variable can have none of these.
+pub(crate) fn worse_than_found(aim: Option<Aim>, found: Option<i64>) -> Option<Worse>
+    ensures { (g : Game) (i : ℕ) → IsAimed g i aim → IfSome result (λ w. IsSpan g i w) }
+{
+    let Some(aim) = aim else {
+        return None;
+    };
+    let Some(found) = found else {
+        return None;
+    };
+    let with_ties = Aim {
+        sense: aim.sense,
+        variable: aim.variable,
+        is_alone: false,
+    };
+    worse_than(with_ties, found)
 }
 
 /// Those of the values from the first to the last.

@@ -4,13 +4,13 @@ ghost use Rattle.qc_model.specs.Verdict.{Seen};
 ghost use Rattle.qc_levels.specs.Seen.{verdict_of};
 ghost use Rattle.qc_joins.specs.Joins.{game_of, StandsAt};
 ghost use Rattle.qc_joins.specs.Verdicts.{own_at};
-ghost use Rattle.game_search.specs.Settled.{beats_none, is_vague_verdict};
+ghost use Rattle.game_search.specs.Settled.{beats_none};
 ghost use Rattle.game_search.specs.Solution.{SolutionLines, outcome_by};
 ghost use Rattle.game_search.specs.Attempted.{Attempted};
 
 use crate::advice::Advice;
 use crate::known::KnownNodes;
-use crate::search::node;
+use crate::search::{is_decided, node};
 use crate::walk::Walk;
 use proof_tree::{Outcome, cases_are_few};
 use qc_joins::Joins;
@@ -126,18 +126,6 @@ fn first_own(problem: &Problem, joins: &Joins) -> Option<i64>
         return None;
     }
     joins.own(ScopeId(0))
-}
-
-/// Whether the node is lost or exact.
-fn is_decided(found: Found) -> bool
-    ensures { (v : List ℤ) → result ≡ not (is_vague_verdict beats_none (verdict_of found v)) }
-{
-    match found {
-        Found::Lost => true,
-        Found::Exact => true,
-        Found::AtMost(_) => false,
-        Found::Unknown => false,
-    }
 }
 
 fn outcome_of(found: Found, turns: u64) -> Outcome

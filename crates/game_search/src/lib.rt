@@ -18,6 +18,7 @@
 mod advice;
 mod aim;
 mod attempts;
+mod bests;
 mod certify;
 mod known;
 mod likeness;

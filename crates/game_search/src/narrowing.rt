@@ -1,15 +1,17 @@
-//! A case that is taken: its variable takes the value, what the incumbent rules out is given up, and the box is closed.
-ghost use Rattle.std.specs.Prelude.{◌≡◌, ◌<◌, ◌+◌, ◌∷◌, [], List, length, IfOk, OnOk, IsTrue};
-ghost use Rattle.qc_model.specs.Domains.{has_value, values_left};
+//! A case that is taken: its variable takes the value, what the incumbent rules out is given up, and the box is closed. So where
+//! a scope's own tree begins with a bound.
+ghost use Rattle.std.specs.Prelude.{◌≡◌, ◌<◌, ◌+◌, ◌∷◌, [], List, length, IfOk, OnOk, IsTrue, IsFalse};
+ghost use Rattle.qc_model.specs.Domains.{has_empty, has_value, values_left};
 ghost use Rattle.qc_model.specs.Verdict.{Seen};
 ghost use Rattle.proof_tree.specs.Cover.{box_to};
 ghost use Rattle.qc_joins.specs.Joins.{game_of, StandsAt, KeepsOthers};
 ghost use Rattle.search_box.specs.Boxed.{LeadsOn};
 ghost use Rattle.search_box.specs.Entered.{IsEntered};
+ghost use Rattle.game_search.specs.Aims.{IsSpan};
 ghost use Rattle.game_search.specs.Going.{IsGoing, GoesOn};
-ghost use Rattle.game_search.specs.Narrowed.{NarrowTold, IsGivenUp};
+ghost use Rattle.game_search.specs.Narrowed.{NarrowTold, FirstNarrowed, IsGivenUp};
 
-use crate::aim::{between, worse_values};
+use crate::aim::{Worse, between, worse_values};
 use crate::stage::Stage;
 use crate::walk::Walk;
 use proof_tree::StepList;
@@ -91,4 +93,63 @@ pub(crate) fn narrow(
         GivenUp::Nothing => walk.remains.close_after(stage.level, &[x], steps),
         GivenUp::Values(y) => walk.remains.close_after(stage.level, &[y, x], steps),
     }
+}
+
+/// Gives up values of the variable that the scope's own tree optimises, where that tree begins: a bound, of whose mark the
+/// join is told. Says whether each variable has a value left.
+fn bound_first(
+    stage: &Stage,
+    worse: Worse,
+    steps: &mut StepList,
+    walk: &mut Walk,
+) -> Result<bool, AllocError>
+    requires here { IsEntered stage.now.level.now.problem.now stage.now.level.now.number walk.old.remains }
+    requires joins { game_of walk.old.joins ≡ stage.now.level.now.problem.now }
+    requires span { IsSpan stage.now.level.now.problem.now stage.now.level.now.number worse }
+    requires none { steps.old ≡ [] }
+    ensures entered { IfOk result (λ some. IsTrue some → IsEntered stage.now.level.now.problem.now stage.now.level.now.number walk.new.remains) }
+    ensures emptied { IfOk result (λ some. IsFalse some → IsTrue (has_empty walk.new.remains.store.box)) }
+    ensures told { OnOk result (StandsAt walk.old.joins stage.now.level.now.number [] → FirstNarrowed stage.now.level.now.problem.now stage.now.level.now.number walk.old.remains.store.box walk.new.remains.store.box walk.new.joins steps.new) }
+    ensures on { LeadsOn walk.old.remains walk.new.remains }
+    ensures game { game_of walk.new.joins ≡ game_of walk.old.joins }
+    ensures others { KeepsOthers stage.now.level.now.number walk.old.joins walk.new.joins }
+    ensures lines { walk.new.lines ≡ walk.old.lines }
+    ensures left { walk.new.left ≡ walk.old.left }
+{
+    stage.level.problem.known();
+    walk.remains.known();
+    let bound = walk
+        .remains
+        .bound(worse.sense, worse.variable, worse.lo, worse.hi, steps)?;
+    let Some(bound) = bound else {
+        return Ok(true);
+    };
+    walk.joins
+        .add_bound(ScopeId(stage.level.number), bound.best);
+    Ok(!bound.is_empty)
+}
+
+/// A scope's own tree begins with a bound, and the box is closed.
+pub(crate) fn narrow_first(
+    stage: &Stage,
+    worse: Worse,
+    steps: &mut StepList,
+    walk: &mut Walk,
+) -> Result<Closed, AllocError>
+    requires here { IsEntered stage.now.level.now.problem.now stage.now.level.now.number walk.old.remains }
+    requires joins { game_of walk.old.joins ≡ stage.now.level.now.problem.now }
+    requires span { IsSpan stage.now.level.now.problem.now stage.now.level.now.number worse }
+    requires none { steps.old ≡ [] }
+    ensures goes { IfOk result (λ closed. GoesOn closed stage.now.level.now.problem.now stage.now.level.now.number stage.now.level.now.from walk.new.remains) }
+    ensures told { OnOk result (StandsAt walk.old.joins stage.now.level.now.number [] → FirstNarrowed stage.now.level.now.problem.now stage.now.level.now.number walk.old.remains.store.box walk.new.remains.store.box walk.new.joins steps.new) }
+    ensures on { LeadsOn walk.old.remains walk.new.remains }
+    ensures game { game_of walk.new.joins ≡ game_of walk.old.joins }
+    ensures others { KeepsOthers stage.now.level.now.number walk.old.joins walk.new.joins }
+    ensures lines { walk.new.lines ≡ walk.old.lines }
+    ensures left { walk.new.left ≡ walk.old.left }
+{
+    if !bound_first(stage, worse, steps, walk)? {
+        return Ok(Closed::Empty);
+    }
+    walk.remains.close(stage.level, steps)
 }

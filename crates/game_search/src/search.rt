@@ -10,13 +10,16 @@
 //! Where a scope of the player optimises a variable first, each value of it that is worse than the incumbent's is given up
 //! by a bound where a case is gone into. So what the bounds leave out is beaten by what was found.
 //!
+//! Where the best value of that variable was looked for before, all values that are worse than the one found are given up first.
+//! Nothing has beaten them then, so such a tree stands only where it turns out sure what the node comes to.
+//!
 //! In the first pass a node's own tree begins with a try of one tuple, which an advice names: where no other counts after it,
 //! all other values are skipped; where some do, its lines are taken back, and the values are gone over as ever.
 //!
 //! Where a leaf settles its scope, so that no other leaf changes what the node comes to, the cases after it are left
 //! out, and the join isn't told of them. They are left out too where the leaves of a scope of the opponent give a bound that
 //! the incumbent of the scope right above beats. Where no turn is left the cases that remain are left open.
-ghost use Rattle.std.specs.Prelude.{◌≡◌, ◌≤◌, ◌<◌, ◌∷◌, ◌++◌, ◌+◌, ◌*◌, ℤ, suc, Bool, Option, ℕ, [], List, length, drop, true, false, IfOk, IfSome, OnOk, IsTrue, slice_get};
+ghost use Rattle.std.specs.Prelude.{◌≡◌, ◌≤◌, ◌<◌, ◌∷◌, ◌++◌, ◌+◌, ◌*◌, ℤ, suc, Bool, Option, ℕ, [], List, length, drop, not, true, false, IfOk, IfSome, OnOk, IsTrue, IsFalse, slice_get};
 ghost use Rattle.qc_model.specs.Demands.{demands};
 ghost use Rattle.qc_model.specs.Domains.{Box, has_value, is_single, values_left};
 ghost use Rattle.qc_model.specs.Game.{is_of_scope};
@@ -31,17 +34,17 @@ ghost use Rattle.qc_joins.specs.Joins.{game_of, out_of, StandsAt, KeepsAll};
 ghost use Rattle.qc_joins.specs.Verdicts.{verdict_at};
 ghost use Rattle.search_box.specs.Entered.{IsEntered};
 ghost use Rattle.search_box.specs.Looking.{scope_number};
-ghost use Rattle.game_search.specs.Aims.{tracked_at};
+ghost use Rattle.game_search.specs.Aims.{tracked_at, IsSpan};
 ghost use Rattle.game_search.specs.Beaten.{firsts, seen_bounds};
 ghost use Rattle.game_search.specs.Going.{IsGoing, GoesOn};
 ghost use Rattle.game_search.specs.Known.{IsFinished, StandsHere};
 ghost use Rattle.game_search.specs.Rivals.{above_at, StandsAbove, outdoes};
-ghost use Rattle.game_search.specs.Settled.{is_ended as is_ended_by};
-ghost use Rattle.game_search.specs.Told.{IsReady, IsBack, EndingTold, StepsTold, PartTold, CaseTold, CasesTold, BodyTold, NodeTold};
+ghost use Rattle.game_search.specs.Settled.{is_ended as is_ended_by, is_vague_verdict, beats_none};
+ghost use Rattle.game_search.specs.Told.{IsReady, IsBack, EndingTold, BoundedSteps, PartTold, BoundedTold, FirstTold, CaseTold, CasesTold, BodyTold, NodeTold};
 
-use crate::aim::aim_of;
+use crate::aim::{Worse, aim_of, worse_than_found};
 use crate::known::NodeEnd;
-use crate::narrowing::narrow;
+use crate::narrowing::{narrow, narrow_first};
 use crate::rival::{is_outdone, rival_of};
 use crate::stage::Stage;
 use crate::walk::Walk;
@@ -269,12 +272,103 @@ fn own_tree(stage: &Stage, walk: &mut Walk) -> Result<Found, AllocError>
     ensures told { IfOk result (λ found. walk.old.left < 2147483648 → SeesAhead stage.now.level.now.problem.now (drop stage.now.level.now.number stage.now.level.now.problem.now.scopes) stage.now.level.now.number walk.old.remains.store.box (scope_number stage.now.horizon) → BodyTold stage.now.cuts (outdoes stage.now.level.now.problem.now stage.now.level.now.number stage.now.rival) stage.now.level.now.problem.now stage.now.level.now.number walk.old.remains.store.box (scope_number stage.now.horizon) (verdict_of found (out_of walk.new.joins)) walk.old.left walk.new.left walk.old.lines walk.new.lines walk.new.joins) }
     ensures back { OnOk result (IsBack stage.now.level.now.problem.now stage.now.level.now.number walk.old walk.new) }
 {
+    let best = walk.advice.enter(stage.level, stage.aim, walk.remains.all_values(), walk.left)?;
+    let found = advised_tree(stage, best, walk)?;
+    walk.advice.leave(stage.level, walk.left);
+    Ok(found)
+}
+
+/// So where a value of the variable that it optimises may have been found. In the first pass all worse values are given up first;
+/// where it isn't sure then what the node comes to, the lines of that are taken back.
+#[cycle(search)]
+fn advised_tree(stage: &Stage, best: Option<i64>, walk: &mut Walk) -> Result<Found, AllocError>
+    requires here { IsEntered stage.now.level.now.problem.now stage.now.level.now.number walk.old.remains }
+    requires joins { game_of walk.old.joins ≡ stage.now.level.now.problem.now }
+    ensures told { IfOk result (λ found. walk.old.left < 2147483648 → SeesAhead stage.now.level.now.problem.now (drop stage.now.level.now.number stage.now.level.now.problem.now.scopes) stage.now.level.now.number walk.old.remains.store.box (scope_number stage.now.horizon) → BodyTold stage.now.cuts (outdoes stage.now.level.now.problem.now stage.now.level.now.number stage.now.rival) stage.now.level.now.problem.now stage.now.level.now.number walk.old.remains.store.box (scope_number stage.now.horizon) (verdict_of found (out_of walk.new.joins)) walk.old.left walk.new.left walk.old.lines walk.new.lines walk.new.joins) }
+    ensures back { OnOk result (IsBack stage.now.level.now.problem.now stage.now.level.now.number walk.old walk.new) }
+{
+    let Some(worse) = first_worse(stage, best) else {
+        return whole_tree(stage, walk);
+    };
+    let begun = walk.lines.len();
+    let found = bounded_tree(stage, worse, walk)?;
+    let is_sure = is_decided(found);
+    walk.advice.tell_bound(is_sure);
+    if is_sure {
+        return Ok(found);
+    }
+    walk.lines.cut(begun);
+    whole_tree(stage, walk)
+}
+
+/// The values that are worse than one that was found. Without cuts none is looked for.
+fn first_worse(stage: &Stage, best: Option<i64>) -> Option<Worse>
+    ensures cuts { IfSome result (λ w. IsTrue stage.now.cuts) }
+    ensures span { IfSome result (λ w. IsSpan stage.now.level.now.problem.now stage.now.level.now.number w) }
+{
+    if !stage.cuts {
+        return None;
+    }
+    worse_than_found(stage.aim, best)
+}
+
+/// Whether a node is lost or exact.
+pub(crate) fn is_decided(found: Found) -> bool
+    ensures { (v : List ℤ) → result ≡ not (is_vague_verdict beats_none (verdict_of found v)) }
+{
+    match found {
+        Found::Lost => true,
+        Found::Exact => true,
+        Found::AtMost(_) => false,
+        Found::Unknown => false,
+    }
+}
+
+/// The own tree where these values are given up first. Nothing has beaten them, so it is a tree only where it is sure what the
+/// node comes to.
+#[cycle(search)]
+fn bounded_tree(stage: &Stage, worse: Worse, walk: &mut Walk) -> Result<Found, AllocError>
+    requires here { IsEntered stage.now.level.now.problem.now stage.now.level.now.number walk.old.remains }
+    requires joins { game_of walk.old.joins ≡ stage.now.level.now.problem.now }
+    requires span { IsSpan stage.now.level.now.problem.now stage.now.level.now.number worse }
+    ensures told { IfOk result (λ found. IsFalse (is_vague_verdict beats_none (verdict_of found (out_of walk.new.joins))) → walk.old.left < 2147483648 → SeesAhead stage.now.level.now.problem.now (drop stage.now.level.now.number stage.now.level.now.problem.now.scopes) stage.now.level.now.number walk.old.remains.store.box (scope_number stage.now.horizon) → BodyTold stage.now.cuts (outdoes stage.now.level.now.problem.now stage.now.level.now.number stage.now.rival) stage.now.level.now.problem.now stage.now.level.now.number walk.old.remains.store.box (scope_number stage.now.horizon) (verdict_of found (out_of walk.new.joins)) walk.old.left walk.new.left walk.old.lines walk.new.lines walk.new.joins) }
+    ensures back { OnOk result (IsBack stage.now.level.now.problem.now stage.now.level.now.number walk.old walk.new) }
+{
     stage.level.problem.known();
     walk.remains.known();
-    walk.advice
-        .enter(stage.level, walk.remains.all_values(), walk.left)?;
+    bounded_part(stage, worse, walk)?;
+    Ok(verdict(stage.level, walk))
+}
+
+/// Its lines.
+#[cycle(search)]
+fn bounded_part(stage: &Stage, worse: Worse, walk: &mut Walk) -> Result<(), AllocError>
+    requires here { IsEntered stage.now.level.now.problem.now stage.now.level.now.number walk.old.remains }
+    requires joins { game_of walk.old.joins ≡ stage.now.level.now.problem.now }
+    requires span { IsSpan stage.now.level.now.problem.now stage.now.level.now.number worse }
+    ensures told { OnOk result (walk.old.left < 2147483648 → FirstTold stage.now.cuts (outdoes stage.now.level.now.problem.now stage.now.level.now.number stage.now.rival) stage.now.level.now.problem.now stage.now.level.now.number walk.old.remains.store.box (scope_number stage.now.horizon) walk.old.left walk.new.left walk.old.lines walk.new.lines walk.new.joins) }
+    ensures back { OnOk result (IsBack stage.now.level.now.problem.now stage.now.level.now.number walk.old walk.new) }
+{
+    walk.joins.clear(ScopeId(stage.level.number));
+    let mark = walk.remains.mark();
+    let mut steps = StepList::new(walk.alloc);
+    let closed = narrow_first(stage, worse, &mut steps, walk)?;
+    part(stage, stage.level.from, closed, steps.items(), false, walk)?;
+    walk.remains.undo_to(mark);
+    Ok(())
+}
+
+/// The own tree where no values are given up first.
+#[cycle(search)]
+fn whole_tree(stage: &Stage, walk: &mut Walk) -> Result<Found, AllocError>
+    requires here { IsEntered stage.now.level.now.problem.now stage.now.level.now.number walk.old.remains }
+    requires joins { game_of walk.old.joins ≡ stage.now.level.now.problem.now }
+    ensures told { IfOk result (λ found. walk.old.left < 2147483648 → SeesAhead stage.now.level.now.problem.now (drop stage.now.level.now.number stage.now.level.now.problem.now.scopes) stage.now.level.now.number walk.old.remains.store.box (scope_number stage.now.horizon) → BodyTold stage.now.cuts (outdoes stage.now.level.now.problem.now stage.now.level.now.number stage.now.rival) stage.now.level.now.problem.now stage.now.level.now.number walk.old.remains.store.box (scope_number stage.now.horizon) (verdict_of found (out_of walk.new.joins)) walk.old.left walk.new.left walk.old.lines walk.new.lines walk.new.joins) }
+    ensures back { OnOk result (IsBack stage.now.level.now.problem.now stage.now.level.now.number walk.old walk.new) }
+{
+    stage.level.problem.known();
+    walk.remains.known();
     own_part(stage, walk)?;
-    walk.advice.leave(stage.level, walk.left);
     Ok(verdict(stage.level, walk))
 }
 
@@ -359,7 +453,7 @@ fn part(
 ) -> Result<bool, AllocError>
     requires goes { GoesOn closed stage.now.level.now.problem.now stage.now.level.now.number x walk.old.remains }
     requires joins { game_of walk.old.joins ≡ stage.now.level.now.problem.now }
-    ensures told { IfOk result (λ whole. (IsTrue tries → IsTrue whole) → (box : Box) (before : List Seen) (ms : List ℤ) → StepsTold stage.now.level.now.problem.now stage.now.level.now.number box walk.old.remains.store.box before ms steps.now → IsReady stage.now.level.now.problem.now stage.now.level.now.number walk.old.joins (suc (2 * walk.old.left)) (before ++ seen_bounds ms) → PartTold stage.now.cuts (outdoes stage.now.level.now.problem.now stage.now.level.now.number stage.now.rival) stage.now.level.now.problem.now stage.now.level.now.number box (scope_number stage.now.horizon) before ms walk.old.left walk.new.left walk.old.lines walk.new.lines walk.new.joins) }
+    ensures told { IfOk result (λ whole. (IsTrue tries → IsTrue whole) → (box : Box) (before : List Seen) (ms : List ℤ) → BoundedSteps stage.now.level.now.problem.now stage.now.level.now.number box walk.old.remains.store.box before ms steps.now → IsReady stage.now.level.now.problem.now stage.now.level.now.number walk.old.joins (suc (2 * walk.old.left)) (before ++ seen_bounds ms) → BoundedTold stage.now.cuts (outdoes stage.now.level.now.problem.now stage.now.level.now.number stage.now.rival) stage.now.level.now.problem.now stage.now.level.now.number box (scope_number stage.now.horizon) before ms walk.old.left walk.new.left walk.old.lines walk.new.lines walk.new.joins) }
     ensures back { OnOk result (IsBack stage.now.level.now.problem.now stage.now.level.now.number walk.old walk.new) }
 {
     put_steps(&mut walk.lines, steps)?;

@@ -1,4 +1,4 @@
-use Rattle.std.proofs.Common.{add-one, List, ℤ, ◌≡◌, ◌∙◌, sym, ap, refl, subst, ◌+◌, ◌-◌, ◌*◌, rules, length, drop, w64, to_z, of_z, arith, true, [], ◌∷◌, ◌++◌, Some}
+use Rattle.std.proofs.Common.{add-one, List, ℤ, ◌≡◌, ◌∙◌, sym, ap, refl, subst, ◌+◌, ◌-◌, ◌*◌, rules, length, drop, w64, to_z, of_z, arith, true, [], ◌∷◌, ◌++◌, Option, Some, IfSome}
 use Rattle.std.specs.List.{list_all}
 use Rattle.std.proofs.lemmas.Int.{to_z-of_z}
 use Rattle.std.proofs.lemmas.List.{append-nil}
@@ -31,14 +31,15 @@ use Rattle.search_box.proofs.Places.{read_numbers}
 use Rattle.game_search.specs.Going.{GoesOn}
 use Rattle.game_search.specs.Aims.{tracked_at, IsAimed}
 use Rattle.game_search.specs.Beaten.{seen_bounds}
+use Rattle.game_search.specs.declared.aim.Worse.{Worse}
 use Rattle.game_search.specs.Narrowed.{NarrowTold}
 use Rattle.game_search.specs.Rivals.{above_at, StandsAbove, outdoes, IsRival}
 use Rattle.game_search.specs.Settled.{is_outdone}
-use Rattle.game_search.specs.Told.{IsReady, StepsTold, PartTold, CaseTold, BodyTold, NodeTold}
+use Rattle.game_search.specs.Told.{IsReady, BoundedSteps, StepsTold, PartTold, BoundedTold, CaseTold, BodyTold, NodeTold}
 use Rattle.game_search.specs.Uppers.{upto_between, skipped_between, seen_between, without_before}
 use Rattle.game_search.proofs.Covers.{covers_after, many_of, rest_of}
 use Rattle.game_search.proofs.Fitting.{number_among, place_fits}
-use Rattle.game_search.proofs.Here.{Passing, asked_here, outdone_ends, started, ready_again, case_done, case_ready, case_tried, ready_behind, case_behind, rest_skipped, rest_ended, rest_opened, rest_none, empty_told, barred_told, few_turns, next_told, pruned_told, part_told, part_more, branch_told, ready_first, node_ended, body_more, whole_node}
+use Rattle.game_search.proofs.Here.{Passing, asked_here, outdone_ends, started, ready_again, case_done, case_ready, case_tried, ready_behind, case_behind, rest_skipped, rest_ended, rest_opened, rest_none, empty_told, barred_told, few_turns, next_told, pruned_told, bounded_told, bare_steps, part_told, part_more, branch_told, ready_first, ready_bounded, node_ended, bounded_ended, body_done, body_more, whole_node}
 use Rattle.game_search.proofs.Knowing.{node_finished, kept_told}
 use Rattle.game_search.proofs.Losing.{ready_after}
 use Rattle.game_search.proofs.Marks.{firsts_marks}
@@ -394,14 +395,112 @@ over_values-returns-clause-told t c =
     (place_fits x.0 l.stop (length g.variables) c.requires.var l.stop_within c.known.ensures.few_variables) c.requires.going.closed c.requires.going.within.fixed worse c.in_ok-put.ensures.put q (c.in_ok-cases.ensures.told xs ready))
     c.put-2.ensures.put
 
-pub own_tree-verdict-requires : goal.own_tree-verdict-requires
-own_tree-verdict-requires t c =
+pub own_tree-returns-clause-told : goal.own_tree-returns-clause-told
+own_tree-returns-clause-told t c = c.in_ok-found.ensures.told
+
+pub own_tree-returns-clause-back : goal.own_tree-returns-clause-back
+own_tree-returns-clause-back t c =
+    let l = c.args.stage.now.level.now in
+    let a = c.args.walk.now in
+    same_back l.problem.now l.number a c.advised_tree.new.walk _ (back_from l.problem.now l.number a _ c.advised_tree.new.walk c.in_ok-found.ensures.back refl refl refl refl) refl refl refl refl
+
+pub advised_tree-returns-clause-told : goal.advised_tree-returns-clause-told
+advised_tree-returns-clause-told t c =
+    let l = c.args.stage.now.level.now in
+    let g = l.problem.now in
+    let i = l.number in
+    let above = outdoes g i c.args.stage.now.rival in
+    let h = scope_number c.args.stage.now.horizon in
+    let a = c.args.walk.now in
+    let back = c.in_ok-found.ensures.back in
+    let last = c.whole_tree-2.new.walk in
+    let cut = subst (λ (w : Option Worse). IfSome w (λ v. c.args.stage.now.cuts ≡ true)) c.in-Some.is c.first_worse.ensures.cuts in
+    let stand : c.cut.new.self ≡ a.lines = c.cut.ensures ∙ taken_back a.lines c.bounded_tree.new.walk.lines back.written c.len-begun.result back.lines c.len-begun.ensures in
+    IfOk-weaker c.whole_tree-2.result _ _
+    (λ found told few sees.
+    let v = verdict_of found (out_of last.joins) in
+    let seen = subst (λ (d : Box). SeesAhead g (drop i g.scopes) i d h) (sym back.box) sees in
+    let here = subst (λ (d : Box). BodyTold c.args.stage.now.cuts above g i d h v c.bounded_tree.new.walk.left last.left c.cut.new.self last.lines last.joins) back.box (told (omega (arith, few, back.left)) seen) in
+    body_done c.args.stage.now.cuts above g i a.remains.store.box h v c.bounded_tree.new.walk.left a.left last.left a.lines last.lines last.joins cut back.left
+    (subst (λ ls. BodyTold c.args.stage.now.cuts above g i a.remains.store.box h v c.bounded_tree.new.walk.left last.left ls last.lines last.joins) stand here))
+    c.whole_tree-2.ensures.told
+
+pub advised_tree-returns-clause-back : goal.advised_tree-returns-clause-back
+advised_tree-returns-clause-back t c =
+    let l = c.args.stage.now.level.now in
+    let g = l.problem.now in
+    let i = l.number in
+    let a = c.args.walk.now in
+    let back = back_from g i a _ c.bounded_tree.new.walk c.in_ok-found.ensures.back refl refl refl refl in
+    let stand : c.cut.new.self ≡ a.lines = c.cut.ensures ∙ taken_back a.lines c.bounded_tree.new.walk.lines back.written c.len-begun.result back.lines c.len-begun.ensures in
+    on_ok_weaker c.whole_tree-2.result (λ e. both_back g i a _ c.whole_tree-2.new.walk (cut_back g i a c.bounded_tree.new.walk _ back refl refl stand refl) e) c.whole_tree-2.ensures.back
+
+pub bounded_tree-verdict-requires : goal.bounded_tree-verdict-requires
+bounded_tree-verdict-requires t c =
+    let l = c.args.stage.now.level.now in
+    let back = c.in_ok-bounded_part.ensures.back in
+    record { here = entered_back l.problem.now l.number _ c.bounded_part.new.walk back c.requires.here; joins = back.game ∙ c.requires.joins }
+
+pub bounded_tree-returns-clause-told : goal.bounded_tree-returns-clause-told
+bounded_tree-returns-clause-told t c =
+    let l = c.args.stage.now.level.now in
+    let g = l.problem.now in
+    let i = l.number in
+    let b = c.args.walk.now.remains in
+    let declared : is_box_of g b.store.box ≡ true = subst (λ (f : Game). is_box_of f b.store.box ≡ true) c.requires.here.game c.known-2.ensures.declared in
+    let numbers : list_all is_number (position g i b.store.box) ≡ true = read_numbers g b.store.box (before g i) c.known.ensures.domains declared c.requires.here.full in
+    λ sure few sees.
+    bounded_ended c.args.stage.now.cuts (outdoes g i c.args.stage.now.rival) g i (scope_number c.args.stage.now.horizon) c.known.ensures l.is_scope b.store.box c.bounded_part.new.walk.remains.store.box c.in_ok-bounded_part.ensures.back.box numbers c.args.stage.now.ahead (rival_outdoes g i c.args.stage.now.rival c.args.stage.now.rivalled) sees
+    c.args.walk.now.left c.bounded_part.new.walk.left c.verdict.new.walk.left c.args.walk.now.lines c.bounded_part.new.walk.lines c.verdict.new.walk.lines c.bounded_part.new.walk.joins c.verdict.new.walk.joins _ (c.in_ok-bounded_part.ensures.told few) sure c.verdict.ensures.verdict c.verdict.ensures.joins c.verdict.ensures.lines c.verdict.ensures.left
+
+pub bounded_tree-returns-clause-back : goal.bounded_tree-returns-clause-back
+bounded_tree-returns-clause-back t c =
+    let l = c.args.stage.now.level.now in
+    let g = l.problem.now in
+    let i = l.number in
+    let a = c.args.walk.now in
+    let back = back_from g i a _ c.bounded_part.new.walk c.in_ok-bounded_part.ensures.back refl refl refl refl in
+    back_more g i a _ c.verdict.new.walk back c.verdict.ensures.remains c.verdict.ensures.game (λ j xs h s. c.verdict.ensures.joins j xs s) [] (c.verdict.ensures.lines ∙ sym (append-nil c.bounded_part.new.walk.lines)) (omega (arith, c.verdict.ensures.left))
+
+pub bounded_part-returns-clause-told : goal.bounded_part-returns-clause-told
+bounded_part-returns-clause-told t c =
+    let l = c.args.stage.now.level.now in
+    let g = l.problem.now in
+    let i = l.number in
+    let a = c.args.walk.now in
+    let box = a.remains.store.box in
+    let m = c.narrow_first.new.walk in
+    let w = c.part.new.walk in
+    let h = scope_number c.args.stage.now.horizon in
+    let above = outdoes g i c.args.stage.now.rival in
+    λ few.
+    let n = c.in_ok-closed.ensures.told c.clear.ensures.stands in
+    let stepped = subst (λ ss. BoundedSteps g i box m.remains.store.box [] n.ms ss) (sym c.items.ensures) n.stepped in
+    let ready = ready_bounded g i m.left m.joins n.ms n.stands n.stepped.one (omega (arith, few, c.narrow_first.ensures.left)) in
+    let part = c.in_ok-part.ensures.told (λ q. cc) box [] n.ms stepped ready in
+    let turns = subst (λ k. BoundedTold c.args.stage.now.cuts above g i box h [] n.ms k w.left m.lines w.lines w.joins) c.narrow_first.ensures.left part in
+    record { ms = n.ms; part = subst (λ ls. BoundedTold c.args.stage.now.cuts above g i box h [] n.ms a.left w.left ls w.lines w.joins) c.narrow_first.ensures.lines turns }
+
+pub bounded_part-returns-clause-back : goal.bounded_part-returns-clause-back
+bounded_part-returns-clause-back t c =
+    let l = c.args.stage.now.level.now in
+    let g = l.problem.now in
+    let i = l.number in
+    let b = c.args.walk.now.remains in
+    let m = c.narrow_first.new.walk in
+    let back = c.in_ok-part.ensures.back in
+    let follows = follows_on b m.remains c.part.new.walk.remains c.narrow_first.ensures.on.follows back.box back.past in
+    let same = c.undo_to.ensures.back b.store (sym c.mark-mark.ensures.at) follows in
+    undone_back g i c.args.walk.now m c.part.new.walk _ c.narrow_first.ensures.on (c.narrow_first.ensures.game ∙ c.clear.ensures.same) (λ j xs e s. c.narrow_first.ensures.others j xs e (c.clear.ensures.others j xs e s)) c.narrow_first.ensures.lines c.narrow_first.ensures.left back c.undo_to.ensures.game same.0 same.1 c.undo_to.ensures.values refl refl refl
+
+pub whole_tree-verdict-requires : goal.whole_tree-verdict-requires
+whole_tree-verdict-requires t c =
     let l = c.args.stage.now.level.now in
     let back = c.in_ok-own_part.ensures.back in
     record { here = entered_back l.problem.now l.number _ c.own_part.new.walk back c.requires.here; joins = back.game ∙ c.requires.joins }
 
-pub own_tree-returns-clause-told : goal.own_tree-returns-clause-told
-own_tree-returns-clause-told t c =
+pub whole_tree-returns-clause-told : goal.whole_tree-returns-clause-told
+whole_tree-returns-clause-told t c =
     let l = c.args.stage.now.level.now in
     let g = l.problem.now in
     let i = l.number in
@@ -412,13 +511,13 @@ own_tree-returns-clause-told t c =
     node_ended c.args.stage.now.cuts (outdoes g i c.args.stage.now.rival) g i (scope_number c.args.stage.now.horizon) c.known.ensures l.is_scope b.store.box c.own_part.new.walk.remains.store.box c.in_ok-own_part.ensures.back.box numbers c.args.stage.now.ahead (rival_outdoes g i c.args.stage.now.rival c.args.stage.now.rivalled) sees
     c.args.walk.now.left c.own_part.new.walk.left c.verdict.new.walk.left c.args.walk.now.lines c.own_part.new.walk.lines c.verdict.new.walk.lines c.own_part.new.walk.joins c.verdict.new.walk.joins _ (c.in_ok-own_part.ensures.told few) c.verdict.ensures.verdict c.verdict.ensures.joins c.verdict.ensures.lines c.verdict.ensures.left
 
-pub own_tree-returns-clause-back : goal.own_tree-returns-clause-back
-own_tree-returns-clause-back t c =
+pub whole_tree-returns-clause-back : goal.whole_tree-returns-clause-back
+whole_tree-returns-clause-back t c =
     let l = c.args.stage.now.level.now in
     let g = l.problem.now in
     let i = l.number in
     let a = c.args.walk.now in
-    let back = both_back g i a _ c.own_part.new.walk (cut_back g i a a _ (none_back g i a) refl refl refl refl) c.in_ok-own_part.ensures.back in
+    let back = back_from g i a _ c.own_part.new.walk c.in_ok-own_part.ensures.back refl refl refl refl in
     back_more g i a _ c.verdict.new.walk back c.verdict.ensures.remains c.verdict.ensures.game (λ j xs h s. c.verdict.ensures.joins j xs s) [] (c.verdict.ensures.lines ∙ sym (append-nil c.own_part.new.walk.lines)) (omega (arith, c.verdict.ensures.left))
 
 pub own_part-returns-clause-told : goal.own_part-returns-clause-told
@@ -456,7 +555,13 @@ closed_part-returns-clause-told t c =
     let i = l.number in
     let b = c.args.walk.now.remains in
     let pruned = subst (λ ss. IsPruned g i b.store.box c.close.new.self.store.box [] ss) (sym c.items.ensures) (subst (λ ss. IsPruned g i b.store.box c.close.new.self.store.box ss c.close.new.steps) c.new-steps.ensures c.close.ensures.pruned) in
-    λ q few. c.in_ok-is_whole.ensures.told q b.store.box [] [] (pruned_told g i b.store.box c.close.new.self.store.box c.items.result.now pruned) (ready_first g i c.args.walk.now.left c.clear.new.self c.clear.ensures.stands few)
+    let last = c.part.new.walk in
+    let h = scope_number c.args.stage.now.horizon in
+    let left_box = c.close.new.self.store.box in
+    let steps = c.items.result.now in
+    let told = pruned_told g i b.store.box left_box steps pruned in
+    λ q few. part_told c.args.stage.now.cuts (outdoes g i c.args.stage.now.rival) g i b.store.box left_box h [] [] c.args.walk.now.left last.left c.args.walk.now.lines last.lines last.joins steps told
+    (c.in_ok-is_whole.ensures.told q b.store.box [] [] (bare_steps g i b.store.box left_box [] [] steps told) (ready_first g i c.args.walk.now.left c.clear.new.self c.clear.ensures.stands few))
 
 pub closed_part-returns-clause-back : goal.closed_part-returns-clause-back
 closed_part-returns-clause-back t c =
@@ -477,7 +582,7 @@ part-returns-in_ok-put-in-Empty-clause-told t c =
     let left_box = c.args.walk.now.remains.store.box in
     let none_left : has_empty left_box ≡ true = subst (λ (a : Closed). GoesOn a g l.number c.args.x c.args.walk.now.remains) c.in-Empty.is c.requires.goes in
     λ w box before ms stepped ready.
-    part_told c.args.stage.now.cuts (outdoes g l.number c.args.stage.now.rival) g l.number box left_box h before ms c.args.walk.now.left c.args.walk.now.left c.args.walk.now.lines c.put_steps.new.lines c.put.new.self c.args.walk.now.joins c.args.steps.now stepped c.in_ok-put_steps.ensures
+    bounded_told c.args.stage.now.cuts (outdoes g l.number c.args.stage.now.rival) g l.number box left_box h before ms c.args.walk.now.left c.args.walk.now.left c.args.walk.now.lines c.put_steps.new.lines c.put.new.self c.args.walk.now.joins c.args.steps.now stepped c.in_ok-put_steps.ensures
     (empty_told c.args.stage.now.cuts (outdoes g l.number c.args.stage.now.rival) g l.number left_box h (before ++ seen_bounds ms) c.args.walk.now.left c.put_steps.new.lines c.args.walk.now.joins ready c.put.new.self none_left c.in_ok-put-in-Empty.ensures.put)
 
 pub part-returns-in_ok-put-in-Empty-clause-back : goal.part-returns-in_ok-put-in-Empty-clause-back
@@ -497,7 +602,7 @@ part-returns-in-Open-clause-told t c =
     IfOk-weaker c.within.result _ _
     (λ whole told w box before ms stepped ready.
     let worse = subst (λ ns. has_no_worse (tracked_at g l.number) ns left_box ≡ true) (sym (firsts_marks before ms)) stepped.worse in
-    part_told c.args.stage.now.cuts (outdoes g l.number c.args.stage.now.rival) g l.number box left_box h before ms c.args.walk.now.left c.within.new.walk.left c.args.walk.now.lines c.put_steps.new.lines c.within.new.walk.lines c.within.new.walk.joins c.args.steps.now stepped c.in_ok-put_steps.ensures
+    bounded_told c.args.stage.now.cuts (outdoes g l.number c.args.stage.now.rival) g l.number box left_box h before ms c.args.walk.now.left c.within.new.walk.left c.args.walk.now.lines c.put_steps.new.lines c.within.new.walk.lines c.within.new.walk.joins c.args.steps.now stepped c.in_ok-put_steps.ensures
     (told w (before ++ seen_bounds ms) ready worse))
     c.within.ensures.told
 
@@ -531,7 +636,11 @@ with_value-returns-clause-told t c =
     let stepped = subst (λ ss. StepsTold g l.number box c.narrow.new.walk.remains.store.box before n.ms ss) (sym c.items.ensures) n.stepped in
     let left = subst (λ m. IsReady g l.number c.args.walk.now.joins (2 + 2 * m) before) (sym c.narrow.ensures.left) ready in
     let again = ready_after g l.number box c.narrow.new.walk.remains.store.box c.args.walk.now.joins joins c.narrow.new.walk.left before c.narrow.new.steps n left in
-    let part = c.in_ok-is_whole.ensures.told w box before n.ms stepped again in
+    let last = c.part.new.walk in
+    let now = c.narrow.new.walk in
+    let steps = c.items.result.now in
+    let part = part_told c.args.stage.now.cuts (outdoes g l.number c.args.stage.now.rival) g l.number box now.remains.store.box h before n.ms now.left last.left now.lines last.lines last.joins steps stepped
+    (c.in_ok-is_whole.ensures.told w box before n.ms (bare_steps g l.number box now.remains.store.box before n.ms steps stepped) again) in
     let turns = subst (λ m. PartTold c.args.stage.now.cuts (outdoes g l.number c.args.stage.now.rival) g l.number box h before n.ms m c.part.new.walk.left c.narrow.new.walk.lines c.part.new.walk.lines c.part.new.walk.joins) c.narrow.ensures.left part in
     record { ms = n.ms; part = subst (λ ls. PartTold c.args.stage.now.cuts (outdoes g l.number c.args.stage.now.rival) g l.number box h before n.ms c.args.walk.now.left c.part.new.walk.left ls c.part.new.walk.lines c.part.new.walk.joins) c.narrow.ensures.lines turns }
 
