@@ -1,0 +1,5 @@
+mod Filling
+mod Boxes
+pub mod Marks
+mod Steps
+pub mod Right

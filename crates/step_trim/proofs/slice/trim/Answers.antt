@@ -1,0 +1,11 @@
+use Rattle.std.proofs.Common.{sym, subst}
+use Rattle.std.proofs.lemmas.Result.{on_ok_weaker}
+use Rattle.step_trim.specs.Trims.{Trims}
+use Rattle.step_trim.proofs.Right.{slice_trims}
+use Rattle.step_trim.proofs.slice.trim.Goals as goal
+
+pub returns : goal.returns
+returns c =
+    let g = c.args.problem.now in
+    let steps = c.args.steps.now in
+    on_ok_weaker c.slice.result (λ e. subst (λ less. Trims g steps less) (sym e) (slice_trims g steps)) c.slice.ensures

@@ -1,0 +1,2 @@
+pub mod Slice
+pub mod Trims
