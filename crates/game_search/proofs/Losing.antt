@@ -435,6 +435,14 @@ worse_here g i joins box w r first last m f l nf nl s x lo hi = record {
             let inside = two (int_le r.lo v) (int_le v r.hi) (ap (λ k. int_le k v) lo ∙ at_max w.lo first v a q.0) (ap (int_le v) hi ∙ at_min w.hi last v b q.1) in
             let f : true ≡ false = sym inside ∙ out in absurd cc
 
+pub span_between : (g : Game) (i : ℕ) (w r : Worse) (first last : ℤ) → IsSpan g i w → is_number first ≡ true → is_number last ≡ true → r.sense ≡ w.sense → r.variable ≡ w.variable → r.lo ≡ int_max w.lo first → r.hi ≡ int_min w.hi last → IsSpan g i r
+span_between g i w r first last m nf nl s x lo hi = record {
+  tracked = m.tracked ∙ (ap (λ (z : Sense). Some (tracked_as z w.variable)) (sym s) ∙ ap (λ (y : VarId). Some (tracked_as r.sense y)) (sym x));
+  exists = subst (λ (y : VarId). y.0 < length g.variables) (sym x) m.exists;
+  lo = ap is_number lo ∙ one_number (int_lt first w.lo) w.lo first m.lo nf;
+  hi = ap is_number hi ∙ one_number (int_lt last w.hi) last w.hi nl m.hi;
+}
+
 -- ---- what bounding answers
 module _ (g : Game) (i : ℕ) (box left : Box) (joins : Joins) (before : List Seen) (numbers : (x : ℕ) → list_all is_number (values_left box x) ≡ true) (stands : StandsAt joins i before) (w : Worse) (m : IsWorseHere g i joins box w) (low high : ℤ) (l : low ≡ w.lo) (h : high ≡ w.hi) (old new : List Step) (o : old ≡ []) where
   at_ends : (r : Option Bounded) → BoundAnswers w.sense w.variable low high box left old new r → BoundAnswers w.sense w.variable w.lo w.hi box left [] new r

@@ -118,6 +118,8 @@ fn bound_first(
 {
     stage.level.problem.known();
     walk.remains.known();
+    let x = worse.variable;
+    let worse = between(worse, walk.remains.first(x), walk.remains.last(x));
     let bound = walk
         .remains
         .bound(worse.sense, worse.variable, worse.lo, worse.hi, steps)?;
