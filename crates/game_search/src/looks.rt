@@ -16,7 +16,7 @@ const MANY_VARIABLES: usize = 8;
 const MANY_TURNS: u64 = 60;
 
 /// How many values a look takes at most, at first and once looks have served.
-const FIRST_LOOK: u64 = 500;
+const FIRST_LOOK: u64 = 3_000;
 
 const LONGEST_LOOK: u64 = 32_000;
 

@@ -13,10 +13,11 @@ use qc_model::VarId;
 use qc_rules::Level;
 use std::alloc::AllocError;
 
-/// How many turns the first run has; each later one has twice as many as the one before.
-const FIRST_TURNS: u64 = 100;
+/// How many turns a run has at least.
+const LEAST_TURNS: u64 = 100;
 
-/// How many runs there are at most.
+/// How many runs there are at most, each with the same share of the turns: many short ones find a tuple sooner than a few long
+/// ones, since what goes astray at the first values does so for long.
 const MOST_RUNS: u32 = 16;
 
 /// How runs ended, and how many turns they left.
@@ -98,7 +99,7 @@ pub(crate) fn with_restarts(
     ensures back { CameBack level.now.problem.now ground.old.store ground.new.engine ground.new.store }
 {
     let mut left = turns;
-    let mut limit = FIRST_TURNS;
+    let limit = (turns / u64::from(MOST_RUNS)).max(LEAST_TURNS);
     for round in 0..MOST_RUNS {
         if left == 0 {
             return Ok(spent());
@@ -106,7 +107,6 @@ pub(crate) fn with_restarts(
         ground.varies = round > 0;
         ground.turns = left.min(limit);
         left = left.saturating_sub(limit);
-        limit = limit.saturating_mul(2);
         let outcome = run(level, ground)?;
         left = left.saturating_add(ground.turns);
         if is_over(outcome) {
