@@ -425,9 +425,9 @@ pruned_told g i box left steps p = record {
   worse = no_worse_yet (tracked_at g i) left;
 }
 
-pub bounded_told : (cuts : Bool) (above : ℤ → Bool) (g : Game) (i : ℕ) (box left_box : Box) (h : Option ℕ) (xs : List Seen) (ms : List ℤ) (had left : ℕ) (old mid new : List Line) (joins : Joins) (steps : List Step) → BoundedSteps g i box left_box xs ms steps → mid ≡ old ++ map step_line steps →
-    EndingTold cuts above g i left_box h (xs ++ seen_bounds ms) had left mid new joins → BoundedTold cuts above g i box h xs ms had left old new joins
-bounded_told cuts above g i box left_box h xs ms had left old mid new joins steps p q w =
+pub stepped_told : (cuts : Bool) (above : ℤ → Bool) (g : Game) (i : ℕ) (box left_box : Box) (h : Option ℕ) (xs : List Seen) (ms : List ℤ) (had left : ℕ) (old mid new : List Line) (joins : Joins) (steps : List Step) → left_box ≡ after_steps steps box → StepsMade g (drop i g.scopes) i (demands g i) box ms steps → HasSizes 1 (seen_bounds ms) →
+    mid ≡ old ++ map step_line steps → EndingTold cuts above g i left_box h (xs ++ seen_bounds ms) had left mid new joins → BoundedTold cuts above g i box h xs ms had left old new joins
+stepped_told cuts above g i box left_box h xs ms had left old mid new joins steps reached stepped one q w =
     let e = w.written.ending in
     record {
       seen = seen_bounds ms ++ w.seen;
@@ -438,13 +438,17 @@ bounded_told cuts above g i box left_box h xs ms had left old mid new joins step
         made = record {
           last = w.seen;
           both = refl;
-          stepped = p.stepped;
-          one = p.one;
-          ended = subst (λ b. EndingMade cuts above g (drop i g.scopes) i (demands g i) b h (xs ++ seen_bounds ms) w.seen had left e) p.reached w.written.made;
+          stepped = stepped;
+          one = one;
+          ended = subst (λ b. EndingMade cuts above g (drop i g.scopes) i (demands g i) b h (xs ++ seen_bounds ms) w.seen had left e) reached w.written.made;
         };
       };
       told = subst (IsTold g i joins) (append_assoc xs (seen_bounds ms) w.seen) w.told;
     }
+
+pub bounded_told : (cuts : Bool) (above : ℤ → Bool) (g : Game) (i : ℕ) (box left_box : Box) (h : Option ℕ) (xs : List Seen) (ms : List ℤ) (had left : ℕ) (old mid new : List Line) (joins : Joins) (steps : List Step) → BoundedSteps g i box left_box xs ms steps → mid ≡ old ++ map step_line steps →
+    EndingTold cuts above g i left_box h (xs ++ seen_bounds ms) had left mid new joins → BoundedTold cuts above g i box h xs ms had left old new joins
+bounded_told cuts above g i box left_box h xs ms had left old mid new joins steps p q w = stepped_told cuts above g i box left_box h xs ms had left old mid new joins steps p.reached p.stepped p.one q w
 
 -- what beats the marks is one thing more
 pub bare_steps : (g : Game) (i : ℕ) (box left : Box) (xs : List Seen) (ms : List ℤ) (steps : List Step) → StepsTold g i box left xs ms steps → BoundedSteps g i box left xs ms steps

@@ -6,6 +6,7 @@ pub mod Joining
 pub mod Covers
 pub mod Fitting
 pub mod Stepping
+pub mod Trimming
 pub mod Nodes
 pub mod Branching
 pub mod Progress

@@ -5,6 +5,7 @@ pub mod Uppers
 pub mod Made
 pub mod Written
 pub mod Told
+pub mod Trimmed
 pub mod Attempted
 pub mod Solution
 pub mod Beaten

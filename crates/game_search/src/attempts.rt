@@ -103,6 +103,7 @@ pub(crate) fn attempt(
         joins,
         lines: Arena::new(alloc),
         kept: Vec::new(alloc),
+        needed: Vec::new(alloc),
         left: turns,
         advice,
         known,

@@ -49,8 +49,8 @@ use crate::rival::{is_outdone, rival_of};
 use crate::stage::Stage;
 use crate::walk::Walk;
 use crate::writing::{
-    copied_from, drop_before, last_to_drop, leave_out, put_horizon, put_steps, skip_and_tell,
-    skip_between,
+    copied_from, drop_before, last_to_drop, leave_out, put_horizon, put_needed, put_steps,
+    skip_and_tell, skip_between,
 };
 use proof_tree::{Line, Step, StepList};
 use prop_engine::Closed;
@@ -382,18 +382,68 @@ fn own_part(stage: &Stage, walk: &mut Walk) -> Result<(), AllocError>
     ensures back { OnOk result (IsBack stage.now.level.now.problem.now stage.now.level.now.number walk.old walk.new) }
 {
     if !is_advised(stage, walk) {
-        closed_part(stage, false, walk)?;
+        return shortened_part(stage, walk);
+    }
+    if tried_part(stage, walk)? {
         return Ok(());
     }
+    shortened_part(stage, walk)
+}
+
+/// So without a try before. Where the values are gone over and the tree ends outdone by the scope above, the tuple that did it
+/// is tried alone, since no value before it counts.
+#[cycle(search)]
+fn shortened_part(stage: &Stage, walk: &mut Walk) -> Result<(), AllocError>
+    requires here { IsEntered stage.now.level.now.problem.now stage.now.level.now.number walk.old.remains }
+    requires joins { game_of walk.old.joins ≡ stage.now.level.now.problem.now }
+    ensures told { OnOk result (walk.old.left < 2147483648 → PartTold stage.now.cuts (outdoes stage.now.level.now.problem.now stage.now.level.now.number stage.now.rival) stage.now.level.now.problem.now stage.now.level.now.number walk.old.remains.store.box (scope_number stage.now.horizon) [] [] walk.old.left walk.new.left walk.old.lines walk.new.lines walk.new.joins) }
+    ensures back { OnOk result (IsBack stage.now.level.now.problem.now stage.now.level.now.number walk.old walk.new) }
+{
+    let had = walk.left;
     let start = walk.lines.len();
-    let is_whole = closed_part(stage, true, walk)?;
-    walk.advice.tell(stage.level, is_whole);
-    if is_whole {
+    closed_part(stage, false, walk)?;
+    if !is_worth_again(stage, had, walk) {
         return Ok(());
     }
     walk.lines.cut(start);
+    if tried_part(stage, walk)? {
+        return Ok(());
+    }
     closed_part(stage, false, walk)?;
     Ok(())
+}
+
+/// Whether the own tree, which took turns since so many were left, would be shorter where the tuple that ended it is tried
+/// alone.
+fn is_worth_again(stage: &Stage, had: u64, walk: &Walk) -> bool
+    requires { game_of walk.now.joins ≡ stage.now.level.now.problem.now }
+    ensures { IsTrue result → IsTrue stage.now.cuts }
+{
+    let number = ScopeId(stage.level.number);
+    stage.cuts
+        && had.saturating_sub(walk.left) > 1
+        && !walk.joins.is_settled(number)
+        && is_outdone(stage.rival, &walk.joins, number)
+}
+
+/// The lines of a node's own tree where the advised tuple alone is gone into, and whether no other counts after it. Where some
+/// do, the lines are taken back.
+#[cycle(search)]
+fn tried_part(stage: &Stage, walk: &mut Walk) -> Result<bool, AllocError>
+    requires here { IsEntered stage.now.level.now.problem.now stage.now.level.now.number walk.old.remains }
+    requires joins { game_of walk.old.joins ≡ stage.now.level.now.problem.now }
+    ensures told { IfOk result (λ whole. IsTrue whole → walk.old.left < 2147483648 → PartTold stage.now.cuts (outdoes stage.now.level.now.problem.now stage.now.level.now.number stage.now.rival) stage.now.level.now.problem.now stage.now.level.now.number walk.old.remains.store.box (scope_number stage.now.horizon) [] [] walk.old.left walk.new.left walk.old.lines walk.new.lines walk.new.joins) }
+    ensures back { OnOk result (IsBack stage.now.level.now.problem.now stage.now.level.now.number walk.old walk.new) }
+    ensures undone { IfOk result (λ whole. IsFalse whole → walk.new.lines ≡ walk.old.lines) }
+{
+    let from = walk.lines.len();
+    let is_whole = closed_part(stage, true, walk)?;
+    walk.advice.tell(stage.level, is_whole);
+    if is_whole {
+        return Ok(true);
+    }
+    walk.lines.cut(from);
+    Ok(false)
 }
 
 /// Whether a tuple is tried first at a node. Without cuts none is.
@@ -456,13 +506,21 @@ fn part(
     ensures told { IfOk result (λ whole. (IsTrue tries → IsTrue whole) → (box : Box) (before : List Seen) (ms : List ℤ) → BoundedSteps stage.now.level.now.problem.now stage.now.level.now.number box walk.old.remains.store.box before ms steps.now → IsReady stage.now.level.now.problem.now stage.now.level.now.number walk.old.joins (suc (2 * walk.old.left)) (before ++ seen_bounds ms) → BoundedTold stage.now.cuts (outdoes stage.now.level.now.problem.now stage.now.level.now.number stage.now.rival) stage.now.level.now.problem.now stage.now.level.now.number box (scope_number stage.now.horizon) before ms walk.old.left walk.new.left walk.old.lines walk.new.lines walk.new.joins) }
     ensures back { OnOk result (IsBack stage.now.level.now.problem.now stage.now.level.now.number walk.old walk.new) }
 {
-    put_steps(&mut walk.lines, steps)?;
     match closed {
         Closed::Empty => {
+            put_needed(
+                &mut walk.lines,
+                &mut walk.needed,
+                stage.level.problem,
+                steps,
+            )?;
             walk.lines.put(Line::Empty)?;
             Ok(true)
         }
-        Closed::Open => within(stage, x, tries, walk),
+        Closed::Open => {
+            put_steps(&mut walk.lines, steps)?;
+            within(stage, x, tries, walk)
+        }
     }
 }
 

@@ -4,13 +4,13 @@ ghost use Rattle.qc_joins.specs.Joins.{game_of};
 
 use crate::advice::Advice;
 use crate::known::KnownNodes;
-use proof_tree::Line;
+use proof_tree::{Line, Step};
 use qc_joins::Joins;
 use search_box::SearchBox;
 use std::alloc::Global;
 use strategy_arena::Arena;
 
-/// The values left, what was seen in each scope on the way, the lines written, room for lines that are moved, how many cases
+/// The values left, what was seen in each scope on the way, the lines written, room for lines that are moved and for steps that are put, how many cases
 /// may still be gone into, which tuples are tried first, and which nodes are known.
 #[derive(Drop)]
 pub(crate) struct Walk<'p> {
@@ -19,6 +19,7 @@ pub(crate) struct Walk<'p> {
     pub(crate) joins: Joins<'p>,
     pub(crate) lines: Arena,
     pub(crate) kept: Vec<Line>,
+    pub(crate) needed: Vec<Step>,
     pub(crate) left: u64,
     pub(crate) advice: Advice<'p>,
     pub(crate) known: KnownNodes<'p>,

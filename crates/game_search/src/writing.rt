@@ -8,12 +8,14 @@ ghost use Rattle.proof_tree.specs.Lines.{horizon_lines, step_line, upto_lines};
 ghost use Rattle.proof_tree.specs.Text.{horizon_fits};
 ghost use Rattle.search_box.specs.Looking.{scope_number};
 ghost use Rattle.qc_joins.specs.Joins.{game_of, StandsAt, KeepsOthers};
+ghost use Rattle.game_search.specs.Trimmed.{TrimmedPut};
 ghost use Rattle.game_search.specs.Uppers.{upto_between, skipped_between, seen_between, without_before};
 
 use proof_tree::{Horizon, Line, Step};
 use qc_joins::Joins;
-use qc_model::ScopeId;
+use qc_model::{Problem, ScopeId};
 use std::alloc::{AllocError, Global};
+use step_trim::trim;
 use strategy_arena::Arena;
 
 fn line_of(step: Step) -> Line
@@ -33,6 +35,19 @@ pub(crate) fn put_steps(lines: &mut Arena, steps: &[Step]) -> Result<(), AllocEr
         lines.put(line_of(*step))?;
     }
     Ok(())
+}
+
+/// The lines of those steps on which the empty domain depends that they end with, for which `needed` has room.
+pub(crate) fn put_needed(
+    lines: &mut Arena,
+    needed: &mut Vec<Step>,
+    problem: &Problem,
+    steps: &[Step],
+) -> Result<(), AllocError>
+    ensures { OnOk result (TrimmedPut problem.now steps.now lines.old lines.new) }
+{
+    trim(problem, steps, needed)?;
+    put_steps(lines, needed.as_slice())
 }
 
 /// The lines of a horizon that begins at a node, where there is one, and the horizon in force below them.

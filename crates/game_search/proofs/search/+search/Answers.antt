@@ -39,7 +39,10 @@ use Rattle.game_search.specs.Told.{IsReady, BoundedSteps, StepsTold, PartTold, B
 use Rattle.game_search.specs.Uppers.{upto_between, skipped_between, seen_between, without_before}
 use Rattle.game_search.proofs.Covers.{covers_after, many_of, rest_of}
 use Rattle.game_search.proofs.Fitting.{number_among, place_fits}
-use Rattle.game_search.proofs.Here.{Passing, asked_here, outdone_ends, started, ready_again, case_done, case_ready, case_tried, ready_behind, case_behind, rest_skipped, rest_ended, rest_opened, rest_none, empty_told, barred_told, few_turns, next_told, pruned_told, bounded_told, bare_steps, part_told, part_more, branch_told, ready_first, ready_bounded, node_ended, bounded_ended, body_done, body_more, whole_node}
+use Rattle.qc_model.specs.Demands.{demands}
+use Rattle.proof_tree.specs.Steps.{after_steps}
+use Rattle.game_search.proofs.Trimming.{needed_made}
+use Rattle.game_search.proofs.Here.{Passing, asked_here, outdone_ends, started, ready_again, case_done, case_ready, case_tried, ready_behind, case_behind, rest_skipped, rest_ended, rest_opened, rest_none, empty_told, barred_told, few_turns, next_told, pruned_told, bounded_told, stepped_told, bare_steps, part_told, part_more, branch_told, ready_first, ready_bounded, node_ended, bounded_ended, body_done, body_more, whole_node}
 use Rattle.game_search.proofs.Knowing.{node_finished, kept_told}
 use Rattle.game_search.proofs.Losing.{ready_after}
 use Rattle.game_search.proofs.Marks.{firsts_marks}
@@ -528,25 +531,92 @@ own_part-returns-clause-told t c =
     let above = outdoes g i c.args.stage.now.rival in
     let h = scope_number c.args.stage.now.horizon in
     let a = c.args.walk.now in
-    let back = c.in_ok-is_whole.ensures.back in
-    let cut = c.is_advised.ensures c.if-not-is_advised.false in
-    let stand : c.cut.new.self ≡ a.lines = c.cut.ensures ∙ taken_back a.lines c.closed_part-2.new.walk.lines back.written c.len-start.result back.lines c.len-start.ensures in
-    let last = c.closed_part-3.new.walk in
-    λ few.
-    let told = c.in_ok-closed_part-2.ensures.told (λ q. cc) (omega (arith, few, back.left)) in
-    let here = subst (λ (d : Box). PartTold c.args.stage.now.cuts above g i d h [] [] c.closed_part-2.new.walk.left last.left c.cut.new.self last.lines last.joins) back.box told in
-    part_more c.args.stage.now.cuts above g i a.remains.store.box h [] [] c.closed_part-2.new.walk.left a.left last.left a.lines last.lines last.joins cut back.left
-    (subst (λ ls. PartTold c.args.stage.now.cuts above g i a.remains.store.box h [] [] c.closed_part-2.new.walk.left last.left ls last.lines last.joins) stand here)
+    let tried = c.tried_part.new.walk in
+    let last = c.shortened_part-2.new.walk in
+    let cuts = c.args.stage.now.cuts in
+    let back = c.in_ok-tried_part.ensures.back in
+    let stand : tried.lines ≡ a.lines = c.in_ok-tried_part.ensures.undone c.if-branch.false in
+    on_ok_weaker c.shortened_part-2.result
+    (λ told few.
+    part_more cuts above g i a.remains.store.box h [] [] tried.left a.left last.left a.lines last.lines last.joins (c.is_advised.ensures c.if-not-is_advised.false) back.left
+    (subst (λ ls. PartTold cuts above g i a.remains.store.box h [] [] tried.left last.left ls last.lines last.joins) stand
+    (subst (λ (d : Box). PartTold cuts above g i d h [] [] tried.left last.left tried.lines last.lines last.joins) back.box (told (omega (arith, few, back.left))))))
+    c.shortened_part-2.ensures.told
 
-pub own_part-returns-clause-back : goal.own_part-returns-clause-back
-own_part-returns-clause-back t c =
+pub shortened_part-returns-then-branch-clause-told : goal.shortened_part-returns-then-branch-clause-told
+shortened_part-returns-then-branch-clause-told t c =
+    let l = c.args.stage.now.level.now in
+    let g = l.problem.now in
+    let i = l.number in
+    let above = outdoes g i c.args.stage.now.rival in
+    let h = scope_number c.args.stage.now.horizon in
+    let a = c.args.walk.now in
+    let first = c.closed_part.new.walk in
+    let back = c.in_ok-closed_part.ensures.back in
+    let stand : c.cut.new.self ≡ a.lines = c.cut.ensures ∙ taken_back a.lines first.lines back.written c.len-start.result back.lines c.len-start.ensures in
+    let last = c.tried_part.new.walk in
+    let cuts = c.args.stage.now.cuts in
+    λ few.
+    let told = c.in_ok-tried_part.ensures.told c.if-branch.true (omega (arith, few, back.left)) in
+    part_more cuts above g i a.remains.store.box h [] [] first.left a.left last.left a.lines last.lines last.joins (c.is_worth_again.ensures c.if-not-is_worth_again.false) back.left
+    (subst (λ ls. PartTold cuts above g i a.remains.store.box h [] [] first.left last.left ls last.lines last.joins) stand
+    (subst (λ (d : Box). PartTold cuts above g i d h [] [] first.left last.left c.cut.new.self last.lines last.joins) back.box told))
+
+pub shortened_part-returns-then-branch-clause-back : goal.shortened_part-returns-then-branch-clause-back
+shortened_part-returns-then-branch-clause-back t c =
     let l = c.args.stage.now.level.now in
     let g = l.problem.now in
     let i = l.number in
     let a = c.args.walk.now in
-    let back = back_from g i a _ c.closed_part-2.new.walk c.in_ok-is_whole.ensures.back refl refl refl refl in
-    let stand : c.cut.new.self ≡ a.lines = c.cut.ensures ∙ taken_back a.lines c.closed_part-2.new.walk.lines back.written c.len-start.result back.lines c.len-start.ensures in
-    both_back g i a _ c.closed_part-3.new.walk (cut_back g i a c.closed_part-2.new.walk _ back refl refl stand refl) c.in_ok-closed_part-2.ensures.back
+    let first = c.closed_part.new.walk in
+    let back = c.in_ok-closed_part.ensures.back in
+    let stand : c.cut.new.self ≡ a.lines = c.cut.ensures ∙ taken_back a.lines first.lines back.written c.len-start.result back.lines c.len-start.ensures in
+    both_back g i a _ c.tried_part.new.walk (cut_back g i a first _ back refl refl stand refl) c.in_ok-tried_part.ensures.back
+
+pub shortened_part-returns-clause-told : goal.shortened_part-returns-clause-told
+shortened_part-returns-clause-told t c =
+    let l = c.args.stage.now.level.now in
+    let g = l.problem.now in
+    let i = l.number in
+    let above = outdoes g i c.args.stage.now.rival in
+    let h = scope_number c.args.stage.now.horizon in
+    let a = c.args.walk.now in
+    let first = c.closed_part.new.walk in
+    let back = c.in_ok-closed_part.ensures.back in
+    let stand : c.cut.new.self ≡ a.lines = c.cut.ensures ∙ taken_back a.lines first.lines back.written c.len-start.result back.lines c.len-start.ensures in
+    let tried = c.tried_part.new.walk in
+    let then = c.in_ok-tried_part.ensures.back in
+    let last = c.closed_part-2.new.walk in
+    let cuts = c.args.stage.now.cuts in
+    let same : tried.lines ≡ a.lines = c.in_ok-tried_part.ensures.undone c.if-branch.false ∙ stand in
+    λ few.
+    let told = c.in_ok-closed_part-2.ensures.told (λ q. cc) (omega (arith, few, back.left, then.left)) in
+    part_more cuts above g i a.remains.store.box h [] [] tried.left a.left last.left a.lines last.lines last.joins (c.is_worth_again.ensures c.if-not-is_worth_again.false) (omega (arith, back.left, then.left))
+    (subst (λ ls. PartTold cuts above g i a.remains.store.box h [] [] tried.left last.left ls last.lines last.joins) same
+    (subst (λ (d : Box). PartTold cuts above g i d h [] [] tried.left last.left tried.lines last.lines last.joins) (then.box ∙ back.box) told))
+
+pub shortened_part-returns-clause-back : goal.shortened_part-returns-clause-back
+shortened_part-returns-clause-back t c =
+    let l = c.args.stage.now.level.now in
+    let g = l.problem.now in
+    let i = l.number in
+    let a = c.args.walk.now in
+    let first = c.closed_part.new.walk in
+    let back = c.in_ok-closed_part.ensures.back in
+    let stand : c.cut.new.self ≡ a.lines = c.cut.ensures ∙ taken_back a.lines first.lines back.written c.len-start.result back.lines c.len-start.ensures in
+    let tried = both_back g i a _ c.tried_part.new.walk (cut_back g i a first _ back refl refl stand refl) c.in_ok-tried_part.ensures.back in
+    both_back g i a _ c.closed_part-2.new.walk tried c.in_ok-closed_part-2.ensures.back
+
+pub tried_part-returns-clause-back : goal.tried_part-returns-clause-back
+tried_part-returns-clause-back t c =
+    let l = c.args.stage.now.level.now in
+    let g = l.problem.now in
+    let i = l.number in
+    let a = c.args.walk.now in
+    let first = c.closed_part.new.walk in
+    let back = c.in_ok-is_whole.ensures.back in
+    let stand : c.cut.new.self ≡ a.lines = c.cut.ensures ∙ taken_back a.lines first.lines back.written c.len-from.result back.lines c.len-from.ensures in
+    cut_back g i a first _ back refl refl stand refl
 
 pub closed_part-returns-clause-told : goal.closed_part-returns-clause-told
 closed_part-returns-clause-told t c =
@@ -578,12 +648,16 @@ pub part-returns-in_ok-put-in-Empty-clause-told : goal.part-returns-in_ok-put-in
 part-returns-in_ok-put-in-Empty-clause-told t c =
     let l = c.args.stage.now.level.now in
     let g = l.problem.now in
+    let d = demands g l.number in
     let h = scope_number c.args.stage.now.horizon in
     let left_box = c.args.walk.now.remains.store.box in
     let none_left : has_empty left_box ≡ true = subst (λ (a : Closed). GoesOn a g l.number c.args.x c.args.walk.now.remains) c.in-Empty.is c.requires.goes in
+    let put = c.in_ok-put_needed-in-Empty.ensures in
     λ w box before ms stepped ready.
-    bounded_told c.args.stage.now.cuts (outdoes g l.number c.args.stage.now.rival) g l.number box left_box h before ms c.args.walk.now.left c.args.walk.now.left c.args.walk.now.lines c.put_steps.new.lines c.put.new.self c.args.walk.now.joins c.args.steps.now stepped c.in_ok-put_steps.ensures
-    (empty_told c.args.stage.now.cuts (outdoes g l.number c.args.stage.now.rival) g l.number left_box h (before ++ seen_bounds ms) c.args.walk.now.left c.put_steps.new.lines c.args.walk.now.joins ready c.put.new.self none_left c.in_ok-put-in-Empty.ensures.put)
+    let needed = needed_made g (drop l.number g.scopes) l.number d box ms c.args.steps.now put.less put.trims (subst (λ (u : Box). has_empty u ≡ true) stepped.reached none_left) stepped.stepped in
+    let end_box = after_steps put.less box in
+    stepped_told c.args.stage.now.cuts (outdoes g l.number c.args.stage.now.rival) g l.number box end_box h before ms c.args.walk.now.left c.args.walk.now.left c.args.walk.now.lines c.put_needed.new.lines c.put.new.self c.args.walk.now.joins put.less refl needed.made stepped.one put.lines
+    (empty_told c.args.stage.now.cuts (outdoes g l.number c.args.stage.now.rival) g l.number end_box h (before ++ seen_bounds ms) c.args.walk.now.left c.put_needed.new.lines c.args.walk.now.joins ready c.put.new.self needed.empties c.in_ok-put-in-Empty.ensures.put)
 
 pub part-returns-in_ok-put-in-Empty-clause-back : goal.part-returns-in_ok-put-in-Empty-clause-back
 part-returns-in_ok-put-in-Empty-clause-back t c =
@@ -591,10 +665,10 @@ part-returns-in_ok-put-in-Empty-clause-back t c =
     let g = l.problem.now in
     let i = l.number in
     let a = c.args.walk.now in
-    line_back g i a a _ (none_back g i a) refl refl refl _ (lines_both a.lines c.put_steps.new.lines c.put.new.self _ _ c.in_ok-put_steps.ensures c.in_ok-put-in-Empty.ensures.put)
+    line_back g i a a _ (none_back g i a) refl refl refl _ (lines_both a.lines c.put_needed.new.lines c.put.new.self _ _ c.in_ok-put_needed-in-Empty.ensures.lines c.in_ok-put-in-Empty.ensures.put)
 
-pub part-returns-in-Open-clause-told : goal.part-returns-in-Open-clause-told
-part-returns-in-Open-clause-told t c =
+pub part-returns-in_ok-put_steps-in-Open-clause-told : goal.part-returns-in_ok-put_steps-in-Open-clause-told
+part-returns-in_ok-put_steps-in-Open-clause-told t c =
     let l = c.args.stage.now.level.now in
     let g = l.problem.now in
     let h = scope_number c.args.stage.now.horizon in
@@ -602,17 +676,17 @@ part-returns-in-Open-clause-told t c =
     IfOk-weaker c.within.result _ _
     (λ whole told w box before ms stepped ready.
     let worse = subst (λ ns. has_no_worse (tracked_at g l.number) ns left_box ≡ true) (sym (firsts_marks before ms)) stepped.worse in
-    bounded_told c.args.stage.now.cuts (outdoes g l.number c.args.stage.now.rival) g l.number box left_box h before ms c.args.walk.now.left c.within.new.walk.left c.args.walk.now.lines c.put_steps.new.lines c.within.new.walk.lines c.within.new.walk.joins c.args.steps.now stepped c.in_ok-put_steps.ensures
+    bounded_told c.args.stage.now.cuts (outdoes g l.number c.args.stage.now.rival) g l.number box left_box h before ms c.args.walk.now.left c.within.new.walk.left c.args.walk.now.lines c.put_steps.new.lines c.within.new.walk.lines c.within.new.walk.joins c.args.steps.now stepped c.in_ok-put_steps-in-Open.ensures
     (told w (before ++ seen_bounds ms) ready worse))
     c.within.ensures.told
 
-pub part-returns-in-Open-clause-back : goal.part-returns-in-Open-clause-back
-part-returns-in-Open-clause-back t c =
+pub part-returns-in_ok-put_steps-in-Open-clause-back : goal.part-returns-in_ok-put_steps-in-Open-clause-back
+part-returns-in_ok-put_steps-in-Open-clause-back t c =
     let l = c.args.stage.now.level.now in
     let g = l.problem.now in
     let i = l.number in
     let a = c.args.walk.now in
-    let stepped = line_back g i a a _ (none_back g i a) refl refl refl _ c.in_ok-put_steps.ensures in
+    let stepped = line_back g i a a _ (none_back g i a) refl refl refl _ c.in_ok-put_steps-in-Open.ensures in
     on_ok_weaker c.within.result (λ e. both_back g i a _ c.within.new.walk stepped e) c.within.ensures.back
 
 pub with_value-part-requires : goal.with_value-part-requires

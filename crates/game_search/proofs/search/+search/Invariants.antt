@@ -11,58 +11,64 @@ use Rattle.game_search.proofs.Here.{Passing}
 use Rattle.game_search.proofs.search.+search.Given as goal
 
 abbrev pub decreases-node : goal.decreases-node
-decreases-node l = 12 * ((length l.levels.now.problem.now.scopes - l.number) + (length l.levels.now.problem.now.variables - before l.levels.now.problem.now l.number)) + 12
+decreases-node l = 14 * ((length l.levels.now.problem.now.scopes - l.number) + (length l.levels.now.problem.now.variables - before l.levels.now.problem.now l.number)) + 14
 
 abbrev pub decreases-searched_node : goal.decreases-searched_node
-decreases-searched_node l = 12 * ((length l.levels.now.problem.now.scopes - l.number) + (length l.levels.now.problem.now.variables - before l.levels.now.problem.now l.number)) + 11
+decreases-searched_node l = 14 * ((length l.levels.now.problem.now.scopes - l.number) + (length l.levels.now.problem.now.variables - before l.levels.now.problem.now l.number)) + 13
 
 abbrev pub decreases-own_tree : goal.decreases-own_tree
-decreases-own_tree l = 12 * ((length l.stage.now.level.now.problem.now.scopes - l.stage.now.level.now.number) + (length l.stage.now.level.now.problem.now.variables - l.stage.now.level.now.from)) + 10
+decreases-own_tree l = 14 * ((length l.stage.now.level.now.problem.now.scopes - l.stage.now.level.now.number) + (length l.stage.now.level.now.problem.now.variables - l.stage.now.level.now.from)) + 12
 
 abbrev pub decreases-advised_tree : goal.decreases-advised_tree
-decreases-advised_tree l = 12 * ((length l.stage.now.level.now.problem.now.scopes - l.stage.now.level.now.number) + (length l.stage.now.level.now.problem.now.variables - l.stage.now.level.now.from)) + 9
+decreases-advised_tree l = 14 * ((length l.stage.now.level.now.problem.now.scopes - l.stage.now.level.now.number) + (length l.stage.now.level.now.problem.now.variables - l.stage.now.level.now.from)) + 11
 
 abbrev pub decreases-bounded_tree : goal.decreases-bounded_tree
-decreases-bounded_tree l = 12 * ((length l.stage.now.level.now.problem.now.scopes - l.stage.now.level.now.number) + (length l.stage.now.level.now.problem.now.variables - l.stage.now.level.now.from)) + 8
+decreases-bounded_tree l = 14 * ((length l.stage.now.level.now.problem.now.scopes - l.stage.now.level.now.number) + (length l.stage.now.level.now.problem.now.variables - l.stage.now.level.now.from)) + 10
 
 abbrev pub decreases-bounded_part : goal.decreases-bounded_part
-decreases-bounded_part l = 12 * ((length l.stage.now.level.now.problem.now.scopes - l.stage.now.level.now.number) + (length l.stage.now.level.now.problem.now.variables - l.stage.now.level.now.from)) + 7
+decreases-bounded_part l = 14 * ((length l.stage.now.level.now.problem.now.scopes - l.stage.now.level.now.number) + (length l.stage.now.level.now.problem.now.variables - l.stage.now.level.now.from)) + 7
 
 abbrev pub decreases-whole_tree : goal.decreases-whole_tree
-decreases-whole_tree l = 12 * ((length l.stage.now.level.now.problem.now.scopes - l.stage.now.level.now.number) + (length l.stage.now.level.now.problem.now.variables - l.stage.now.level.now.from)) + 8
+decreases-whole_tree l = 14 * ((length l.stage.now.level.now.problem.now.scopes - l.stage.now.level.now.number) + (length l.stage.now.level.now.problem.now.variables - l.stage.now.level.now.from)) + 10
 
 abbrev pub decreases-own_part : goal.decreases-own_part
-decreases-own_part l = 12 * ((length l.stage.now.level.now.problem.now.scopes - l.stage.now.level.now.number) + (length l.stage.now.level.now.problem.now.variables - l.stage.now.level.now.from)) + 7
+decreases-own_part l = 14 * ((length l.stage.now.level.now.problem.now.scopes - l.stage.now.level.now.number) + (length l.stage.now.level.now.problem.now.variables - l.stage.now.level.now.from)) + 9
+
+abbrev pub decreases-shortened_part : goal.decreases-shortened_part
+decreases-shortened_part l = 14 * ((length l.stage.now.level.now.problem.now.scopes - l.stage.now.level.now.number) + (length l.stage.now.level.now.problem.now.variables - l.stage.now.level.now.from)) + 8
+
+abbrev pub decreases-tried_part : goal.decreases-tried_part
+decreases-tried_part l = 14 * ((length l.stage.now.level.now.problem.now.scopes - l.stage.now.level.now.number) + (length l.stage.now.level.now.problem.now.variables - l.stage.now.level.now.from)) + 7
 
 abbrev pub decreases-closed_part : goal.decreases-closed_part
-decreases-closed_part l = 12 * ((length l.stage.now.level.now.problem.now.scopes - l.stage.now.level.now.number) + (length l.stage.now.level.now.problem.now.variables - l.stage.now.level.now.from)) + 6
+decreases-closed_part l = 14 * ((length l.stage.now.level.now.problem.now.scopes - l.stage.now.level.now.number) + (length l.stage.now.level.now.problem.now.variables - l.stage.now.level.now.from)) + 6
 
 abbrev pub decreases-part : goal.decreases-part
-decreases-part l = 12 * ((length l.stage.now.level.now.problem.now.scopes - l.stage.now.level.now.number) + (length l.stage.now.level.now.problem.now.variables - l.x)) + 5
+decreases-part l = 14 * ((length l.stage.now.level.now.problem.now.scopes - l.stage.now.level.now.number) + (length l.stage.now.level.now.problem.now.variables - l.x)) + 5
 
 abbrev pub decreases-within : goal.decreases-within
-decreases-within l = 12 * ((length l.stage.now.level.now.problem.now.scopes - l.stage.now.level.now.number) + (length l.stage.now.level.now.problem.now.variables - l.x)) + 4
+decreases-within l = 14 * ((length l.stage.now.level.now.problem.now.scopes - l.stage.now.level.now.number) + (length l.stage.now.level.now.problem.now.variables - l.x)) + 4
 
 abbrev pub decreases-over_values : goal.decreases-over_values
-decreases-over_values l = 12 * ((length l.stage.now.level.now.problem.now.scopes - l.stage.now.level.now.number) + (length l.stage.now.level.now.problem.now.variables - l.x.0)) + 3
+decreases-over_values l = 14 * ((length l.stage.now.level.now.problem.now.scopes - l.stage.now.level.now.number) + (length l.stage.now.level.now.problem.now.variables - l.x.0)) + 3
 
 abbrev pub decreases-cases : goal.decreases-cases
-decreases-cases l = 12 * ((length l.stage.now.level.now.problem.now.scopes - l.stage.now.level.now.number) + (length l.stage.now.level.now.problem.now.variables - l.x.0)) + 2
+decreases-cases l = 14 * ((length l.stage.now.level.now.problem.now.scopes - l.stage.now.level.now.number) + (length l.stage.now.level.now.problem.now.variables - l.x.0)) + 2
 
 abbrev pub decreases-with_value : goal.decreases-with_value
-decreases-with_value l = 12 * ((length l.stage.now.level.now.problem.now.scopes - l.stage.now.level.now.number) + (length l.stage.now.level.now.problem.now.variables - l.x.0))
+decreases-with_value l = 14 * ((length l.stage.now.level.now.problem.now.scopes - l.stage.now.level.now.number) + (length l.stage.now.level.now.problem.now.variables - l.x.0))
 
 abbrev pub decreases-try_branch : goal.decreases-try_branch
-decreases-try_branch l = 12 * ((length l.stage.now.level.now.problem.now.scopes - l.stage.now.level.now.number) + (length l.stage.now.level.now.problem.now.variables - l.x.0)) + 3
+decreases-try_branch l = 14 * ((length l.stage.now.level.now.problem.now.scopes - l.stage.now.level.now.number) + (length l.stage.now.level.now.problem.now.variables - l.x.0)) + 3
 
 abbrev pub decreases-try_case : goal.decreases-try_case
-decreases-try_case l = 12 * ((length l.stage.now.level.now.problem.now.scopes - l.stage.now.level.now.number) + (length l.stage.now.level.now.problem.now.variables - l.x.0)) + 2
+decreases-try_case l = 14 * ((length l.stage.now.level.now.problem.now.scopes - l.stage.now.level.now.number) + (length l.stage.now.level.now.problem.now.variables - l.x.0)) + 2
 
 abbrev pub decreases-try_against_rival : goal.decreases-try_against_rival
-decreases-try_against_rival l = 12 * ((length l.stage.now.level.now.problem.now.scopes - l.stage.now.level.now.number) + (length l.stage.now.level.now.problem.now.variables - l.x.0)) + 1
+decreases-try_against_rival l = 14 * ((length l.stage.now.level.now.problem.now.scopes - l.stage.now.level.now.number) + (length l.stage.now.level.now.problem.now.variables - l.x.0)) + 1
 
 abbrev pub decreases-after_tuple : goal.decreases-after_tuple
-decreases-after_tuple l = 12 * ((length l.stage.now.level.now.problem.now.scopes - l.stage.now.level.now.number) + (length l.stage.now.level.now.problem.now.variables - l.stage.now.level.now.stop)) + 1
+decreases-after_tuple l = 14 * ((length l.stage.now.level.now.problem.now.scopes - l.stage.now.level.now.number) + (length l.stage.now.level.now.problem.now.variables - l.stage.now.level.now.stop)) + 1
 
 abbrev pub invariant-cases-values : goal.invariant-cases-values
 invariant-cases-values l = record {
