@@ -13,11 +13,14 @@ use std::alloc::{AllocError, Global};
 const MANY_TURNS: u64 = 500;
 
 /// A look takes one in so many of the turns of that node, and at least so many values.
-const SHARE: u64 = 4;
+const SHARE: u64 = 16;
 
-const SHORTEST_LOOK: u64 = 500;
+const SHORTEST_LOOK: u64 = 60;
 
-/// After so many looks in vain there are no more.
+/// What a value costs that a look takes, in turns of the search.
+const LOOK_COST: u64 = 2;
+
+/// After so many looks in vain, more than served, there are no more.
 const MOST_FAILURES: u8 = 3;
 
 /// The scout, and whether it is asked next.
@@ -32,6 +35,8 @@ pub(crate) struct Bests<'p> {
     /// How many values the next look takes at most; 0 where there is none.
     turns: u64,
     failures: u8,
+    /// How many turns the last node took that was searched without a bound.
+    plain: u64,
     /// Whether a value was found at the node that the search is at.
     is_tried: bool,
     /// How many turns were left where the node began.
@@ -55,6 +60,7 @@ impl<'p> Bests<'p> {
             scout: None,
             turns: 0,
             failures: 0,
+            plain: 0,
             is_tried: false,
             left: 0,
         }
@@ -111,6 +117,16 @@ impl<'p> Bests<'p> {
         }
     }
 
+    /// A look serves where it and the node together cost half of what the last node without one did.
+    fn judge(&mut self, took: u64) {
+        let cost = self.turns.saturating_mul(LOOK_COST).saturating_add(took);
+        if cost.saturating_mul(2) > self.plain {
+            self.fail();
+        } else {
+            self.failures = self.failures.saturating_sub(1);
+        }
+    }
+
     fn fail(&mut self) {
         self.is_tried = false;
         self.turns = 0;
@@ -119,10 +135,15 @@ impl<'p> Bests<'p> {
 
     /// Learns how many turns are left after the scope's node. Where a value served the next node is looked at as this one was.
     pub(crate) fn learn(&mut self, level: &Level, left: u64) {
-        if self.scope != Some(level.number) || self.is_tried {
+        if self.scope != Some(level.number) {
             return;
         }
         let took = self.left.saturating_sub(left);
+        if self.is_tried {
+            self.judge(took);
+            return;
+        }
+        self.plain = took;
         self.turns = if took > MANY_TURNS && self.failures < MOST_FAILURES {
             (took / SHARE).max(SHORTEST_LOOK)
         } else {

@@ -60,6 +60,9 @@ use qc_model::{ScopeId, VarId};
 use qc_rules::{Level, Levels};
 use std::alloc::AllocError;
 
+/// How many turns a tree that ended outdone has to have taken, so that it is worth to try its last tuple alone.
+const LONG_TREE: u64 = 8;
+
 /// The node of a scope, or of the goal, in the box that the walk holds, below the horizon in force. Where it is exact,
 /// its vector is the one that the walk's joins handed out last.
 #[cycle(search)]
@@ -421,7 +424,7 @@ fn is_worth_again(stage: &Stage, had: u64, walk: &Walk) -> bool
 {
     let number = ScopeId(stage.level.number);
     stage.cuts
-        && had.saturating_sub(walk.left) > 1
+        && had.saturating_sub(walk.left) > LONG_TREE
         && !walk.joins.is_settled(number)
         && is_outdone(stage.rival, &walk.joins, number)
 }

@@ -11,20 +11,35 @@ use qc_model::{Sense, VarId};
 const LAST: u32 = u32::MAX - 1;
 
 /// The variable with the fewest values left, of those from `from` to the one before `stop` that have several; the first
-/// of them. The objective comes after all others.
-pub(crate) fn smallest(store: &Store, from: usize, stop: usize, wish: Option<Wish>) -> Option<VarId>
+/// of them, or where that varies one that chance names. The objective comes after all others.
+pub(crate) fn smallest(
+    store: &Store,
+    from: usize,
+    stop: usize,
+    wish: Option<Wish>,
+    varies: bool,
+    chance: &mut Chance,
+) -> Option<VarId>
     requires bound { stop ≤ length store.now.box }
     requires few { length store.now.box ≤ 500 }
     ensures { IfSome result (λ x. x.0 < length store.now.box) }
 {
     let mut best = None;
     let mut fewest = u32::MAX;
+    let mut ties = 0u32;
     for at in from..stop {
         let x = VarId(at as u16);
         let rank = rank(store.size(x), is_objective(x, wish));
         if is_better(rank, fewest) {
             best = Some(x);
             fewest = rank;
+            ties = 1;
+        } else if varies && rank == fewest {
+            // each of n that are as good is named once in n times
+            ties = ties.saturating_add(1);
+            if chance.below(ties) == 0 {
+                best = Some(x);
+            }
         }
     }
     best

@@ -50,7 +50,14 @@ fn step(level: &Level, ground: &mut Ground) -> Result<Option<Outcome>, AllocErro
     ensures fewer { IfOk result (λ o. o ≡ None → ground.new.turns < ground.old.turns) }
 {
     level.problem.known();
-    let Some(x) = smallest(&ground.store, level.from, level.stop, ground.wish) else {
+    let Some(x) = smallest(
+        &ground.store,
+        level.from,
+        level.stop,
+        ground.wish,
+        ground.varies,
+        &mut ground.chance,
+    ) else {
         read_values(&ground.store, level.from, level.stop, &mut ground.values);
         return Ok(Some(Outcome::Found));
     };
