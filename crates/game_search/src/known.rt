@@ -109,6 +109,11 @@ pub(crate) struct NodeEnd {
     pub(crate) left: u64,
 }
 
+/// How many turns the node took.
+fn took(end: NodeEnd) -> u64 {
+    end.had.saturating_sub(end.left)
+}
+
 /// Whether the node was won. None comes where that isn't known.
 fn is_won(found: Found) -> Option<bool>
     ensures { IfSome result (λ won. (v : List ℤ) → IsTrue (ends_as won (verdict_of found v))) }
@@ -156,7 +161,8 @@ impl<'p> KnownNodes<'p> {
         })
     }
 
-    /// Whether a node is kept that has so many lines: it is decided, a turn is left, and its position can be met again.
+    /// Whether a node is kept that has so many lines: it is decided, a turn is left, and its position can be met again. One that
+    /// took more turns than it has lines isn't: a copy would spend them again, and a search that knows its tuple takes fewer.
     pub(crate) fn is_wanted(
         &self,
         level: &Level,
@@ -167,6 +173,7 @@ impl<'p> KnownNodes<'p> {
         self.likeness.is_some()
             && (self.kept < FIRST_NODES || self.met >= self.kept / LEAST_SHARE)
             && end.left > 0
+            && took(end) <= lines as u64
             && lines >= LEAST_LINES
             && lines <= MOST_LINES
             && is_won(end.found).is_some()
