@@ -86,7 +86,7 @@ pub(crate) fn place_before(
     Ok(true)
 }
 
-/// Runs again and again, with more turns each time, until a tuple is found, none is left, or all turns are spent. The
+/// Runs again and again, each time within its share of the turns, until a tuple is found, none is left, or all are spent. The
 /// first run takes values in order.
 #[tactic(auto, using(crate::proofs::Going::back_same, crate::proofs::Going::back_more, crate::proofs::Going::closed_back))]
 pub(crate) fn with_restarts(
