@@ -26,6 +26,3 @@ mod span;
 pub use arithmetic::{abs, add, greatest, least, meets, mul, span_of};
 pub use division::{div, rem};
 pub use span::Span;
-
-#[cfg(test)]
-mod tests;

@@ -37,8 +37,6 @@ pub(crate) mod page;
 pub(crate) mod pages;
 pub(crate) mod row;
 mod stack;
-#[cfg(test)]
-mod tests;
 
 pub use stack::PagedStack;
 pub use stack::walk::Cursor;

@@ -20,6 +20,3 @@ pub use repeats::{is_among, is_repeated, is_same};
 pub use sets::contains;
 pub use spans::{Span, width};
 pub use variables::{are_distinct, own_variables};
-
-#[cfg(test)]
-mod tests;

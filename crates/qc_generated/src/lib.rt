@@ -11,6 +11,3 @@ mod figures;
 mod make;
 
 pub use make::generated;
-
-#[cfg(test)]
-mod tests;

@@ -26,6 +26,3 @@ mod token;
 pub use fault::TokenError;
 pub use scan::tokens;
 pub use token::{Sort, Token};
-
-#[cfg(test)]
-mod tests;

@@ -5,6 +5,8 @@
 #![tactic(auto)]
 
 #[cfg(test)]
+mod arguments;
+#[cfg(test)]
 mod boxes;
 #[cfg(test)]
 mod cascade;
@@ -15,7 +17,11 @@ mod evaluation;
 #[cfg(test)]
 mod formulas;
 #[cfg(test)]
+mod generated;
+#[cfg(test)]
 mod grammar;
+#[cfg(test)]
+mod intervals;
 #[cfg(test)]
 mod joins;
 #[cfg(test)]
@@ -26,6 +32,10 @@ mod levels;
 mod lines;
 #[cfg(test)]
 mod model;
+#[cfg(test)]
+mod outside;
+#[cfg(test)]
+mod pages;
 #[cfg(test)]
 mod plays;
 #[cfg(test)]
@@ -40,6 +50,8 @@ mod store;
 mod sums;
 #[cfg(test)]
 mod texts;
+#[cfg(test)]
+mod tokens;
 #[cfg(test)]
 mod trees;
 #[cfg(test)]

@@ -1,5 +1,5 @@
 //! Texts, and the tokens or the refusal that they get.
-use crate::{Sort, Token, TokenError, tokens};
+use qc_tokens::{Sort, Token, TokenError, tokens};
 use std::alloc::Global;
 use std::test::Fail;
 

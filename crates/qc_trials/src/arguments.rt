@@ -1,5 +1,8 @@
 //! The arguments of one constraint, of each kind.
-use super::*;
+use qc_arguments::{
+    are_distinct, arguments, contains, items_at, last_one, members_at, numbers_at, one_at,
+    own_variables,
+};
 use qc_model::{Arg, Args, Argument, Constraint, Numbers, Pred, ScopeId, Set, VarId};
 use std::alloc::{AllocError, Global};
 use std::test::Fail;

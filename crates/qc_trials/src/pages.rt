@@ -1,5 +1,5 @@
-//! A long run over several pages, compared with numbers computed apart, and pages that cannot be had.
-use crate::PagedStack;
+//! A stack on pages: a long run over several pages, compared with numbers computed apart, and pages that cannot be had.
+use paged_stack::PagedStack;
 use std::alloc::AllocError;
 use std::test::Fail;
 

@@ -1,5 +1,5 @@
 //! Made problems, their sizes and some of their numbers. The numbers were computed by hand.
-use super::generated;
+use qc_generated::generated;
 use qc_model::{Argument, ConId};
 use std::test::Fail;
 

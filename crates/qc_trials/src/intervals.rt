@@ -1,5 +1,5 @@
-//! Values worked out by hand.
-use crate::{Span, abs, add, div, greatest, least, meets, mul, rem, span_of};
+//! Arithmetic on ranges of numbers: values worked out by hand.
+use fd_interval::{Span, abs, add, div, greatest, least, meets, mul, rem, span_of};
 use std::test::Fail;
 
 #[test]
