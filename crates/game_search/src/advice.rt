@@ -95,17 +95,18 @@ impl<'p> Advice<'p> {
         })
     }
 
-    /// Begins a node of the scope, where variables have these values and so many turns are left: finds the number of its
-    /// position, and looks for a tuple, or for the best value of what it aims at, where that is worth it: the value that was
+    /// Begins a node of the scope, where variables have these values and so many turns are left: takes the number of its position,
+    /// or finds one, and looks for a tuple, or for the best value of what it aims at, where that is worth it: the value that was
     /// found. It fails only where memory runs out.
     pub(crate) fn enter(
         &mut self,
         level: &Level,
         aim: Option<Aim>,
+        position: Option<u64>,
         values: &[i64],
         left: u64,
     ) -> Result<Option<i64>, AllocError> {
-        let position = self.number(level, values);
+        let position = self.number(level, position, values);
         if let Some(standing) = self.scopes.get_mut(level.number as usize) {
             standing.position = position;
         }
@@ -173,17 +174,15 @@ impl<'p> Advice<'p> {
         self.scopes.get(level.number as usize)?.position
     }
 
-    /// The number of the scope's position, where it is worth to be looked up.
-    fn number(&self, level: &Level, values: &[i64]) -> Option<u64> {
-        match self.scopes.get(level.number as usize) {
-            Some(standing) => {
-                if standing.keeps_positions() {
-                    self.residues.number(level, values)
-                } else {
-                    None
-                }
-            }
-            None => None,
+    /// The number of the scope's position, this one where there is one, if it is worth to be looked up.
+    fn number(&self, level: &Level, position: Option<u64>, values: &[i64]) -> Option<u64> {
+        let standing = self.scopes.get(level.number as usize)?;
+        if !standing.keeps_positions() || !self.residues.has(level) {
+            return None;
+        }
+        match position {
+            Some(number) => Some(number),
+            None => self.residues.number(level, values),
         }
     }
 

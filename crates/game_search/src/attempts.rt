@@ -12,7 +12,7 @@ use crate::advice::Advice;
 use crate::known::KnownNodes;
 use crate::search::{is_decided, node};
 use crate::walk::Walk;
-use proof_tree::{Outcome, cases_are_few};
+use proof_tree::{Outcome, StepList, cases_are_few};
 use qc_joins::Joins;
 use qc_levels::Found;
 use qc_meaning::outcomes_are_true;
@@ -103,6 +103,7 @@ pub(crate) fn attempt(
         joins,
         lines: Arena::new(alloc),
         kept: Vec::new(alloc),
+        steps: StepList::new(alloc),
         needed: Vec::new(alloc),
         left: turns,
         advice,

@@ -180,12 +180,13 @@ impl<'p> KnownNodes<'p> {
             && remains.is_fresh(level)
     }
 
-    /// Keeps the lines of a node that is wanted.
+    /// Keeps the lines of a node that is wanted, with the number of its position.
     pub(crate) fn keep(
         &mut self,
         alloc: Global,
         level: &Level,
         horizon: Option<ScopeId>,
+        position: Option<u64>,
         remains: &SearchBox,
         end: NodeEnd,
         lines: Vec<Line>,
@@ -195,7 +196,7 @@ impl<'p> KnownNodes<'p> {
         requires finished { IsFinished level.now.problem.now level.now.number remains.now.store.box (scope_number horizon) end.found end.had end.left lines.items }
         ensures { self.new.problem.now ≡ self.old.problem.now }
     {
-        match self.node_for(alloc, level, horizon, remains, end, lines)? {
+        match self.node_for(alloc, level, horizon, position, remains, end, lines)? {
             Some(node) => self.put(node),
             None => Ok(()),
         }
@@ -207,6 +208,7 @@ impl<'p> KnownNodes<'p> {
         alloc: Global,
         level: &Level,
         horizon: Option<ScopeId>,
+        position: Option<u64>,
         remains: &SearchBox,
         end: NodeEnd,
         lines: Vec<Line>,
@@ -223,7 +225,7 @@ impl<'p> KnownNodes<'p> {
             return Ok(None);
         };
         let here = remains.values_before(level);
-        let Some(number) = likeness.number(level, horizon, here) else {
+        let Some(number) = position else {
             return Ok(None);
         };
         if end.left == 0 || !likeness.stand_alike(level, remains, lines.as_slice()) {
@@ -299,11 +301,28 @@ impl<'p> KnownNodes<'p> {
         self.lines = 0;
     }
 
-    /// The place in the list of the node that is known for this position, where as many turns are left as it took.
+    /// The number of the position of the scope's node. None comes where nothing is kept for it.
+    pub(crate) fn position(
+        &self,
+        level: &Level,
+        horizon: Option<ScopeId>,
+        remains: &SearchBox,
+    ) -> Option<u64>
+        requires here { IsEntered level.now.problem.now level.now.number remains.now }
+    {
+        let Some(likeness) = &self.likeness else {
+            return None;
+        };
+        likeness.number(level, horizon, remains.values_before(level))
+    }
+
+    /// The place in the list of the node that is known for the position with this number, where as many turns are left as it
+    /// took.
     pub(crate) fn find(
         &self,
         level: &Level,
         horizon: Option<ScopeId>,
+        position: Option<u64>,
         left: u64,
         remains: &SearchBox,
     ) -> Option<usize>
@@ -315,7 +334,7 @@ impl<'p> KnownNodes<'p> {
         let Some(likeness) = &self.likeness else {
             return None;
         };
-        let number = likeness.number(level, horizon, remains.values_before(level))?;
+        let number = position?;
         let at = self.node_with(number)?;
         if at >= self.nodes.len() {
             return None;

@@ -14,7 +14,6 @@ ghost use Rattle.game_search.specs.Narrowed.{NarrowTold, FirstNarrowed, IsGivenU
 use crate::aim::{Worse, between, worse_values};
 use crate::stage::Stage;
 use crate::walk::Walk;
-use proof_tree::StepList;
 use prop_engine::Closed;
 use qc_model::{ScopeId, VarId};
 use std::alloc::AllocError;
@@ -31,12 +30,12 @@ pub(crate) enum GivenUp {
 
 /// Gives up the values that the incumbent of the scope's own tree rules out, where there are such: a bound, of whose mark the
 /// scope's join is told.
-fn give_up(stage: &Stage, steps: &mut StepList, walk: &mut Walk) -> Result<GivenUp, AllocError>
+fn give_up(stage: &Stage, walk: &mut Walk) -> Result<GivenUp, AllocError>
     requires here { IsEntered stage.now.level.now.problem.now stage.now.level.now.number walk.old.remains }
     requires joins { game_of walk.old.joins ≡ stage.now.level.now.problem.now }
-    requires none { steps.old ≡ [] }
+    requires none { walk.old.steps ≡ [] }
     ensures lost { IfOk result (λ given. IsGivenUp given walk.old.remains.store.box walk.new.remains.store.box) }
-    ensures told { OnOk result ((before : List Seen) → StandsAt walk.old.joins stage.now.level.now.number before → NarrowTold stage.now.level.now.problem.now stage.now.level.now.number walk.old.remains.store.box walk.new.remains.store.box before walk.new.joins steps.new) }
+    ensures told { OnOk result ((before : List Seen) → StandsAt walk.old.joins stage.now.level.now.number before → NarrowTold stage.now.level.now.problem.now stage.now.level.now.number walk.old.remains.store.box walk.new.remains.store.box before walk.new.joins walk.new.steps) }
     ensures on { LeadsOn walk.old.remains walk.new.remains }
     ensures game { game_of walk.new.joins ≡ game_of walk.old.joins }
     ensures others { KeepsOthers stage.now.level.now.number walk.old.joins walk.new.joins }
@@ -51,9 +50,13 @@ fn give_up(stage: &Stage, steps: &mut StepList, walk: &mut Walk) -> Result<Given
     };
     let x = worse.variable;
     let worse = between(worse, walk.remains.first(x), walk.remains.last(x));
-    let bound = walk
-        .remains
-        .bound(worse.sense, worse.variable, worse.lo, worse.hi, steps)?;
+    let bound = walk.remains.bound(
+        worse.sense,
+        worse.variable,
+        worse.lo,
+        worse.hi,
+        &mut walk.steps,
+    )?;
     let Some(bound) = bound else {
         return Ok(GivenUp::Nothing);
     };
@@ -69,16 +72,15 @@ pub(crate) fn narrow(
     stage: &Stage,
     x: VarId,
     value: i64,
-    steps: &mut StepList,
     walk: &mut Walk,
 ) -> Result<Closed, AllocError>
     requires var { x.0 < stage.now.level.now.stop }
     requires going { IsGoing stage.now.level.now.problem.now stage.now.level.now.number x.0 walk.old.remains }
     requires value { IsTrue (has_value (values_left walk.old.remains.store.box x.0) value) }
     requires joins { game_of walk.old.joins ≡ stage.now.level.now.problem.now }
-    requires none { steps.old ≡ [] }
+    requires none { walk.old.steps ≡ [] }
     ensures goes { IfOk result (λ closed. GoesOn closed stage.now.level.now.problem.now stage.now.level.now.number (x.0 + 1) walk.new.remains) }
-    ensures told { OnOk result ((before : List Seen) → StandsAt walk.old.joins stage.now.level.now.number before → NarrowTold stage.now.level.now.problem.now stage.now.level.now.number (box_to walk.old.remains.store.box x.0 (value ∷ [])) walk.new.remains.store.box before walk.new.joins steps.new) }
+    ensures told { OnOk result ((before : List Seen) → StandsAt walk.old.joins stage.now.level.now.number before → NarrowTold stage.now.level.now.problem.now stage.now.level.now.number (box_to walk.old.remains.store.box x.0 (value ∷ [])) walk.new.remains.store.box before walk.new.joins walk.new.steps) }
     ensures on { LeadsOn walk.old.remains walk.new.remains }
     ensures game { game_of walk.new.joins ≡ game_of walk.old.joins }
     ensures others { KeepsOthers stage.now.level.now.number walk.old.joins walk.new.joins }
@@ -88,28 +90,25 @@ pub(crate) fn narrow(
     stage.level.problem.known();
     walk.remains.known();
     walk.remains.take(x, value)?;
-    match give_up(stage, steps, walk)? {
+    match give_up(stage, walk)? {
         GivenUp::All => Ok(Closed::Empty),
-        GivenUp::Nothing => walk.remains.close_after(stage.level, &[x], steps),
-        GivenUp::Values(y) => walk.remains.close_after(stage.level, &[y, x], steps),
+        GivenUp::Nothing => walk.remains.close_after(stage.level, &[x], &mut walk.steps),
+        GivenUp::Values(y) => walk
+            .remains
+            .close_after(stage.level, &[y, x], &mut walk.steps),
     }
 }
 
 /// Gives up values of the variable that the scope's own tree optimises, where that tree begins: a bound, of whose mark the
 /// join is told. Says whether each variable has a value left.
-fn bound_first(
-    stage: &Stage,
-    worse: Worse,
-    steps: &mut StepList,
-    walk: &mut Walk,
-) -> Result<bool, AllocError>
+fn bound_first(stage: &Stage, worse: Worse, walk: &mut Walk) -> Result<bool, AllocError>
     requires here { IsEntered stage.now.level.now.problem.now stage.now.level.now.number walk.old.remains }
     requires joins { game_of walk.old.joins ≡ stage.now.level.now.problem.now }
     requires span { IsSpan stage.now.level.now.problem.now stage.now.level.now.number worse }
-    requires none { steps.old ≡ [] }
+    requires none { walk.old.steps ≡ [] }
     ensures entered { IfOk result (λ some. IsTrue some → IsEntered stage.now.level.now.problem.now stage.now.level.now.number walk.new.remains) }
     ensures emptied { IfOk result (λ some. IsFalse some → IsTrue (has_empty walk.new.remains.store.box)) }
-    ensures told { OnOk result (StandsAt walk.old.joins stage.now.level.now.number [] → FirstNarrowed stage.now.level.now.problem.now stage.now.level.now.number walk.old.remains.store.box walk.new.remains.store.box walk.new.joins steps.new) }
+    ensures told { OnOk result (StandsAt walk.old.joins stage.now.level.now.number [] → FirstNarrowed stage.now.level.now.problem.now stage.now.level.now.number walk.old.remains.store.box walk.new.remains.store.box walk.new.joins walk.new.steps) }
     ensures on { LeadsOn walk.old.remains walk.new.remains }
     ensures game { game_of walk.new.joins ≡ game_of walk.old.joins }
     ensures others { KeepsOthers stage.now.level.now.number walk.old.joins walk.new.joins }
@@ -120,9 +119,13 @@ fn bound_first(
     walk.remains.known();
     let x = worse.variable;
     let worse = between(worse, walk.remains.first(x), walk.remains.last(x));
-    let bound = walk
-        .remains
-        .bound(worse.sense, worse.variable, worse.lo, worse.hi, steps)?;
+    let bound = walk.remains.bound(
+        worse.sense,
+        worse.variable,
+        worse.lo,
+        worse.hi,
+        &mut walk.steps,
+    )?;
     let Some(bound) = bound else {
         return Ok(true);
     };
@@ -135,23 +138,22 @@ fn bound_first(
 pub(crate) fn narrow_first(
     stage: &Stage,
     worse: Worse,
-    steps: &mut StepList,
     walk: &mut Walk,
 ) -> Result<Closed, AllocError>
     requires here { IsEntered stage.now.level.now.problem.now stage.now.level.now.number walk.old.remains }
     requires joins { game_of walk.old.joins ≡ stage.now.level.now.problem.now }
     requires span { IsSpan stage.now.level.now.problem.now stage.now.level.now.number worse }
-    requires none { steps.old ≡ [] }
+    requires none { walk.old.steps ≡ [] }
     ensures goes { IfOk result (λ closed. GoesOn closed stage.now.level.now.problem.now stage.now.level.now.number stage.now.level.now.from walk.new.remains) }
-    ensures told { OnOk result (StandsAt walk.old.joins stage.now.level.now.number [] → FirstNarrowed stage.now.level.now.problem.now stage.now.level.now.number walk.old.remains.store.box walk.new.remains.store.box walk.new.joins steps.new) }
+    ensures told { OnOk result (StandsAt walk.old.joins stage.now.level.now.number [] → FirstNarrowed stage.now.level.now.problem.now stage.now.level.now.number walk.old.remains.store.box walk.new.remains.store.box walk.new.joins walk.new.steps) }
     ensures on { LeadsOn walk.old.remains walk.new.remains }
     ensures game { game_of walk.new.joins ≡ game_of walk.old.joins }
     ensures others { KeepsOthers stage.now.level.now.number walk.old.joins walk.new.joins }
     ensures lines { walk.new.lines ≡ walk.old.lines }
     ensures left { walk.new.left ≡ walk.old.left }
 {
-    if !bound_first(stage, worse, steps, walk)? {
+    if !bound_first(stage, worse, walk)? {
         return Ok(Closed::Empty);
     }
-    walk.remains.close(stage.level, steps)
+    walk.remains.close(stage.level, &mut walk.steps)
 }

@@ -85,6 +85,11 @@ impl Residues {
         Ok(gathering.found)
     }
 
+    /// Whether the scope's positions have numbers.
+    pub(crate) fn has(&self, level: &Level) -> bool {
+        matches!(self.scopes.get(level.number as usize), Some(Some(_)))
+    }
+
     /// The number of a scope's position, where the variables before it have these values. None comes where the scope has
     /// no number.
     pub(crate) fn number(&self, level: &Level, values: &[i64]) -> Option<u64> {

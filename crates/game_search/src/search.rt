@@ -32,6 +32,7 @@ ghost use Rattle.proof_tree.specs.Place.{list_after, position};
 ghost use Rattle.qc_levels.specs.Seen.{verdict_of};
 ghost use Rattle.qc_joins.specs.Joins.{game_of, out_of, StandsAt, KeepsAll};
 ghost use Rattle.qc_joins.specs.Verdicts.{verdict_at};
+ghost use Rattle.search_box.specs.Complete.{IsClosedAtGoal};
 ghost use Rattle.search_box.specs.Entered.{IsEntered};
 ghost use Rattle.search_box.specs.Looking.{scope_number};
 ghost use Rattle.game_search.specs.Aims.{tracked_at, IsSpan};
@@ -52,7 +53,7 @@ use crate::writing::{
     copied_from, drop_before, last_to_drop, leave_out, put_horizon, put_needed, put_steps,
     skip_and_tell, skip_between,
 };
-use proof_tree::{Line, Step, StepList};
+use proof_tree::Line;
 use prop_engine::Closed;
 use qc_joins::Joins;
 use qc_levels::Found;
@@ -76,6 +77,7 @@ pub(crate) fn node(
     requires scope { number ≤ length levels.now.problem.now.scopes }
     requires horizon { IfSome horizon (λ h. h.0 ≤ length levels.now.problem.now.scopes) }
     requires here { IsEntered levels.now.problem.now number walk.old.remains }
+    requires closed { number ≡ length levels.now.problem.now.scopes → IsClosedAtGoal levels.now.problem.now walk.old.remains.store.box }
     requires joins { game_of walk.old.joins ≡ levels.now.problem.now }
     ensures told { IfOk result (λ found. walk.old.left < 2147483648 → (up : List Seen) → StandsAbove walk.old.joins number up → NodeTold cuts (above_at levels.now.problem.now number up) levels.now.problem.now number walk.old.remains.store.box (scope_number horizon) (verdict_of found (out_of walk.new.joins)) walk.old.left walk.new.left walk.old.lines walk.new.lines walk.new.joins) }
     ensures back { OnOk result (IsBack levels.now.problem.now number walk.old walk.new) }
@@ -84,18 +86,38 @@ pub(crate) fn node(
     if number as usize == levels.problem.scopes() {
         return at_goal(levels, horizon, number, walk);
     }
-    if let Some(at) = known_at(levels, cuts, horizon, number, walk) {
+    let position = position_of(levels, cuts, horizon, number, walk);
+    if let Some(at) = known_at(levels, cuts, horizon, number, position, walk) {
         return put_known(levels, cuts, horizon, number, at, walk);
     }
-    searched_node(levels, cuts, horizon, number, walk)
+    searched_node(levels, cuts, horizon, number, position, walk)
 }
 
-/// The number of the node that is known for the position, in the first pass. The first scope has one node.
+/// A number of the node's position, in the first pass, where it may be met again. The first scope has one node.
+fn position_of(
+    levels: &Levels,
+    cuts: bool,
+    horizon: Option<ScopeId>,
+    number: u8,
+    walk: &Walk,
+) -> Option<u64>
+    requires scope { number < length levels.now.problem.now.scopes }
+    requires here { IsEntered levels.now.problem.now number walk.now.remains }
+{
+    if !cuts || number == 0 {
+        return None;
+    }
+    walk.known
+        .position(levels.level(ScopeId(number)), horizon, &walk.remains)
+}
+
+/// The place of the node that is known for the position, in the first pass.
 fn known_at(
     levels: &Levels,
     cuts: bool,
     horizon: Option<ScopeId>,
     number: u8,
+    position: Option<u64>,
     walk: &Walk,
 ) -> Option<usize>
     requires scope { number < length levels.now.problem.now.scopes }
@@ -105,11 +127,12 @@ fn known_at(
     ensures within { IfSome result (λ at. at < length walk.now.known.nodes.items) }
     ensures stands { IfSome result (λ at. IfSome (slice_get walk.now.known.nodes.items at) (λ n. StandsHere levels.now.problem.now number (scope_number horizon) walk.now.left walk.now.remains.store.box n.values.items n.won n.turns n.lines.items)) }
 {
-    if !cuts || number == 0 {
+    if !cuts {
         return None;
     }
     let level = levels.level(ScopeId(number));
-    walk.known.find(level, horizon, walk.left, &walk.remains)
+    walk.known
+        .find(level, horizon, position, walk.left, &walk.remains)
 }
 
 /// The node of a scope that is known for the position, whose lines are copied.
@@ -147,6 +170,7 @@ fn searched_node(
     cuts: bool,
     horizon: Option<ScopeId>,
     number: u8,
+    position: Option<u64>,
     walk: &mut Walk,
 ) -> Result<Found, AllocError>
     requires scope { number < length levels.now.problem.now.scopes }
@@ -170,6 +194,7 @@ fn searched_node(
         level,
         horizon: below,
         cuts,
+        position,
         aim: aim_of(levels.problem, &walk.joins, ScopeId(number)),
         rival: rival_of(&walk.joins, ScopeId(number)),
     };
@@ -179,7 +204,7 @@ fn searched_node(
         had,
         left: walk.left,
     };
-    keep_node(levels, cuts, horizon, number, start, end, walk)?;
+    keep_node(levels, cuts, horizon, number, position, start, end, walk)?;
     Ok(found)
 }
 
@@ -189,6 +214,7 @@ fn keep_node(
     cuts: bool,
     horizon: Option<ScopeId>,
     number: u8,
+    position: Option<u64>,
     start: usize,
     end: NodeEnd,
     walk: &mut Walk,
@@ -202,7 +228,7 @@ fn keep_node(
     ensures left { walk.new.left ≡ walk.old.left }
     ensures lines { OnOk result (walk.new.lines ≡ walk.old.lines) }
 {
-    if !cuts || end.had >= 2_147_483_648 || number == 0 || start > walk.lines.len() {
+    if !cuts || end.had >= 2_147_483_648 || position.is_none() || start > walk.lines.len() {
         return Ok(());
     }
     let level = levels.level(ScopeId(number));
@@ -211,8 +237,15 @@ fn keep_node(
         return Ok(());
     }
     let lines = copied_from(walk.alloc, &walk.lines, start)?;
-    walk.known
-        .keep(walk.alloc, level, horizon, &walk.remains, end, lines)
+    walk.known.keep(
+        walk.alloc,
+        level,
+        horizon,
+        position,
+        &walk.remains,
+        end,
+        lines,
+    )
 }
 
 fn is_here(horizon: Option<ScopeId>, number: u8) -> bool
@@ -233,6 +266,7 @@ fn at_goal(
 ) -> Result<Found, AllocError>
     requires scope { number ≡ length levels.now.problem.now.scopes }
     requires here { IsEntered levels.now.problem.now number walk.old.remains }
+    requires closed { IsClosedAtGoal levels.now.problem.now walk.old.remains.store.box }
     requires joins { game_of walk.old.joins ≡ levels.now.problem.now }
     ensures told { IfOk result (λ found. (cuts : Bool) (above : ℤ → Bool) → NodeTold cuts above levels.now.problem.now number walk.old.remains.store.box (scope_number horizon) (verdict_of found (out_of walk.new.joins)) walk.old.left walk.new.left walk.old.lines walk.new.lines walk.new.joins) }
     ensures back { OnOk result (IsBack levels.now.problem.now number walk.old walk.new) }
@@ -275,7 +309,13 @@ fn own_tree(stage: &Stage, walk: &mut Walk) -> Result<Found, AllocError>
     ensures told { IfOk result (λ found. walk.old.left < 2147483648 → SeesAhead stage.now.level.now.problem.now (drop stage.now.level.now.number stage.now.level.now.problem.now.scopes) stage.now.level.now.number walk.old.remains.store.box (scope_number stage.now.horizon) → BodyTold stage.now.cuts (outdoes stage.now.level.now.problem.now stage.now.level.now.number stage.now.rival) stage.now.level.now.problem.now stage.now.level.now.number walk.old.remains.store.box (scope_number stage.now.horizon) (verdict_of found (out_of walk.new.joins)) walk.old.left walk.new.left walk.old.lines walk.new.lines walk.new.joins) }
     ensures back { OnOk result (IsBack stage.now.level.now.problem.now stage.now.level.now.number walk.old walk.new) }
 {
-    let best = walk.advice.enter(stage.level, stage.aim, walk.remains.all_values(), walk.left)?;
+    let best = walk.advice.enter(
+        stage.level,
+        stage.aim,
+        stage.position,
+        walk.remains.all_values(),
+        walk.left,
+    )?;
     let found = advised_tree(stage, best, walk)?;
     walk.advice.leave(stage.level, walk.left);
     Ok(found)
@@ -354,9 +394,9 @@ fn bounded_part(stage: &Stage, worse: Worse, walk: &mut Walk) -> Result<(), Allo
 {
     walk.joins.clear(ScopeId(stage.level.number));
     let mark = walk.remains.mark();
-    let mut steps = StepList::new(walk.alloc);
-    let closed = narrow_first(stage, worse, &mut steps, walk)?;
-    part(stage, stage.level.from, closed, steps.items(), false, walk)?;
+    walk.steps.clear();
+    let closed = narrow_first(stage, worse, walk)?;
+    part(stage, stage.level.from, closed, false, walk)?;
     walk.remains.undo_to(mark);
     Ok(())
 }
@@ -470,9 +510,9 @@ fn closed_part(stage: &Stage, tries: bool, walk: &mut Walk) -> Result<bool, Allo
     walk.remains.known();
     walk.joins.clear(ScopeId(level.number));
     let mark = walk.remains.mark();
-    let mut steps = StepList::new(walk.alloc);
-    let closed = walk.remains.close(level, &mut steps)?;
-    let is_whole = part(stage, level.from, closed, steps.items(), tries, walk)?;
+    walk.steps.clear();
+    let closed = walk.remains.close(level, &mut walk.steps)?;
+    let is_whole = part(stage, level.from, closed, tries, walk)?;
     walk.remains.undo_to(mark);
     Ok(is_whole)
 }
@@ -492,7 +532,7 @@ fn verdict(level: &Level, walk: &mut Walk) -> Found
     walk.joins.finish(ScopeId(level.number), values)
 }
 
-/// Steps, and what follows them: the box that they leave is closed, where the variables of the scope before x have
+/// The steps of the closing that was the last, and what follows them: the box that they leave is closed, where the variables of the scope before x have
 /// their values, or a domain is empty. With `tries` only advised values are gone into, and whether that is enough is
 /// answered.
 #[cycle(search)]
@@ -500,13 +540,12 @@ fn part(
     stage: &Stage,
     x: usize,
     closed: Closed,
-    steps: &[Step],
     tries: bool,
     walk: &mut Walk,
 ) -> Result<bool, AllocError>
     requires goes { GoesOn closed stage.now.level.now.problem.now stage.now.level.now.number x walk.old.remains }
     requires joins { game_of walk.old.joins ≡ stage.now.level.now.problem.now }
-    ensures told { IfOk result (λ whole. (IsTrue tries → IsTrue whole) → (box : Box) (before : List Seen) (ms : List ℤ) → BoundedSteps stage.now.level.now.problem.now stage.now.level.now.number box walk.old.remains.store.box before ms steps.now → IsReady stage.now.level.now.problem.now stage.now.level.now.number walk.old.joins (suc (2 * walk.old.left)) (before ++ seen_bounds ms) → BoundedTold stage.now.cuts (outdoes stage.now.level.now.problem.now stage.now.level.now.number stage.now.rival) stage.now.level.now.problem.now stage.now.level.now.number box (scope_number stage.now.horizon) before ms walk.old.left walk.new.left walk.old.lines walk.new.lines walk.new.joins) }
+    ensures told { IfOk result (λ whole. (IsTrue tries → IsTrue whole) → (box : Box) (before : List Seen) (ms : List ℤ) → BoundedSteps stage.now.level.now.problem.now stage.now.level.now.number box walk.old.remains.store.box before ms walk.old.steps → IsReady stage.now.level.now.problem.now stage.now.level.now.number walk.old.joins (suc (2 * walk.old.left)) (before ++ seen_bounds ms) → BoundedTold stage.now.cuts (outdoes stage.now.level.now.problem.now stage.now.level.now.number stage.now.rival) stage.now.level.now.problem.now stage.now.level.now.number box (scope_number stage.now.horizon) before ms walk.old.left walk.new.left walk.old.lines walk.new.lines walk.new.joins) }
     ensures back { OnOk result (IsBack stage.now.level.now.problem.now stage.now.level.now.number walk.old walk.new) }
 {
     match closed {
@@ -515,13 +554,13 @@ fn part(
                 &mut walk.lines,
                 &mut walk.needed,
                 stage.level.problem,
-                steps,
+                walk.steps.items(),
             )?;
             walk.lines.put(Line::Empty)?;
             Ok(true)
         }
         Closed::Open => {
-            put_steps(&mut walk.lines, steps)?;
+            put_steps(&mut walk.lines, walk.steps.items())?;
             within(stage, x, tries, walk)
         }
     }
@@ -669,9 +708,9 @@ fn with_value(
     ensures back { OnOk result (IsBack stage.now.level.now.problem.now stage.now.level.now.number walk.old walk.new) }
 {
     let mark = walk.remains.mark();
-    let mut steps = StepList::new(walk.alloc);
-    let closed = narrow(stage, x, value, &mut steps, walk)?;
-    let is_whole = part(stage, x.0 as usize + 1, closed, steps.items(), tries, walk)?;
+    walk.steps.clear();
+    let closed = narrow(stage, x, value, walk)?;
+    let is_whole = part(stage, x.0 as usize + 1, closed, tries, walk)?;
     walk.remains.undo_to(mark);
     Ok(is_whole)
 }

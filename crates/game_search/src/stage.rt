@@ -20,6 +20,8 @@ pub(crate) struct Stage<'a, 'p> {
     pub(crate) level: &'a Level<'p>,
     pub(crate) horizon: Option<ScopeId>,
     pub(crate) cuts: bool,
+    /// The number of the node's position, where it may be met again.
+    pub(crate) position: Option<u64>,
     /// What the scope's own tree is bounded by.
     pub(crate) aim: Option<Aim>,
     /// What it has to keep up with.

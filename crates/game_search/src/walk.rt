@@ -4,14 +4,15 @@ ghost use Rattle.qc_joins.specs.Joins.{game_of};
 
 use crate::advice::Advice;
 use crate::known::KnownNodes;
-use proof_tree::{Line, Step};
+use proof_tree::{Line, Step, StepList};
 use qc_joins::Joins;
 use search_box::SearchBox;
 use std::alloc::Global;
 use strategy_arena::Arena;
 
-/// The values left, what was seen in each scope on the way, the lines written, room for lines that are moved and for steps that are put, how many cases
-/// may still be gone into, which tuples are tried first, and which nodes are known.
+/// The values left, what was seen in each scope on the way, the lines written, room for lines that are moved, the steps of the closing
+/// that was the last and room for those of them that are put, how many cases may still be gone into, which tuples are tried
+/// first, and which nodes are known.
 #[derive(Drop)]
 pub(crate) struct Walk<'p> {
     pub(crate) alloc: Global,
@@ -19,6 +20,7 @@ pub(crate) struct Walk<'p> {
     pub(crate) joins: Joins<'p>,
     pub(crate) lines: Arena,
     pub(crate) kept: Vec<Line>,
+    pub(crate) steps: StepList,
     pub(crate) needed: Vec<Step>,
     pub(crate) left: u64,
     pub(crate) advice: Advice<'p>,

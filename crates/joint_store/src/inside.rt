@@ -71,6 +71,7 @@ fn close<F: Filter>(
     changed: &[VarId],
     engine: &mut Engine,
     store: &mut Store,
+    steps: &mut StepList,
 ) -> Result<Closed, AllocError>
     requires ready { IsReady problem.now engine.old }
     requires span { span.end ≤ length problem.now.constraints }
@@ -83,11 +84,11 @@ fn close<F: Filter>(
     ensures fewer { (large : Box) → IsTrue (is_sub_box store.old.box large) → IsTrue (is_sub_box store.new.box large) }
     ensures answer { IfOk result (λ a. IsClosing a (is_between span.first span.end) problem.now store.new.box) }
 {
-    let mut steps = StepList::new(alloc);
+    steps.clear();
     if was_kept {
-        return engine.close_changed(filter, alloc, problem, span, changed, store, &mut steps);
+        return engine.close_changed(filter, alloc, problem, span, changed, store, steps);
     }
-    engine.close_span(filter, alloc, problem, span, store, &mut steps)
+    engine.close_span(filter, alloc, problem, span, store, steps)
 }
 
 /// Brings the store within the other one, and closes it for the constraints of the span; `was_kept` says that they all keep
@@ -102,6 +103,7 @@ pub(crate) fn close_inside<F: Filter>(
     changed: &mut Vec<VarId>,
     engine: &mut Engine,
     store: &mut Store,
+    steps: &mut StepList,
 ) -> Result<bool, AllocError>
     requires ready { IsReady problem.now engine.old }
     requires span { span.end ≤ length problem.now.constraints }
@@ -121,7 +123,7 @@ pub(crate) fn close_inside<F: Filter>(
         return Ok(false);
     }
     match close(
-        filter, alloc, problem, span, was_kept, changed, engine, store,
+        filter, alloc, problem, span, was_kept, changed, engine, store, steps,
     )? {
         Closed::Open => Ok(true),
         Closed::Empty => Ok(false),

@@ -7,6 +7,7 @@ ghost use Rattle.qc_cascade.specs.Ahead.{IsOpen};
 use crate::entry::Entry;
 use crate::seeing::see_within;
 use fd_store::Store;
+use proof_tree::StepList;
 use prop_engine::Engine;
 use prop_families::Families;
 use qc_model::{Problem, ScopeId, VarId};
@@ -28,6 +29,8 @@ pub struct Joint<'p> {
     engine: Engine,
     changed: Vec<VarId>,
     entries: Vec<Entry>,
+    // Room for the steps of a closing, which nobody asks for.
+    steps: StepList,
 }
 
 impl<'p> Model for Joint<'p> {
@@ -56,6 +59,7 @@ impl<'p> Joint<'p> {
             engine,
             changed: Vec::new(alloc),
             entries: Vec::new(alloc),
+            steps: StepList::new(alloc),
         })
     }
 
@@ -90,6 +94,7 @@ impl<'p> Joint<'p> {
             &mut self.entries,
             &mut self.engine,
             &mut self.store,
+            &mut self.steps,
         )
     }
 }

@@ -11,6 +11,7 @@ use crate::entry::Entry;
 use crate::inside::close_inside;
 use crate::stack::{last_of, pop_from};
 use fd_store::Store;
+use proof_tree::StepList;
 use prop_engine::{Engine, Filter};
 use qc_model::{ScopeId, VarId};
 use qc_rules::Levels;
@@ -36,6 +37,7 @@ pub(crate) fn see_within<F: Filter>(
     entries: &mut Vec<Entry>,
     engine: &mut Engine,
     store: &mut Store,
+    steps: &mut StepList,
 ) -> Result<bool, AllocError>
     requires rest { IsAtRest levels.now.problem.now engine.old store.old entries.old.items }
     requires known { (c : Rule) → F.knows c ≡ true }
@@ -62,6 +64,7 @@ pub(crate) fn see_within<F: Filter>(
         changed,
         engine,
         store,
+        steps,
     )? {
         return Ok(false);
     }

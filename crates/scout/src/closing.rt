@@ -6,7 +6,6 @@ ghost use Rattle.prop_engine.specs.Watching.{WasKept};
 ghost use Rattle.scout.specs.Ground.{IsSound, Went};
 
 use crate::ground::Ground;
-use proof_tree::StepList;
 use prop_engine::Closed;
 use prop_families::Families;
 use qc_model::VarId;
@@ -22,14 +21,14 @@ pub(crate) fn close_all(level: &Level, ground: &mut Ground) -> Result<Closed, Al
     ensures answer { IfOk result (λ a. IsClosing a (is_between level.now.in_force.first level.now.in_force.end) level.now.problem.now ground.new.store.box) }
 {
     level.problem.known();
-    let mut steps = StepList::new(ground.alloc);
+    ground.steps.clear();
     ground.engine.close_span(
         &Families {},
         ground.alloc,
         level.problem,
         level.in_force,
         &mut ground.store,
-        &mut steps,
+        &mut ground.steps,
     )
 }
 
@@ -48,7 +47,7 @@ pub(crate) fn close_after(
     ensures answer { IfOk result (λ a. IsClosing a (is_between level.now.in_force.first level.now.in_force.end) level.now.problem.now ground.new.store.box) }
 {
     level.problem.known();
-    let mut steps = StepList::new(ground.alloc);
+    ground.steps.clear();
     ground.engine.close_changed(
         &Families {},
         ground.alloc,
@@ -56,6 +55,6 @@ pub(crate) fn close_after(
         level.in_force,
         &[x],
         &mut ground.store,
-        &mut steps,
+        &mut ground.steps,
     )
 }

@@ -1,6 +1,7 @@
 //! What a free search goes over, and what it changes.
 use crate::chance::Chance;
 use fd_store::Store;
+use proof_tree::StepList;
 use prop_engine::Engine;
 use qc_model::{Sense, VarId};
 use std::alloc::Global;
@@ -20,6 +21,8 @@ pub(crate) struct Ground {
     pub(crate) store: Store,
     pub(crate) engine: Engine,
     pub(crate) values: Vec<i64>,
+    // Room for the steps of a closing, which nobody asks for.
+    pub(crate) steps: StepList,
     pub(crate) turns: u64,
     pub(crate) varies: bool,
     pub(crate) wish: Option<Wish>,

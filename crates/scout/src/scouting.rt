@@ -6,6 +6,7 @@ use crate::ground::{Ground, Wish};
 use crate::improving::best_from;
 use crate::restarts::search_from;
 use fd_store::Store;
+use proof_tree::StepList;
 use prop_engine::Engine;
 use qc_model::{Problem, ScopeId, Sense, VarId};
 use qc_rules::Levels;
@@ -48,6 +49,7 @@ impl<'p> Scout<'p> {
             store,
             engine,
             values,
+            steps: StepList::new(alloc),
             turns: 0,
             varies: false,
             wish: None,

@@ -7,3 +7,4 @@ pub mod GivenUp
 pub mod Looks
 pub mod Goings
 pub mod Whole
+pub mod Complete

@@ -1,26 +1,27 @@
 -- What is found ahead of a node, in the words of certificates.
-use Rattle.std.proofs.Common.{◌≡◌, ℕ, zero, suc, ◌+◌, ◌<◌, true, false, ◌&&◌, List, [], ◌∷◌, length, drop, refl, arith, length-drop}
-use Rattle.std.specs.Prelude.{Option, None, Some, nat_le, nat_lt}
+use Rattle.std.proofs.Common.{◌≡◌, ℕ, zero, suc, ◌+◌, ◌<◌, Bool, true, false, ◌&&◌, List, [], ◌∷◌, length, drop, refl, arith, length-drop}
+use Rattle.std.specs.Prelude.{Option, None, Some, not, nat_le, nat_lt}
 use Rattle.std.specs.List.{list_all}
 use Rattle.std.proofs.lemmas.Bool.Decides.{nat_tests}
 use Rattle.qc_model.specs.declared.problem.Scope.{Scope}
 use Rattle.qc_model.specs.Content.{Game}
-use Rattle.qc_model.specs.Domains.{Box}
+use Rattle.qc_model.specs.Domains.{Box, has_empty}
 use Rattle.qc_model.specs.Valid.{IsValid}
-use Rattle.qc_model.proofs.Readable.{together}
+use Rattle.qc_model.proofs.Readable.{first, second, together}
 use Rattle.qc_arguments.specs.Asked.{is_box_of}
 use Rattle.qc_rules.specs.Spans.{is_number_within}
 use Rattle.proof_tree.specs.declared.tree.Horizon.{Horizon}
 use Rattle.proof_tree.specs.declared.tree.Step.{Step}
 use Rattle.proof_tree.specs.InPlace.{is_nearer}
 use Rattle.proof_tree.specs.Place.{is_goal}
-use Rattle.proof_tree.specs.Steps.{is_prune}
+use Rattle.proof_tree.specs.Steps.{is_prune, after_steps, are_legal}
 use Rattle.proof_tree.specs.Text.{is_place, step_fits}
 use Rattle.qc_cascade.specs.Ahead.{IsHorizon, IsOpen}
 use Rattle.qc_cascade.proofs.Placed.{stands_in_place, sees_open, sees_under, sees_horizon}
 use Rattle.search_box.specs.Looking.{LooksAhead, first_unseen}
 use Rattle.search_box.proofs.Closings.{all_prune, fits_steps, place_fits}
 use Rattle.search_box.proofs.Places.{box_size}
+use Rattle.step_trim.specs.Trims.{Trims}
 
 by_itself : (k : ℕ) → nat_le k k ≡ true
 by_itself k = grind (arith, nat_tests)
@@ -60,4 +61,28 @@ horizon_ahead g i box h z v b l n f =
           (fits_steps ok g z.steps box (omega (arith, size, v.few_variables)) v.few_constraints f.pruned))
           (all_prune ok g z.steps box f.pruned);
       foreseen = sees_horizon g later i k box (Some k) z.steps (by_itself k) f;
+    }
+
+parts : (p q : Bool) → (p && q) ≡ true → (p ≡ true) × (q ≡ true)
+parts p q h = (first p q h, second p q h)
+
+-- a horizon without the steps that its empty domain doesn't need
+pub trimmed_ahead : (g : Game) (i : ℕ) (box : Box) (h : Option ℕ) (z : Horizon) (less : List Step) → has_empty box ≡ false → LooksAhead g i box h (Some z) → Trims g z.steps less →
+    LooksAhead g i box h (Some (record { scope = z.scope; steps = less }))
+trimmed_ahead g i box h z less full l t =
+    let k = z.scope.0 in
+    let later = drop i g.scopes in
+    let ahead = not (is_goal later) && nat_le i k && nat_le k (i + length later) && is_nearer k h in
+    let empties = parts (ahead && are_legal g i (suc k) None z.steps box) (has_empty (after_steps z.steps box)) l.placed in
+    let legal = parts ahead (are_legal g i (suc k) None z.steps box) empties.0 in
+    let r = t.right i (suc k) None box legal.1 full empties.1 in
+    let prunes = parts (is_place 65 k && list_all step_fits z.steps) (list_all is_prune z.steps) l.fits in
+    let fits = parts (is_place 65 k) (list_all step_fits z.steps) prunes.0 in
+    record {
+      placed = together (ahead && are_legal g i (suc k) None less box) (has_empty (after_steps less box)) (together ahead (are_legal g i (suc k) None less box) legal.0 r.legal) r.empties;
+      fits =
+          together (is_place 65 k && list_all step_fits less) (list_all is_prune less)
+          (together (is_place 65 k) (list_all step_fits less) fits.0 (t.tests step_fits fits.1))
+          (t.tests is_prune prunes.1);
+      foreseen = l.foreseen;
     }

@@ -1,6 +1,7 @@
 pub mod Bounds
 pub mod Boxed
 pub mod Closes
+pub mod Complete
 pub mod Entered
 pub mod Fresh
 pub mod Inside

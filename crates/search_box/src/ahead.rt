@@ -15,6 +15,7 @@ use qc_cascade::{Entered, enter, enter_under};
 use qc_model::ScopeId;
 use qc_rules::Levels;
 use std::alloc::{AllocError, Global};
+use step_trim::trimmed;
 
 // What is found ahead, up to the horizon in force.
 fn found_ahead<F: Filter>(
@@ -43,7 +44,8 @@ fn found_ahead<F: Filter>(
     }
 }
 
-// A horizon for a node of scope i, nearer than the one in force, or none. The box and the past boxes are as before.
+// A horizon for a node of scope i, nearer than the one in force, or none, without the steps that its empty domain doesn't
+// need. The box and the past boxes are as before.
 fn nearest_horizon<F: Filter>(
     filter: &F,
     alloc: Global,
@@ -69,10 +71,10 @@ fn nearest_horizon<F: Filter>(
     let found = found_ahead(filter, alloc, levels, engine, i, in_force, store)?;
     match found.horizon {
         None => Ok(None),
-        Some(scope) => Ok(Some(Horizon {
-            scope,
-            steps: found.steps,
-        })),
+        Some(scope) => {
+            let steps = trimmed(alloc, levels.problem, found.steps.items())?;
+            Ok(Some(Horizon { scope, steps }))
+        }
     }
 }
 

@@ -12,6 +12,7 @@ mod ahead;
 mod bounding;
 mod closing;
 mod laws;
+mod mentioning;
 mod reading;
 mod search_box;
 mod taking;

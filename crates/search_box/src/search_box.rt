@@ -9,7 +9,8 @@ ghost use Rattle.proof_tree.specs.Cover.{box_to};
 ghost use Rattle.proof_tree.specs.Place.{is_fixed, position};
 ghost use Rattle.fd_store.specs.Held.{Held, Follows, IsUndone, past_box, trail_len};
 ghost use Rattle.search_box.specs.Bounds.{BoundAnswers};
-ghost use Rattle.search_box.specs.Closes.{IsClosingAt, IsPruned, WasClosed};
+ghost use Rattle.search_box.specs.Closes.{IsClosedAt, IsClosingAt, IsPruned, WasClosed};
+ghost use Rattle.search_box.specs.Complete.{IsClosedAtGoal};
 ghost use Rattle.search_box.specs.Looking.{LooksAhead, scope_number};
 ghost use Rattle.search_box.specs.Boxed.{KeepsValues, IsMarked, LeadsOn};
 ghost use Rattle.search_box.specs.Entered.{IsEntered, IsWithin};
@@ -19,6 +20,7 @@ ghost use Rattle.search_box.specs.Rests.{IsFirst, IsLast, IsNext, IsPrevious};
 use crate::ahead::look;
 use crate::bounding::{Bounded, give_up};
 use crate::closing::{close_all, close_changed};
+use crate::mentioning::all_mention;
 use crate::reading::{are_whole, next_unfixed};
 use crate::taking::keep_one;
 use crate::tuple::{goal_is_met, read_tuple};
@@ -46,6 +48,8 @@ pub struct SearchBox<'p> {
     engine: Engine,
     joint: Joint<'p>,
     values: Vec<i64>,
+    // Whether each constraint of the problem has a variable.
+    all_mention: bool,
 }
 
 impl<'p> Model for SearchBox<'p> {
@@ -59,7 +63,7 @@ impl<'p> Model for SearchBox<'p> {
 
     ghost view = { λ b. record { game = b.problem.now; store = b.store; values = b.values.items } };
 
-    ghost invariant = { λ b. IsSound b.problem.now b.store b.engine b.joint b.values.items };
+    ghost invariant = { λ b. IsSound b.problem.now b.store b.engine b.joint b.values.items b.all_mention };
 }
 
 impl<'p> SearchBox<'p> {
@@ -74,6 +78,7 @@ impl<'p> SearchBox<'p> {
         let engine = Engine::new(alloc, problem)?;
         let joint = Joint::new(alloc, problem)?;
         let values = vec![in alloc; 0i64; problem.variables()]?;
+        let all_mention = all_mention(alloc, problem)?;
         Ok(SearchBox {
             problem,
             alloc,
@@ -81,6 +86,7 @@ impl<'p> SearchBox<'p> {
             engine,
             joint,
             values,
+            all_mention,
         })
     }
 
@@ -181,25 +187,29 @@ impl<'p> SearchBox<'p> {
         self.store.max(x)
     }
 
-    /// Reads the values of the scope's variables, and says whether its constraints hold on them and those before. It
-    /// takes no memory.
+    /// Reads the values of the scope's variables, and says whether its constraints hold on them and those before. The box
+    /// is closed for them, so they are evaluated only where some constraint of the problem has no variable. It takes no
+    /// memory.
     pub fn tuple_allowed(&mut self, level: &Level) -> bool
         requires here { IsEntered level.now.problem.now level.now.number self.old }
         requires fixed { IsTrue (is_fixed level.now.problem.now level.now.number self.old.store.box) }
+        requires closed { IsClosedAt level.now.problem.now level.now.number self.old.store.box }
         ensures allowed { result ≡ allows level.now.problem.now level.now.number (position level.now.problem.now (suc level.now.number) self.old.store.box) }
         ensures entered { IsEntered level.now.problem.now (suc level.now.number) self.new }
         ensures store { self.new.store ≡ self.old.store }
         ensures kept { KeepsValues level.now.problem.now level.now.number self.old self.new }
     {
-        read_tuple(level, &self.store, &mut self.values)
+        read_tuple(level, self.all_mention, &self.store, &mut self.values)
     }
 
-    /// Whether the constraints of the goal hold on the values. It takes no memory.
+    /// Whether the constraints of the goal hold on the values. Where the last scope is existential, the box is closed for
+    /// them, so there they are evaluated only where some constraint of the problem has no variable. It takes no memory.
     pub fn goal_holds(&self, levels: &Levels) -> bool
-        requires { IsEntered levels.now.problem.now (length levels.now.problem.now.scopes) self.now }
+        requires here { IsEntered levels.now.problem.now (length levels.now.problem.now.scopes) self.now }
+        requires closed { IsClosedAtGoal levels.now.problem.now self.now.store.box }
         ensures { result ≡ allows levels.now.problem.now (length levels.now.problem.now.scopes) (position levels.now.problem.now (length levels.now.problem.now.scopes) self.now.store.box) }
     {
-        goal_is_met(levels, &self.store, &self.values)
+        goal_is_met(levels, self.all_mention, &self.store, &self.values)
     }
 
     /// The values of the variables before the scope.

@@ -1,19 +1,34 @@
 //! Whether a scope's constraints hold on the values left, and the goal's.
+//!
+//! The box is closed for them. So where each constraint of the problem has a variable, they hold on the values that are
+//! left alone, and needn't be evaluated.
 ghost use Rattle.std.specs.Prelude.{◌≡◌, true, false, suc, length, take};
-ghost use Rattle.qc_model.specs.Domains.{box_values, has_empty};
+ghost use Rattle.std.specs.List.{list_all};
+ghost use Rattle.qc_model.specs.Domains.{box_values, has_empty, is_single};
 ghost use Rattle.qc_model.specs.Game.{allows};
 ghost use Rattle.qc_arguments.specs.Asked.{is_box_of};
 ghost use Rattle.proof_tree.specs.Place.{position};
+ghost use Rattle.search_box.specs.Closes.{IsClosedAt};
+ghost use Rattle.search_box.specs.Complete.{IsClosedAtGoal, each_mentions, takes_goal_in};
 
 use crate::reading::read_values;
 use fd_store::Store;
+use qc_model::{Kind, ScopeId};
 use qc_rules::{Level, Levels, all_hold};
 
 /// Reads the values of the scope's variables into their places, and says whether its constraints hold on them and those
 /// before, which stand in theirs.
-pub(crate) fn read_tuple(level: &Level, store: &Store, values: &mut [i64]) -> bool
+pub(crate) fn read_tuple(
+    level: &Level,
+    all_mention: bool,
+    store: &Store,
+    values: &mut [i64],
+) -> bool
     requires declared { is_box_of level.now.problem.now store.now.box ≡ true }
     requires full { has_empty store.now.box ≡ false }
+    requires fixed { list_all is_single (take level.now.stop store.now.box) ≡ true }
+    requires closed { IsClosedAt level.now.problem.now level.now.number store.now.box }
+    requires mention { all_mention ≡ each_mentions level.now.problem.now.constraints }
     requires each { length values.old ≡ length level.now.problem.now.variables }
     requires stand { take level.now.from values.old ≡ box_values (take level.now.from store.now.box) }
     ensures allowed { result ≡ allows level.now.problem.now level.now.number (position level.now.problem.now (suc level.now.number) store.now.box) }
@@ -23,18 +38,42 @@ pub(crate) fn read_tuple(level: &Level, store: &Store, values: &mut [i64]) -> bo
 {
     level.problem.known();
     read_values(store, level.from, level.stop, values);
+    if all_mention {
+        return true;
+    }
     all_hold(level.problem, level.rules, &values[..level.stop])
 }
 
+/// Whether the last scope is existential.
+fn takes_goal(levels: &Levels) -> bool
+    ensures { result ≡ takes_goal_in levels.now.problem.now.scopes }
+{
+    levels.problem.known();
+    let scopes = levels.problem.scopes();
+    if scopes == 0 {
+        return false;
+    }
+    match levels.level(ScopeId((scopes - 1) as u8)).kind {
+        Kind::Exists => true,
+        Kind::Forall => false,
+    }
+}
+
 /// Whether the constraints of the goal hold, where the values of all variables stand in their places.
-pub(crate) fn goal_is_met(levels: &Levels, store: &Store, values: &[i64]) -> bool
+pub(crate) fn goal_is_met(levels: &Levels, all_mention: bool, store: &Store, values: &[i64]) -> bool
     requires declared { is_box_of levels.now.problem.now store.now.box ≡ true }
     requires full { has_empty store.now.box ≡ false }
+    requires fixed { list_all is_single (take (length levels.now.problem.now.variables) store.now.box) ≡ true }
+    requires closed { IsClosedAtGoal levels.now.problem.now store.now.box }
+    requires mention { all_mention ≡ each_mentions levels.now.problem.now.constraints }
     requires each { length values.now ≡ length levels.now.problem.now.variables }
     requires stand { take (length levels.now.problem.now.variables) values.now ≡ box_values (take (length levels.now.problem.now.variables) store.now.box) }
     ensures { result ≡ allows levels.now.problem.now (length levels.now.problem.now.scopes) (position levels.now.problem.now (length levels.now.problem.now.scopes) store.now.box) }
 {
     let _ = store;
     levels.problem.known();
+    if all_mention && takes_goal(levels) {
+        return true;
+    }
     all_hold(levels.problem, levels.goal_rules, values)
 }

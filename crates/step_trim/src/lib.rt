@@ -13,4 +13,4 @@
 mod slice;
 mod wanted;
 
-pub use slice::trim;
+pub use slice::{trim, trimmed};

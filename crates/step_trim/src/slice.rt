@@ -1,16 +1,16 @@
 //! Which steps are kept.
-ghost use Rattle.std.specs.Prelude.{◌≡◌, ◌∷◌, List, OnOk, cond, slice_get};
+ghost use Rattle.std.specs.Prelude.{◌≡◌, ◌++◌, ◌∷◌, List, IfOk, OnOk, cond, slice_get};
 ghost use Rattle.qc_model.specs.Arguments.{last_of};
 ghost use Rattle.proof_tree.specs.declared.tree.Step.{Step};
 ghost use Rattle.step_trim.specs.Slice.{wanting_all, wanting_last, rule_variables, step_variable, with_step, slice_of};
 ghost use Rattle.step_trim.specs.Trims.{Trims};
 
 use crate::wanted::{is_wanted, want, want_all};
-use proof_tree::Step;
+use proof_tree::{Step, StepList};
 use qc_arguments::arguments;
 use qc_model::limits::VARIABLES;
 use qc_model::{ConId, Problem, VarId};
-use std::alloc::AllocError;
+use std::alloc::{AllocError, Global};
 
 fn variable_of(step: Step) -> VarId
     ensures { result.0 ≡ step_variable step }
@@ -81,7 +81,29 @@ fn slice(problem: &Problem, steps: &[Step], into: &mut Vec<Step>) -> Result<(), 
 /// It asks for no memory but room in `into` for the steps that are kept, and fails only where that is refused; then
 /// `into` has some of the steps.
 pub fn trim(problem: &Problem, steps: &[Step], into: &mut Vec<Step>) -> Result<(), AllocError>
-    ensures { OnOk result (Trims problem.now steps.now into.new.items) }
+    ensures kept { OnOk result (into.new.items ≡ slice_of problem.now steps.now) }
+    ensures right { OnOk result (Trims problem.now steps.now into.new.items) }
 {
     slice(problem, steps, into)
+}
+
+fn append(list: &mut StepList, steps: &[Step]) -> Result<(), AllocError>
+    ensures { OnOk result (list.new ≡ list.old ++ steps.now) }
+{
+    for step in steps {
+        list.push(*step)?;
+    }
+    Ok(())
+}
+
+/// A new list of the steps that `trim` keeps. It fails only where memory is refused.
+pub fn trimmed(alloc: Global, problem: &Problem, steps: &[Step]) -> Result<StepList, AllocError>
+    ensures kept { IfOk result (λ list. list ≡ slice_of problem.now steps.now) }
+    ensures right { IfOk result (λ list. Trims problem.now steps.now list) }
+{
+    let mut needed = Vec::new(alloc);
+    trim(problem, steps, &mut needed)?;
+    let mut list = StepList::new(alloc);
+    append(&mut list, needed.as_slice())?;
+    Ok(list)
 }

@@ -1,6 +1,10 @@
 use Rattle.std.proofs.Common.{arith, []}
 use Rattle.game_search.proofs.Here.{root_told}
+use Rattle.game_search.proofs.Places.{nobody_at_goal}
 use Rattle.game_search.proofs.attempts.attempt.Goals as goal
+
+pub node-requires-clause-closed : goal.node-requires-clause-closed
+node-requires-clause-closed c = λ e. nobody_at_goal c.args.levels.now.problem.now _ e
 
 pub returns : goal.returns
 returns c =

@@ -84,7 +84,7 @@ returns-in_default-clause-told c =
     let span = span_between g l.number w r c.first.result c.last.result c.requires.span first_small last_small c.between-worse.ensures.sense c.between-worse.ensures.variable
     (c.between-worse.ensures.lo ∙ ap (int_max w.lo) (passed_number c.first.result first_small)) (c.between-worse.ensures.hi ∙ ap (int_min w.hi) (passed_number c.last.result last_small)) in
     λ s.
-    first_none g l.number b.store.box c.bound.new.self.store.box r span _ _ (passed_number r.lo span.lo) (passed_number r.hi span.hi) c.args.steps.now c.bound.new.steps c.requires.none c.args.walk.now.joins s
+    first_none g l.number b.store.box c.bound.new.self.store.box r span _ _ (passed_number r.lo span.lo) (passed_number r.hi span.hi) c.args.walk.now.steps c.bound.new.steps c.requires.none c.args.walk.now.joins s
     c.in_ok-bound.bound c.in_default.is c.in_ok-bound.ensures.answer
 
 pub returns-clause-told : goal.returns-clause-told
@@ -102,7 +102,7 @@ returns-clause-told c =
     let span = span_between g l.number w r c.first.result c.last.result c.requires.span first_small last_small c.between-worse.ensures.sense c.between-worse.ensures.variable
     (c.between-worse.ensures.lo ∙ ap (int_max w.lo) (passed_number c.first.result first_small)) (c.between-worse.ensures.hi ∙ ap (int_min w.hi) (passed_number c.last.result last_small)) in
     λ s.
-    first_some g l.number b.store.box c.bound.new.self.store.box r span _ _ (passed_number r.lo span.lo) (passed_number r.hi span.hi) c.args.steps.now c.bound.new.steps c.requires.none (λ x. left_small g b.store.box x c.known.ensures.domains declared)
+    first_some g l.number b.store.box c.bound.new.self.store.box r span _ _ (passed_number r.lo span.lo) (passed_number r.hi span.hi) c.args.walk.now.steps c.bound.new.steps c.requires.none (λ x. left_small g b.store.box x c.known.ensures.domains declared)
     c.in_ok-bound.bound c.in-Some.bound c.add_bound.new.self (to_z w64 (of_z w64 c.in-Some.bound.best)) c.in-Some.is c.in_ok-bound.ensures.answer (λ n. passed_number c.in-Some.bound.best n) (c.add_bound.ensures.stands [] s)
 
 pub returns-clause-entered : goal.returns-clause-entered
@@ -110,12 +110,12 @@ returns-clause-entered c =
     let l = c.args.stage.now.level.now in
     let b = c.args.walk.now.remains in
     let r = c.between-worse.result in
-    let u = subst (BoundAnswers r.sense r.variable _ _ b.store.box c.bound.new.self.store.box c.args.steps.now c.bound.new.steps) c.in-Some.is c.in_ok-bound.ensures.answer in
+    let u = subst (BoundAnswers r.sense r.variable _ _ b.store.box c.bound.new.self.store.box c.args.walk.now.steps c.bound.new.steps) c.in-Some.is c.in_ok-bound.ensures.answer in
     λ e. c.bound.ensures.here l.problem.now l.number c.requires.here (sym u.emptied ∙ unnot c.in-Some.bound.is_empty e)
 
 pub returns-clause-emptied : goal.returns-clause-emptied
 returns-clause-emptied c =
     let b = c.args.walk.now.remains in
     let r = c.between-worse.result in
-    let u = subst (BoundAnswers r.sense r.variable _ _ b.store.box c.bound.new.self.store.box c.args.steps.now c.bound.new.steps) c.in-Some.is c.in_ok-bound.ensures.answer in
+    let u = subst (BoundAnswers r.sense r.variable _ _ b.store.box c.bound.new.self.store.box c.args.walk.now.steps c.bound.new.steps) c.in-Some.is c.in_ok-bound.ensures.answer in
     λ e. sym u.emptied ∙ unfalse c.in-Some.bound.is_empty e

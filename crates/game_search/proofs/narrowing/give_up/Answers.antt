@@ -22,7 +22,7 @@ returns-in_default-clause-told c =
     let joins = c.args.walk.now.joins in
     let declared : is_box_of g b.store.box ≡ true = subst (λ (f : Game). is_box_of f b.store.box ≡ true) c.requires.here.game c.known-2.ensures.declared in
     let none : NoneWorse g l.number joins = subst (λ (f : Game). NoneWorse f l.number joins) c.requires.joins (subst (λ (r : Option Worse). AreWorse (game_of joins) l.number joins r) c.in_default.is c.worse_values.ensures) in
-    λ before s. nothing_lost g l.number b.store.box joins before (λ x. left_small g b.store.box x c.known.ensures.domains declared) s none c.args.steps.now c.requires.none
+    λ before s. nothing_lost g l.number b.store.box joins before (λ x. left_small g b.store.box x c.known.ensures.domains declared) s none c.args.walk.now.steps c.requires.none
 
 pub returns-in_default-clause-on : goal.returns-in_default-clause-on
 returns-in_default-clause-on c =
@@ -81,7 +81,7 @@ returns-in_default-bound-clause-told c =
     let here = worse_here g l.number joins b.store.box c.in-Some.worse w c.first.result c.last.result m c.first.ensures c.last.ensures (number_among (values_left b.store.box x) c.first.result left c.first.ensures.left) (number_among (values_left b.store.box x) c.last.result left c.last.ensures.left) c.between-worse.ensures.sense c.between-worse.ensures.variable
     (c.between-worse.ensures.lo ∙ ap (int_max c.in-Some.worse.lo) first_is) (c.between-worse.ensures.hi ∙ ap (int_min c.in-Some.worse.hi) last_is) in
     λ before s.
-    bound_none g l.number b.store.box c.bound.new.self.store.box joins before (λ x. left_small g b.store.box x c.known.ensures.domains declared) s w here _ _ (passed_number w.lo here.lo) (passed_number w.hi here.hi) c.args.steps.now c.bound.new.steps c.requires.none
+    bound_none g l.number b.store.box c.bound.new.self.store.box joins before (λ x. left_small g b.store.box x c.known.ensures.domains declared) s w here _ _ (passed_number w.lo here.lo) (passed_number w.hi here.hi) c.args.walk.now.steps c.bound.new.steps c.requires.none
     c.in_ok-bound.bound c.in_default-bound.is c.in_ok-bound.ensures.answer
 
 pub returns-then-bound-clause-told : goal.returns-then-bound-clause-told
@@ -101,7 +101,7 @@ returns-then-bound-clause-told c =
     (c.between-worse.ensures.lo ∙ ap (int_max c.in-Some.worse.lo) first_is) (c.between-worse.ensures.hi ∙ ap (int_min c.in-Some.worse.hi) last_is) in
     let size = c.known-2.ensures.size ∙ ap (λ (f : Game). length f.variables) c.requires.here.game in
     λ before s.
-    bound_some g l.number b.store.box c.bound.new.self.store.box joins before (λ x. left_small g b.store.box x c.known.ensures.domains declared) s w here _ _ (passed_number w.lo here.lo) (passed_number w.hi here.hi) c.args.steps.now c.bound.new.steps c.requires.none
+    bound_some g l.number b.store.box c.bound.new.self.store.box joins before (λ x. left_small g b.store.box x c.known.ensures.domains declared) s w here _ _ (passed_number w.lo here.lo) (passed_number w.hi here.hi) c.args.walk.now.steps c.bound.new.steps c.requires.none
     c.in_ok-bound.bound c.in-Some-bound.bound c.add_bound.new.self (to_z w64 (of_z w64 c.in-Some-bound.bound.best)) c.in-Some-bound.is c.in_ok-bound.ensures.answer (omega (arith, here.exists, size)) (λ n. passed_number c.in-Some-bound.bound.best n) (c.add_bound.ensures.stands before s)
 
 pub returns-clause-told : goal.returns-clause-told
@@ -121,5 +121,5 @@ returns-clause-told c =
     (c.between-worse.ensures.lo ∙ ap (int_max c.in-Some.worse.lo) first_is) (c.between-worse.ensures.hi ∙ ap (int_min c.in-Some.worse.hi) last_is) in
     let size = c.known-2.ensures.size ∙ ap (λ (f : Game). length f.variables) c.requires.here.game in
     λ before s.
-    bound_some g l.number b.store.box c.bound.new.self.store.box joins before (λ x. left_small g b.store.box x c.known.ensures.domains declared) s w here _ _ (passed_number w.lo here.lo) (passed_number w.hi here.hi) c.args.steps.now c.bound.new.steps c.requires.none
+    bound_some g l.number b.store.box c.bound.new.self.store.box joins before (λ x. left_small g b.store.box x c.known.ensures.domains declared) s w here _ _ (passed_number w.lo here.lo) (passed_number w.hi here.hi) c.args.walk.now.steps c.bound.new.steps c.requires.none
     c.in_ok-bound.bound c.in-Some-bound.bound c.add_bound.new.self (to_z w64 (of_z w64 c.in-Some-bound.bound.best)) c.in-Some-bound.is c.in_ok-bound.ensures.answer (omega (arith, here.exists, size)) (λ n. passed_number c.in-Some-bound.bound.best n) (c.add_bound.ensures.stands before s)

@@ -50,8 +50,8 @@ returns-in-Nothing-clause-told c =
     let content : c.take.new.self.store.box ≡ box_to b.store.box c.args.x.0 (c.args.value ∷ []) = simp to_z-of_z at c.in_ok-take.ensures.content in
     on_ok c.close_after.result
     (λ before s.
-    closed_told g l.number (box_to b.store.box c.args.x.0 (c.args.value ∷ [])) c.give_up.new.walk.remains.store.box c.close_after.new.self.store.box before c.give_up.new.walk.joins c.give_up.new.steps c.close_after.new.steps
-    (subst (λ (d : Box). NarrowTold g l.number d c.give_up.new.walk.remains.store.box before c.give_up.new.walk.joins c.give_up.new.steps) content (c.in_ok-give_up.ensures.told before s)) c.close_after.ensures.pruned c.close_after.ensures.on.fewer)
+    closed_told g l.number (box_to b.store.box c.args.x.0 (c.args.value ∷ [])) c.give_up.new.walk.remains.store.box c.close_after.new.self.store.box before c.give_up.new.walk.joins c.give_up.new.walk.steps c.close_after.new.steps
+    (subst (λ (d : Box). NarrowTold g l.number d c.give_up.new.walk.remains.store.box before c.give_up.new.walk.joins c.give_up.new.walk.steps) content (c.in_ok-give_up.ensures.told before s)) c.close_after.ensures.pruned c.close_after.ensures.on.fewer)
 
 pub returns-in-Nothing-clause-on : goal.returns-in-Nothing-clause-on
 returns-in-Nothing-clause-on c =
@@ -83,8 +83,8 @@ returns-in-Values-clause-told c =
     let content : c.take.new.self.store.box ≡ box_to b.store.box c.args.x.0 (c.args.value ∷ []) = simp to_z-of_z at c.in_ok-take.ensures.content in
     on_ok c.close_after-in-Values.result
     (λ before s.
-    closed_told g l.number (box_to b.store.box c.args.x.0 (c.args.value ∷ [])) c.give_up.new.walk.remains.store.box c.close_after-in-Values.new.self.store.box before c.give_up.new.walk.joins c.give_up.new.steps c.close_after-in-Values.new.steps
-    (subst (λ (d : Box). NarrowTold g l.number d c.give_up.new.walk.remains.store.box before c.give_up.new.walk.joins c.give_up.new.steps) content (c.in_ok-give_up.ensures.told before s)) c.close_after-in-Values.ensures.pruned c.close_after-in-Values.ensures.on.fewer)
+    closed_told g l.number (box_to b.store.box c.args.x.0 (c.args.value ∷ [])) c.give_up.new.walk.remains.store.box c.close_after-in-Values.new.self.store.box before c.give_up.new.walk.joins c.give_up.new.walk.steps c.close_after-in-Values.new.steps
+    (subst (λ (d : Box). NarrowTold g l.number d c.give_up.new.walk.remains.store.box before c.give_up.new.walk.joins c.give_up.new.walk.steps) content (c.in_ok-give_up.ensures.told before s)) c.close_after-in-Values.ensures.pruned c.close_after-in-Values.ensures.on.fewer)
 
 pub returns-in-Values-clause-on : goal.returns-in-Values-clause-on
 returns-in-Values-clause-on c =

@@ -15,7 +15,7 @@ returns-clause-told c =
     let b = c.args.walk.now.remains in
     let m = c.bound_first.new.walk in
     on_ok c.close.result
-    (λ s. first_closed l.problem.now l.number b.store.box m.remains.store.box c.close.new.self.store.box m.joins c.bound_first.new.steps c.close.new.steps (c.in_ok-bound_first.ensures.told s) c.close.ensures.pruned c.close.ensures.on.fewer)
+    (λ s. first_closed l.problem.now l.number b.store.box m.remains.store.box c.close.new.self.store.box m.joins c.bound_first.new.walk.steps c.close.new.steps (c.in_ok-bound_first.ensures.told s) c.close.ensures.pruned c.close.ensures.on.fewer)
 
 pub returns-clause-on : goal.returns-clause-on
 returns-clause-on c = leads_further c.args.walk.now.remains c.bound_first.new.walk.remains c.close.new.self c.bound_first.ensures.on c.close.ensures.on

@@ -1,4 +1,4 @@
-use Rattle.std.proofs.Common.{add-one, List, ℤ, ◌≡◌, ◌∙◌, sym, ap, refl, subst, ◌+◌, ◌-◌, ◌*◌, rules, length, drop, w64, to_z, of_z, arith, true, [], ◌∷◌, ◌++◌, Option, Some, IfSome}
+use Rattle.std.proofs.Common.{add-one, List, ℤ, ◌≡◌, ◌∙◌, sym, ap, refl, subst, ◌+◌, ◌-◌, ◌*◌, rules, suc, length, drop, w64, to_z, of_z, arith, true, [], ◌∷◌, ◌++◌, Option, Some, IfSome, map}
 use Rattle.std.specs.List.{list_all}
 use Rattle.std.proofs.lemmas.Int.{to_z-of_z}
 use Rattle.std.proofs.lemmas.List.{append-nil}
@@ -17,13 +17,14 @@ use Rattle.proof_tree.specs.Cover.{box_to}
 use Rattle.proof_tree.specs.Diligent.{SeesAhead}
 use Rattle.proof_tree.specs.Incumbents.{has_no_worse}
 use Rattle.proof_tree.specs.InPlace.{is_horizon}
-use Rattle.proof_tree.specs.Lines.{upto_lines}
+use Rattle.proof_tree.specs.Lines.{step_line, upto_lines}
 use Rattle.proof_tree.specs.declared.line.Line.TheVariants.{Skip, Open}
 use Rattle.proof_tree.specs.Place.{is_fixed_to, position}
 use Rattle.qc_model.specs.Verdict.{Seen}
 use Rattle.qc_levels.specs.Seen.{verdict_of}
 use Rattle.qc_joins.specs.Joins.{LeafFits, StandsAt, out_of}
-use Rattle.search_box.specs.Closes.{IsPruned}
+use Rattle.search_box.specs.Closes.{IsPruned, IsClosedAt}
+use Rattle.search_box.specs.Entered.{IsEntered}
 use Rattle.search_box.specs.Looking.{scope_number}
 use Rattle.search_box.specs.Rests.{IsFirst, IsAfter, IsNext, IsPrevious}
 use Rattle.search_box.proofs.Goings.{follows_on}
@@ -35,6 +36,7 @@ use Rattle.game_search.specs.declared.aim.Worse.{Worse}
 use Rattle.game_search.specs.Narrowed.{NarrowTold}
 use Rattle.game_search.specs.Rivals.{above_at, StandsAbove, outdoes, IsRival}
 use Rattle.game_search.specs.Settled.{is_outdone}
+use Rattle.game_search.specs.Trimmed.{TrimmedPut}
 use Rattle.game_search.specs.Told.{IsReady, BoundedSteps, StepsTold, PartTold, BoundedTold, CaseTold, BodyTold, NodeTold}
 use Rattle.game_search.specs.Uppers.{upto_between, skipped_between, seen_between, without_before}
 use Rattle.game_search.proofs.Covers.{covers_after, many_of, rest_of}
@@ -47,9 +49,26 @@ use Rattle.game_search.proofs.Knowing.{node_finished, kept_told}
 use Rattle.game_search.proofs.Losing.{ready_after}
 use Rattle.game_search.proofs.Marks.{firsts_marks}
 use Rattle.game_search.proofs.Outdone.{rival_outdoes}
+use Rattle.game_search.proofs.Places.{goal_closed}
 use Rattle.game_search.proofs.Bools.{both}
 use Rattle.game_search.proofs.Remains.{as_many, none_back, both_back, back_after, back_below, back_more, case_back, cut_back, entered_back, line_back, lines_both, one_fewer, taken_back, told_back, tuple_back, undone_back, back_from, same_back}
 use Rattle.game_search.proofs.search.+search.Goals as goal
+
+pub after_tuple-node-requires : goal.after_tuple-node-requires
+after_tuple-node-requires t c =
+    let l = c.args.stage.now.level.now in
+    let k = l.problem.now in
+    let g = c.args.stage.now.levels.now.problem.now in
+    let now = c.tuple_allowed.new.self in
+    let same : k ≡ g = c.args.stage.now.same in
+    let scopes : length g.scopes ≡ length k.scopes = ap (λ (f : Game). length f.scopes) (sym same) in
+    let variables : length g.variables ≡ length k.variables = ap (λ (f : Game). length f.variables) (sym same) in
+    let place : before g (l.number + 1) ≡ l.stop = ap (λ (f : Game). before f (l.number + 1)) (sym same) ∙ (ap (before k) (add-one l.number) ∙ sym l.has_stop) in
+    let entered = subst (λ m. IsEntered g m now) (sym (add-one l.number)) (subst (λ (f : Game). IsEntered f (suc l.number) now) same c.tuple_allowed.ensures.entered) in
+    let closed = subst (λ (s : Held). IsClosedAt k l.number s.box) (sym c.tuple_allowed.ensures.store) c.requires.going.closed in (
+      omega (arith, l.is_scope, scopes, variables, place),
+      (omega (arith, l.is_scope, scopes), (c.args.stage.now.within, (entered, (λ e. goal_closed k g l.number now.store.box same closed e, c.requires.joins ∙ same)))),
+    )
 
 pub after_tuple-returns-then-not-tuple_allowed-clause-told : goal.after_tuple-returns-then-not-tuple_allowed-clause-told
 after_tuple-returns-then-not-tuple_allowed-clause-told t c =
@@ -478,9 +497,8 @@ bounded_part-returns-clause-told t c =
     let above = outdoes g i c.args.stage.now.rival in
     λ few.
     let n = c.in_ok-closed.ensures.told c.clear.ensures.stands in
-    let stepped = subst (λ ss. BoundedSteps g i box m.remains.store.box [] n.ms ss) (sym c.items.ensures) n.stepped in
     let ready = ready_bounded g i m.left m.joins n.ms n.stands n.stepped.one (omega (arith, few, c.narrow_first.ensures.left)) in
-    let part = c.in_ok-part.ensures.told (λ q. cc) box [] n.ms stepped ready in
+    let part = c.in_ok-part.ensures.told (λ q. cc) box [] n.ms n.stepped ready in
     let turns = subst (λ k. BoundedTold c.args.stage.now.cuts above g i box h [] n.ms k w.left m.lines w.lines w.joins) c.narrow_first.ensures.left part in
     record { ms = n.ms; part = subst (λ ls. BoundedTold c.args.stage.now.cuts above g i box h [] n.ms a.left w.left ls w.lines w.joins) c.narrow_first.ensures.lines turns }
 
@@ -624,11 +642,11 @@ closed_part-returns-clause-told t c =
     let g = l.problem.now in
     let i = l.number in
     let b = c.args.walk.now.remains in
-    let pruned = subst (λ ss. IsPruned g i b.store.box c.close.new.self.store.box [] ss) (sym c.items.ensures) (subst (λ ss. IsPruned g i b.store.box c.close.new.self.store.box ss c.close.new.steps) c.new-steps.ensures c.close.ensures.pruned) in
+    let pruned = subst (λ ss. IsPruned g i b.store.box c.close.new.self.store.box ss c.close.new.steps) c.clear-2.ensures c.close.ensures.pruned in
     let last = c.part.new.walk in
     let h = scope_number c.args.stage.now.horizon in
     let left_box = c.close.new.self.store.box in
-    let steps = c.items.result.now in
+    let steps = c.close.new.steps in
     let told = pruned_told g i b.store.box left_box steps pruned in
     λ q few. part_told c.args.stage.now.cuts (outdoes g i c.args.stage.now.rival) g i b.store.box left_box h [] [] c.args.walk.now.left last.left c.args.walk.now.lines last.lines last.joins steps told
     (c.in_ok-is_whole.ensures.told q b.store.box [] [] (bare_steps g i b.store.box left_box [] [] steps told) (ready_first g i c.args.walk.now.left c.clear.new.self c.clear.ensures.stands few))
@@ -652,9 +670,9 @@ part-returns-in_ok-put-in-Empty-clause-told t c =
     let h = scope_number c.args.stage.now.horizon in
     let left_box = c.args.walk.now.remains.store.box in
     let none_left : has_empty left_box ≡ true = subst (λ (a : Closed). GoesOn a g l.number c.args.x c.args.walk.now.remains) c.in-Empty.is c.requires.goes in
-    let put = c.in_ok-put_needed-in-Empty.ensures in
+    let put = subst (λ ss. TrimmedPut g ss c.args.walk.now.lines c.put_needed.new.lines) c.items.ensures c.in_ok-put_needed-in-Empty.ensures in
     λ w box before ms stepped ready.
-    let needed = needed_made g (drop l.number g.scopes) l.number d box ms c.args.steps.now put.less put.trims (subst (λ (u : Box). has_empty u ≡ true) stepped.reached none_left) stepped.stepped in
+    let needed = needed_made g (drop l.number g.scopes) l.number d box ms c.args.walk.now.steps put.less put.trims (subst (λ (u : Box). has_empty u ≡ true) stepped.reached none_left) stepped.stepped in
     let end_box = after_steps put.less box in
     stepped_told c.args.stage.now.cuts (outdoes g l.number c.args.stage.now.rival) g l.number box end_box h before ms c.args.walk.now.left c.args.walk.now.left c.args.walk.now.lines c.put_needed.new.lines c.put.new.self c.args.walk.now.joins put.less refl needed.made stepped.one put.lines
     (empty_told c.args.stage.now.cuts (outdoes g l.number c.args.stage.now.rival) g l.number end_box h (before ++ seen_bounds ms) c.args.walk.now.left c.put_needed.new.lines c.args.walk.now.joins ready c.put.new.self needed.empties c.in_ok-put-in-Empty.ensures.put)
@@ -676,7 +694,7 @@ part-returns-in_ok-put_steps-in-Open-clause-told t c =
     IfOk-weaker c.within.result _ _
     (λ whole told w box before ms stepped ready.
     let worse = subst (λ ns. has_no_worse (tracked_at g l.number) ns left_box ≡ true) (sym (firsts_marks before ms)) stepped.worse in
-    bounded_told c.args.stage.now.cuts (outdoes g l.number c.args.stage.now.rival) g l.number box left_box h before ms c.args.walk.now.left c.within.new.walk.left c.args.walk.now.lines c.put_steps.new.lines c.within.new.walk.lines c.within.new.walk.joins c.args.steps.now stepped c.in_ok-put_steps-in-Open.ensures
+    bounded_told c.args.stage.now.cuts (outdoes g l.number c.args.stage.now.rival) g l.number box left_box h before ms c.args.walk.now.left c.within.new.walk.left c.args.walk.now.lines c.put_steps.new.lines c.within.new.walk.lines c.within.new.walk.joins c.args.walk.now.steps stepped (subst (λ ss. c.put_steps.new.lines ≡ c.args.walk.now.lines ++ map step_line ss) c.items-in-Open.ensures c.in_ok-put_steps-in-Open.ensures)
     (told w (before ++ seen_bounds ms) ready worse))
     c.within.ensures.told
 
@@ -706,13 +724,13 @@ with_value-returns-clause-told t c =
     let fits : SFits w64 c.args.value = search rules in
     λ w before ready.
     let told = c.in_ok-closed.ensures.told before ready.stands in
-    let n : NarrowTold g l.number box c.narrow.new.walk.remains.store.box before joins c.narrow.new.steps = simp to_z-of_z at told in
-    let stepped = subst (λ ss. StepsTold g l.number box c.narrow.new.walk.remains.store.box before n.ms ss) (sym c.items.ensures) n.stepped in
+    let n : NarrowTold g l.number box c.narrow.new.walk.remains.store.box before joins c.narrow.new.walk.steps = simp to_z-of_z at told in
+    let stepped = n.stepped in
     let left = subst (λ m. IsReady g l.number c.args.walk.now.joins (2 + 2 * m) before) (sym c.narrow.ensures.left) ready in
-    let again = ready_after g l.number box c.narrow.new.walk.remains.store.box c.args.walk.now.joins joins c.narrow.new.walk.left before c.narrow.new.steps n left in
+    let again = ready_after g l.number box c.narrow.new.walk.remains.store.box c.args.walk.now.joins joins c.narrow.new.walk.left before c.narrow.new.walk.steps n left in
     let last = c.part.new.walk in
     let now = c.narrow.new.walk in
-    let steps = c.items.result.now in
+    let steps = now.steps in
     let part = part_told c.args.stage.now.cuts (outdoes g l.number c.args.stage.now.rival) g l.number box now.remains.store.box h before n.ms now.left last.left now.lines last.lines last.joins steps stepped
     (c.in_ok-is_whole.ensures.told w box before n.ms (bare_steps g l.number box now.remains.store.box before n.ms steps stepped) again) in
     let turns = subst (λ m. PartTold c.args.stage.now.cuts (outdoes g l.number c.args.stage.now.rival) g l.number box h before n.ms m c.part.new.walk.left c.narrow.new.walk.lines c.part.new.walk.lines c.part.new.walk.joins) c.narrow.ensures.left part in

@@ -1,9 +1,10 @@
 use Rattle.std.proofs.Common.{◌≡◌, ◌∙◌, sym, ap, subst, arith, true, take}
 use Rattle.std.specs.List.{list_all}
-use Rattle.qc_model.specs.Domains.{box_values}
+use Rattle.qc_model.specs.Domains.{box_values, is_single}
 use Rattle.qc_model.specs.Game.{allows}
 use Rattle.qc_model.specs.Holds.{holds_on}
 use Rattle.qc_model.specs.Valid.{is_constraint, is_number}
+use Rattle.search_box.proofs.Complete.{closed_tuple_allowed}
 use Rattle.search_box.proofs.Places.{box_size, read_numbers, rules_valid}
 use Rattle.search_box.proofs.tuple.read_tuple.Goals as goal
 
@@ -27,6 +28,12 @@ pub all_hold-requires-clause-values : goal.all_hold-requires-clause-values
 all_hold-requires-clause-values c =
     let g = c.args.level.now.problem.now in
     subst (λ vs. list_all is_number vs ≡ true) (sym (c.read_values.ensures.read c.requires.stand)) (read_numbers g c.args.store.now.box c.args.level.now.stop c.known.ensures.domains c.requires.declared c.requires.full)
+
+pub returns-then-all_mention-clause-allowed : goal.returns-then-all_mention-clause-allowed
+returns-then-all_mention-clause-allowed c =
+    let l = c.args.level.now in
+    sym (closed_tuple_allowed l.problem.now l.number c.args.store.now.box c.known.ensures l.is_scope c.requires.declared (sym c.requires.mention ∙ c.if-all_mention.true)
+    (ap (λ n. list_all is_single (take n c.args.store.now.box)) (sym l.has_stop) ∙ c.requires.fixed) c.requires.closed)
 
 pub returns-clause-allowed : goal.returns-clause-allowed
 returns-clause-allowed c =

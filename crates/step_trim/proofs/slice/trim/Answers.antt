@@ -4,8 +4,8 @@ use Rattle.step_trim.specs.Trims.{Trims}
 use Rattle.step_trim.proofs.Right.{slice_trims}
 use Rattle.step_trim.proofs.slice.trim.Goals as goal
 
-pub returns : goal.returns
-returns c =
+pub returns-clause-right : goal.returns-clause-right
+returns-clause-right c =
     let g = c.args.problem.now in
     let steps = c.args.steps.now in
     on_ok_weaker c.slice.result (λ e. subst (λ less. Trims g steps less) (sym e) (slice_trims g steps)) c.slice.ensures

@@ -26,6 +26,7 @@ invariant_of-self c =
       ready = c.self.invariant.ready;
       same = c.self.invariant.same;
       value_each = c.self.invariant.value_each;
+      mention = c.self.invariant.mention;
     }
 
 pub returns-clause-on : goal.returns-clause-on

@@ -1,11 +1,22 @@
 use Rattle.std.proofs.Common.{◌≡◌, ◌∙◌, suc, sym, ap, take}
+use Rattle.std.specs.List.{list_all}
 use Rattle.std.proofs.lemmas.List.{with_items_is}
-use Rattle.qc_model.specs.Domains.{box_values}
+use Rattle.qc_model.specs.Domains.{box_values, is_single}
 use Rattle.qc_model.specs.Game.{before}
+use Rattle.qc_model.proofs.Before.{before_up}
 use Rattle.proof_tree.specs.Place.{position}
 use Rattle.search_box.specs.Boxed.{Boxed}
 use Rattle.search_box.proofs.Entering.{entered_next}
+use Rattle.search_box.proofs.Places.{fixed_both}
 use Rattle.search_box.proofs.search_box.SearchBox.tuple_allowed.Goals as goal
+
+pub read_tuple-requires-clause-fixed : goal.read_tuple-requires-clause-fixed
+read_tuple-requires-clause-fixed c =
+    let l = c.args.level.now in
+    let g = l.problem.now in
+    let box = c.args.self.now.store.box in
+    ap (λ (b : Boxed). list_all is_single (take l.stop b.store.box)) c.self.view_is
+    ∙ (ap (λ n. list_all is_single (take n box)) l.has_stop ∙ fixed_both box (before g l.number) (before g (suc l.number)) (before_up g l.number) c.requires.here.fixed c.requires.fixed)
 
 pub returns-clause-entered : goal.returns-clause-entered
 returns-clause-entered c =
