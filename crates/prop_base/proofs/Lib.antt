@@ -3,3 +3,4 @@ pub mod Keeps
 pub mod Widening
 mod OneEnd
 pub mod Whole
+mod SameValues

@@ -14,6 +14,7 @@ mod cuts;
 mod cutting;
 mod emptying;
 mod ends;
+mod nearing;
 mod ranges;
 mod refuting;
 mod removal;

@@ -5,14 +5,14 @@ ghost use Rattle.prop_base.specs.Closed.{IsCut};
 ghost use Rattle.prop_base.specs.Pruning.{IsPruning, is_just};
 
 use crate::cuts::Cut;
+use crate::nearing::near_cut;
 use fd_store::Store;
 use proof_tree::{Step, StepList};
 use qc_model::{ConId, Constraint, Problem};
 use std::alloc::AllocError;
 
-/// Takes the values of a cut out of the store, and appends the step. It answers whether none is left. After a refusal
-/// nothing was removed and no step appended.
-pub fn prune(
+// Takes the values of a cut out of the store, and appends the step that names it.
+fn prune_named(
     problem: &Problem,
     c: ConId,
     rule: &Constraint,
@@ -39,4 +39,25 @@ pub fn prune(
     })?;
     let _ = store.remove(cut.x, cut.lo, cut.hi);
     Ok(store.size(cut.x) == 0)
+}
+
+/// Takes the values of a cut out of the store, and appends a step, which names no more than the range in which the variable
+/// has values. It answers whether none is left. After a refusal nothing was removed and no step appended.
+pub fn prune(
+    problem: &Problem,
+    c: ConId,
+    rule: &Constraint,
+    cut: Cut,
+    store: &mut Store,
+    steps: &mut StepList,
+) -> Result<bool, AllocError>
+    requires c { slice_get problem.now.constraints c.0 ≡ Some rule.now }
+    requires full { IsFalse (has_empty store.old.box) }
+    requires cut { IsCut rule.now store.old.box cut }
+    ensures pruning { IsPruning (is_just c.0) problem.now store.old store.new steps.old steps.new }
+    ensures content { OnOk result (store.new.box ≡ box_without store.old.box cut.x.0 cut.lo cut.hi) }
+    ensures emptied { IfOk result (λ b. b ≡ has_empty store.new.box) }
+    ensures grown { OnOk result (length steps.new ≡ length steps.old + 1) }
+{
+    prune_named(problem, c, rule, near_cut(rule, cut, store), store, steps)
 }

@@ -4,7 +4,7 @@ use mir.Val.{SFits}
 use mir.Syntax.{w64}
 use Rattle.qc_model.specs.Domains.{box_without}
 use Rattle.prop_base.proofs.Steps.{follows_same, follows_more, pruning_cut, cut_emptied}
-use Rattle.prop_base.proofs.removal.prune.Goals as goal
+use Rattle.prop_base.proofs.removal.prune_named.Goals as goal
 
 pub returns-clause-pruning : goal.returns-clause-pruning
 returns-clause-pruning c =
