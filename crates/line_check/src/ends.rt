@@ -148,6 +148,7 @@ impl<'p> Machine<'p> {
     }
 
     /// A line in a scope's own tree.
+    #[inline(always)]
     pub(crate) fn at_end(&mut self, line: Line)
         requires within { IsWithin self.old }
         ensures tells { PartTells self.old self.new (λ d. ledger_end (game_of self.old) d line) }

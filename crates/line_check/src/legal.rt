@@ -13,6 +13,7 @@ use qc_model::{ConId, Problem, VarId};
 use qc_refuter::refutes_in;
 
 /// Takes the values of x from lo to hi where that is legal by the constraint c, one of the span, and says whether it is.
+#[inline(always)]
 pub(crate) fn prune(
     problem: &Problem,
     remains: &mut Remains,

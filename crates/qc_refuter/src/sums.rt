@@ -1,9 +1,10 @@
 //! Sums of products, in 128 bits. A product alone fits into 64.
-ghost use Rattle.std.specs.Prelude.{◌≡◌, ◌≤◌, ◌<◌, ◌^◌, IsTrue, true, length, map, ◌*ℤ◌, unsigned_abs};
+ghost use Rattle.std.specs.Prelude.{◌≡◌, ◌≤◌, ◌<◌, ◌^◌, IsTrue, true, length, map, ◌*ℤ◌, unsigned_abs, int_lt};
 ghost use Rattle.std.specs.Int.{int_min, int_max};
 ghost use Rattle.std.specs.List.{list_all};
 ghost use Rattle.qc_model.specs.Entailed.{entailed_as};
-ghost use Rattle.qc_model.specs.Left.{span, sum_range, sum_at as sum_in};
+ghost use Rattle.qc_model.specs.Domains.{least_value, greatest_value};
+ghost use Rattle.qc_model.specs.Left.{span, left_at, sum_range, sum_at as sum_in};
 ghost use Rattle.qc_model.specs.Meaning.{sum_equal as SumEqual, sum_different as SumDifferent, sum_at_most as SumAtMost};
 ghost use Rattle.qc_model.specs.Ranges.{range_of, point, product as product_of};
 ghost use Rattle.qc_model.specs.Refuted.{left_to, refuted_as};
@@ -17,6 +18,9 @@ use crate::shown::View;
 use crate::view::{greatest, least};
 use fd_store::Store;
 use qc_model::{Arg, Argument, Constraint, Problem};
+
+/// The least number that there is.
+const LEAST: i64 = -1_000_000_000;
 
 /// The least and the greatest number that a sum can be.
 #[derive(Clone, Copy)]
@@ -144,15 +148,73 @@ fn greatest_in(args: &[Argument], view: &View) -> i128
     greatest_sum(numbers_met(args, 0, view), items_met(args, 1, view), view)
 }
 
+// The sum is more than the third argument, whatever values they have.
+#[inline(always)]
+fn is_above(args: &[Argument], view: &View) -> bool
+    requires { IsTrue (are_met (seen view.now) args.now) }
+    ensures { result ≡ int_lt (greatest_value (left_at (lefts (seen view.now) args.now) 2)) (sum_in (lefts (seen view.now) args.now)).from }
+{
+    (greatest_at(args, 2, view) as i128) < least_in(args, view)
+}
+
+// The sum is less than the third argument, whatever values they have.
+#[inline(always)]
+fn is_below(args: &[Argument], view: &View) -> bool
+    requires { IsTrue (are_met (seen view.now) args.now) }
+    ensures { result ≡ int_lt (sum_in (lefts (seen view.now) args.now)).to (least_value (left_at (lefts (seen view.now) args.now) 2)) }
+{
+    greatest_in(args, view) < least_at(args, 2, view) as i128
+}
+
+// Whether an item is the view's own variable.
+#[inline(always)]
+fn is_own(item: Arg, view: &View) -> bool {
+    match item {
+        Arg::Num(_) => false,
+        Arg::Var(y) => y.0 == view.x.0,
+    }
+}
+
+// Whether the view shows its own variable, which is this item, from the least value on.
+fn shows_least(item: Arg, view: &View) -> bool
+    requires { IsTrue (is_open (seen view.now) item) }
+{
+    match item {
+        Arg::Num(_) => false,
+        Arg::Var(y) => match view.store.next(y, LEAST) {
+            None => false,
+            Some(v) => v == view.ends.least,
+        },
+    }
+}
+
+// Whether the end of the sum that the view brings nearer to the third argument is the greatest. No answer is wrong: it says
+// which end is read first, so that the other mostly needn't be.
+fn is_rather_below(args: &[Argument], view: &View) -> bool
+    requires { IsTrue (are_met (seen view.now) args.now) }
+{
+    let factors = numbers_met(args, 0, view);
+    let items = items_met(args, 1, view);
+    let count = factors.len().min(items.len());
+    for k in 0..count {
+        if is_own(items[k], view) {
+            return shows_least(items[k], view) == (0 < factors[k]);
+        }
+    }
+    false
+}
+
 // The sum can't be the third argument.
+#[inline(always)]
 pub(crate) fn sum_equal_refuted(args: &[Argument], view: &View) -> bool
     requires { IsTrue (are_met (seen view.now) args.now) }
     ensures { result ≡ refuted_as SumEqual (lefts (seen view.now) args.now) }
 {
-    if (greatest_at(args, 2, view) as i128) < least_in(args, view) {
-        return true;
+    if is_rather_below(args, view) {
+        is_below(args, view) || is_above(args, view)
+    } else {
+        is_above(args, view) || is_below(args, view)
     }
-    greatest_in(args, view) < least_at(args, 2, view) as i128
 }
 
 // The sum can only be the least value of the third argument.
