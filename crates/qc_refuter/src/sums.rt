@@ -19,9 +19,6 @@ use crate::view::{greatest, least};
 use fd_store::Store;
 use qc_model::{Arg, Argument, Constraint, Problem};
 
-/// The least number that there is.
-const LEAST: i64 = -1_000_000_000;
-
 /// The least and the greatest number that a sum can be.
 #[derive(Clone, Copy)]
 pub struct Extent {
@@ -75,6 +72,7 @@ fn term_left(factor: i64, arg: Arg, store: &Store) -> Reach
 }
 
 // The least that a factor times an argument can be, as a view shows it.
+#[inline(always)]
 fn least_term(factor: i64, arg: Arg, view: &View) -> i64
     requires factor { IsTrue (is_number factor) }
     requires open { IsTrue (is_open (seen view.now) arg) }
@@ -89,6 +87,7 @@ fn least_term(factor: i64, arg: Arg, view: &View) -> i64
 }
 
 // The greatest that it can be.
+#[inline(always)]
 fn greatest_term(factor: i64, arg: Arg, view: &View) -> i64
     requires factor { IsTrue (is_number factor) }
     requires open { IsTrue (is_open (seen view.now) arg) }
@@ -103,6 +102,7 @@ fn greatest_term(factor: i64, arg: Arg, view: &View) -> i64
 }
 
 // The least that a sum of at most 1,000 terms can be. Mostly one end of a sum tells enough, and then the other isn't read.
+#[inline(always)]
 fn least_sum(factors: &[i64], items: &[Arg], view: &View) -> i128
     requires factors { IsTrue (list_all is_number factors.now) }
     requires items { IsTrue (list_all (is_open (seen view.now)) items.now) }
@@ -110,14 +110,16 @@ fn least_sum(factors: &[i64], items: &[Arg], view: &View) -> i128
     ensures { result ≡ (sum_range factors.now (map (left_to (seen view.now)) items.now)).from }
 {
     let count = factors.len().min(items.len());
+    let view = *view;
     let mut sum: i128 = 0;
     for k in 0..count {
-        sum += least_term(factors[k], items[k], view) as i128;
+        sum += least_term(factors[k], items[k], &view) as i128;
     }
     sum
 }
 
 // The greatest that it can be.
+#[inline(always)]
 fn greatest_sum(factors: &[i64], items: &[Arg], view: &View) -> i128
     requires factors { IsTrue (list_all is_number factors.now) }
     requires items { IsTrue (list_all (is_open (seen view.now)) items.now) }
@@ -125,14 +127,16 @@ fn greatest_sum(factors: &[i64], items: &[Arg], view: &View) -> i128
     ensures { result ≡ (sum_range factors.now (map (left_to (seen view.now)) items.now)).to }
 {
     let count = factors.len().min(items.len());
+    let view = *view;
     let mut sum: i128 = 0;
     for k in 0..count {
-        sum += greatest_term(factors[k], items[k], view) as i128;
+        sum += greatest_term(factors[k], items[k], &view) as i128;
     }
     sum
 }
 
 // The least that the sum of the arguments can be.
+#[inline(always)]
 fn least_in(args: &[Argument], view: &View) -> i128
     requires { IsTrue (are_met (seen view.now) args.now) }
     ensures { result ≡ (sum_in (lefts (seen view.now) args.now)).from }
@@ -141,6 +145,7 @@ fn least_in(args: &[Argument], view: &View) -> i128
 }
 
 // The greatest that it can be.
+#[inline(always)]
 fn greatest_in(args: &[Argument], view: &View) -> i128
     requires { IsTrue (are_met (seen view.now) args.now) }
     ensures { result ≡ (sum_in (lefts (seen view.now) args.now)).to }
@@ -149,7 +154,7 @@ fn greatest_in(args: &[Argument], view: &View) -> i128
 }
 
 // The sum is more than the third argument, whatever values they have.
-#[inline(always)]
+#[inline(never)]
 fn is_above(args: &[Argument], view: &View) -> bool
     requires { IsTrue (are_met (seen view.now) args.now) }
     ensures { result ≡ int_lt (greatest_value (left_at (lefts (seen view.now) args.now) 2)) (sum_in (lefts (seen view.now) args.now)).from }
@@ -158,7 +163,7 @@ fn is_above(args: &[Argument], view: &View) -> bool
 }
 
 // The sum is less than the third argument, whatever values they have.
-#[inline(always)]
+#[inline(never)]
 fn is_below(args: &[Argument], view: &View) -> bool
     requires { IsTrue (are_met (seen view.now) args.now) }
     ensures { result ≡ int_lt (sum_in (lefts (seen view.now) args.now)).to (least_value (left_at (lefts (seen view.now) args.now) 2)) }
@@ -176,27 +181,34 @@ fn is_own(item: Arg, view: &View) -> bool {
 }
 
 // Whether the view shows its own variable, which is this item, from the least value on.
+#[inline(always)]
 fn shows_least(item: Arg, view: &View) -> bool
     requires { IsTrue (is_open (seen view.now) item) }
 {
     match item {
         Arg::Num(_) => false,
-        Arg::Var(y) => match view.store.next(y, LEAST) {
-            None => false,
-            Some(v) => v == view.ends.least,
-        },
+        Arg::Var(y) => {
+            if y.0 == view.x.0 {
+                view.store.min(y) == view.ends.least
+            } else {
+                false
+            }
+        }
     }
 }
 
 // Whether the end of the sum that the view brings nearer to the third argument is the greatest. No answer is wrong: it says
 // which end is read first, so that the other mostly needn't be.
+#[inline(always)]
 fn is_rather_below(args: &[Argument], view: &View) -> bool
     requires { IsTrue (are_met (seen view.now) args.now) }
 {
     let factors = numbers_met(args, 0, view);
     let items = items_met(args, 1, view);
-    let count = factors.len().min(items.len());
-    for k in 0..count {
+    let mut k = factors.len().min(items.len());
+    // a search mostly gives values in order, so that what is removed stands late
+    while k > 0 {
+        k -= 1;
         if is_own(items[k], view) {
             return shows_least(items[k], view) == (0 < factors[k]);
         }
