@@ -39,6 +39,7 @@ pub(crate) fn prune(
 
 /// Whether each variable has a value, x has some from lo to hi, and the constraint c, one of the span, refutes the box in
 /// which x keeps these alone.
+#[inline(always)]
 fn is_legal_prune(
     problem: &Problem,
     remains: &Remains,

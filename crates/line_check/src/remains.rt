@@ -95,6 +95,7 @@ impl Remains {
     }
 
     /// Whether x has a value from lo to hi.
+    #[inline(always)]
     pub fn has_within(&self, x: VarId, lo: i64, hi: i64) -> bool
         ensures { result ≡ not (is_none_left (values_within lo hi (values_left self.now.box x.0))) }
     {

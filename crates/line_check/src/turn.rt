@@ -27,7 +27,7 @@ impl<'p> Machine<'p> {
         }
     }
 
-    #[inline(never)]
+    #[inline(always)]
     fn ranged_line(&mut self, high: i64, line: Line)
         requires fork { IsAtFork self.old }
         ensures tells { PartTells self.old self.new (λ d. at_entry d.entries (λ b fs. ledger_case (game_of self.old) d b fs (Some high) line)) }

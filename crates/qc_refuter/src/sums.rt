@@ -15,7 +15,7 @@ ghost use Rattle.qc_refuter.specs.Met.{seen, lefts, are_met, is_open};
 use crate::ends::Reach;
 use crate::reading::{greatest_at, items_met, least_at, numbers_met};
 use crate::shown::View;
-use crate::view::{greatest, least};
+use crate::view::{greatest_of, least_of};
 use fd_store::Store;
 use qc_model::{Arg, Argument, Constraint, Problem};
 
@@ -71,33 +71,57 @@ fn term_left(factor: i64, arg: Arg, store: &Store) -> Reach
     }
 }
 
+// The least value left to an item of an array: only what its kind needs is read.
+#[inline(always)]
+fn least_behind(item: &Arg, view: &View) -> i64
+    requires { IsTrue (is_open (seen view.now) item.now) }
+    ensures { result ≡ least_value (left_to (seen view.now) item.now) }
+{
+    match item {
+        Arg::Num(n) => *n,
+        Arg::Var(y) => least_of(*y, view),
+    }
+}
+
+// The greatest value left to it.
+#[inline(always)]
+fn greatest_behind(item: &Arg, view: &View) -> i64
+    requires { IsTrue (is_open (seen view.now) item.now) }
+    ensures { result ≡ greatest_value (left_to (seen view.now) item.now) }
+{
+    match item {
+        Arg::Num(n) => *n,
+        Arg::Var(y) => greatest_of(*y, view),
+    }
+}
+
 // The least that a factor times an argument can be, as a view shows it.
 #[inline(always)]
-fn least_term(factor: i64, arg: Arg, view: &View) -> i64
+fn least_term(factor: i64, arg: &Arg, view: &View) -> i64
     requires factor { IsTrue (is_number factor) }
-    requires open { IsTrue (is_open (seen view.now) arg) }
-    ensures value { result ≡ (product_of (point factor) (span (left_to (seen view.now) arg))).from }
+    requires open { IsTrue (is_open (seen view.now) arg.now) }
+    ensures value { result ≡ (product_of (point factor) (span (left_to (seen view.now) arg.now))).from }
     ensures small { unsigned_abs result ≤ 10 ^ 18 }
 {
     if factor < 0 {
-        product(factor, greatest(arg, view))
+        product(factor, greatest_behind(arg, view))
     } else {
-        product(factor, least(arg, view))
+        product(factor, least_behind(arg, view))
     }
 }
 
 // The greatest that it can be.
 #[inline(always)]
-fn greatest_term(factor: i64, arg: Arg, view: &View) -> i64
+fn greatest_term(factor: i64, arg: &Arg, view: &View) -> i64
     requires factor { IsTrue (is_number factor) }
-    requires open { IsTrue (is_open (seen view.now) arg) }
-    ensures value { result ≡ (product_of (point factor) (span (left_to (seen view.now) arg))).to }
+    requires open { IsTrue (is_open (seen view.now) arg.now) }
+    ensures value { result ≡ (product_of (point factor) (span (left_to (seen view.now) arg.now))).to }
     ensures small { unsigned_abs result ≤ 10 ^ 18 }
 {
     if factor < 0 {
-        product(factor, least(arg, view))
+        product(factor, least_behind(arg, view))
     } else {
-        product(factor, greatest(arg, view))
+        product(factor, greatest_behind(arg, view))
     }
 }
 
@@ -113,7 +137,7 @@ fn least_sum(factors: &[i64], items: &[Arg], view: &View) -> i128
     let view = *view;
     let mut sum: i128 = 0;
     for k in 0..count {
-        sum += least_term(factors[k], items[k], &view) as i128;
+        sum += least_term(factors[k], &items[k], &view) as i128;
     }
     sum
 }
@@ -130,7 +154,7 @@ fn greatest_sum(factors: &[i64], items: &[Arg], view: &View) -> i128
     let view = *view;
     let mut sum: i128 = 0;
     for k in 0..count {
-        sum += greatest_term(factors[k], items[k], &view) as i128;
+        sum += greatest_term(factors[k], &items[k], &view) as i128;
     }
     sum
 }
