@@ -177,22 +177,26 @@ fn greatest_in(args: &[Argument], view: &View) -> i128
     greatest_sum(numbers_met(args, 0, view), items_met(args, 1, view), view)
 }
 
-// The sum is more than the third argument, whatever values they have.
+// The sum is more than the number, whatever values its items have.
 #[inline(never)]
-fn is_above(args: &[Argument], view: &View) -> bool
-    requires { IsTrue (are_met (seen view.now) args.now) }
-    ensures { result ≡ int_lt (greatest_value (left_at (lefts (seen view.now) args.now) 2)) (sum_in (lefts (seen view.now) args.now)).from }
+fn is_above(factors: &[i64], items: &[Arg], number: i64, view: &View) -> bool
+    requires factors { IsTrue (list_all is_number factors.now) }
+    requires items { IsTrue (list_all (is_open (seen view.now)) items.now) }
+    requires few { length items.now ≤ 1000 }
+    ensures { result ≡ int_lt number (sum_range factors.now (map (left_to (seen view.now)) items.now)).from }
 {
-    (greatest_at(args, 2, view) as i128) < least_in(args, view)
+    (number as i128) < least_sum(factors, items, view)
 }
 
-// The sum is less than the third argument, whatever values they have.
+// The sum is less than the number, whatever values its items have.
 #[inline(never)]
-fn is_below(args: &[Argument], view: &View) -> bool
-    requires { IsTrue (are_met (seen view.now) args.now) }
-    ensures { result ≡ int_lt (sum_in (lefts (seen view.now) args.now)).to (least_value (left_at (lefts (seen view.now) args.now) 2)) }
+fn is_below(factors: &[i64], items: &[Arg], number: i64, view: &View) -> bool
+    requires factors { IsTrue (list_all is_number factors.now) }
+    requires items { IsTrue (list_all (is_open (seen view.now)) items.now) }
+    requires few { length items.now ≤ 1000 }
+    ensures { result ≡ int_lt (sum_range factors.now (map (left_to (seen view.now)) items.now)).to number }
 {
-    greatest_in(args, view) < least_at(args, 2, view) as i128
+    greatest_sum(factors, items, view) < number as i128
 }
 
 // Whether an item is the view's own variable.
@@ -224,11 +228,9 @@ fn shows_least(item: Arg, view: &View) -> bool
 // Whether the end of the sum that the view brings nearer to the third argument is the greatest. No answer is wrong: it says
 // which end is read first, so that the other mostly needn't be.
 #[inline(always)]
-fn is_rather_below(args: &[Argument], view: &View) -> bool
-    requires { IsTrue (are_met (seen view.now) args.now) }
+fn is_rather_below(factors: &[i64], items: &[Arg], view: &View) -> bool
+    requires { IsTrue (list_all (is_open (seen view.now)) items.now) }
 {
-    let factors = numbers_met(args, 0, view);
-    let items = items_met(args, 1, view);
     let mut k = factors.len().min(items.len());
     // a search mostly gives values in order, so that what is removed stands late
     while k > 0 {
@@ -246,10 +248,14 @@ pub(crate) fn sum_equal_refuted(args: &[Argument], view: &View) -> bool
     requires { IsTrue (are_met (seen view.now) args.now) }
     ensures { result ≡ refuted_as SumEqual (lefts (seen view.now) args.now) }
 {
-    if is_rather_below(args, view) {
-        is_below(args, view) || is_above(args, view)
+    let factors = numbers_met(args, 0, view);
+    let items = items_met(args, 1, view);
+    let least = least_at(args, 2, view);
+    let greatest = greatest_at(args, 2, view);
+    if is_rather_below(factors, items, view) {
+        is_below(factors, items, least, view) || is_above(factors, items, greatest, view)
     } else {
-        is_above(args, view) || is_below(args, view)
+        is_above(factors, items, greatest, view) || is_below(factors, items, least, view)
     }
 }
 
