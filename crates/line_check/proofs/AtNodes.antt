@@ -9,7 +9,7 @@ use Rattle.qc_model.specs.declared.problem.ConId.{ConId}
 use Rattle.qc_model.specs.declared.problem.Scope.{Scope}
 use Rattle.qc_model.specs.Content.{Game}
 use Rattle.qc_model.specs.Demands.{demands}
-use Rattle.qc_model.specs.Domains.{Box, has_empty, box_without, is_within}
+use Rattle.qc_model.specs.Domains.{has_empty, box_without, is_within}
 use Rattle.qc_model.specs.Game.{allows, before}
 use Rattle.qc_model.specs.Valid.{is_number}
 use Rattle.qc_model.specs.Verdict.{Verdict, lost}
@@ -24,9 +24,9 @@ use Rattle.qc_joins.specs.Verdicts.{stuck_of}
 use Rattle.qc_joins.specs.declared.joins.Joins.{Joins}
 use Rattle.proof_tree.specs.Place.{position, is_goal}
 use Rattle.proof_tree.specs.InPlace.{is_horizon, is_nearer}
-use Rattle.proof_tree.specs.Steps.{is_legal, removes_some}
+use Rattle.proof_tree.specs.Steps.{is_legal}
 use Rattle.proof_tree.specs.declared.line.Line.{Line}
-use Rattle.proof_tree.specs.declared.line.Line.TheVariants.{Horizon, Prune, Bound, Dot, Goal}
+use Rattle.proof_tree.specs.declared.line.Line.TheVariants.{Horizon, Prune, Dot, Goal}
 use Rattle.proof_tree.specs.declared.tree.Step.TheVariants.{Prune as PruneStep}
 use Rattle.fd_store.specs.declared.store.Mark.{Mark}
 use Rattle.fd_store.specs.Held.{Held, trail_len, past_box, Follows, IsUndone}
@@ -41,7 +41,7 @@ use Rattle.line_check.specs.Telling.{IsNode, IsNodeEnd, GoesUp, came, node_at, n
 use Rattle.line_check.proofs.Frames.{past_now, frames_same, entries_same, entries_joins}
 use Rattle.line_check.proofs.Placing.{position_placed, at_filtered, numbers_to}
 use Rattle.line_check.proofs.LedgerSizes.{one_node}
-use Rattle.line_check.proofs.Parts.{a_ledger, not_second, followed_sound, followed_open}
+use Rattle.line_check.proofs.Parts.{a_ledger, followed_sound, followed_open}
 
 closed_came : (g : Game) (d : Ledger) (es : List Entry) (i : ℕ) (h : Option ℕ) (v : Verdict) → came g d es i h v None ≡ node_closed g d es i h v
 closed_came g d [] i h v = refl

@@ -18,11 +18,11 @@ use Rattle.line_check.specs.declared.open.Open.TheVariants.{Next, Branch}
 use Rattle.line_check.specs.declared.open.Due.TheVariants as due
 use Rattle.line_check.specs.declared.machine.Machine.{Machine}
 use Rattle.line_check.specs.Awaited.{case_awaited}
-use Rattle.line_check.specs.Ledger.{Ledger, Entry, next_entry, branch_entry, ends_with, part_closed}
+use Rattle.line_check.specs.Ledger.{Ledger, Entry, next_entry, branch_entry, part_closed}
 use Rattle.line_check.specs.LedgerSizes.{ClosesKeep, NodeFits}
 use Rattle.qc_joins.specs.Sizes.{HasSizes}
 use Rattle.line_check.specs.Machine.{game_of, fork_at, values_to, before_of, IsAt, IsFork, AreFrames, IsSound, IsWithin, IsBack, IsAtFork}
-use Rattle.line_check.specs.Telling.{AreEntries, AreOpen, IsPartEnd, IsNodeEnd, GoesUp, IsLeft, part_at, part_ended, node_ended, came, TellsPart, TellsEnd}
+use Rattle.line_check.specs.Telling.{AreEntries, AreOpen, IsPartEnd, IsNodeEnd, GoesUp, IsLeft, part_at, part_ended, node_ended, came, TellsPart}
 use Rattle.line_check.proofs.Frames.{at_fewer, frames_same, entries_same, entries_joins}
 use Rattle.line_check.proofs.LedgerSizes.{closes_up}
 

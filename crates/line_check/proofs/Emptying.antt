@@ -1,14 +1,17 @@
 -- When a box has a variable with no value, and values in a range.
 use Rattle.std.proofs.Common.{◌≡◌, ℕ, zero, suc, ◌<◌, Bool, true, false, not, ◌&&◌, ◌||◌, cond, List, [], ◌∷◌, length, map, refl, sym, ap, ◌∙◌, arith, ℤ, Some, None}
-use Rattle.std.specs.Prelude.{filter, int_le, int_lt}
+use Rattle.std.specs.Prelude.{filter, int_le, int_lt, ◌≤ℤ◌, ◌<ℤ◌}
+use Rattle.std.specs.Ordering.{int_eq}
 use Rattle.std.specs.List.{list_all}
 use Rattle.std.proofs.lemmas.Int.{ints}
+use Rattle.std.proofs.lemmas.Bool.Decides.{Decides-int_eq}
 use Rattle.qc_model.specs.declared.problem.Variable.{Variable}
 use Rattle.qc_model.specs.Content.{Game}
-use Rattle.qc_model.specs.Domains.{Values, Box, domain_values, declared_box, values_left, values_within, values_outside, is_within, is_none_left, has_empty, box_without, least_from}
+use Rattle.qc_model.specs.Domains.{Values, Box, domain_values, declared_box, values_left, values_within, values_outside, is_within, is_none_left, has_empty, box_without, least_from, least_value, greatest_value, has_value}
 use Rattle.qc_model.specs.Valid.{is_domain}
 use Rattle.qc_model.proofs.DomainValues.{domain_full}
 use Rattle.qc_model.proofs.Readable.{first, second}
+use Rattle.qc_arguments.proofs.Kept.{low_end, high_end}
 use Rattle.fd_store.specs.declared.answer.Removed.TheVariants.{Emptied}
 use Rattle.fd_store.specs.Held.{removal, values_from, least_of}
 
@@ -132,3 +135,39 @@ none_within vs lo hi e = by (values_from lo vs) refl e
     by : (us : Values) → values_from lo vs ≡ us → None ≡ least_of us → false ≡ not (is_none_left (values_within lo hi vs))
     by [] f e = ap (λ k. not (is_none_left k)) (sym (ap (filter (λ u. int_le u hi)) f) ∙ filter_two (int_le lo) (λ u. int_le u hi) vs)
     by (w ∷ us) f e = cc
+
+-- no value lies between the two, so nothing goes
+box_stays : (box : Box) (x : ℕ) (lo hi : ℤ) → is_none_left (values_within lo hi (values_left box x)) ≡ true → box_without box x lo hi ≡ box
+box_stays [] x lo hi e = refl
+box_stays (vs ∷ box) zero lo hi e = ap (λ us. us ∷ box) (all_stay (is_within lo hi) vs e)
+box_stays (vs ∷ box) (suc x) lo hi e = ap (λ b. vs ∷ b) (box_stays box x lo hi e)
+
+pub nothing_goes : (box : Box) (x : ℕ) (lo hi : ℤ) → is_none_left (values_within lo hi (values_left box x)) ≡ true → box ≡ box_without box x lo hi
+nothing_goes box x lo hi e = sym (box_stays box x lo hi e)
+
+none_passes : (p : ℤ → Bool) (vs : Values) → ((v : ℤ) → has_value vs v ≡ true → p v ≡ false) → is_none_left (filter p vs) ≡ true
+none_passes p [] h = refl
+none_passes p (v ∷ vs) h = by (p v) (h v (here v vs)) (none_passes p vs (λ u k. h u (later u v vs k)))
+  where
+    here : (v : ℤ) (vs : Values) → has_value (v ∷ vs) v ≡ true
+    here v vs = ap (λ b. b || has_value vs v) ((Decides-int_eq v v).1 refl)
+
+    later : (u v : ℤ) (vs : Values) → has_value vs u ≡ true → has_value (v ∷ vs) u ≡ true
+    later u v vs k = ap (λ b. int_eq u v || b) k ∙ or_true (int_eq u v)
+
+    by : (b : Bool) → b ≡ false → is_none_left (filter p vs) ≡ true → is_none_left (cond b (v ∷ filter p vs) (filter p vs)) ≡ true
+    by true e f = cc
+    by false e f = f
+
+-- both numbers lie above the values, or below them
+pub none_above : (lo hi : ℤ) (vs : Values) → greatest_value vs <ℤ lo → is_none_left (values_within lo hi vs) ≡ true
+none_above lo hi vs h = none_passes (is_within lo hi) vs (λ v k. out lo hi v (greatest_value vs) h (high_end vs v k))
+  where
+    out : (lo hi v g : ℤ) → g <ℤ lo → v ≤ℤ g → is_within lo hi v ≡ false
+    out lo hi v g h k = grind (arith, ints)
+
+pub none_below : (lo hi : ℤ) (vs : Values) → hi <ℤ least_value vs → is_none_left (values_within lo hi vs) ≡ true
+none_below lo hi vs h = none_passes (is_within lo hi) vs (λ v k. out lo hi v (least_value vs) h (low_end vs v k))
+  where
+    out : (lo hi v l : ℤ) → hi <ℤ l → l ≤ℤ v → is_within lo hi v ≡ false
+    out lo hi v l h k = grind (arith, ints)

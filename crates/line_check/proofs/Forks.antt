@@ -15,14 +15,14 @@ use Rattle.proof_tree.specs.declared.line.Line.TheVariants.{Dot}
 use Rattle.fd_store.specs.declared.store.Mark.{Mark}
 use Rattle.fd_store.specs.Held.{Held, trail_len, past_box, values_from, least_of, Follows}
 use Rattle.line_check.specs.declared.open.Open.{Open}
-use Rattle.line_check.specs.declared.open.Open.TheVariants.{Next, Branch}
+use Rattle.line_check.specs.declared.open.Open.TheVariants.{Branch}
 use Rattle.line_check.specs.declared.open.Due.{Due}
 use Rattle.line_check.specs.declared.open.Due.TheVariants as due
 use Rattle.line_check.specs.declared.machine.Machine.{Machine}
 use Rattle.line_check.specs.Cases.{IsCase}
 use Rattle.line_check.specs.State.{Fork, fork_after, may_take}
 use Rattle.line_check.specs.Awaited.{Awaited, case_awaited, one_more}
-use Rattle.line_check.specs.Ledger.{Ledger, Entry, next_entry, branch_entry, at_entry, part_closed, ledger_end, ledger_fork, gone_into}
+use Rattle.line_check.specs.Ledger.{Ledger, Entry, branch_entry, at_entry, part_closed, ledger_end, ledger_fork, gone_into}
 use Rattle.line_check.specs.LedgerSizes.{PartKeeps}
 use Rattle.line_check.specs.Machine.{game_of, fork_at, before_of, IsFull, IsFork, AreFrames, IsWithin, IsBack, IsAtFork}
 use Rattle.line_check.specs.Telling.{AreEntries, AreOpen, IsPart, IsPartEnd, GoesInto, part_at, part_ended, skips, takes, Tells, PartTells}

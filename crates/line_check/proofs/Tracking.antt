@@ -1,5 +1,5 @@
 -- Which variable a scope's own tree may bound.
-use Rattle.std.proofs.Common.{◌≡◌, ◌∙◌, refl, sym, ap, ℕ, zero, suc, ◌+◌, ◌<◌, ◌≤◌, true, false, ◌&&◌, ◌||◌, List, [], ◌∷◌, ◌++◌, length, drop, Option, Some, None, add-one, arith, ℤ, ◌⊎◌, inl, inr, length-append}
+use Rattle.std.proofs.Common.{◌≡◌, ◌∙◌, refl, sym, ap, ℕ, zero, suc, ◌+◌, ◌<◌, ◌≤◌, true, false, ◌&&◌, ◌||◌, List, [], ◌∷◌, ◌++◌, length, drop, Option, Some, None, add-one, arith, ◌⊎◌, inl, inr, length-append}
 use Rattle.std.specs.Prelude.{slice_get, is_some, is_none, nat_lt}
 use Rattle.std.proofs.lemmas.Bool.Decides.{nat_tests}
 use Rattle.qc_model.specs.declared.problem.Condition.{Condition}
@@ -11,15 +11,7 @@ use Rattle.qc_levels.proofs.DemandSteps.{demands_step}
 use Rattle.proof_tree.specs.Place.{list_after, tracked_first, tracked_variable}
 use Rattle.line_check.specs.declared.bounds.Wish.{Wish}
 use Rattle.line_check.specs.declared.bounds.Bounds.{Bounds}
-use Rattle.line_check.specs.Awaited.{part_awaited}
-use Rattle.line_check.specs.Ledger.{Ledger, only_ledger, place_at, spot_on, marks_of, ledger_end}
-use Rattle.line_check.specs.State.{is_own_step}
-use Rattle.line_check.specs.Tracking.{told, told_in, tracked_at, TracksAll, BoundShows}
-use Rattle.proof_tree.specs.declared.line.Line.TheVariants.{Bound}
-use Rattle.proof_tree.specs.declared.tree.Step.TheVariants.{Bound as BoundStep}
-use Rattle.qc_model.specs.declared.problem.VarId.{VarId}
-use Rattle.qc_model.specs.Domains.{box_without}
-use Rattle.qc_model.specs.Verdict.{seen_bound}
+use Rattle.line_check.specs.Tracking.{told, told_in, tracked_at, TracksAll}
 use Rattle.qc_rules.proofs.Items.{drop_at}
 
 -- no scope beyond the last matters

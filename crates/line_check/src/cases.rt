@@ -47,6 +47,7 @@ impl<'p> Machine<'p> {
     }
 
     /// Goes into a case of the last branch, and says whether that may be done.
+    #[inline(always)]
     fn take_case(&mut self, x: VarId, mark: Mark, from: i64, upto: Option<i64>) -> bool
         requires fork { IsAtFork self.old }
         requires top { self.old.nesting ≡ open_as.Branch x mark from ∷ rest self.old.nesting }
@@ -73,6 +74,7 @@ impl<'p> Machine<'p> {
     }
 
     /// The first line of a case that is gone into.
+    #[inline(always)]
     fn case_line(&mut self, x: VarId, mark: Mark, from: i64, upto: Option<i64>, line: Line)
         requires fork { IsAtFork self.old }
         requires top { self.old.nesting ≡ open_as.Branch x mark from ∷ rest self.old.nesting }
@@ -88,6 +90,7 @@ impl<'p> Machine<'p> {
     }
 
     /// A case of the last branch, with an upper value or without.
+    #[inline(always)]
     pub(crate) fn at_case(&mut self, x: VarId, mark: Mark, from: i64, upto: Option<i64>, line: Line)
         requires fork { IsAtFork self.old }
         requires top { self.old.nesting ≡ open_as.Branch x mark from ∷ rest self.old.nesting }
@@ -130,6 +133,7 @@ impl<'p> Machine<'p> {
     }
 
     /// A line where a case of the last branch is due.
+    #[inline(always)]
     pub(crate) fn at_fork(&mut self, x: VarId, mark: Mark, from: i64, line: Line)
         requires fork { IsAtFork self.old }
         requires top { self.old.nesting ≡ open_as.Branch x mark from ∷ rest self.old.nesting }

@@ -19,6 +19,7 @@ pub struct Ends {
 
 /// The ends of a case that has this upper value, or one value alone, and begins at the first of the values of x from `from`
 /// on; None where there is no such value, or the upper value isn't one that comes after the first.
+#[inline(always)]
 pub fn case_ends(store: &Store, x: VarId, from: i64, upto: Option<i64>) -> Option<Ends>
     requires var { x.0 < length store.now.box }
     ensures none { IfNone result (is_cover upto (values_from from (values_left store.now.box x.0)) ≡ false) }

@@ -46,6 +46,7 @@ impl<'p> Machine<'p> {
         self.close_part();
     }
 
+    #[inline(always)]
     fn next_line(&mut self)
         requires within { IsWithin self.old }
         ensures tells { PartTells self.old self.new (λ d. ledger_end (game_of self.old) d line_of.Next) }
@@ -89,6 +90,7 @@ impl<'p> Machine<'p> {
         !self.remains.store().is_fixed(x)
     }
 
+    #[inline(always)]
     fn branch_line(&mut self, x: VarId)
         requires within { IsWithin self.old }
         ensures tells { PartTells self.old self.new (λ d. ledger_end (game_of self.old) d (line_of.Branch x)) }
@@ -114,6 +116,7 @@ impl<'p> Machine<'p> {
     }
 
     /// A removal by a constraint that is in force.
+    #[inline(always)]
     fn prune_line(&mut self, x: VarId, lo: i64, hi: i64, c: ConId)
         requires within { IsWithin self.old }
         ensures tells { PartTells self.old self.new (λ d. ledger_end (game_of self.old) d (line_of.Prune x lo hi c)) }
@@ -148,6 +151,7 @@ impl<'p> Machine<'p> {
     }
 
     /// A line in a scope's own tree.
+    #[inline(always)]
     pub(crate) fn at_end(&mut self, line: Line)
         requires within { IsWithin self.old }
         ensures tells { PartTells self.old self.new (λ d. ledger_end (game_of self.old) d line) }

@@ -13,6 +13,7 @@ use qc_model::{ConId, Problem, VarId};
 use qc_refuter::refutes_in;
 
 /// Takes the values of x from lo to hi where that is legal by the constraint c, one of the span, and says whether it is.
+#[inline(always)]
 pub(crate) fn prune(
     problem: &Problem,
     remains: &mut Remains,
@@ -38,6 +39,7 @@ pub(crate) fn prune(
 
 /// Whether each variable has a value, x has some from lo to hi, and the constraint c, one of the span, refutes the box in
 /// which x keeps these alone.
+#[inline(always)]
 fn is_legal_prune(
     problem: &Problem,
     remains: &Remains,

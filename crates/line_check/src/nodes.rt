@@ -102,6 +102,7 @@ impl<'p> Machine<'p> {
     }
 
     /// The own tree of the node's scope begins with this line.
+    #[inline(always)]
     fn own_line(&mut self, line: Line)
         requires node { IsAtNode self.old }
         ensures tells { NodeTells self.old self.new (λ d. begins (game_of self.old) d line) }
@@ -121,6 +122,7 @@ impl<'p> Machine<'p> {
     }
 
     /// A line of a node after its horizon.
+    #[inline(always)]
     pub(crate) fn at_body(&mut self, line: Line)
         requires node { IsAtNode self.old }
         ensures tells { NodeTells self.old self.new (λ d. ledger_body (game_of self.old) d line) }
@@ -183,6 +185,7 @@ impl<'p> Machine<'p> {
     }
 
     /// A line of a node.
+    #[inline(always)]
     pub(crate) fn at_node(&mut self, line: Line)
         requires node { IsAtNode self.old }
         ensures tells { NodeTells self.old self.new (λ d. ledger_node (game_of self.old) d line) }

@@ -48,6 +48,16 @@ fn count_values(store: &Store) -> usize
     values
 }
 
+/// Whether some number from lo to hi lies between the ends of x.
+#[inline(always)]
+fn reaches(store: &Store, x: VarId, lo: i64, hi: i64) -> bool
+    requires var { x.0 < length store.now.box }
+    requires left { is_none_left (values_left store.now.box x.0) ≡ false }
+    ensures { result ≡ false → is_none_left (values_within lo hi (values_left store.now.box x.0)) ≡ true }
+{
+    lo <= store.max(x) && store.min(x) <= hi
+}
+
 impl Remains {
     /// The declared domains of a problem's variables. It fails only where memory runs out.
     pub fn new(alloc: Global, problem: &Problem) -> Result<Remains, AllocError>
@@ -85,6 +95,7 @@ impl Remains {
     }
 
     /// Whether x has a value from lo to hi.
+    #[inline(always)]
     pub fn has_within(&self, x: VarId, lo: i64, hi: i64) -> bool
         ensures { result ≡ not (is_none_left (values_within lo hi (values_left self.now.box x.0))) }
     {
@@ -113,7 +124,33 @@ impl Remains {
         }
     }
 
+    /// Whether x may have a value from lo to hi, by its ends.
+    #[inline(always)]
+    fn may_have(&self, x: VarId, lo: i64, hi: i64) -> bool
+        requires var { x.0 < length self.now.box }
+        ensures { result ≡ false → is_none_left (values_within lo hi (values_left self.now.box x.0)) ≡ true }
+    {
+        if self.empty {
+            return true;
+        }
+        reaches(&self.store, x, lo, hi)
+    }
+
+    /// Takes the values from lo to hi out of x, which often lie beyond its ends.
+    #[inline(always)]
+    fn cut_beyond(&mut self, x: VarId, lo: i64, hi: i64)
+        requires var { x.0 < length self.old.box }
+        ensures content { self.new.box ≡ box_without self.old.box x.0 lo hi }
+        ensures past { Follows self.old self.new }
+        ensures fewer { (large : Box) → is_sub_box self.old.box large ≡ true → is_sub_box self.new.box large ≡ true }
+    {
+        if self.may_have(x, lo, hi) {
+            self.cut(x, lo, hi);
+        }
+    }
+
     /// Leaves x its values from first to last alone.
+    #[inline(always)]
     pub fn keep(&mut self, x: VarId, first: i64, last: i64)
         requires var { x.0 < length self.old.box }
         requires first { IsTrue (is_number first) }
@@ -123,8 +160,8 @@ impl Remains {
         ensures fewer { (large : Box) → is_sub_box self.old.box large ≡ true → is_sub_box self.new.box large ≡ true }
     {
         self.store.known(x);
-        self.cut(x, -1_000_000_000, first - 1);
-        self.cut(x, last + 1, 1_000_000_000);
+        self.cut_beyond(x, -1_000_000_000, first - 1);
+        self.cut_beyond(x, last + 1, 1_000_000_000);
     }
 
     /// Goes back to a box in which each variable had a value.

@@ -13,6 +13,7 @@ use crate::open::{Due, Open};
 use proof_tree::Line;
 
 impl<'p> Machine<'p> {
+    #[inline(always)]
     fn fork_line(&mut self, line: Line)
         requires fork { IsAtFork self.old }
         ensures tells { PartTells self.old self.new (λ d. at_entry d.entries (λ b fs. ledger_fork (game_of self.old) d b fs line)) }
@@ -26,6 +27,7 @@ impl<'p> Machine<'p> {
         }
     }
 
+    #[inline(always)]
     fn ranged_line(&mut self, high: i64, line: Line)
         requires fork { IsAtFork self.old }
         ensures tells { PartTells self.old self.new (λ d. at_entry d.entries (λ b fs. ledger_case (game_of self.old) d b fs (Some high) line)) }

@@ -59,6 +59,7 @@ fn ascends(numbers: &[i64]) -> bool
     true
 }
 
+#[inline(never)]
 fn sorted_differ(items: &[Arg], values: &[i64]) -> bool
     requires { length items.now ≤ 1000 }
     ensures { result ≡ all_differ (item_values values.now items.now) }

@@ -4,6 +4,7 @@ ghost use Rattle.std.specs.List.{list_all};
 ghost use Rattle.qc_model.specs.Content.{Rule};
 ghost use Rattle.qc_evaluation.specs.Evaluation.{given, are_readable};
 ghost use Rattle.qc_model.specs.Holds.{holds_as, holds_on};
+ghost use Rattle.qc_model.specs.Meaning.{reified as Reified};
 ghost use Rattle.qc_model.specs.RowMeaning.{plain_meaning};
 ghost use Rattle.qc_model.specs.Valid.{is_constraint, is_number};
 
@@ -12,6 +13,7 @@ use crate::{arithmetic, comparisons, differing, elements, rows, sums, truths};
 use qc_arguments::arguments;
 use qc_model::{Argument, ConId, Constraint, Meaning, Problem, meaning_of};
 
+#[inline(always)]
 fn holds_plainly(meaning: Meaning, args: &[Argument], values: &[i64]) -> bool
     requires { IsTrue (are_readable values.now args.now) }
     ensures { result ≡ holds_as (plain_meaning meaning) (given values.now args.now) }
@@ -48,6 +50,15 @@ fn holds_plainly(meaning: Meaning, args: &[Argument], values: &[i64]) -> bool
     }
 }
 
+// Whether the last argument is 1 exactly where the plain meaning holds. Most constraints are plain.
+#[inline(never)]
+fn holds_reified(meaning: Meaning, args: &[Argument], values: &[i64]) -> bool
+    requires { IsTrue (are_readable values.now args.now) }
+    ensures { result ≡ holds_as (Reified (plain_meaning meaning)) (given values.now args.now) }
+{
+    holds_plainly(meaning, args, values) == (last_value(args, values) == 1)
+}
+
 /// Whether a constraint of the problem holds on values within the number limit. They may be those of
 /// the first variables alone: a later variable counts as 0.
 pub fn satisfies(problem: &Problem, rule: &Constraint, values: &[i64]) -> bool
@@ -57,11 +68,10 @@ pub fn satisfies(problem: &Problem, rule: &Constraint, values: &[i64]) -> bool
 {
     let args = arguments(rule);
     let row = meaning_of(rule.pred);
-    let truth = holds_plainly(row.meaning, args, values);
     if row.reified {
-        truth == (last_value(args, values) == 1)
+        holds_reified(row.meaning, args, values)
     } else {
-        truth
+        holds_plainly(row.meaning, args, values)
     }
 }
 

@@ -33,6 +33,7 @@ pub(crate) fn last_met(args: &[Argument], view: &View) -> Arg
     arg_met(args, args.len().saturating_sub(1), view)
 }
 
+#[inline(always)]
 pub(crate) fn least_at(args: &[Argument], place: usize, view: &View) -> i64
     requires { IsTrue (are_met (seen view.now) args.now) }
     ensures { result ≡ least_value (left_at (lefts (seen view.now) args.now) place) }
@@ -43,6 +44,7 @@ pub(crate) fn least_at(args: &[Argument], place: usize, view: &View) -> i64
     }
 }
 
+#[inline(always)]
 pub(crate) fn greatest_at(args: &[Argument], place: usize, view: &View) -> i64
     requires { IsTrue (are_met (seen view.now) args.now) }
     ensures { result ≡ greatest_value (left_at (lefts (seen view.now) args.now) place) }
@@ -54,6 +56,7 @@ pub(crate) fn greatest_at(args: &[Argument], place: usize, view: &View) -> i64
 }
 
 /// The items of an array that may hold variables.
+#[inline(always)]
 pub(crate) fn items_met<'a>(args: &'a [Argument], place: usize, view: &View) -> &'a [Arg]
     requires { IsTrue (are_met (seen view.now) args.now) }
     ensures items { map (left_to (seen view.now)) result.now ≡ lefts_at (lefts (seen view.now) args.now) place }
@@ -66,6 +69,7 @@ pub(crate) fn items_met<'a>(args: &'a [Argument], place: usize, view: &View) -> 
     }
 }
 
+#[inline(always)]
 pub(crate) fn numbers_met<'a>(args: &'a [Argument], place: usize, view: &View) -> &'a [i64]
     requires { IsTrue (are_met (seen view.now) args.now) }
     ensures items { result.now ≡ numbers_in (lefts (seen view.now) args.now) place }

@@ -18,6 +18,7 @@ use fd_store::Store;
 use qc_arguments::arguments;
 use qc_model::{Argument, ConId, Constraint, Meaning, Problem, VarId, meaning_of};
 
+#[inline(never)]
 fn refuted_plainly(meaning: Meaning, args: &[Argument], view: &View) -> bool
     requires { IsTrue (are_met (seen view.now) args.now) }
     ensures { result ≡ refuted_as (plain_meaning meaning) (lefts (seen view.now) args.now) }
@@ -74,6 +75,7 @@ fn entailed_plainly(meaning: Meaning, args: &[Argument], view: &View) -> bool
 }
 
 // The last argument can't be 1.
+#[inline(never)]
 fn is_never_true(meaning: Meaning, args: &[Argument], view: &View) -> bool
     requires { IsTrue (are_met (seen view.now) args.now) }
     ensures { result ≡ (not (has_value (last_left (lefts (seen view.now) args.now)) (pos 1)) || refuted_as (plain_meaning meaning) (lefts (seen view.now) args.now)) }
@@ -104,6 +106,7 @@ fn refuted_reified(meaning: Meaning, args: &[Argument], view: &View) -> bool
     is_never_true(meaning, args, view) && is_never_false(meaning, args, view)
 }
 
+#[inline(always)]
 fn refutes_view(rule: &Constraint, view: &View) -> bool
     requires { IsTrue (are_met (seen view.now) rule.now.args) }
     ensures { result ≡ refuted_by rule.now (seen view.now) }
@@ -122,6 +125,7 @@ fn refutes_view(rule: &Constraint, view: &View) -> bool
 /// and their like, and each place of an element constraint's array of variables) it takes time in the order of the values
 /// left up to the first that is found. A set is searched at most about as often as it has numbers, and a range twice; for
 /// `all_different_int` of n items it takes time in the order of n log n.
+#[inline(always)]
 pub fn rule_refutes_in(
     problem: &Problem,
     rule: &Constraint,
@@ -151,6 +155,7 @@ pub fn rule_refutes_in(
 }
 
 /// Whether the constraint c refutes the box in which x keeps only its values from lo to hi.
+#[inline(always)]
 pub fn refutes_in(problem: &Problem, c: ConId, store: &Store, x: VarId, lo: i64, hi: i64) -> bool
     requires c { c.0 < length problem.now.constraints }
     requires asked { (rule : Rule) → slice_get problem.now.constraints c.0 ≡ Some rule → IsAsked problem.now rule store.now.box }

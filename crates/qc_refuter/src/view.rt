@@ -2,6 +2,7 @@
 ghost use Rattle.std.specs.Prelude.{◌≡◌, ◌<◌, ◌≤ℤ◌, ℤ, IsTrue, length, pos, negsuc};
 ghost use Rattle.qc_model.specs.Domains.{box_within, values_left, values_within, least_value, greatest_value, has_value, is_single};
 ghost use Rattle.qc_model.specs.Refuted.{left_to};
+ghost use Rattle.qc_model.specs.declared.problem.Arg.TheVariants.{Var};
 ghost use Rattle.fd_store.specs.Held.{values_from, least_of};
 ghost use Rattle.qc_refuter.specs.Shown.{HasEnds};
 ghost use Rattle.qc_refuter.specs.Met.{seen, is_open};
@@ -46,6 +47,32 @@ pub(crate) fn whole(store: &Store) -> View
     }
 }
 
+/// The least value left to a variable.
+#[inline(always)]
+pub(crate) fn least_of(y: VarId, view: &View) -> i64
+    requires { IsTrue (is_open (seen view.now) (Var y)) }
+    ensures { result ≡ least_value (left_to (seen view.now) (Var y)) }
+{
+    if y.0 == view.x.0 {
+        view.ends.least
+    } else {
+        view.store.min(y)
+    }
+}
+
+/// The greatest value left to a variable.
+#[inline(always)]
+pub(crate) fn greatest_of(y: VarId, view: &View) -> i64
+    requires { IsTrue (is_open (seen view.now) (Var y)) }
+    ensures { result ≡ greatest_value (left_to (seen view.now) (Var y)) }
+{
+    if y.0 == view.x.0 {
+        view.ends.greatest
+    } else {
+        view.store.max(y)
+    }
+}
+
 /// The least value left to an argument.
 #[inline(always)]
 pub(crate) fn least(arg: Arg, view: &View) -> i64
@@ -54,13 +81,7 @@ pub(crate) fn least(arg: Arg, view: &View) -> i64
 {
     match arg {
         Arg::Num(n) => n,
-        Arg::Var(y) => {
-            if y.0 == view.x.0 {
-                view.ends.least
-            } else {
-                view.store.min(y)
-            }
-        }
+        Arg::Var(y) => least_of(y, view),
     }
 }
 
@@ -72,13 +93,7 @@ pub(crate) fn greatest(arg: Arg, view: &View) -> i64
 {
     match arg {
         Arg::Num(n) => n,
-        Arg::Var(y) => {
-            if y.0 == view.x.0 {
-                view.ends.greatest
-            } else {
-                view.store.max(y)
-            }
-        }
+        Arg::Var(y) => greatest_of(y, view),
     }
 }
 

@@ -7,9 +7,9 @@ ghost use Rattle.qc_model.specs.Valid.{is_constraint, is_number};
 use qc_evaluation::satisfies;
 use qc_model::{Constraint, Problem};
 
-/// Whether each of the constraints holds on the values. It takes no memory, and stops at the first
-/// that doesn't hold.
-pub fn all_hold(problem: &Problem, rules: &[Constraint], values: &[i64]) -> bool
+// Many scopes have no rules of their own, so that this is a function of its own.
+#[inline(never)]
+fn each_holds(problem: &Problem, rules: &[Constraint], values: &[i64]) -> bool
     requires rules { IsTrue (list_all (is_constraint problem.now.variables) rules.now) }
     requires values { IsTrue (list_all is_number values.now) }
     ensures { result ≡ list_all (λ c. holds_on c values.now) rules.now }
@@ -20,4 +20,15 @@ pub fn all_hold(problem: &Problem, rules: &[Constraint], values: &[i64]) -> bool
         }
     }
     true
+}
+
+/// Whether each of the constraints holds on the values. It takes no memory, and stops at the first
+/// that doesn't hold.
+#[inline(always)]
+pub fn all_hold(problem: &Problem, rules: &[Constraint], values: &[i64]) -> bool
+    requires rules { IsTrue (list_all (is_constraint problem.now.variables) rules.now) }
+    requires values { IsTrue (list_all is_number values.now) }
+    ensures { result ≡ list_all (λ c. holds_on c values.now) rules.now }
+{
+    rules.is_empty() || each_holds(problem, rules, values)
 }

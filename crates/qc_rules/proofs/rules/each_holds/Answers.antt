@@ -1,6 +1,6 @@
 use Rattle.qc_model.specs.Valid.{is_constraint}
 use Rattle.qc_rules.proofs.Items.{all_item}
-use Rattle.qc_rules.proofs.rules.all_hold.Goals as goal
+use Rattle.qc_rules.proofs.rules.each_holds.Goals as goal
 
 pub satisfies-requires-clause-rule : goal.satisfies-requires-clause-rule
 satisfies-requires-clause-rule c =
