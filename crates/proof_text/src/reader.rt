@@ -58,6 +58,7 @@ impl LineReader {
     }
 
     /// Reads the next byte. After `TooDeep` or `Bad` every byte is answered so.
+    // Inlined into a loop that reads line by line, it would take the registers of that loop.
     #[inline(never)]
     pub fn byte(&mut self, byte: u8) -> Read
         ensures stands { (bytes : List ℕ) (told : Told) → StandsFor self.old bytes told → StandsFor self.new (bytes ++ byte ∷ []) (tell told result) }
