@@ -1,5 +1,5 @@
 // Which levels of a tree's nesting are branches. The others are next nodes.
-ghost use Rattle.std.specs.Prelude.{◌≡◌, ◌≤◌, ◌<◌, ◌+◌, ◌-◌, ◌∷◌, [], cond, length};
+ghost use Rattle.std.specs.Prelude.{◌≡◌, ◌≤◌, ◌<◌, ◌+◌, ◌-◌, ◌∷◌, [], cond, length, IfSome, IfNone};
 ghost use Rattle.proof_tree.specs.declared.tree.Version.{Version};
 ghost use Rattle.proof_text.specs.Symbols.{branches};
 ghost use Rattle.proof_text.specs.Nesting.{open_branches};
@@ -34,17 +34,21 @@ impl Levels {
         mark(&mut self.marks, level, branch);
     }
 
-    // The deepest branch that is open at the level or above it, or 0.
-    pub(crate) fn deepest(&self, level: u16) -> u16
+    // The deepest branch that is open at the level or above it.
+    pub(crate) fn deepest(&self, level: u16) -> Option<u16>
         requires { level ≤ 1000 }
-        ensures same { (version : Version) → open_branches version self.now.marks level ≡ open_branches version self.now.marks result }
-        ensures above { result ≤ level }
-        ensures open { (version : Version) → 0 < result → open_branches version self.now.marks result ≡ branches version result ∷ open_branches version self.now.marks (result - 1) }
+        ensures none { IfNone result ((version : Version) → open_branches version self.now.marks level ≡ []) }
+        ensures same { IfSome result (λ found. (version : Version) → open_branches version self.now.marks level ≡ open_branches version self.now.marks found) }
+        ensures above { IfSome result (λ found. (0 < found) × (found ≤ level)) }
+        ensures open { IfSome result (λ found. (version : Version) → open_branches version self.now.marks found ≡ branches version found ∷ open_branches version self.now.marks (found - 1)) }
     {
         let mut at = level;
-        while at > 0 && !self.marks[usize::from(at)] {
+        while at > 0 {
+            if self.marks[usize::from(at)] {
+                return Some(at);
+            }
             at -= 1;
         }
-        at
+        None
     }
 }

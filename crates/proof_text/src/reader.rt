@@ -58,6 +58,8 @@ impl LineReader {
     }
 
     /// Reads the next byte. After `TooDeep` or `Bad` every byte is answered so.
+    // Inlined into a loop that reads line by line, it would take the registers of that loop.
+    #[inline(never)]
     pub fn byte(&mut self, byte: u8) -> Read
         ensures stands { (bytes : List ℕ) (told : Told) → StandsFor self.old bytes told → StandsFor self.new (bytes ++ byte ∷ []) (tell told result) }
         ensures says { (bytes : List ℕ) (told : Told) → StandsFor self.old bytes told → Says bytes told byte result }
@@ -75,13 +77,13 @@ impl LineReader {
         ensures stands { IfSome result (λ r. (before : List ℕ) (told : Told) → StandsFor self.old before told → StandsFor self.new (before ++ take r.1 bytes.now) (tell told (WholeLine r.0))) }
         ensures says { IfSome result (λ r. (before : List ℕ) (told : Told) → StandsFor self.old before told → SaysLine before told (take r.1 bytes.now) r.0) }
     {
-        let At::Letter(place) = self.at else {
+        let At::Letter(place) = &mut self.at else {
             return None;
         };
-        let Some((line, place, rest)) = whole_line(&mut self.tree, place, bytes) else {
+        let Some((line, next, rest)) = whole_line(&mut self.tree, *place, bytes) else {
             return None;
         };
-        self.at = At::Letter(place);
+        *place = next;
         Some((line, bytes.len() - rest.len()))
     }
 

@@ -36,11 +36,15 @@ pub(crate) fn with_digit(value: u64, byte: u8, most: u64) -> Option<u64>
 {
     match byte {
         b'0'..=b'9' => {
-            // a tenth of the most is the same for each digit
+            let digit = u64::from(byte - b'0');
+            // below a tenth of the most, which is the same for each digit, there is room for any digit
+            if value < most / 10 {
+                return Some(10 * value + digit);
+            }
             if value > most / 10 {
                 return None;
             }
-            let sum = 10 * value + u64::from(byte - b'0');
+            let sum = 10 * value + digit;
             if sum > most {
                 return None;
             }

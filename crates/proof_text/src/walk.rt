@@ -166,10 +166,9 @@ fn open_after(tree: &mut Nested, byte: u8) -> Opened
     ensures nesting { tree.new.nesting ≤ 1000 }
     ensures kept { (tree.new.version ≡ tree.old.version) × (tree.new.levels ≡ tree.old.levels) }
 {
-    let level = tree.levels.deepest(tree.nesting);
-    if level == 0 {
+    let Some(level) = tree.levels.deepest(tree.nesting) else {
         return Opened::Wrong;
-    }
+    };
     if byte == b'.' {
         tree.nesting = level - 1;
         return Opened::Line {
@@ -210,6 +209,6 @@ fn is_closed(tree: &Nested, place: Place) -> bool
         Place::Body => false,
         Place::Cases => false,
         Place::Case => false,
-        Place::Closed => tree.levels.deepest(tree.nesting) == 0,
+        Place::Closed => tree.levels.deepest(tree.nesting).is_none(),
     }
 }

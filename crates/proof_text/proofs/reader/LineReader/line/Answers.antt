@@ -13,7 +13,7 @@ returns-clause-stands c =
     let i = c.in-Some in
     let t = c.self.inside.tree in
     let piece = take (length c.args.bytes.now - length i.rest.now) c.args.bytes.now in
-    line_stands_for c.args.self.now (reading_of t (Letter c.in-Letter.place)) (reading_of c.whole_line.new.tree (Letter i.place)) piece i.line (sym (ap (reading_of t) c.in-Letter.is) ∙ c.self.view_is)
+    line_stands_for c.args.self.now (reading_of t (Letter c.in-Letter.place)) (reading_of c.whole_line.new.tree (Letter i.next)) piece i.line (sym (ap (reading_of t) c.in-Letter.is) ∙ c.self.view_is)
     (begins_line c.args.bytes.now i.rest.now i.line i.ensures.reads.0).2 i.ensures.reads.1
 
 pub returns-clause-says : goal.returns-clause-says
@@ -21,5 +21,5 @@ returns-clause-says c =
     let i = c.in-Some in
     let t = c.self.inside.tree in
     let piece = take (length c.args.bytes.now - length i.rest.now) c.args.bytes.now in
-    line_says_for c.args.self.now (reading_of t (Letter c.in-Letter.place)) (reading_of c.whole_line.new.tree (Letter i.place)) piece i.line (sym (ap (reading_of t) c.in-Letter.is) ∙ c.self.view_is)
+    line_says_for c.args.self.now (reading_of t (Letter c.in-Letter.place)) (reading_of c.whole_line.new.tree (Letter i.next)) piece i.line (sym (ap (reading_of t) c.in-Letter.is) ∙ c.self.view_is)
     (begins_line c.args.bytes.now i.rest.now i.line i.ensures.reads.0).2 i.ensures.reads.1
