@@ -13,13 +13,25 @@ ghost use Rattle.qc_arguments.specs.Repeats.{has_repeat};
 use crate::repeats::stands_twice;
 use crate::rounds::tighten_round;
 use crate::slacks::{excess, slack};
+use crate::sums::{Spread, spread_of};
 use fd_store::Store;
 use proof_tree::StepList;
 use prop_base::{Filtered, empty_last, filter_by_ends};
 use prop_compare::Table;
 use qc_model::{Arg, ConId, Constraint, Problem};
-use qc_refuter::sum_extent;
 use std::alloc::AllocError;
+
+// Whether no term moves by more than s, nor by more than t.
+fn is_within(sum: Spread, s: u128, t: u128) -> bool
+    ensures over { IsTrue result → sum.widest ≤ s }
+    ensures under { IsTrue result → sum.widest ≤ t }
+{
+    let widest = sum.widest as u128;
+    if s < widest {
+        return false;
+    }
+    widest <= t
+}
 
 // One round. Where the sum can't be the number, a variable loses all its values. Stable says that nothing is too far.
 fn run_round(
@@ -46,7 +58,7 @@ fn run_round(
     ensures alike { IfOk result (λ f. f ≡ Changed → AlikeOutside items.now store.old.box store.new.box) }
 {
     problem.known();
-    let sum = sum_extent(problem, rule, factors, items, store);
+    let sum = spread_of(factors, items, store);
     if (bound as i128) < sum.from {
         return empty_last(problem, c, rule, store, steps);
     }
@@ -55,6 +67,9 @@ fn run_round(
     }
     let s = slack(bound, sum.from);
     let t = excess(sum.to, bound);
+    if is_within(sum, s, t) {
+        return Ok(Filtered::Stable);
+    }
     if tighten_round(problem, c, rule, factors, items, s, t, store, steps)? {
         Ok(Filtered::Changed)
     } else {

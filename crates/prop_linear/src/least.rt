@@ -13,8 +13,8 @@ use crate::signs::factor_at;
 use fd_store::Store;
 use qc_model::Arg;
 
-// The product of two numbers within the limit.
-fn product(a: i64, b: i64) -> i64
+/// The product of two numbers within the limit.
+pub(crate) fn product(a: i64, b: i64) -> i64
     requires a { IsTrue (is_number a) }
     requires b { IsTrue (is_number b) }
     ensures value { result ≡ (a *ℤ b) }

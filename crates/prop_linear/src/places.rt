@@ -27,6 +27,16 @@ pub(crate) fn moves(factor: i64, width: u32) -> u128
     factor.unsigned_abs() as u128 * width as u128
 }
 
+/// Whether a term of x moves by at most s.
+#[inline]
+pub(crate) fn is_near(factor: i64, x: VarId, s: u128, store: &Store) -> bool
+    requires x { x.0 < length store.now.box }
+    requires open { IsTrue (is_domain_left (values_left store.now.box x.0)) }
+    ensures { IsTrue result → IsNear factor s (values_left store.now.box x.0) }
+{
+    moves(factor, width(store.min(x), store.max(x))) <= s
+}
+
 // The first number more than so many steps above another.
 fn past(low: i64, steps: u128) -> i64
     requires low { IsTrue (is_number low) }
