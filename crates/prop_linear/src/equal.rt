@@ -11,9 +11,9 @@ ghost use Rattle.prop_linear.specs.Tightening.{AlikeOutside};
 ghost use Rattle.qc_arguments.specs.Repeats.{has_repeat};
 
 use crate::repeats::stands_twice;
-use crate::rounds::tighten_round;
+use crate::rounds::tighten_places;
 use crate::slacks::{excess, slack};
-use crate::sums::{Spread, spread_of};
+use crate::sums::spread_of;
 use fd_store::Store;
 use proof_tree::StepList;
 use prop_base::{Filtered, empty_last, filter_by_ends};
@@ -21,19 +21,20 @@ use prop_compare::Table;
 use qc_model::{Arg, ConId, Constraint, Problem};
 use std::alloc::AllocError;
 
-// Whether no term moves by more than s, nor by more than t.
-fn is_within(sum: Spread, s: u128, t: u128) -> bool
-    ensures over { IsTrue result → sum.widest ≤ s }
-    ensures under { IsTrue result → sum.widest ≤ t }
+// Whether a number is at most s, and at most t.
+fn is_within(moves: u64, s: u128, t: u128) -> bool
+    ensures over { IsTrue result → moves ≤ s }
+    ensures under { IsTrue result → moves ≤ t }
 {
-    let widest = sum.widest as u128;
-    if s < widest {
+    let moves = moves as u128;
+    if s < moves {
         return false;
     }
-    widest <= t
+    moves <= t
 }
 
 // One round. Where the sum can't be the number, a variable loses all its values. Stable says that nothing is too far.
+#[inline(always)]
 fn run_round(
     problem: &Problem,
     c: ConId,
@@ -67,10 +68,12 @@ fn run_round(
     }
     let s = slack(bound, sum.from);
     let t = excess(sum.to, bound);
-    if is_within(sum, s, t) {
+    if is_within(sum.widest.moves, s, t) {
         return Ok(Filtered::Stable);
     }
-    if tighten_round(problem, c, rule, factors, items, s, t, store, steps)? {
+    if tighten_places(
+        problem, c, rule, factors, items, sum.widest, s, t, store, steps,
+    )? {
         Ok(Filtered::Changed)
     } else {
         Ok(Filtered::Stable)
@@ -90,6 +93,7 @@ fn ended(changed: bool) -> Filtered
 
 /// Rounds until one removes nothing, where no variable stands twice; end by end otherwise. Where the sum can't be the
 /// number, a variable loses all its values.
+#[inline(always)]
 pub fn filter_sum_equal(
     problem: &Problem,
     c: ConId,

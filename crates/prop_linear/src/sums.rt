@@ -15,12 +15,20 @@ use crate::least::product;
 use fd_store::Store;
 use qc_model::Arg;
 
-/// The least and the greatest that a sum can be, and how far the term that moves furthest does.
+/// How far the term that moves furthest does, its place, and how far the others do at most.
+#[derive(Clone, Copy)]
+pub(crate) struct Widest {
+    pub(crate) moves: u64,
+    pub(crate) place: usize,
+    pub(crate) others: u64,
+}
+
+/// The least and the greatest that a sum can be, and its widest term.
 #[derive(Clone, Copy)]
 pub(crate) struct Spread {
     pub(crate) from: i128,
     pub(crate) to: i128,
-    pub(crate) widest: u64,
+    pub(crate) widest: Widest,
 }
 
 // The least and the greatest that a term can be.
@@ -77,33 +85,107 @@ fn room(reach: Reach) -> u64
     (reach.to - reach.from) as u64
 }
 
-// The greater of two numbers.
-fn wider(a: u64, b: u64) -> u64
-    ensures first { a ≤ result }
-    ensures second { b ≤ result }
+// With one more place, whose term moves so far.
+fn with_place(widest: Widest, place: usize, moves: u64) -> Widest
+    ensures before { widest.moves ≤ result.moves }
+    ensures here { moves ≤ result.moves }
 {
-    if a < b { b } else { a }
+    if widest.moves < moves {
+        return Widest {
+            moves,
+            place,
+            others: widest.moves,
+        };
+    }
+    Widest {
+        moves: widest.moves,
+        place: widest.place,
+        others: if widest.others < moves {
+            moves
+        } else {
+            widest.others
+        },
+    }
 }
 
+// What a sum of few items can be. It is within 64 bits.
+#[inline(always)]
+fn spread_of_few(factors: &[i64], items: &[Arg], store: &Store) -> Spread
+    requires equal { length factors.now ≡ length items.now }
+    requires factors { IsTrue (list_all is_number factors.now) }
+    requires open { IsTrue (list_all (is_open store.now.box) items.now) }
+    requires few { length items.now ≤ 9 }
+    ensures value { range_of result.from result.to ≡ sum_range factors.now (map (left_to store.now.box) items.now) }
+    ensures widest { IsWidest result.widest.moves (length items.now) factors.now items.now store.now.box }
+    ensures small_from { unsigned_abs result.from ≤ 10 ^ 21 }
+    ensures small_to { unsigned_abs result.to ≤ 10 ^ 21 }
+{
+    let mut from: i64 = 0;
+    let mut to: i64 = 0;
+    let mut widest = Widest {
+        moves: 0,
+        place: 0,
+        others: 0,
+    };
+    for k in 0..items.len() {
+        let one = term_left(factors[k], items[k], store);
+        from += one.from;
+        to += one.to;
+        widest = with_place(widest, k, room(one));
+    }
+    Spread {
+        from: from as i128,
+        to: to as i128,
+        widest,
+    }
+}
+
+// What a sum of more items can be.
+#[inline(never)]
+fn spread_of_many(factors: &[i64], items: &[Arg], store: &Store) -> Spread
+    requires equal { length factors.now ≡ length items.now }
+    requires factors { IsTrue (list_all is_number factors.now) }
+    requires open { IsTrue (list_all (is_open store.now.box) items.now) }
+    requires few { length items.now ≤ 1000 }
+    ensures value { range_of result.from result.to ≡ sum_range factors.now (map (left_to store.now.box) items.now) }
+    ensures widest { IsWidest result.widest.moves (length items.now) factors.now items.now store.now.box }
+    ensures small_from { unsigned_abs result.from ≤ 10 ^ 21 }
+    ensures small_to { unsigned_abs result.to ≤ 10 ^ 21 }
+{
+    let mut from: i128 = 0;
+    let mut to: i128 = 0;
+    let mut widest = Widest {
+        moves: 0,
+        place: 0,
+        others: 0,
+    };
+    for k in 0..items.len() {
+        let one = term_left(factors[k], items[k], store);
+        from += one.from as i128;
+        to += one.to as i128;
+        widest = with_place(widest, k, room(one));
+    }
+    Spread { from, to, widest }
+}
+
+// Sums of so many terms are within 64 bits, as each term is at most 10^18 in size.
+const FEW: usize = 9;
+
 /// What a sum can be on the box of a store. It takes no memory.
+#[inline]
 pub(crate) fn spread_of(factors: &[i64], items: &[Arg], store: &Store) -> Spread
     requires equal { length factors.now ≡ length items.now }
     requires factors { IsTrue (list_all is_number factors.now) }
     requires open { IsTrue (list_all (is_open store.now.box) items.now) }
     requires few { length items.now ≤ 1000 }
     ensures value { range_of result.from result.to ≡ sum_range factors.now (map (left_to store.now.box) items.now) }
-    ensures widest { IsWidest result.widest (length items.now) factors.now items.now store.now.box }
+    ensures widest { IsWidest result.widest.moves (length items.now) factors.now items.now store.now.box }
     ensures small_from { unsigned_abs result.from ≤ 10 ^ 21 }
     ensures small_to { unsigned_abs result.to ≤ 10 ^ 21 }
 {
-    let mut from: i128 = 0;
-    let mut to: i128 = 0;
-    let mut widest: u64 = 0;
-    for k in 0..items.len() {
-        let one = term_left(factors[k], items[k], store);
-        from += one.from as i128;
-        to += one.to as i128;
-        widest = wider(widest, room(one));
+    if items.len() <= FEW {
+        spread_of_few(factors, items, store)
+    } else {
+        spread_of_many(factors, items, store)
     }
-    Spread { from, to, widest }
 }

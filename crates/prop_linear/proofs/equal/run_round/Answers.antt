@@ -56,8 +56,8 @@ excess-t-requires-clause-greatest c =
     let P : ℤ → Type 0 = λ z. unsigned_abs z ≤ 10 ^ 21 in
     simp to_z-of_z (subst P (sym v) (greatest_sum_small c.args.factors.now c.args.items.now c.args.store.now.box c.requires.factors c.requires.open c.requires.few))
 
-pub tighten_round-requires-clause-over : goal.tighten_round-requires-clause-over
-tighten_round-requires-clause-over c =
+pub tighten_places-requires-clause-over : goal.tighten_places-requires-clause-over
+tighten_places-requires-clause-over c =
     let b_fits : SFits w64 c.args.bound = search rules in
     let f_fits : SFits w128 c.spread_of-sum.result.from = search rules in
     let t_fits : SFits w128 c.spread_of-sum.result.to = search rules in
@@ -65,8 +65,8 @@ tighten_round-requires-clause-over c =
     let s = simp to_z-of_z at c.slack-s.ensures in
     over_past c.args.rule.now c.args.factors.now c.args.items.now c.args.bound c.slack-s.result c.args.store.now.box c.requires.balanced (s ∙ ap (λ z. z +ℤ pos c.slack-s.result) v)
 
-pub tighten_round-requires-clause-under : goal.tighten_round-requires-clause-under
-tighten_round-requires-clause-under c =
+pub tighten_places-requires-clause-under : goal.tighten_places-requires-clause-under
+tighten_places-requires-clause-under c =
     let b_fits : SFits w64 c.args.bound = search rules in
     let f_fits : SFits w128 c.spread_of-sum.result.from = search rules in
     let t_fits : SFits w128 c.spread_of-sum.result.to = search rules in
@@ -109,10 +109,10 @@ returns-else-branch-clause-answer c =
     let r = c.args.rule.now in
     let s = simp to_z-of_z at c.slack-s.ensures in
     let t = simp to_z-of_z at c.excess-t.ensures in
-    let same = c.in_ok-tighten_round.ensures.grown.1 c.if-branch.false in
-    let still = same_box (is_just c.args.c.0) g _ _ _ _ c.tighten_round.ensures.pruning same in
-    let kept = keeps g r c.args.factors.now c.args.items.now c.args.bound c.slack-s.result c.excess-t.result c.args.store.now.box c.spread_of-sum.result.from c.spread_of-sum.result.to c.requires.asked c.requires.balanced c.requires.once c.requires.equal c.requires.sees c.spread_of-sum.ensures.value s t (c.in_ok-tighten_round.ensures.near c.if-branch.false) in
-    (c.in_ok-tighten_round.ensures.full, same, ap (λ b. keeps_ends b r) still ∙ kept)
+    let same = c.in_ok-tighten_places.ensures.grown.1 c.if-branch.false in
+    let still = same_box (is_just c.args.c.0) g _ _ _ _ c.tighten_places.ensures.pruning same in
+    let kept = keeps g r c.args.factors.now c.args.items.now c.args.bound c.slack-s.result c.excess-t.result c.args.store.now.box c.spread_of-sum.result.from c.spread_of-sum.result.to c.requires.asked c.requires.balanced c.requires.once c.requires.equal c.requires.sees c.spread_of-sum.ensures.value s t (c.in_ok-tighten_places.ensures.near c.if-branch.false) in
+    (c.in_ok-tighten_places.ensures.full, same, ap (λ b. keeps_ends b r) still ∙ kept)
 
 pub returns-then-bound-sum-clause-alike : goal.returns-then-bound-sum-clause-alike
 returns-then-bound-sum-clause-alike c = never_changed (AlikeOutside c.args.items.now c.args.store.now.box c.empty_last.new.store.box) c.empty_last.result c.empty_last.ensures.whole

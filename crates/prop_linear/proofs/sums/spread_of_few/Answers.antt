@@ -10,7 +10,7 @@ use Rattle.qc_model.specs.Ranges.{point, product}
 use Rattle.qc_model.specs.Refuted.{left_to}
 use Rattle.prop_linear.proofs.Sided.{near_reach}
 use Rattle.qc_refuter.proofs.Terms.{sum_step, sum_end, sum_more, sum_none, item_left, abs_sum, at_end}
-use Rattle.prop_linear.proofs.sums.spread_of.Goals as goal
+use Rattle.prop_linear.proofs.sums.spread_of_few.Goals as goal
 
 pub loop-k-preserved : goal.loop-k-preserved
 loop-k-preserved c =
@@ -19,17 +19,17 @@ loop-k-preserved c =
     let items = c.args.items.now in
     let box = c.args.store.now.box in
     let ds = map (left_to box) items in
-    let few : k < 1000 = omega (arith, c.requires.few, c.loop-k-test.true) in
+    let few : k < 9 = omega (arith, c.requires.few, c.loop-k-test.true) in
     let a_fits : SFits w64 c.term_left-one.result.from = search rules in
-    let a_wide : SFits w128 c.term_left-one.result.from = fits_signed_from_abs w128 c.term_left-one.result.from (omega (arith, c.term_left-one.ensures.small_from)) in
+    let a_wide : SFits w64 c.term_left-one.result.from = fits_signed_from_abs w64 c.term_left-one.result.from (omega (arith, c.term_left-one.ensures.small_from)) in
     let b_fits : SFits w64 c.term_left-one.result.to = search rules in
-    let b_wide : SFits w128 c.term_left-one.result.to = fits_signed_from_abs w128 c.term_left-one.result.to (omega (arith, c.term_left-one.ensures.small_to)) in
-    let from = to_z w128 c.loop-k.from-bits in
-    let to = to_z w128 c.loop-k.to-bits in
+    let b_wide : SFits w64 c.term_left-one.result.to = fits_signed_from_abs w64 c.term_left-one.result.to (omega (arith, c.term_left-one.ensures.small_to)) in
+    let from = to_z w64 c.loop-k.from-bits in
+    let to = to_z w64 c.loop-k.to-bits in
     let s = abs_sum from c.term_left-one.result.from in
     let t = abs_sum to c.term_left-one.result.to in
-    let from_fits : SFits w128 (from +ℤ c.term_left-one.result.from) = fits_signed_from_abs w128 (from +ℤ c.term_left-one.result.from) (omega (arith, s, c.loop-k.invariant.small_from, c.term_left-one.ensures.small_from)) in
-    let to_fits : SFits w128 (to +ℤ c.term_left-one.result.to) = fits_signed_from_abs w128 (to +ℤ c.term_left-one.result.to) (omega (arith, t, c.loop-k.invariant.small_to, c.term_left-one.ensures.small_to)) in
+    let from_fits : SFits w64 (from +ℤ c.term_left-one.result.from) = fits_signed_from_abs w64 (from +ℤ c.term_left-one.result.from) (omega (arith, s, few, c.loop-k.invariant.small_from, c.term_left-one.ensures.small_from)) in
+    let to_fits : SFits w64 (to +ℤ c.term_left-one.result.to) = fits_signed_from_abs w64 (to +ℤ c.term_left-one.result.to) (omega (arith, t, few, c.loop-k.invariant.small_to, c.term_left-one.ensures.small_to)) in
     let as_many : length ds ≡ length items = length-map items (left_to box) in
     let step = sum_step ns ds k (omega (arith, c.requires.equal, c.loop-k-test.true)) (omega (arith, c.requires.equal, c.loop-k-test.true, as_many)) in
     let item = item_left box items k (Var (record { 0 = 0 })) (omega (arith, c.requires.equal, c.loop-k-test.true)) in
@@ -42,8 +42,8 @@ loop-k-preserved c =
       small_to = omega (arith, t, c.loop-k.invariant.small_to, c.term_left-one.ensures.small_to);
       sum = sum_more from to c.term_left-one.result.from c.term_left-one.result.to (sum_range (drop k ns) (drop k ds)) (sum_range (drop (k + 1) ns) (drop (k + 1) ds)) (sum_range ns ds) (product (point (get_or ns k (pos 0))) (span (get_or ds k []))) c.loop-k.invariant.sum step value;
       widest = λ s t over under.
-          let w = c.wider-widest.ensures.first in
-          let v = c.wider-widest.ensures.second in
+          let w = c.with_place-widest.ensures.before in
+          let v = c.with_place-widest.ensures.here in
           let r = c.room.ensures in
           near_reach ns items k s t c.room.result box c.term_left-one.result.from c.term_left-one.result.to (Var (record { 0 = 0 })) c.requires.equal c.loop-k-test.true one r (omega (arith, v, over)) (omega (arith, v, under))
           (c.loop-k.invariant.widest s t (omega (arith, w, over)) (omega (arith, w, under)));
@@ -56,6 +56,10 @@ returns-clause-value c =
     let items = c.args.items.now in
     let box = c.args.store.now.box in
     let ds = map (left_to box) items in
+    let from = to_z w64 c.loop-k.from-bits in
+    let to = to_z w64 c.loop-k.to-bits in
+    let from_wide : SFits w128 from = fits_signed_from_abs w128 from (omega (arith, c.loop-k.invariant.small_from, c.requires.few, c.loop-k.auto.k-end)) in
+    let to_wide : SFits w128 to = fits_signed_from_abs w128 to (omega (arith, c.loop-k.invariant.small_to, c.requires.few, c.loop-k.auto.k-end)) in
     let as_many : length ds ≡ length items = length-map items (left_to box) in
     let end = sum_end ns ds k (at_end (length ns) (length ds) k (omega (arith, c.requires.equal, c.loop-k-test.false, as_many))) in
-    sum_none (to_z w128 c.loop-k.from-bits) (to_z w128 c.loop-k.to-bits) (sum_range (drop k ns) (drop k ds)) (sum_range ns ds) c.loop-k.invariant.sum end
+    simp to_z-of_z (sum_none (to_z w64 c.loop-k.from-bits) (to_z w64 c.loop-k.to-bits) (sum_range (drop k ns) (drop k ds)) (sum_range ns ds) c.loop-k.invariant.sum end)
