@@ -16,7 +16,12 @@ fn steps_within(s: u128, factor: i64) -> u128
     ensures most { unsigned_abs factor * result ≤ s }
     ensures next { s < unsigned_abs factor * (result + 1) }
 {
-    s / factor.unsigned_abs() as u128
+    let size = factor.unsigned_abs();
+    // mostly 64 bits are enough, and there a division is one instruction
+    if s <= u64::MAX as u128 {
+        return (s as u64 / size) as u128;
+    }
+    s / size as u128
 }
 
 /// How far a term of this factor moves over so many values.
