@@ -172,7 +172,7 @@ fn spread_of_many(factors: &[i64], items: &[Arg], store: &Store) -> Spread
 const FEW: usize = 9;
 
 /// What a sum can be on the box of a store. It takes no memory.
-#[inline]
+#[inline(always)]
 pub(crate) fn spread_of(factors: &[i64], items: &[Arg], store: &Store) -> Spread
     requires equal { length factors.now ≡ length items.now }
     requires factors { IsTrue (list_all is_number factors.now) }

@@ -68,7 +68,7 @@ fn cut_place(
 }
 
 /// So what is too far at place k. Mostly nothing is, and one look at the place's two ends tells it.
-#[inline]
+#[inline(always)]
 pub(crate) fn tighten_place(
     problem: &Problem,
     c: ConId,
