@@ -1,5 +1,5 @@
 -- Sums that are to be one number, neither less nor more.
-use Rattle.std.specs.Prelude.{true, false, Bool, ◌≡◌, ◌||◌, ◌<◌, ℕ, List, map, take, length, int_lt, ℤ, pos, ◌-ℤ◌, ◌<ℤ◌, IsTrue, IsFalse}
+use Rattle.std.specs.Prelude.{true, false, Bool, ◌≡◌, ◌||◌, ◌<◌, ◌≤◌, ℕ, List, map, take, length, int_lt, ℤ, pos, ◌-ℤ◌, ◌<ℤ◌, IsTrue, IsFalse}
 use Rattle.qc_model.specs.declared.problem.Arg.{Arg}
 use Rattle.qc_model.specs.Closed.{keeps_ends}
 use Rattle.qc_model.specs.Content.{Rule}
@@ -41,3 +41,7 @@ abbrev pub IsRound : Filtered → Rule → Box → List Step → List Step → T
 IsRound Emptied c box steps then = IsTrue (has_empty box)
 IsRound Stable c box steps then = IsFalse (has_empty box) × (then ≡ steps) × IsTrue (keeps_ends box c)
 IsRound Changed c box steps then = IsFalse (has_empty box) × (length steps < length then)
+
+-- none of the places before k moves by more than w: each is near, to within whatever is no less
+abbrev pub IsWidest : ℕ → ℕ → List ℤ → List Arg → Box → Type 0
+IsWidest w k ns xs box = (s t : ℕ) → w ≤ s → w ≤ t → AreNear k s t ns xs box

@@ -48,10 +48,13 @@ pub(crate) fn filter_at_most(
         return filter_by_ends(&Table {}, problem, c, rule, store, steps);
     }
     let least = least_of(factors, items, negative, store);
-    if (bound as i128) < least {
+    if (bound as i128) < least.sum {
         return empty_last(problem, c, rule, store, steps);
     }
-    let s = slack(bound, least);
+    let s = slack(bound, least.sum);
+    if least.widest as u128 <= s {
+        return Ok(Filtered::Stable);
+    }
     if tighten_all(problem, c, rule, factors, items, negative, s, store, steps)? {
         Ok(Filtered::Changed)
     } else {

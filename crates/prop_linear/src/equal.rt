@@ -11,17 +11,30 @@ ghost use Rattle.prop_linear.specs.Tightening.{AlikeOutside};
 ghost use Rattle.qc_arguments.specs.Repeats.{has_repeat};
 
 use crate::repeats::stands_twice;
-use crate::rounds::tighten_round;
+use crate::rounds::tighten_places;
 use crate::slacks::{excess, slack};
+use crate::sums::spread_of;
 use fd_store::Store;
 use proof_tree::StepList;
 use prop_base::{Filtered, empty_last, filter_by_ends};
 use prop_compare::Table;
 use qc_model::{Arg, ConId, Constraint, Problem};
-use qc_refuter::sum_extent;
 use std::alloc::AllocError;
 
+// Whether a number is at most s, and at most t.
+fn is_within(moves: u64, s: u128, t: u128) -> bool
+    ensures over { IsTrue result → moves ≤ s }
+    ensures under { IsTrue result → moves ≤ t }
+{
+    let moves = moves as u128;
+    if s < moves {
+        return false;
+    }
+    moves <= t
+}
+
 // One round. Where the sum can't be the number, a variable loses all its values. Stable says that nothing is too far.
+#[inline(always)]
 fn run_round(
     problem: &Problem,
     c: ConId,
@@ -46,7 +59,7 @@ fn run_round(
     ensures alike { IfOk result (λ f. f ≡ Changed → AlikeOutside items.now store.old.box store.new.box) }
 {
     problem.known();
-    let sum = sum_extent(problem, rule, factors, items, store);
+    let sum = spread_of(factors, items, store);
     if (bound as i128) < sum.from {
         return empty_last(problem, c, rule, store, steps);
     }
@@ -55,7 +68,12 @@ fn run_round(
     }
     let s = slack(bound, sum.from);
     let t = excess(sum.to, bound);
-    if tighten_round(problem, c, rule, factors, items, s, t, store, steps)? {
+    if is_within(sum.widest.moves, s, t) {
+        return Ok(Filtered::Stable);
+    }
+    if tighten_places(
+        problem, c, rule, factors, items, sum.widest, s, t, store, steps,
+    )? {
         Ok(Filtered::Changed)
     } else {
         Ok(Filtered::Stable)
@@ -75,6 +93,7 @@ fn ended(changed: bool) -> Filtered
 
 /// Rounds until one removes nothing, where no variable stands twice; end by end otherwise. Where the sum can't be the
 /// number, a variable loses all its values.
+#[inline(always)]
 pub fn filter_sum_equal(
     problem: &Problem,
     c: ConId,

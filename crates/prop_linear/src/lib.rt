@@ -20,6 +20,7 @@ mod repeats;
 mod rounds;
 mod signs;
 mod slacks;
+mod sums;
 mod telling;
 mod tighten;
 

@@ -16,7 +16,12 @@ fn steps_within(s: u128, factor: i64) -> u128
     ensures most { unsigned_abs factor * result ≤ s }
     ensures next { s < unsigned_abs factor * (result + 1) }
 {
-    s / factor.unsigned_abs() as u128
+    let size = factor.unsigned_abs();
+    // mostly 64 bits are enough, and there a division is one instruction
+    if s <= u64::MAX as u128 {
+        return (s as u64 / size) as u128;
+    }
+    s / size as u128
 }
 
 /// How far a term of this factor moves over so many values.
@@ -25,6 +30,16 @@ pub(crate) fn moves(factor: i64, width: u32) -> u128
     ensures { result ≡ unsigned_abs factor * width }
 {
     factor.unsigned_abs() as u128 * width as u128
+}
+
+/// Whether a term of x moves by at most s.
+#[inline]
+pub(crate) fn is_near(factor: i64, x: VarId, s: u128, store: &Store) -> bool
+    requires x { x.0 < length store.now.box }
+    requires open { IsTrue (is_domain_left (values_left store.now.box x.0)) }
+    ensures { IsTrue result → IsNear factor s (values_left store.now.box x.0) }
+{
+    moves(factor, width(store.min(x), store.max(x))) <= s
 }
 
 // The first number more than so many steps above another.

@@ -40,15 +40,24 @@ fn rise(items: &[Arg]) -> bool
     true
 }
 
+// Whether a variable stands twice among many items.
+#[inline(never)]
+fn is_any_twice(items: &[Arg]) -> bool
+    ensures { result ≡ has_repeat items.now }
+{
+    if rise(items) {
+        return false;
+    }
+    is_repeated(items)
+}
+
 /// Whether a variable stands twice. Three items, as a sum of two numbers has them, are asked one by one.
+#[inline(always)]
 pub(crate) fn stands_twice(items: &[Arg]) -> bool
     ensures { result ≡ has_repeat items.now }
 {
     if let [a, b, c] = items {
         return is_same(*a, *b) || (is_same(*a, *c) || is_same(*b, *c));
     }
-    if rise(items) {
-        return false;
-    }
-    is_repeated(items)
+    is_any_twice(items)
 }

@@ -2,7 +2,7 @@
 //!
 //! The slacks on both sides are those at the start of the round. The least of a sum only rises while values go, and its
 //! greatest only falls, so what is too far by these slacks is too far at each later moment too.
-ghost use Rattle.std.specs.Prelude.{◌≡◌, ◌<◌, ◌+◌, IsTrue, IsFalse, OnOk, IfOk, length, slice_get, Some, pos, ◌+ℤ◌, ◌≤ℤ◌, Bool, true, false};
+ghost use Rattle.std.specs.Prelude.{◌≡◌, ◌<◌, ◌+◌, IsTrue, IsFalse, OnOk, IfOk, IfSome, length, slice_get, Some, pos, ◌+ℤ◌, ◌≤ℤ◌, Bool, true, false};
 ghost use Rattle.std.specs.List.{list_all};
 ghost use Rattle.qc_model.specs.Domains.{has_empty, values_left};
 ghost use Rattle.qc_model.specs.Valid.{arg_sees, is_number};
@@ -14,6 +14,7 @@ ghost use Rattle.qc_arguments.specs.Repeats.{has_repeat};
 ghost use Rattle.prop_linear.specs.Tightening.{AlikeOutside, IsNear, least_sum};
 
 use crate::places::moves;
+use crate::sums::Widest;
 use crate::tighten::tighten_place;
 use fd_store::Store;
 use proof_tree::StepList;
@@ -36,6 +37,7 @@ fn is_near_both(factor: i64, x: VarId, s: u128, t: u128, store: &Store) -> bool
 }
 
 // What is too far at place k, on both sides, goes. Mostly nothing is, and one look at the place's two ends tells it.
+#[inline(always)]
 fn tighten_both(
     problem: &Problem,
     c: ConId,
@@ -76,9 +78,10 @@ fn tighten_both(
     Ok(over || under)
 }
 
-/// Removes at each place what is too far above the least of the sum, by more than s, or below its greatest, by more than
-/// t. It answers whether something was removed. No domain is emptied.
-pub(crate) fn tighten_round(
+// Removes at each place what is too far above the least of the sum, by more than s, or below its greatest, by more than
+// t. It answers whether something was removed. No domain is emptied.
+#[inline(never)]
+fn tighten_round(
     problem: &Problem,
     c: ConId,
     rule: &Constraint,
@@ -110,4 +113,91 @@ pub(crate) fn tighten_round(
         }
     }
     Ok(changed)
+}
+
+// Goes over the places, the k-th first: where something goes there, the sum is to be looked at anew.
+#[inline(always)]
+fn tighten_first(
+    problem: &Problem,
+    c: ConId,
+    rule: &Constraint,
+    factors: &[i64],
+    items: &[Arg],
+    k: usize,
+    s: u128,
+    t: u128,
+    store: &mut Store,
+    steps: &mut StepList,
+) -> Result<bool, AllocError>
+    requires c { slice_get problem.now.constraints c.0 ≡ Some rule.now }
+    requires asked { IsAsked problem.now rule.now store.old.box }
+    requires over { IsPast rule.now store.old.box factors.now items.now (least_sum factors.now items.now store.old.box +ℤ pos s) }
+    requires under { IsPast rule.now store.old.box (signed true factors.now) items.now (least_sum (signed true factors.now) items.now store.old.box +ℤ pos t) }
+    requires once { IsFalse (has_repeat items.now) }
+    requires equal { length factors.now ≡ length items.now }
+    requires factors { IsTrue (list_all is_number factors.now) }
+    requires sees { IsTrue (list_all (arg_sees problem.now.variables rule.now.owner.0) items.now) }
+    requires place { k < length items.now }
+    ensures pruning { IsPruning (is_just c.0) problem.now store.old store.new steps.old steps.new }
+    ensures full { OnOk result (IsFalse (has_empty store.new.box)) }
+    ensures alike { OnOk result (AlikeOutside items.now store.old.box store.new.box) }
+    ensures near { IfOk result (λ b. b ≡ false → AreNear (length items.now) s t factors.now items.now store.old.box) }
+    ensures grown { IfOk result (λ b. (b ≡ true → length steps.old < length steps.new) × (b ≡ false → steps.new ≡ steps.old)) }
+{
+    if tighten_both(problem, c, rule, factors, items, k, s, t, store, steps)? {
+        return Ok(true);
+    }
+    tighten_round(problem, c, rule, factors, items, s, t, store, steps)
+}
+
+// The place of the widest term, where the others move by at most s, and at most t.
+#[inline(always)]
+fn lone_place(widest: Widest, count: usize, s: u128, t: u128) -> Option<usize>
+    ensures { IfSome result (λ k. k < count) }
+{
+    let others = widest.others as u128;
+    if s < others || t < others {
+        return None;
+    }
+    if widest.place < count {
+        Some(widest.place)
+    } else {
+        None
+    }
+}
+
+/// Removes at each place what is too far above the least of the sum, by more than s, or below its greatest, by more than
+/// t. It answers whether something was removed. No domain is emptied. Mostly the widest term alone moves too far: where the
+/// others are near, its place is all there is to do.
+#[inline(always)]
+pub(crate) fn tighten_places(
+    problem: &Problem,
+    c: ConId,
+    rule: &Constraint,
+    factors: &[i64],
+    items: &[Arg],
+    widest: Widest,
+    s: u128,
+    t: u128,
+    store: &mut Store,
+    steps: &mut StepList,
+) -> Result<bool, AllocError>
+    requires c { slice_get problem.now.constraints c.0 ≡ Some rule.now }
+    requires asked { IsAsked problem.now rule.now store.old.box }
+    requires over { IsPast rule.now store.old.box factors.now items.now (least_sum factors.now items.now store.old.box +ℤ pos s) }
+    requires under { IsPast rule.now store.old.box (signed true factors.now) items.now (least_sum (signed true factors.now) items.now store.old.box +ℤ pos t) }
+    requires once { IsFalse (has_repeat items.now) }
+    requires equal { length factors.now ≡ length items.now }
+    requires factors { IsTrue (list_all is_number factors.now) }
+    requires sees { IsTrue (list_all (arg_sees problem.now.variables rule.now.owner.0) items.now) }
+    ensures pruning { IsPruning (is_just c.0) problem.now store.old store.new steps.old steps.new }
+    ensures full { OnOk result (IsFalse (has_empty store.new.box)) }
+    ensures alike { OnOk result (AlikeOutside items.now store.old.box store.new.box) }
+    ensures near { IfOk result (λ b. b ≡ false → AreNear (length items.now) s t factors.now items.now store.old.box) }
+    ensures grown { IfOk result (λ b. (b ≡ true → length steps.old < length steps.new) × (b ≡ false → steps.new ≡ steps.old)) }
+{
+    match lone_place(widest, items.len(), s, t) {
+        None => tighten_round(problem, c, rule, factors, items, s, t, store, steps),
+        Some(k) => tighten_first(problem, c, rule, factors, items, k, s, t, store, steps),
+    }
 }

@@ -14,7 +14,7 @@ ghost use Rattle.prop_linear.specs.Sides.{IsPast, signed};
 ghost use Rattle.qc_arguments.specs.Repeats.{has_repeat};
 ghost use Rattle.prop_linear.specs.Tightening.{AlikeOutside, AllNear, IsBounded, least_sum};
 
-use crate::places::place_cut;
+use crate::places::{is_near, place_cut};
 use crate::signs::factor_at;
 use fd_store::Store;
 use proof_tree::StepList;
@@ -22,9 +22,10 @@ use prop_base::prune;
 use qc_model::{Arg, ConId, Constraint, Problem};
 use std::alloc::AllocError;
 
-/// What is too far at place k, for the sum or for its negative, which may be at most s above its least: it goes. It answers
-/// whether something was removed. No domain is emptied.
-pub(crate) fn tighten_place(
+// The values that are too far at place k, for the sum or for its negative, which may be at most s above its least: they go.
+// It answers whether something was removed. No domain is emptied.
+#[inline(never)]
+fn cut_place(
     problem: &Problem,
     c: ConId,
     rule: &Constraint,
@@ -64,6 +65,47 @@ pub(crate) fn tighten_place(
             }
         },
     }
+}
+
+/// So what is too far at place k. Mostly nothing is, and one look at the place's two ends tells it.
+#[inline(always)]
+pub(crate) fn tighten_place(
+    problem: &Problem,
+    c: ConId,
+    rule: &Constraint,
+    factors: &[i64],
+    items: &[Arg],
+    k: usize,
+    negative: bool,
+    s: u128,
+    store: &mut Store,
+    steps: &mut StepList,
+) -> Result<bool, AllocError>
+    requires c { slice_get problem.now.constraints c.0 ≡ Some rule.now }
+    requires asked { IsAsked problem.now rule.now store.old.box }
+    requires past { IsPast rule.now store.old.box (signed negative factors.now) items.now (least_sum (signed negative factors.now) items.now store.old.box +ℤ pos s) }
+    requires once { IsFalse (has_repeat items.now) }
+    requires equal { length factors.now ≡ length items.now }
+    requires factors { IsTrue (list_all is_number factors.now) }
+    requires sees { IsTrue (list_all (arg_sees problem.now.variables rule.now.owner.0) items.now) }
+    requires place { k < length items.now }
+    ensures pruning { IsPruning (is_just c.0) problem.now store.old store.new steps.old steps.new }
+    ensures full { OnOk result (IsFalse (has_empty store.new.box)) }
+    ensures alike { OnOk result (AlikeOutside items.now store.old.box store.new.box) }
+    ensures rises { OnOk result ((b : Bool) → least_sum (signed b factors.now) items.now store.old.box ≤ℤ least_sum (signed b factors.now) items.now store.new.box) }
+    ensures sum { OnOk result (least_sum (signed negative factors.now) items.now store.new.box ≡ least_sum (signed negative factors.now) items.now store.old.box) }
+    ensures near { OnOk result (AllNear s (take k (signed negative factors.now)) (take k items.now) store.old.box → AllNear s (take (k + 1) (signed negative factors.now)) (take (k + 1) items.now) store.new.box) }
+    ensures grown { IfOk result (λ b. (b ≡ true → length steps.new ≡ length steps.old + 1) × (b ≡ false → steps.new ≡ steps.old)) }
+{
+    problem.known();
+    if let Arg::Var(x) = items[k]
+        && is_near(factor_at(factors, k, negative), x, s, store)
+    {
+        return Ok(false);
+    }
+    cut_place(
+        problem, c, rule, factors, items, k, negative, s, store, steps,
+    )
 }
 
 /// Removes at each place what is too far, for the sum or for its negative, and answers whether something was removed. No
