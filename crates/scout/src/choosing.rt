@@ -10,6 +10,9 @@ use qc_model::{Sense, VarId};
 /// Where a variable stands that comes last.
 const LAST: u32 = u32::MAX - 1;
 
+/// One time in so many the lesser of two values is taken.
+const LESSER_SHARE: u32 = 4;
+
 /// The variable with the fewest values left, of those from `from` to the one before `stop` that have several; the first
 /// of them, or where that varies one that chance names. The objective comes after all others.
 pub(crate) fn smallest(
@@ -75,12 +78,28 @@ pub(crate) fn value_to_take(
     if !varies || is_objective(x, wish) {
         return value_at_end(store, x, wish);
     }
+    if store.size(x) == 2 {
+        return one_of_two(store, x, chance);
+    }
     let least = store.min(x);
     let skipped = chance.below(store.size(x));
     let from = least.saturating_add(i64::from(skipped));
     match store.next(x, from) {
         Some(value) => value,
         None => least,
+    }
+}
+
+/// One of the two values of x, mostly the greater: where some of many are to be chosen, to choose one decides more than to refuse
+/// one.
+fn one_of_two(store: &Store, x: VarId, chance: &mut Chance) -> i64
+    requires var { x.0 < length store.now.box }
+    requires full { IsFalse (has_empty store.now.box) }
+{
+    if chance.below(LESSER_SHARE) == 0 {
+        store.min(x)
+    } else {
+        store.max(x)
     }
 }
 
