@@ -1,26 +1,30 @@
 //! Which tuple of a scope is tried first.
 //!
-//! It is the tuple that ended the same position before (`residues`, `positions`), where one is kept; else the last tuple that
-//! ended a node of the scope, or what a free search finds (`looks`). A tuple ends a node where it settles it, or gives a bound
-//! that the incumbent of the scope right above beats. What is tried is proved as any case is, so bad advice costs turns and
-//! time, and nothing else.
+//! It is the tuple that ended the same position before (`residues`, `positions`), where one is kept; else the latest of the last
+//! tuples that ended nodes of the scope (`tuples`) whose values are all left, or what a free search finds (`looks`). A tuple ends
+//! a node where it settles it, or gives a bound that the incumbent of the scope right above beats. What is tried is proved as any
+//! case is, so bad advice costs turns and time, and nothing else.
+ghost use Rattle.std.specs.Prelude.{◌≡◌, false, IsTrue};
+
 use crate::aim::Aim;
 use crate::bests::Bests;
 use crate::looks::Looks;
 use crate::positions::Positions;
 use crate::residues::Residues;
+use crate::tuples::{KEPT, Tuples};
 use qc_model::{Kind, ScopeId, VarId};
 use qc_rules::{Level, Levels};
+use search_box::SearchBox;
 use std::alloc::{AllocError, Global};
 
 /// How often advice may fail before it is asked no more, where it never serves.
-const FIRST_TRUST: u8 = 4;
+const FIRST_TRUST: u8 = 12;
 
 /// How much advice can be trusted.
 const MOST_TRUST: u8 = 32;
 
 /// What a try that fails costs of the trust, where one that serves earns 1.
-const LOST_TRUST: u8 = 2;
+const LOST_TRUST: u8 = 1;
 
 /// The widest tuple that is kept for a position.
 const MOST_WIDTH: usize = 32;
@@ -31,11 +35,25 @@ const FIRST_NOTES: u32 = 1024;
 /// One in so many of the positions that are kept has to have been met before, else no more are.
 const LEAST_SHARE: u32 = 8;
 
+/// Where the tuple comes from that is tried.
+#[derive(Clone, Copy)]
+enum Source {
+    /// None is tried.
+    Nowhere,
+    /// It ended the same position before.
+    Position,
+    /// It is one of the last that ended nodes of the scope.
+    Last,
+}
+
 /// What is known of one scope's advice.
 #[derive(Clone, Copy)]
 struct Standing {
     /// Whether some tuple ended a node of the scope.
     is_known: bool,
+    /// Which tuple is tried at the node, and which of the last tuples is the first that may be tried after it.
+    source: Source,
+    next: usize,
     /// How far the last tuple is trusted, and those of positions.
     last: u8,
     kept: u8,
@@ -48,11 +66,12 @@ struct Standing {
     position: Option<u64>,
 }
 
-/// For each scope the values of the last tuple, in the places of its variables, the tuples of positions, and how far both are
-/// trusted: a try that serves makes up for one that fails.
+/// For each scope the values of the tuple that is tried, in the places of its variables, the last tuples, those of positions,
+/// and how far both are trusted: a try that serves makes up for one that fails.
 #[derive(Drop)]
 pub(crate) struct Advice<'p> {
     values: Vec<i64>,
+    tuples: Tuples,
     scopes: Vec<Standing>,
     residues: Residues,
     positions: Positions,
@@ -71,6 +90,8 @@ impl<'p> Advice<'p> {
         levels.problem.known();
         let standing = Standing {
             is_known: false,
+            source: Source::Nowhere,
+            next: 0,
             last: FIRST_TRUST,
             kept: FIRST_TRUST,
             notes: 0,
@@ -79,6 +100,7 @@ impl<'p> Advice<'p> {
             position: None,
         };
         let values = vec![in alloc; 0i64; levels.problem.variables()]?;
+        let tuples = Tuples::new(alloc, levels.problem.variables())?;
         let scopes = vec![in alloc; standing; levels.problem.scopes()]?;
         let wanted = wanted_scopes(alloc, levels, tries)?;
         let residues = Residues::new(alloc, levels, wanted.as_slice())?;
@@ -87,6 +109,7 @@ impl<'p> Advice<'p> {
         let bests = Bests::new(alloc, levels, tries);
         Ok(Advice {
             values,
+            tuples,
             scopes,
             residues,
             positions,
@@ -110,6 +133,7 @@ impl<'p> Advice<'p> {
         if let Some(standing) = self.scopes.get_mut(level.number as usize) {
             standing.position = position;
         }
+        self.begin(level);
         if self.looks.look(level, values, left)? {
             self.take_found(level);
         }
@@ -127,16 +151,22 @@ impl<'p> Advice<'p> {
         self.bests.tell(is_sure);
     }
 
-    /// From now on the tuple that was looked for is the scope's, and worth a try.
+    /// From now on the tuple that was looked for is the scope's latest, and worth a try.
     fn take_found(&mut self, level: &Level) {
         for x in level.from..level.stop {
-            if let Some(place) = self.values.get_mut(x) {
-                *place = self.looks.value(x);
-            }
+            let found = self.looks.value(x);
+            self.put(x, found);
         }
+        self.tuples.keep(level, self.values.as_slice());
         if let Some(standing) = self.scopes.get_mut(level.number as usize) {
             standing.is_known = true;
             standing.last = standing.last.max(1);
+        }
+    }
+
+    fn put(&mut self, x: usize, value: i64) {
+        if let Some(place) = self.values.get_mut(x) {
+            *place = value;
         }
     }
 
@@ -150,13 +180,81 @@ impl<'p> Advice<'p> {
         }
     }
 
-    /// The value that x has in the tuple of its scope.
-    pub(crate) fn value(&self, level: &Level, x: VarId) -> i64 {
-        let x = x.0 as usize;
-        if let Some(number) = self.kept(level) {
-            return self.positions.value(number, x.saturating_sub(level.from));
+    /// From now on the first tuple is tried again.
+    pub(crate) fn begin(&mut self, level: &Level) {
+        if let Some(standing) = self.scopes.get_mut(level.number as usize) {
+            standing.source = Source::Nowhere;
+            standing.next = 0;
         }
-        value_at(self.values.as_slice(), x)
+    }
+
+    /// Whether another tuple may be tried.
+    pub(crate) fn has_more(&self, level: &Level) -> bool {
+        match self.scopes.get(level.number as usize) {
+            Some(standing) => standing.next < KEPT,
+            None => false,
+        }
+    }
+
+    /// Whether the own tree is gone into: without `tries` always, and with them where a tuple is chosen.
+    pub(crate) fn is_ready(&mut self, tries: bool, level: &Level, remains: &SearchBox) -> bool
+        requires game { remains.now.game ≡ level.now.problem.now }
+        ensures tries { result ≡ false → IsTrue tries }
+    {
+        if !tries {
+            return true;
+        }
+        self.choose(level, remains)
+    }
+
+    /// Chooses the tuple that is tried next at the node, where these values are left, and says whether there is one.
+    fn choose(&mut self, level: &Level, remains: &SearchBox) -> bool
+        requires game { remains.now.game ≡ level.now.problem.now }
+    {
+        let Some(standing) = self.scopes.get(level.number as usize) else {
+            return false;
+        };
+        let next = standing.next;
+        if let Source::Nowhere = standing.source
+            && let Some(number) = self.kept(level)
+        {
+            self.take_kept(level, number);
+            return true;
+        }
+        self.take_last(level, next, remains)
+    }
+
+    /// Takes the tuple that is kept for the position.
+    fn take_kept(&mut self, level: &Level, number: u64) {
+        for x in level.from..level.stop {
+            let value = self.positions.value(number, x - level.from);
+            self.put(x, value);
+        }
+        if let Some(standing) = self.scopes.get_mut(level.number as usize) {
+            standing.source = Source::Position;
+        }
+    }
+
+    /// Takes the first of the last tuples from this one on whose values are all left, where there is one.
+    fn take_last(&mut self, level: &Level, next: usize, remains: &SearchBox) -> bool
+        requires game { remains.now.game ≡ level.now.problem.now }
+    {
+        let allowed = self.tuples.allowed_from(next, level, remains);
+        if let Some(k) = allowed {
+            for x in level.from..level.stop {
+                let value = self.tuples.value(k, x);
+                self.put(x, value);
+            }
+        }
+        if let Some(standing) = self.scopes.get_mut(level.number as usize) {
+            standing.take(allowed);
+        }
+        allowed.is_some()
+    }
+
+    /// The value that x has in the tuple that is tried.
+    pub(crate) fn value(&self, x: VarId) -> i64 {
+        value_at(self.values.as_slice(), x.0 as usize)
     }
 
     /// The number of the scope's position, where a tuple is kept for it.
@@ -194,17 +292,9 @@ impl<'p> Advice<'p> {
         if let Some(standing) = self.scopes.get_mut(level.number as usize) {
             standing.is_known = true;
         }
-        for x in level.from..level.stop {
-            self.copy(x, values);
-        }
+        self.tuples.keep(level, values);
         if let Some(number) = self.position(level) {
             self.keep(number, level, values);
-        }
-    }
-
-    fn copy(&mut self, x: usize, values: &[i64]) {
-        if let Some(place) = self.values.get_mut(x) {
-            *place = value_at(values, x);
         }
     }
 
@@ -221,11 +311,14 @@ impl<'p> Advice<'p> {
         }
     }
 
-    /// Learns whether a try of the scope's tuple served.
-    pub(crate) fn tell(&mut self, level: &Level, served: bool) {
-        let is_kept = self.kept(level).is_some();
+    /// Learns whether a try of the tuple that was chosen served. Where the scope above can outdo this one, a try that fails costs
+    /// one case of many, and is no reason to ask no more.
+    pub(crate) fn tell(&mut self, level: &Level, served: bool, has_rival: bool) {
+        if has_rival && !served {
+            return;
+        }
         if let Some(standing) = self.scopes.get_mut(level.number as usize) {
-            standing.tell(is_kept, served);
+            standing.tell(served);
         }
     }
 }
@@ -243,12 +336,27 @@ impl Standing {
         }
     }
 
+    /// From now on this one of the last tuples is tried, or none.
+    fn take(&mut self, allowed: Option<usize>) {
+        self.source = match allowed {
+            Some(_) => Source::Last,
+            None => Source::Nowhere,
+        };
+        self.next = match allowed {
+            Some(k) => k.saturating_add(1),
+            None => KEPT,
+        };
+    }
+
     /// Learns whether a try served. A tuple that served was kept just now; it was one of a position where that had been met.
-    fn tell(&mut self, is_kept: bool, served: bool) {
-        if is_kept && (self.was_met || !served) {
-            self.kept = trusted_then(self.kept, served);
-        } else {
-            self.last = trusted_then(self.last, served);
+    fn tell(&mut self, served: bool) {
+        match self.source {
+            Source::Nowhere => {}
+            Source::Position if self.was_met || !served => {
+                self.kept = trusted_then(self.kept, served);
+            }
+            Source::Position => self.last = trusted_then(self.last, served),
+            Source::Last => self.last = trusted_then(self.last, served),
         }
     }
 }

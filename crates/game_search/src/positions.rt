@@ -1,20 +1,21 @@
 //! A table of tuples that ended a position.
 //!
-//! Each number of a position has one place, which the last tuple that came with such a number has. So memory is taken once, and
-//! what was there goes.
+//! Each number of a position has one place, which the last tuple that came with such a number has; what was there goes. Room for
+//! the values of a tuple is taken where its place gets its first one, so that a short search takes little memory.
 use std::alloc::{AllocError, Global};
 
 /// How many tuples are kept.
-const PLACES: usize = 65_536;
+const PLACES: usize = 8_192;
 
 /// How many bits of a position's number are left out of its place.
-const REST_BITS: u32 = 48;
+const REST_BITS: u32 = 51;
 
-/// The numbers of the positions, 0 where none came yet, and the values of their tuples, as many places for each as the
-/// widest tuple has.
+/// The numbers of the positions, 0 where none came yet, where the values of each one's tuple begin, and these values, as many
+/// for each as the widest tuple has.
 #[derive(Drop)]
 pub(crate) struct Positions {
     numbers: Vec<u64>,
+    starts: Vec<usize>,
     values: Vec<i64>,
     width: usize,
 }
@@ -26,7 +27,8 @@ impl Positions {
         let places = if width > 0 { PLACES } else { 0 };
         Ok(Positions {
             numbers: vec![in alloc; 0u64; places]?,
-            values: vec![in alloc; 0i64; places.saturating_mul(width)]?,
+            starts: vec![in alloc; 0usize; places]?,
+            values: Vec::new(alloc),
             width,
         })
     }
@@ -47,11 +49,31 @@ impl Positions {
         }
     }
 
-    /// From now on the position's tuple is the one of which each value is put next.
+    /// From now on the position's tuple is the one of which each value is put next. Where there is no memory for it, it isn't
+    /// kept.
     pub(crate) fn keep(&mut self, number: u64) {
+        if !self.has_room(number) && self.add_room(number).is_err() {
+            return;
+        }
         if let Some(kept) = self.numbers.get_mut(place(number)) {
             *kept = number;
         }
+    }
+
+    /// Whether the place of the position has room for a tuple, or there is no such place.
+    fn has_room(&self, number: u64) -> bool {
+        self.numbers.get(place(number)) != Some(&0)
+    }
+
+    fn add_room(&mut self, number: u64) -> Result<(), AllocError> {
+        let start = self.values.len();
+        for _ in 0..self.width {
+            self.values.push(0)?;
+        }
+        if let Some(kept) = self.starts.get_mut(place(number)) {
+            *kept = start;
+        }
+        Ok(())
     }
 
     /// Puts the value at a place of the position's tuple.
@@ -63,7 +85,10 @@ impl Positions {
     }
 
     fn value_place(&self, number: u64, at: usize) -> usize {
-        place(number).wrapping_mul(self.width).wrapping_add(at)
+        match self.starts.get(place(number)) {
+            Some(start) => start.wrapping_add(at),
+            None => at,
+        }
     }
 }
 

@@ -62,7 +62,10 @@ use qc_rules::{Level, Levels};
 use std::alloc::AllocError;
 
 /// How many turns a tree that ended outdone has to have taken, so that it is worth to try its last tuple alone.
-const LONG_TREE: u64 = 8;
+const LONG_TREE: u64 = 3;
+
+/// How many tuples are tried at a node of a scope that another can outdo: a case of each is little beside all cases.
+const MOST_TRIES: usize = 3;
 
 /// The node of a scope, or of the goal, in the box that the walk holds, below the horizon in force. Where it is exact,
 /// its vector is the one that the walk's joins handed out last.
@@ -415,8 +418,8 @@ fn whole_tree(stage: &Stage, walk: &mut Walk) -> Result<Found, AllocError>
     Ok(verdict(stage.level, walk))
 }
 
-/// The lines of a node's own tree. Where an advised tuple is tried first and no other counts after it, they are those of this
-/// tuple alone; where some do, its lines are taken back.
+/// The lines of a node's own tree. Where advised tuples are tried first and no other counts after one of them, they are those of
+/// this tuple alone.
 #[cycle(search)]
 fn own_part(stage: &Stage, walk: &mut Walk) -> Result<(), AllocError>
     requires here { IsEntered stage.now.level.now.problem.now stage.now.level.now.number walk.old.remains }
@@ -427,10 +430,36 @@ fn own_part(stage: &Stage, walk: &mut Walk) -> Result<(), AllocError>
     if !is_advised(stage, walk) {
         return shortened_part(stage, walk);
     }
-    if tried_part(stage, walk)? {
+    if advised_part(stage, walk)? {
         return Ok(());
     }
     shortened_part(stage, walk)
+}
+
+/// The lines of a node's own tree where one of the advised tuples alone is gone into, and whether no other counts after it.
+/// Where some do after each of those that are tried, no line is left of the tries.
+#[cycle(search)]
+fn advised_part(stage: &Stage, walk: &mut Walk) -> Result<bool, AllocError>
+    requires here { IsEntered stage.now.level.now.problem.now stage.now.level.now.number walk.old.remains }
+    requires joins { game_of walk.old.joins ≡ stage.now.level.now.problem.now }
+    requires cuts { IsTrue stage.now.cuts }
+    ensures told { IfOk result (λ whole. IsTrue whole → walk.old.left < 2147483648 → PartTold stage.now.cuts (outdoes stage.now.level.now.problem.now stage.now.level.now.number stage.now.rival) stage.now.level.now.problem.now stage.now.level.now.number walk.old.remains.store.box (scope_number stage.now.horizon) [] [] walk.old.left walk.new.left walk.old.lines walk.new.lines walk.new.joins) }
+    ensures back { OnOk result (IsBack stage.now.level.now.problem.now stage.now.level.now.number walk.old walk.new) }
+    ensures undone { IfOk result (λ whole. IsFalse whole → walk.new.lines ≡ walk.old.lines) }
+{
+    let mut tries = most_tries(stage);
+    'tries: while tries > 0 && walk.advice.has_more(stage.level) {
+        tries -= 1;
+        if tried_part(stage, walk)? {
+            return Ok(true);
+        }
+    }
+    Ok(false)
+}
+
+/// How many tuples are tried at most.
+fn most_tries(stage: &Stage) -> usize {
+    if stage.rival.is_some() { MOST_TRIES } else { 1 }
 }
 
 /// So without a try before. Where the values are gone over and the tree ends outdone by the scope above, the tuple that did it
@@ -449,6 +478,7 @@ fn shortened_part(stage: &Stage, walk: &mut Walk) -> Result<(), AllocError>
         return Ok(());
     }
     walk.lines.cut(start);
+    walk.advice.begin(stage.level);
     if tried_part(stage, walk)? {
         return Ok(());
     }
@@ -469,8 +499,7 @@ fn is_worth_again(stage: &Stage, had: u64, walk: &Walk) -> bool
         && is_outdone(stage.rival, &walk.joins, number)
 }
 
-/// The lines of a node's own tree where the advised tuple alone is gone into, and whether no other counts after it. Where some
-/// do, the lines are taken back.
+/// So where the next advised tuple is tried.
 #[cycle(search)]
 fn tried_part(stage: &Stage, walk: &mut Walk) -> Result<bool, AllocError>
     requires here { IsEntered stage.now.level.now.problem.now stage.now.level.now.number walk.old.remains }
@@ -481,7 +510,8 @@ fn tried_part(stage: &Stage, walk: &mut Walk) -> Result<bool, AllocError>
 {
     let from = walk.lines.len();
     let is_whole = closed_part(stage, true, walk)?;
-    walk.advice.tell(stage.level, is_whole);
+    walk.advice
+        .tell(stage.level, is_whole, stage.rival.is_some());
     if is_whole {
         return Ok(true);
     }
@@ -496,8 +526,8 @@ fn is_advised(stage: &Stage, walk: &Walk) -> bool
     stage.cuts && walk.advice.is_asked(stage.level)
 }
 
-/// A scope's own tree in the box as it is closed. With `tries` only advised values are gone into, and whether that is enough
-/// is answered.
+/// A scope's own tree in the box as it is closed. With `tries` only the values of an advised tuple are gone into, if the box
+/// allows one, and whether that is enough is answered.
 #[cycle(search)]
 fn closed_part(stage: &Stage, tries: bool, walk: &mut Walk) -> Result<bool, AllocError>
     requires here { IsEntered stage.now.level.now.problem.now stage.now.level.now.number walk.old.remains }
@@ -512,6 +542,10 @@ fn closed_part(stage: &Stage, tries: bool, walk: &mut Walk) -> Result<bool, Allo
     let mark = walk.remains.mark();
     walk.steps.clear();
     let closed = walk.remains.close(level, &mut walk.steps)?;
+    if !walk.advice.is_ready(tries, level, &walk.remains) {
+        walk.remains.undo_to(mark);
+        return Ok(false);
+    }
     let is_whole = part(stage, level.from, closed, tries, walk)?;
     walk.remains.undo_to(mark);
     Ok(is_whole)
@@ -754,7 +788,7 @@ fn value_to_try(stage: &Stage, x: VarId, walk: &Walk) -> Option<i64>
     if walk.left == 0 {
         return None;
     }
-    let value = walk.advice.value(stage.level, x);
+    let value = walk.advice.value(x);
     if !walk.remains.has(x, value) {
         return None;
     }

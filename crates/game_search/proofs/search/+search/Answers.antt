@@ -1,4 +1,4 @@
-use Rattle.std.proofs.Common.{add-one, List, ℤ, ◌≡◌, ◌∙◌, sym, ap, refl, subst, ◌+◌, ◌-◌, ◌*◌, rules, suc, length, drop, w64, to_z, of_z, arith, true, [], ◌∷◌, ◌++◌, Option, Some, IfSome, map}
+use Rattle.std.proofs.Common.{add-one, take, List, ℤ, ◌≡◌, ◌∙◌, sym, ap, refl, subst, ◌+◌, ◌-◌, ◌*◌, rules, suc, length, drop, w64, to_z, of_z, arith, true, [], ◌∷◌, ◌++◌, Option, Some, IfSome, map}
 use Rattle.std.specs.List.{list_all}
 use Rattle.std.proofs.lemmas.Int.{to_z-of_z}
 use Rattle.std.proofs.lemmas.List.{append-nil}
@@ -549,11 +549,11 @@ own_part-returns-clause-told t c =
     let above = outdoes g i c.args.stage.now.rival in
     let h = scope_number c.args.stage.now.horizon in
     let a = c.args.walk.now in
-    let tried = c.tried_part.new.walk in
+    let tried = c.advised_part.new.walk in
     let last = c.shortened_part-2.new.walk in
     let cuts = c.args.stage.now.cuts in
-    let back = c.in_ok-tried_part.ensures.back in
-    let stand : tried.lines ≡ a.lines = c.in_ok-tried_part.ensures.undone c.if-branch.false in
+    let back = c.in_ok-advised_part.ensures.back in
+    let stand : tried.lines ≡ a.lines = c.in_ok-advised_part.ensures.undone c.if-branch.false in
     on_ok_weaker c.shortened_part-2.result
     (λ told few.
     part_more cuts above g i a.remains.store.box h [] [] tried.left a.left last.left a.lines last.lines last.joins (c.is_advised.ensures c.if-not-is_advised.false) back.left
@@ -636,6 +636,26 @@ tried_part-returns-clause-back t c =
     let stand : c.cut.new.self ≡ a.lines = c.cut.ensures ∙ taken_back a.lines first.lines back.written c.len-from.result back.lines c.len-from.ensures in
     cut_back g i a first _ back refl refl stand refl
 
+pub closed_part-returns-then-not-is_ready-clause-told : goal.closed_part-returns-then-not-is_ready-clause-told
+closed_part-returns-then-not-is_ready-clause-told t c = λ q few. absurd (cc (q (c.is_ready.ensures.tries c.if-not-is_ready.true)))
+
+pub closed_part-returns-then-not-is_ready-clause-back : goal.closed_part-returns-then-not-is_ready-clause-back
+closed_part-returns-then-not-is_ready-clause-back t c =
+    let g = c.args.stage.now.level.now.problem.now in
+    let i = c.args.stage.now.level.now.number in
+    let same = c.undo_to.ensures.back c.args.walk.now.remains.store (sym c.mark-mark.ensures.at) c.close.ensures.on.follows in
+    record {
+      problem = c.undo_to.ensures.game ∙ c.close.ensures.on.game;
+      box = same.0;
+      past = same.1;
+      kept = ap (take (before g i)) (c.undo_to.ensures.values ∙ c.close.ensures.on.values);
+      game = c.clear.ensures.same;
+      joins = λ j xs h s. c.clear.ensures.others j xs (λ e. absurd (omega (arith, h, e))) s;
+      written = [];
+      lines = sym (append-nil c.args.walk.now.lines);
+      left = omega arith;
+    }
+
 pub closed_part-returns-clause-told : goal.closed_part-returns-clause-told
 closed_part-returns-clause-told t c =
     let l = c.args.stage.now.level.now in
@@ -659,8 +679,8 @@ closed_part-returns-clause-back t c =
     let b = c.args.walk.now.remains in
     let back = c.in_ok-is_whole.ensures.back in
     let follows = follows_on b c.close.new.self c.part.new.walk.remains c.close.ensures.on.follows back.box back.past in
-    let same = c.undo_to.ensures.back b.store (sym c.mark-mark.ensures.at) follows in
-    undone_back g i c.args.walk.now _ c.part.new.walk _ c.close.ensures.on c.clear.ensures.same c.clear.ensures.others refl refl back c.undo_to.ensures.game same.0 same.1 c.undo_to.ensures.values refl refl refl
+    let same = c.undo_to-2.ensures.back b.store (sym c.mark-mark.ensures.at) follows in
+    undone_back g i c.args.walk.now _ c.part.new.walk _ c.close.ensures.on c.clear.ensures.same c.clear.ensures.others refl refl back c.undo_to-2.ensures.game same.0 same.1 c.undo_to-2.ensures.values refl refl refl
 
 pub part-returns-in_ok-put-in-Empty-clause-told : goal.part-returns-in_ok-put-in-Empty-clause-told
 part-returns-in_ok-put-in-Empty-clause-told t c =

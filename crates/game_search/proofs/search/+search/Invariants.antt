@@ -34,6 +34,18 @@ decreases-whole_tree l = 14 * ((length l.stage.now.level.now.problem.now.scopes 
 abbrev pub decreases-own_part : goal.decreases-own_part
 decreases-own_part l = 14 * ((length l.stage.now.level.now.problem.now.scopes - l.stage.now.level.now.number) + (length l.stage.now.level.now.problem.now.variables - l.stage.now.level.now.from)) + 9
 
+abbrev pub decreases-advised_part : goal.decreases-advised_part
+decreases-advised_part l = 14 * ((length l.stage.now.level.now.problem.now.scopes - l.stage.now.level.now.number) + (length l.stage.now.level.now.problem.now.variables - l.stage.now.level.now.from)) + 8
+
+abbrev pub invariant-advised_part-tries : goal.invariant-advised_part-tries
+invariant-advised_part-tries l = record {
+  back : IsBack l.stage.level.now.problem.now l.stage.level.now.number l.fn.walk l.walk;
+  same : l.walk.lines ≡ l.fn.walk.lines;
+}
+
+abbrev pub decreases-advised_part-tries : goal.decreases-advised_part-tries
+decreases-advised_part-tries l = l.tries
+
 abbrev pub decreases-shortened_part : goal.decreases-shortened_part
 decreases-shortened_part l = 14 * ((length l.stage.now.level.now.problem.now.scopes - l.stage.now.level.now.number) + (length l.stage.now.level.now.problem.now.variables - l.stage.now.level.now.from)) + 8
 
