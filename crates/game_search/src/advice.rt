@@ -18,13 +18,13 @@ use search_box::SearchBox;
 use std::alloc::{AllocError, Global};
 
 /// How often advice may fail before it is asked no more, where it never serves.
-const FIRST_TRUST: u8 = 12;
+const FIRST_TRUST: u8 = 4;
 
 /// How much advice can be trusted.
 const MOST_TRUST: u8 = 32;
 
 /// What a try that fails costs of the trust, where one that serves earns 1.
-const LOST_TRUST: u8 = 1;
+const LOST_TRUST: u8 = 2;
 
 /// The widest tuple that is kept for a position.
 const MOST_WIDTH: usize = 32;
