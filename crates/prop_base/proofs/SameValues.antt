@@ -1,5 +1,5 @@
 -- Ranges that have the same of some values.
-use Rattle.std.proofs.Common.{◌≡◌, ℕ, Bool, true, false, not, ◌&&◌, cond, List, [], ◌∷◌, ◌||◌, ◌<◌, length, set, refl, sym, ap, subst, ◌∙◌, ℤ}
+use Rattle.std.proofs.Common.{◌≡◌, ℕ, Bool, true, false, not, ◌&&◌, cond, [], ◌∷◌, ◌||◌, ◌<◌, length, set, refl, sym, ap, subst, ◌∙◌, ℤ}
 use Rattle.std.specs.Prelude.{◌≤ℤ◌, int_le}
 use Rattle.std.specs.List.{list_all}
 use Rattle.qc_model.specs.Content.{Rule}
