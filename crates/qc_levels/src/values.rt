@@ -35,6 +35,10 @@ impl Value {
         ensures room { self.old.list.capacity ≤ self.new.list.capacity }
     {
         self.list.clear();
+        // a list without entries is the most common one
+        if items.is_empty() {
+            return;
+        }
         let _ = self.list.extend_from_slice(items);
     }
 
