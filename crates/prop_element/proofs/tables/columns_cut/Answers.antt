@@ -1,4 +1,4 @@
-use Rattle.std.proofs.Common.{◌≡◌, rules, subst, true, arith, get_or, length, map, ℤ}
+use Rattle.std.proofs.Common.{◌≡◌, rules, subst, true, arith, get_or, length, map}
 use Rattle.std.specs.Prelude.{pos}
 use Rattle.std.proofs.lemmas.Int.{to_z-of_z}
 use mir.Val.{SFits}

@@ -1,4 +1,4 @@
-use Rattle.std.proofs.Common.{◌≡◌, ◌∙◌, ◌∷◌, inr, rules, length, map, get_or, ℤ}
+use Rattle.std.proofs.Common.{◌∙◌, ◌∷◌, inr, rules, length, map, get_or}
 use Rattle.std.specs.Prelude.{pos}
 use Rattle.std.proofs.lemmas.Int.{to_z-of_z}
 use mir.Val.{SFits}

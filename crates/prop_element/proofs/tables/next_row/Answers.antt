@@ -1,4 +1,4 @@
-use Rattle.std.proofs.Common.{◌≡◌, ◌∙◌, List, ℤ, Bool, sym, rules, arith, length, map, true, false}
+use Rattle.std.proofs.Common.{◌≡◌, ◌∙◌, sym, rules, arith, length, map, true, false}
 use Rattle.std.proofs.lemmas.Int.{to_z-of_z}
 use mir.Val.{SFits}
 use mir.Syntax.{w64}

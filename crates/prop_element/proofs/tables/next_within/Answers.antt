@@ -1,4 +1,4 @@
-use Rattle.std.proofs.Common.{◌≡◌, ◌∙◌, ◌∷◌, sym, rules, arith, get_or, true, false}
+use Rattle.std.proofs.Common.{◌≡◌, ◌∙◌, sym, rules, arith, get_or, true, false}
 use Rattle.std.specs.Prelude.{pos}
 use Rattle.std.proofs.lemmas.Int.{to_z-of_z}
 use mir.Val.{SFits}
