@@ -79,6 +79,42 @@ fn lines_are_cut(rt: HostRuntime) -> Result<(), Fail> {
     Ok(())
 }
 
+// Lines whose numbers do not fit 32 bits, and between them one whose numbers do.
+fn wide_lines(alloc: Global) -> Result<Arena, AllocError> {
+    let mut arena = Arena::new(alloc);
+    arena.put(Line::Range { hi: -2_147_483_649 })?;
+    arena.put(Line::Range { hi: 2_147_483_647 })?;
+    arena.put(Line::Range { hi: 2_147_483_648 })?;
+    Ok(arena)
+}
+
+#[test]
+fn wide_lines_are_copied_and_taken_off(rt: HostRuntime) -> Result<(), Fail> {
+    let mut arena = wide_lines(rt.alloc())?;
+    let mut copy = Vec::new(rt.alloc());
+    arena.copy_from(0, &mut copy)?;
+    let last = Line::Range { hi: 2_147_483_648 };
+    let wanted = [
+        Line::Range { hi: -2_147_483_649 },
+        Line::Range { hi: 2_147_483_647 },
+        last,
+    ];
+    assert!(rt; copy.as_slice() == wanted.as_slice());
+    assert!(rt; arena.pop() == Some(last));
+    Ok(())
+}
+
+#[test]
+fn lines_are_replaced(rt: HostRuntime) -> Result<(), Fail> {
+    let mut arena = wide_lines(rt.alloc())?;
+    arena.replace(1, 2, [Line::Skip, Line::Open].as_slice())?;
+    let mut lines = Vec::new(rt.alloc());
+    arena.copy_from(1, &mut lines)?;
+    let wanted = [Line::Skip, Line::Open, Line::Range { hi: 2_147_483_648 }];
+    assert!(rt; lines.as_slice() == wanted.as_slice());
+    Ok(())
+}
+
 // A horizon, and a branch with a case of each kind.
 fn one_tree(alloc: Global) -> Result<Arena, AllocError>
     ensures { IfOk result (λ arena. IsOneTree arena) }
