@@ -71,7 +71,7 @@ impl<'p> KnownNode<'p> {
 }
 
 /// Whether both horizons are the same.
-fn is_same(a: Option<ScopeId>, b: Option<ScopeId>) -> bool
+pub(crate) fn is_same(a: Option<ScopeId>, b: Option<ScopeId>) -> bool
     ensures { IsTrue result → scope_number a ≡ scope_number b }
 {
     match a {
@@ -123,6 +123,18 @@ fn is_won(found: Found) -> Option<bool>
         Found::Exact => Some(true),
         Found::AtMost(_) => None,
         Found::Unknown => None,
+    }
+}
+
+/// Whether a node is lost or exact.
+pub(crate) fn is_decided(found: Found) -> bool
+    ensures { (v : List ℤ) → result ≡ not (is_vague_verdict beats_none (verdict_of found v)) }
+{
+    match found {
+        Found::Lost => true,
+        Found::Exact => true,
+        Found::AtMost(_) => false,
+        Found::Unknown => false,
     }
 }
 

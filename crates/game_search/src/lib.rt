@@ -17,9 +17,11 @@
 
 mod advice;
 mod aim;
+mod aside;
 mod attempts;
 mod bests;
 mod certify;
+mod keeping;
 mod known;
 mod likeness;
 mod looking;

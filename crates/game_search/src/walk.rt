@@ -3,6 +3,7 @@ ghost use Rattle.std.specs.Prelude.{◌≡◌};
 ghost use Rattle.qc_joins.specs.Joins.{game_of};
 
 use crate::advice::Advice;
+use crate::aside::AsideNodes;
 use crate::known::KnownNodes;
 use proof_tree::{Line, Step, StepList};
 use qc_joins::Joins;
@@ -12,7 +13,7 @@ use strategy_arena::Arena;
 
 /// The values left, what was seen in each scope on the way, the lines written, room for lines that are moved, the steps of the closing
 /// that was the last and room for those of them that are put, how many cases may still be gone into, which tuples are tried
-/// first, and which nodes are known.
+/// first, which nodes are known, and which are kept aside.
 #[derive(Drop)]
 pub(crate) struct Walk<'p> {
     pub(crate) alloc: Global,
@@ -25,5 +26,7 @@ pub(crate) struct Walk<'p> {
     pub(crate) left: u64,
     pub(crate) advice: Advice<'p>,
     pub(crate) known: KnownNodes<'p>,
+    pub(crate) aside: AsideNodes<'p>,
     ghost same: { known.problem.now ≡ game_of joins },
+    ghost beside: { aside.problem.now ≡ game_of joins },
 }

@@ -1,5 +1,5 @@
 //! What a scope, or the goal, comes to.
-ghost use Rattle.std.specs.Prelude.{◌≡◌, ◌<◌, List, [], drop, length};
+ghost use Rattle.std.specs.Prelude.{◌≡◌, ◌≤◌, ◌<◌, List, [], drop, length};
 ghost use Rattle.qc_model.specs.Demands.{demands};
 ghost use Rattle.qc_model.specs.Verdict.{Seen};
 ghost use Rattle.qc_model.specs.ForallVerdict.{goal_verdict};
@@ -54,5 +54,15 @@ impl Joins<'_> {
         } else {
             Found::Lost
         }
+    }
+
+    /// Hands out a vector once more, that has at most one value for each scope.
+    pub fn hand_out(&mut self, vector: &[i64])
+        requires { length vector.now ≤ length (game_of self.old).scopes }
+        ensures out { out_of self.new ≡ vector.now }
+        ensures all { KeepsAll self.old self.new }
+        ensures same { game_of self.new ≡ game_of self.old }
+    {
+        self.out.set(vector);
     }
 }

@@ -28,8 +28,8 @@ impl Value {
         self.list.as_slice()
     }
 
-    /// Takes these values in place of its own.
-    pub(crate) fn set(&mut self, items: &[i64])
+    /// Takes these values, for which there is room, in place of its own.
+    pub fn set(&mut self, items: &[i64])
         requires { length items.now ≤ self.old.list.capacity }
         ensures items { self.new.list.items ≡ items.now }
         ensures room { self.old.list.capacity ≤ self.new.list.capacity }

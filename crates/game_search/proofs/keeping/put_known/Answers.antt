@@ -10,7 +10,7 @@ use Rattle.search_box.specs.Looking.{scope_number}
 use Rattle.game_search.specs.Known.{StandsHere}
 use Rattle.game_search.specs.declared.known.KnownNode.{KnownNode}
 use Rattle.game_search.proofs.Knowing.{stands_told}
-use Rattle.game_search.proofs.search.put_known.Goals as goal
+use Rattle.game_search.proofs.keeping.put_known.Goals as goal
 
 pub returns-clause-told : goal.returns-clause-told
 returns-clause-told c =
