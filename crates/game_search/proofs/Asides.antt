@@ -1,6 +1,6 @@
 -- Nodes whose lines are kept aside, and put where the box is the same.
-use Rattle.std.proofs.Common.{◌≡◌, ◌≤◌, ◌<◌, ◌*◌, ◌-◌, ◌∙◌, inl, inr, ℕ, zero, suc, Bool, true, false, List, [], ◌∷◌, ◌++◌, length, drop, refl, sym, ap, subst, arith, Option, ℤ}
-use Rattle.std.specs.Prelude.{◌⊎◌, slice_index_or, nat_lt, nat_le, pos}
+use Rattle.std.proofs.Common.{◌≡◌, ◌≤◌, ◌<◌, ◌-◌, ◌∙◌, inl, inr, ℕ, suc, Bool, true, false, List, [], ◌∷◌, ◌++◌, length, drop, refl, sym, ap, subst, arith, Option, ℤ}
+use Rattle.std.specs.Prelude.{◌⊎◌, nat_lt}
 use Rattle.std.proofs.lemmas.Bool.Decides.{nat_tests}
 use Rattle.qc_model.specs.Content.{Game}
 use Rattle.qc_model.specs.Demands.{demands}
@@ -55,8 +55,8 @@ fresh_same g i vs a b p q = same_boxes a b (p.size ∙ sym q.size) (λ x. by x (
     by x false e = let h = past x (before g i) e in p.fresh x h ∙ sym (q.fresh x h)
 
 -- a node that was made with a turn left
-whole_here : (above : ℤ → Bool) (g : Game) (i : ℕ) (box : Box) (h : Option ℕ) (v : Verdict) (had left : ℕ) (t : Tree) → 0 < left → NodeMade true above g (drop i g.scopes) i (demands g i) box h v had left t → IsWhole g i h v (had - left) t box
-whole_here above g i box h v had left t some m = record {
+whole_here : (above : ℤ → Bool) (g : Game) (i : ℕ) (box : Box) (h : Option ℕ) (v : Verdict) (had left : ℕ) (t : Tree) → (turns : ℕ) → 0 < left → turns_of t ≤ turns → NodeMade true above g (drop i g.scopes) i (demands g i) box h v had left t → IsWhole g i h v turns t box
+whole_here above g i box h v had left t turns some few m = record {
   placed = m.placed;
   verdict = m.verdict;
   settled = m.settled;
@@ -64,7 +64,7 @@ whole_here above g i box h v had left t some m = record {
   ones = m.ones;
   apart = m.apart;
   fits = m.fits;
-  few = omega (arith, m.spent, some);
+  few = few;
   opens = by m.opens;
   long = m.long;
   sized = m.sized;
@@ -108,11 +108,14 @@ whole_made above g i box h v turns had t enough sure w = record {
 }
 
 -- the lines of a node that ended stand wherever the box is the same
-pub ended_aside : (g : Game) (i : ℕ) (box : Box) (h : Option ℕ) (v : Verdict) (had left : ℕ) (vs : List ℤ) (ls : List Line) → 0 < left → IsFreshAt g i vs box → IsEnded g i box h v had left ls → IsAside g i h vs v (had - left) ls
-ended_aside g i box h v had left vs ls some fresh e = (e.tree, record {
-  lines = e.lines;
-  whole = λ b other. subst (λ (u : Box). IsWhole g i h v (had - left) e.tree u) (fresh_same g i vs box b fresh other) (whole_here e.above g i box h v had left e.tree some e.made);
-})
+pub ended_aside : (g : Game) (i : ℕ) (box : Box) (h : Option ℕ) (v : Verdict) (had left : ℕ) (vs : List ℤ) (ls : List Line) (turns : ℕ) → 0 < left → ((t : Tree) → ls ≡ tree_lines t → turns_of t ≤ turns) → IsFreshAt g i vs box → IsEnded g i box h v had left ls → IsAside g i h vs v turns ls
+ended_aside g i box h v had left vs ls turns some few fresh e = (
+  e.tree,
+  record {
+    lines = e.lines;
+    whole = λ b other. subst (λ (u : Box). IsWhole g i h v turns e.tree u) (fresh_same g i vs box b fresh other) (whole_here e.above g i box h v had left e.tree turns some (few e.tree e.lines) e.made);
+  },
+)
 
 -- and are written there
 pub aside_written : (cuts : Bool) (above : ℤ → Bool) (g : Game) (i : ℕ) (box : Box) (h : Option ℕ) (v : Verdict) (turns had left : ℕ) (ls old new : List Line) → cuts ≡ true → StandsAside g i h had box v turns ls → left ≡ had - turns → new ≡ old ++ ls →

@@ -23,3 +23,4 @@ pub mod Outdone
 pub mod Rivals
 pub mod Knowing
 pub mod Asides
+pub mod Ends

@@ -1,5 +1,5 @@
 -- Nodes that are kept aside: which lines stand wherever the box is the same.
-use Rattle.std.specs.Prelude.{◌≡◌, ◌≤◌, ◌<◌, ℕ, suc, Bool, Option, List, [], ◌∷◌, drop, length, slice_index_or, IsTrue, IsFalse, ℤ, pos, ◌*◌}
+use Rattle.std.specs.Prelude.{◌≡◌, ◌≤◌, ◌<◌, ◌*◌, ℕ, suc, false, Option, List, [], ◌∷◌, drop, length, slice_index_or, IsTrue, ℤ, pos}
 use Rattle.qc_model.specs.Content.{Game}
 use Rattle.qc_model.specs.Demands.{demands}
 use Rattle.qc_model.specs.Domains.{Box, declared_box, values_left}

@@ -15,3 +15,4 @@ pub mod Narrowed
 pub mod Rivals
 pub mod Known
 pub mod Aside
+pub mod Ends

@@ -16,6 +16,7 @@ ghost use Rattle.game_search.specs.Settled.{is_vague_verdict, beats_none};
 
 use crate::known::{NodeEnd, is_decided, is_same};
 use crate::likeness::is_fresh;
+use crate::turns::turns_in;
 use proof_tree::Line;
 use qc_levels::Found;
 use qc_model::{Problem, ScopeId};
@@ -30,7 +31,7 @@ const LEAST_LINES: usize = 8;
 const MOST_LINES_IN_ALL: usize = 1_048_576;
 
 /// A node that was decided: its scope, the horizon in force, the values of the variables before the scope, what it came to with
-/// its vector, how many turns it took at most, and its lines.
+/// its vector, how many turns its lines have at most, and these lines.
 #[derive(Drop)]
 pub(crate) struct AsideNode<'p> {
     problem: &'p Problem,
@@ -97,6 +98,15 @@ impl<'p> AsideNode<'p> {
     }
 }
 
+/// How many lines the nodes from a place on have together.
+fn lines_from(nodes: &[AsideNode], start: usize) -> usize {
+    let mut lines: usize = 0;
+    for k in start..nodes.len() {
+        lines = lines.saturating_add(nodes[k].lines.len());
+    }
+    lines
+}
+
 /// The nodes that are kept aside, those of later scopes after those of earlier ones.
 #[derive(Drop)]
 pub(crate) struct AsideNodes<'p> {
@@ -128,11 +138,9 @@ impl<'p> AsideNodes<'p> {
     pub(crate) fn cut(&mut self, len: usize)
         ensures { self.new.problem.now ≡ self.old.problem.now }
     {
-        while self.nodes.len() > len {
-            if let Some(node) = self.nodes.pop() {
-                self.lines = self.lines.saturating_sub(node.lines.len());
-            }
-        }
+        let lines = lines_from(self.nodes.as_slice(), len);
+        self.lines = self.lines.saturating_sub(lines);
+        self.nodes.truncate(len);
     }
 
     /// Whether a node is kept that has so many lines.
@@ -188,7 +196,10 @@ impl<'p> AsideNodes<'p> {
         requires ended { IsEnded level.now.problem.now level.now.number remains.now.store.box (scope_number horizon) (verdict_of end.found vector.now) end.had end.left lines.items }
         ensures { IfOk result (λ found. IfSome found (λ node. node.problem.now ≡ self.now.problem.now)) }
     {
-        if end.left == 0 || vector.len() > self.problem.scopes() {
+        if end.left == 0 {
+            return Ok(None);
+        }
+        if vector.len() > self.problem.scopes() {
             return Ok(None);
         }
         if !is_decided(end.found) {
@@ -205,7 +216,7 @@ impl<'p> AsideNodes<'p> {
             values: Vec::from_slice(alloc, here)?,
             found: end.found,
             vector: Vec::from_slice(alloc, vector)?,
-            turns: end.had.saturating_sub(end.left),
+            turns: turns_in(lines.as_slice()),
             lines,
         }))
     }

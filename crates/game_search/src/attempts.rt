@@ -103,7 +103,6 @@ pub(crate) fn attempt(
         remains,
         joins,
         lines: Arena::new(alloc),
-        kept: Vec::new(alloc),
         steps: StepList::new(alloc),
         needed: Vec::new(alloc),
         left: turns,

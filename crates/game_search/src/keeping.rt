@@ -76,6 +76,7 @@ pub(crate) fn put_known(
     requires within { at < length walk.old.known.nodes.items }
     requires stands { IfSome (slice_get walk.old.known.nodes.items at) (λ n. StandsHere levels.now.problem.now number (scope_number horizon) walk.old.left walk.old.remains.store.box n.values.items n.won n.turns n.lines.items) }
     ensures told { IfOk result (λ found. (above : ℤ → Bool) → NodeTold cuts above levels.now.problem.now number walk.old.remains.store.box (scope_number horizon) (verdict_of found (out_of walk.new.joins)) walk.old.left walk.new.left walk.old.lines walk.new.lines walk.new.joins) }
+    ensures ended { IfOk result (λ found. IsEnded levels.now.problem.now number walk.old.remains.store.box (scope_number horizon) (verdict_of found (out_of walk.new.joins)) walk.old.left walk.new.left (drop (length walk.old.lines) walk.new.lines)) }
     ensures back { OnOk result (IsBack levels.now.problem.now number walk.old walk.new) }
 {
     levels.problem.known();
@@ -150,11 +151,12 @@ fn level_below<'a>(stage: &Stage<'a, '_>) -> Option<&'a Level<'a>>
     ensures number { IfSome result (λ level. level.now.number ≡ suc stage.now.level.now.number) }
     ensures problem { IfSome result (λ level. level.now.problem.now ≡ stage.now.level.now.problem.now) }
 {
-    let number = stage.level.number as usize + 1;
-    if number >= stage.levels.problem.scopes() {
+    stage.level.problem.known();
+    let number = stage.level.number + 1;
+    if number as usize >= stage.levels.problem.scopes() {
         return None;
     }
-    Some(stage.levels.level(ScopeId(number as u8)))
+    Some(stage.levels.level(ScopeId(number)))
 }
 
 /// The node below the tuple that is complete, whose lines were kept aside, and are copied.
@@ -164,6 +166,7 @@ pub(crate) fn put_aside(stage: &Stage, at: usize, walk: &mut Walk) -> Result<Fou
     requires within { at < length walk.old.aside.nodes.items }
     requires stands { IfSome (slice_get walk.old.aside.nodes.items at) (λ n. StandsAside stage.now.level.now.problem.now (suc stage.now.level.now.number) (scope_number stage.now.horizon) walk.old.left walk.old.remains.store.box (verdict_of n.found n.vector.items) n.turns n.lines.items) }
     ensures told { IfOk result (λ found. (above : ℤ → Bool) → NodeWritten stage.now.cuts above stage.now.level.now.problem.now (drop (suc stage.now.level.now.number) stage.now.level.now.problem.now.scopes) (suc stage.now.level.now.number) (demands stage.now.level.now.problem.now (suc stage.now.level.now.number)) walk.old.remains.store.box (scope_number stage.now.horizon) (verdict_of found (out_of walk.new.joins)) walk.old.left walk.new.left walk.old.lines walk.new.lines) }
+    ensures ended { IfOk result (λ found. IsEnded stage.now.level.now.problem.now (suc stage.now.level.now.number) walk.old.remains.store.box (scope_number stage.now.horizon) (verdict_of found (out_of walk.new.joins)) walk.old.left walk.new.left (drop (length walk.old.lines) walk.new.lines)) }
     ensures back { OnOk result (IsBack stage.now.level.now.problem.now (suc stage.now.level.now.number) walk.old walk.new) }
 {
     let node = walk.aside.node(at);

@@ -45,15 +45,17 @@ ghost use Rattle.game_search.specs.Told.{IsReady, IsBack, EndingTold, BoundedSte
 ghost use Rattle.game_search.specs.Written.{NodeWritten};
 
 use crate::aim::{Worse, aim_of, worse_than_found};
-use crate::keeping::{aside_at, keep_aside, keep_node, known_at, position_of, put_aside, put_known};
+use crate::keeping::{
+    aside_at, keep_aside, keep_node, known_at, position_of, put_aside, put_known,
+};
 use crate::known::{NodeEnd, is_decided};
 use crate::narrowing::{narrow, narrow_first};
 use crate::rival::{is_outdone, rival_of};
 use crate::stage::Stage;
 use crate::walk::Walk;
 use crate::writing::{
-    drop_before, last_to_drop, leave_out, put_horizon, put_needed, put_steps,
-    skip_and_tell, skip_between,
+    drop_before, last_to_drop, leave_out, put_horizon, put_needed, put_steps, skip_and_tell,
+    skip_between,
 };
 use proof_tree::Line;
 use prop_engine::Closed;
@@ -166,6 +168,7 @@ fn at_goal(
     requires closed { IsClosedAtGoal levels.now.problem.now walk.old.remains.store.box }
     requires joins { game_of walk.old.joins ≡ levels.now.problem.now }
     ensures told { IfOk result (λ found. (cuts : Bool) (above : ℤ → Bool) → NodeTold cuts above levels.now.problem.now number walk.old.remains.store.box (scope_number horizon) (verdict_of found (out_of walk.new.joins)) walk.old.left walk.new.left walk.old.lines walk.new.lines walk.new.joins) }
+    ensures ended { IfOk result (λ found. IsEnded levels.now.problem.now number walk.old.remains.store.box (scope_number horizon) (verdict_of found (out_of walk.new.joins)) walk.old.left walk.new.left (drop (length walk.old.lines) walk.new.lines)) }
     ensures back { OnOk result (IsBack levels.now.problem.now number walk.old walk.new) }
 {
     levels.problem.known();
@@ -621,7 +624,7 @@ fn cases(stage: &Stage, x: VarId, walk: &mut Walk) -> Result<(), AllocError>
         walk.left -= 1;
         with_value(stage, x, value, false, walk)?;
         let dropped = last_to_drop(stage.cuts, walk.joins.is_settled(number), before);
-        drop_before(&mut walk.lines, &mut walk.kept, start, at, first, dropped)?;
+        drop_before(&mut walk.lines, start, at, first, dropped)?;
         let Some(next) = walk.remains.next(x, value) else {
             return Ok(());
         };

@@ -1,4 +1,5 @@
 mod Parts
 mod FittingLines
 mod ReadParts
+mod Shorts
 pub mod UniqueLines

@@ -76,3 +76,10 @@ lines_fail a b c none held head lines e p q = prefix_then a b c head held lines 
 pub end_fails : (a b c d : Option (List ℕ)) (none held last head lines : List ℕ) → none ≡ [] → Moves a b held (none ++ head) → Moves b c last (held ++ lines) → AppendsPrefix c d last → AppendsPrefix a d (head ++ lines)
 end_fails a b c d none held last head lines e p q r =
     held_fails a c d last (head ++ lines) (moves_then a b c head held lines last (subst (λ (l : List ℕ). Moves a b held (l ++ head)) e p) q) r
+
+-- the same text said in another way
+pub moves_as : (a b : Option (List ℕ)) (held last x y : List ℕ) → x ≡ y → Moves a b last (held ++ x) → Moves a b last (held ++ y)
+moves_as a b held last x y e p = subst (λ (l : List ℕ). Moves a b last (held ++ l)) e p
+
+pub prefix_as : (a b : Option (List ℕ)) (held x y : List ℕ) → x ≡ y → AppendsPrefix a b (held ++ x) → AppendsPrefix a b (held ++ y)
+prefix_as a b held x y e p = subst (λ (l : List ℕ). AppendsPrefix a b (held ++ l)) e p

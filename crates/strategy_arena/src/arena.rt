@@ -5,8 +5,11 @@ ghost use Rattle.proof_tree.specs.Shape.{tree_of};
 ghost use Rattle.proof_tree.specs.Tree.{Tree};
 ghost use Rattle.strategy_arena.specs.Certificate.{IsOneTree};
 
+use crate::line_cursor::LineCursor;
+use crate::moving::{append, gather, keep_all, lengthen_from, put_each};
 use crate::read::node;
-use paged_stack::{Cursor, PagedStack};
+use crate::short::{Short, keep, lengthen};
+use paged_stack::PagedStack;
 use proof_tree::{Line, Node};
 use std::alloc::{AllocError, Global};
 use std::marker::Model;
@@ -14,16 +17,23 @@ use std::marker::Model;
 /// Lines of a certificate's tree, from the first to the last. A clause sees the list of them.
 #[derive(Drop)]
 pub struct Arena {
-    lines: PagedStack<Line>,
+    pub(crate) lines: PagedStack<Short>,
+    // The lines that do not fit a short one. It grows only, so that older places mean the same, until no line is left.
+    pub(crate) wide: Vec<Line>,
+    // Room for the lines that a `replace` moves.
+    room: Vec<Short>,
 }
 
 impl Model for Arena {
-    ghost use Rattle.std.specs.Prelude.{List};
+    ghost use Rattle.std.specs.Prelude.{List, length};
     ghost use Rattle.proof_tree.specs.declared.line.Line.{Line};
+    ghost use Rattle.strategy_arena.specs.Short.{AllStand, lines_of};
 
     ghost Value = { List Line };
 
-    ghost view = { λ a. a.lines.items };
+    ghost view = { λ a. lines_of a.wide.items a.lines.items };
+
+    ghost invariant = { λ a. AllStand (length a.wide.items) a.lines.items };
 }
 
 impl Arena {
@@ -33,6 +43,8 @@ impl Arena {
     {
         Arena {
             lines: PagedStack::new(alloc),
+            wide: Vec::new(alloc),
+            room: Vec::new(alloc),
         }
     }
 
@@ -41,7 +53,8 @@ impl Arena {
         ensures put { OnOk result (self.new ≡ self.old ++ line ∷ []) }
         ensures refused { OnErr result (self.new ≡ self.old) }
     {
-        self.lines.push(line)?;
+        let short = keep(&mut self.wide, &line)?;
+        self.lines.push(short)?;
         Ok(())
     }
 
@@ -51,9 +64,30 @@ impl Arena {
         ensures refused { OnErr result (self.new ≡ self.old) }
     {
         self.lines.reserve(lines.len())?;
-        for line in lines {
-            self.lines.push_spare(*line);
+        let before = self.lines.len();
+        match put_each(&mut self.lines, &mut self.wide, lines) {
+            Ok(()) => Ok(()),
+            Err(refused) => {
+                self.lines.cut(before);
+                Err(refused)
+            }
         }
+    }
+
+    /// Puts these lines in place of those from `start` to `at`. After a refusal nothing has changed.
+    pub fn replace(&mut self, start: usize, at: usize, with: &[Line]) -> Result<(), AllocError>
+        requires start { start ≤ at }
+        requires place { at ≤ length self.old }
+        ensures put { OnOk result (self.new ≡ take start self.old ++ (with.now ++ drop at self.old)) }
+        ensures refused { OnErr result (self.new ≡ self.old) }
+    {
+        self.room.clear();
+        keep_all(&mut self.wide, with, &mut self.room)?;
+        gather(&self.lines, at, &mut self.room)?;
+        let cut = self.lines.len() - start;
+        self.lines.reserve(self.room.len().saturating_sub(cut))?;
+        self.lines.cut(start);
+        append(&mut self.lines, self.room.as_slice());
         Ok(())
     }
 
@@ -62,7 +96,8 @@ impl Arena {
     pub fn pop(&mut self) -> Option<Line>
         ensures { MatchOption result ((self.old ≡ []) × (self.new ≡ [])) (λ line. self.old ≡ self.new ++ line ∷ []) }
     {
-        self.lines.pop()
+        let short = self.lines.pop()?;
+        Some(lengthen(short, self.wide.as_slice()))
     }
 
     /// The number of lines.
@@ -78,13 +113,16 @@ impl Arena {
         ensures { self.new ≡ take len self.old }
     {
         self.lines.cut(len);
+        if len == 0 {
+            self.wide.clear();
+        }
     }
 
-    /// The lines, from the first to the last.
-    pub fn lines(&self) -> Cursor<'_, Line>
+    // The lines, from the first to the last.
+    fn lines(&self) -> LineCursor<'_>
         ensures { result ≡ self.now }
     {
-        self.lines.cursor()
+        LineCursor::new(self.lines.cursor(), self.wide.as_slice())
     }
 
     /// Appends the lines from place `start` on to a list. It goes over those alone. After a refusal the list may have
@@ -93,10 +131,7 @@ impl Arena {
         requires { start ≤ length self.now }
         ensures { OnOk result (into.new.items ≡ into.old.items ++ drop start self.now) }
     {
-        for line in self.lines.cursor_from(start) {
-            into.push(line)?;
-        }
-        Ok(())
+        lengthen_from(&self.lines, start, self.wide.as_slice(), into)
     }
 
     /// The node whose lines these are. It asks that they are the lines of one tree, nested at most 1,000 deep, and fails

@@ -1,19 +1,24 @@
 //! The lines of a certificate's tree, kept one after the other, and written as its text.
 //!
 //! A search puts a line as soon as it knows it, and cuts back to an earlier length where what it tried is thrown
-//! away. No tree is built, and no line is copied to make room: the lines lie in pages that never move. A clause sees
-//! an `Arena` as the list of its lines.
+//! away. No tree is built, and no line is copied to make room: the lines lie in pages that never move. Each takes 16
+//! bytes; one whose numbers do not fit 32 bits stands in a list of its own, and the 16 bytes say where. A clause sees an
+//! `Arena` as the list of its lines.
 //!
-//! - `put` and `put_all` append lines, and alone ask for memory: a page for each 1,024 lines, and none where a cut left
-//!   room.
-//! - `cut` keeps the first lines, `len` counts them, `lines` goes over them, and `copy_from` copies the last ones.
+//! - `put` and `put_all` append lines, and ask for memory: a page for each 1,024 lines, and none where a cut left room.
+//! - `replace` puts lines in place of others in the midst. It moves all that come after, and asks for memory for these too,
+//!   which it keeps for the next time.
+//! - `cut` keeps the first lines, `len` counts them, and `copy_from` copies the last ones.
 //! - `write_from` writes the text of the certificate that has a head and these lines. It takes no memory: each line
 //!   is spelled into a buffer on the stack, and 65,536 bytes are gathered before a sink gets them.
 #![tactic(auto)]
 
 mod arena;
 mod laws;
+mod line_cursor;
+mod moving;
 mod read;
+mod short;
 mod spell;
 mod write;
 

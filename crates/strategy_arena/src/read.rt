@@ -7,14 +7,14 @@ ghost use Rattle.proof_tree.specs.declared.line.Line.TheVariants.{Dot, Horizon a
 ghost use Rattle.proof_tree.specs.Lines.{step_line, horizon_lines, upto_lines, tree_lines, body_lines, ending_lines, branches_lines, case_lines};
 ghost use Rattle.proof_tree.specs.Shape.{tree_of, body_of, ending_of, branches_of, pieces_of, case_of};
 
-use paged_stack::Cursor;
+use crate::line_cursor::LineCursor;
 use proof_tree::{Body, Case, CaseList, Cases, End, Horizon, Line, Node, Piece, Step, StepList};
 use qc_model::ScopeId;
 use std::alloc::{AllocError, Global};
 
 /// A node.
 #[cycle(read)]
-pub(crate) fn node(alloc: Global, lines: &mut Cursor<'_, Line>) -> Result<Node, AllocError>
+pub(crate) fn node(alloc: Global, lines: &mut LineCursor<'_>) -> Result<Node, AllocError>
     ensures told { IfOk result (λ n. lines.old ≡ tree_lines (tree_of n) ++ lines.new) }
     ensures shorter { OnOk result (length lines.new ≤ length lines.old) }
 {
@@ -37,7 +37,7 @@ pub(crate) fn node(alloc: Global, lines: &mut Cursor<'_, Line>) -> Result<Node, 
 
 /// What follows a node's horizon.
 #[cycle(read)]
-fn body(alloc: Global, first: Line, lines: &mut Cursor<'_, Line>) -> Result<Body, AllocError>
+fn body(alloc: Global, first: Line, lines: &mut LineCursor<'_>) -> Result<Body, AllocError>
     ensures told { IfOk result (λ b. first ∷ lines.old ≡ body_lines (body_of b) ++ lines.new) }
     ensures shorter { OnOk result (length lines.new ≤ length lines.old) }
 {
@@ -53,7 +53,7 @@ fn body(alloc: Global, first: Line, lines: &mut Cursor<'_, Line>) -> Result<Body
 
 /// Steps, and the end after them.
 #[cycle(read)]
-fn part(alloc: Global, first: Line, lines: &mut Cursor<'_, Line>) -> Result<Cases, AllocError>
+fn part(alloc: Global, first: Line, lines: &mut LineCursor<'_>) -> Result<Cases, AllocError>
     ensures told { IfOk result (λ c. first ∷ lines.old ≡ map step_line c.steps ++ (ending_lines (ending_of c.end) ++ lines.new)) }
     ensures shorter { OnOk result (length lines.new ≤ length lines.old) }
 {
@@ -64,7 +64,7 @@ fn part(alloc: Global, first: Line, lines: &mut Cursor<'_, Line>) -> Result<Case
 
 /// The end of a part.
 #[cycle(read)]
-fn end(alloc: Global, first: Line, lines: &mut Cursor<'_, Line>) -> Result<End, AllocError>
+fn end(alloc: Global, first: Line, lines: &mut LineCursor<'_>) -> Result<End, AllocError>
     ensures told { IfOk result (λ e. first ∷ lines.old ≡ ending_lines (ending_of e) ++ lines.new) }
     ensures shorter { OnOk result (length lines.new ≤ length lines.old) }
 {
@@ -85,7 +85,7 @@ fn end(alloc: Global, first: Line, lines: &mut Cursor<'_, Line>) -> Result<End, 
 
 /// The cases of a branch, and the line that ends it.
 #[cycle(read)]
-fn branches(alloc: Global, lines: &mut Cursor<'_, Line>) -> Result<CaseList, AllocError>
+fn branches(alloc: Global, lines: &mut LineCursor<'_>) -> Result<CaseList, AllocError>
     ensures told { IfOk result (λ list. lines.old ≡ branches_lines (branches_of (pieces_of list)) ++ Dot ∷ lines.new) }
     ensures shorter { OnOk result (length lines.new ≤ length lines.old) }
 {
@@ -98,7 +98,7 @@ fn branches(alloc: Global, lines: &mut Cursor<'_, Line>) -> Result<CaseList, All
 
 /// The next case of a branch, or none where its last line comes.
 #[cycle(read)]
-fn piece(alloc: Global, lines: &mut Cursor<'_, Line>) -> Result<Option<Piece>, AllocError>
+fn piece(alloc: Global, lines: &mut LineCursor<'_>) -> Result<Option<Piece>, AllocError>
     ensures told { IfOk result (λ found. MatchOption found (lines.old ≡ Dot ∷ lines.new) (λ p. lines.old ≡ (upto_lines p.upto ++ case_lines (case_of p.case)) ++ lines.new)) }
     ensures shorter { IfOk result (λ found. MatchOption found (length lines.new ≤ length lines.old) (λ p. length lines.new < length lines.old)) }
 {
@@ -122,7 +122,7 @@ fn piece(alloc: Global, lines: &mut Cursor<'_, Line>) -> Result<Option<Piece>, A
 
 /// A case, after the line of its range.
 #[cycle(read)]
-fn case(alloc: Global, first: Line, lines: &mut Cursor<'_, Line>) -> Result<Case, AllocError>
+fn case(alloc: Global, first: Line, lines: &mut LineCursor<'_>) -> Result<Case, AllocError>
     ensures told { IfOk result (λ c. first ∷ lines.old ≡ case_lines (case_of c) ++ lines.new) }
     ensures shorter { OnOk result (length lines.new ≤ length lines.old) }
 {
@@ -137,7 +137,7 @@ fn case(alloc: Global, first: Line, lines: &mut Cursor<'_, Line>) -> Result<Case
 }
 
 /// The removals of a horizon at scope `k`, counted from 1, and the line that ends them.
-fn horizon(alloc: Global, k: u8, lines: &mut Cursor<'_, Line>) -> Result<Horizon, AllocError>
+fn horizon(alloc: Global, k: u8, lines: &mut LineCursor<'_>) -> Result<Horizon, AllocError>
     ensures told { IfOk result (λ z. HorizonLine k ∷ lines.old ≡ horizon_lines (Some z) ++ lines.new) }
     ensures shorter { OnOk result (length lines.new ≤ length lines.old) }
 {
@@ -159,7 +159,7 @@ fn horizon(alloc: Global, k: u8, lines: &mut Cursor<'_, Line>) -> Result<Horizon
 fn steps(
     alloc: Global,
     first: Line,
-    lines: &mut Cursor<'_, Line>,
+    lines: &mut LineCursor<'_>,
 ) -> Result<(StepList, Line), AllocError>
     ensures told { IfOk result (λ r. first ∷ lines.old ≡ map step_line r.0 ++ r.1 ∷ lines.new) }
     ensures shorter { OnOk result (length lines.new ≤ length lines.old) }
@@ -185,7 +185,7 @@ fn step_of(line: Line) -> Option<Step>
 }
 
 /// The next line.
-fn take(lines: &mut Cursor<'_, Line>) -> Result<Line, AllocError>
+fn take(lines: &mut LineCursor<'_>) -> Result<Line, AllocError>
     ensures told { IfOk result (λ line. lines.old ≡ line ∷ lines.new) }
     ensures shorter { OnOk result (length lines.new < length lines.old) }
 {

@@ -7,9 +7,12 @@ ghost use Rattle.qc_io.specs.Sink.{AppendsPrefix, Moves};
 ghost use Rattle.proof_tree.specs.Text.{line_text, outcome_text, version_text, outcome_fits};
 ghost use Rattle.proof_tree.specs.declared.tree.Version.TheVariants.{Two};
 ghost use Rattle.strategy_arena.specs.Certificate.{text_of_lines, line_fits};
+ghost use Rattle.strategy_arena.specs.Short.{short_text};
 
 use crate::Arena;
+use crate::short::{Short, lengthen};
 use crate::spell::{Text, spell_line, spell_outcome};
+use paged_stack::PagedStack;
 use proof_tree::{Line, Outcome};
 use qc_io::{Pieces, Sink, WriteFault};
 
@@ -42,11 +45,25 @@ impl Arena {
         ensures err { OnErr result (AppendsPrefix (K.written sink.old) (K.written sink.new) (pieces.old ++ flat_map line_text self.now)) }
         ensures cause { HasCause (K.faults sink.old) (K.faults sink.new) result }
     {
-        for line in self.lines() {
-            put_line(pieces, sink, line)?;
-        }
-        Ok(())
+        put_shorts(&self.lines, self.wide.as_slice(), pieces, sink)
     }
+}
+
+// Puts the lines that these stand for behind the bytes that are held.
+fn put_shorts<K: Sink>(
+    shorts: &PagedStack<Short>,
+    wide: &[Line],
+    pieces: &mut Pieces,
+    sink: &mut K,
+) -> Result<(), WriteFault>
+    ensures ok { OnOk result (Moves (K.written sink.old) (K.written sink.new) pieces.new (pieces.old ++ flat_map (short_text wide.now) shorts.now.items)) }
+    ensures err { OnErr result (AppendsPrefix (K.written sink.old) (K.written sink.new) (pieces.old ++ flat_map (short_text wide.now) shorts.now.items)) }
+    ensures cause { HasCause (K.faults sink.old) (K.faults sink.new) result }
+{
+    for short in shorts.cursor() {
+        put_line(pieces, sink, lengthen(short, wide))?;
+    }
+    Ok(())
 }
 
 fn put_head<K: Sink>(

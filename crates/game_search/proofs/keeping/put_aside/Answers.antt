@@ -1,14 +1,15 @@
-use Rattle.std.proofs.Common.{◌≡◌, ◌++◌, ◌∙◌, subst, sym, suc, drop, List}
+use Rattle.std.proofs.Common.{◌≡◌, ◌++◌, ◌∙◌, refl, subst, sym, suc, drop, List}
 use Rattle.std.specs.Prelude.{IfSome}
 use Rattle.qc_model.specs.Demands.{demands}
 use Rattle.qc_levels.specs.Seen.{verdict_of}
-use Rattle.qc_joins.specs.Joins.{out_of}
 use Rattle.proof_tree.specs.declared.line.Line.{Line}
 use Rattle.search_box.specs.Looking.{scope_number}
 use Rattle.game_search.specs.Aside.{StandsAside}
 use Rattle.game_search.specs.Written.{NodeWritten}
 use Rattle.game_search.specs.declared.aside.AsideNode.{AsideNode}
+use Rattle.game_search.specs.Settled.{beats_none}
 use Rattle.game_search.proofs.Asides.{aside_written}
+use Rattle.game_search.proofs.Knowing.{node_ends}
 use Rattle.game_search.proofs.keeping.put_aside.Goals as goal
 
 pub returns-clause-told : goal.returns-clause-told
@@ -27,3 +28,6 @@ returns-clause-told c =
     λ above.
     subst (λ vs. NodeWritten c.args.stage.now.cuts above g (drop i g.scopes) i (demands g i) box h (verdict_of node.found vs) a.left c.saturating_sub-walk.result a.lines c.put_all.new.self) (sym out)
     (aside_written c.args.stage.now.cuts above g i box h v node.turns a.left _ node.lines.items a.lines c.put_all.new.self c.requires.cuts here c.saturating_sub-walk.ensures written)
+
+pub returns-clause-ended : goal.returns-clause-ended
+returns-clause-ended c = node_ends c.args.stage.now.cuts beats_none _ _ _ _ _ _ _ _ _ _ _ c.requires.cuts refl refl (returns-clause-told c beats_none)

@@ -35,9 +35,9 @@ use Rattle.game_search.specs.Beaten.{seen_bounds}
 use Rattle.game_search.specs.declared.aim.Worse.{Worse}
 use Rattle.game_search.specs.Narrowed.{NarrowTold}
 use Rattle.game_search.specs.Rivals.{above_at, StandsAbove, outdoes, IsRival}
-use Rattle.game_search.specs.Settled.{is_outdone}
+use Rattle.game_search.specs.Settled.{beats_none, is_outdone}
 use Rattle.game_search.specs.Trimmed.{TrimmedPut}
-use Rattle.game_search.specs.Told.{IsReady, BoundedSteps, StepsTold, PartTold, BoundedTold, CaseTold, BodyTold, NodeTold}
+use Rattle.game_search.specs.Told.{IsBack, IsReady, PartTold, BoundedTold, CaseTold, BodyTold, NodeTold}
 use Rattle.game_search.specs.Known.{IsEnded}
 use Rattle.game_search.specs.Written.{NodeWritten}
 use Rattle.qc_model.specs.Verdict.{Verdict}
@@ -51,7 +51,7 @@ use Rattle.qc_model.specs.Demands.{demands}
 use Rattle.proof_tree.specs.Steps.{after_steps}
 use Rattle.game_search.proofs.Trimming.{needed_made}
 use Rattle.game_search.proofs.Here.{Passing, asked_here, outdone_ends, started, ready_again, case_done, case_ready, case_tried, ready_behind, case_behind, rest_skipped, rest_ended, rest_opened, rest_none, empty_told, barred_told, few_turns, next_told, pruned_told, bounded_told, stepped_told, bare_steps, ending_kept, part_told, part_more, branch_told, ready_first, ready_bounded, node_ended, bounded_ended, body_done, body_more, whole_node}
-use Rattle.game_search.proofs.Knowing.{node_ends, node_finished, kept_told}
+use Rattle.game_search.proofs.Knowing.{ended_kept, node_ends, node_finished, kept_told}
 use Rattle.game_search.proofs.Losing.{ready_after}
 use Rattle.game_search.proofs.Marks.{firsts_marks}
 use Rattle.game_search.proofs.Outdone.{rival_outdoes}
@@ -67,7 +67,7 @@ after_tuple-below_tuple-requires t c =
     let now = c.tuple_allowed.new.self in
     let closed = subst (λ (s : Held). IsClosedAt k l.number s.box) (sym c.tuple_allowed.ensures.store) c.requires.going.closed in (
       omega arith,
-      (c.tuple_allowed.ensures.entered, (λ e. goal_closed k k l.number now.store.box refl closed (sym (add-one l.number) ∙ e), c.requires.joins)),
+      (c.tuple_allowed.ensures.entered, (λ e. goal_closed k k l.number now.store.box refl closed (add-one l.number ∙ e), c.requires.joins)),
     )
 
 pub below_tuple-node-requires : goal.below_tuple-node-requires
@@ -107,6 +107,36 @@ after_tuple-returns-then-not-tuple_allowed-clause-told t c =
     λ xs ready worse. barred_told c.args.stage.now.cuts (outdoes g l.number c.args.stage.now.rival) g l.number b.store.box (scope_number c.args.stage.now.horizon) xs c.args.walk.now.left c.args.walk.now.lines c.args.walk.now.joins ready c.put.new.self c.add_barred.new.self w.here.full fixed
     (sym c.tuple_allowed.ensures.allowed ∙ c.if-not-tuple_allowed.true) c.add_barred.ensures.stands c.in_ok-put.ensures.put
 
+pub below_tuple-returns-clause-told : goal.below_tuple-returns-clause-told
+below_tuple-returns-clause-told t c =
+    let l = c.args.stage.now.level.now in
+    let g = c.args.stage.now.levels.now.problem.now in
+    let a = c.args.walk.now in
+    let w = c.node.new.walk in
+    IfOk-weaker c.node.result _ _
+    (λ found e few up stands.
+    below_written c.args.stage.now.cuts l.problem.now g l.number c.args.stage.now.same a.remains.store.box (scope_number c.args.stage.now.horizon) (verdict_of found (out_of w.joins)) a.left w.left a.lines w.lines up w.joins
+    (e few up (subst (λ m. StandsAbove a.joins m up) (sym (add-one l.number)) stands)))
+    c.node.ensures.told
+
+pub below_tuple-returns-clause-ended : goal.below_tuple-returns-clause-ended
+below_tuple-returns-clause-ended t c =
+    let l = c.args.stage.now.level.now in
+    let g = c.args.stage.now.levels.now.problem.now in
+    let a = c.args.walk.now in
+    let w = c.node.new.walk in
+    IfOk-weaker c.node.result _ _
+    (λ found e cut few.
+    below_ended c.args.stage.now.cuts l.problem.now g l.number c.args.stage.now.same a.remains.store.box (scope_number c.args.stage.now.horizon) (verdict_of found (out_of w.joins)) a.left w.left a.lines (drop (length a.lines) w.lines) (e cut few))
+    c.node.ensures.ended
+
+pub below_tuple-returns-clause-back : goal.below_tuple-returns-clause-back
+below_tuple-returns-clause-back t c =
+    let l = c.args.stage.now.level.now in
+    on_ok_weaker c.node.result
+    (λ e. subst (λ m. IsBack l.problem.now m c.args.walk.now c.node.new.walk) (add-one l.number) (subst (λ (f : Game). IsBack f (l.number + 1) c.args.walk.now c.node.new.walk) (sym c.args.stage.now.same) e))
+    c.node.ensures.back
+
 pub after_tuple-keep_aside-requires : goal.after_tuple-keep_aside-requires
 after_tuple-keep_aside-requires t c =
     let l = c.args.stage.now.level.now in
@@ -142,21 +172,25 @@ after_tuple-returns-clause-told t c =
     let fixed = subst (λ n. is_fixed_to g l.number n b.store.box ≡ true) l.has_stop within.fixed in
     let w = c.below_tuple.new.walk in
     let v = verdict_of c.in_ok-found.found (out_of w.joins) in
-    λ xs ready worse.
+    on_ok_weaker c.keep_aside.result
+    (λ q xs ready worse.
     let few = few_turns cuts above g l.number b.store.box h xs a.left a.lines a.joins ready in
     let below = subst (λ (s : Held). NodeWritten cuts (above_at g (suc l.number) xs) g (drop (suc l.number) g.scopes) (suc l.number) (demands g (suc l.number)) s.box h v a.left w.left c.put-2.new.self w.lines) c.tuple_allowed.ensures.store (c.in_ok-found.ensures.told few xs ready.stands) in
     let told = next_told cuts above g l.number b.store.box h xs a.left a.lines a.joins ready l.is_scope v w.left c.put-2.new.self w.lines w.joins c.add_node.new.self within.here.full fixed
-      (sym c.tuple_allowed.ensures.allowed ∙ c.if-not-tuple_allowed.false) worse c.in_ok-put-2.ensures.put below (c.in_ok-found.ensures.back.joins l.number xs (omega arith))
-      (λ ys s fits. c.add_node.ensures.stands ys s (subst (λ (f : Game). LeafFits f l.number ys v) (sym (c.in_ok-found.ensures.back.game ∙ c.requires.joins)) fits)) in
-    ending_kept cuts above g l.number b.store.box h xs a.left w.left _ a.lines w.lines _ c.add_node.new.self _ c.keep_aside.ensures.left c.in_ok-keep_aside.ensures.lines c.keep_aside.ensures.joins told
+    (sym c.tuple_allowed.ensures.allowed ∙ c.if-not-tuple_allowed.false) worse c.in_ok-put-2.ensures.put below (c.in_ok-found.ensures.back.joins l.number xs (omega arith))
+    (λ ys s fits. c.add_node.ensures.stands ys s (subst (λ (f : Game). LeafFits f l.number ys v) (sym (c.in_ok-found.ensures.back.game ∙ c.requires.joins)) fits)) in
+    ending_kept cuts above g l.number b.store.box h xs a.left w.left _ a.lines w.lines _ c.add_node.new.self _ c.keep_aside.ensures.left q c.keep_aside.ensures.joins told)
+    c.keep_aside.ensures.lines
 
 pub after_tuple-returns-clause-back : goal.after_tuple-returns-clause-back
 after_tuple-returns-clause-back t c =
     let l = c.args.stage.now.level.now in
     let k = c.keep_aside in
-    back_below l.problem.now l.problem.now l.number refl c.args.walk.now _ c.below_tuple.new.walk k.new.walk c.requires.going.within.here c.tuple_allowed.ensures.entered c.tuple_allowed.ensures.store c.tuple_allowed.ensures.kept refl refl _ c.in_ok-put-2.ensures.put c.in_ok-found.ensures.back
-    k.ensures.remains c.in_ok-keep_aside.ensures.lines k.ensures.left (ap game_of k.ensures.joins ∙ c.add_node.ensures.same)
-    (subst (λ (js : Joins). KeepsOthers l.number c.below_tuple.new.walk.joins js) (sym k.ensures.joins) c.add_node.ensures.others)
+    on_ok_weaker k.result
+    (λ q. back_below l.problem.now l.problem.now l.number refl c.args.walk.now _ c.below_tuple.new.walk k.new.walk c.requires.going.within.here c.tuple_allowed.ensures.entered c.tuple_allowed.ensures.store c.tuple_allowed.ensures.kept refl refl _ c.in_ok-put-2.ensures.put c.in_ok-found.ensures.back
+    k.ensures.remains q k.ensures.left (ap game_of k.ensures.joins ∙ c.add_node.ensures.same)
+    (subst (λ (js : Joins). KeepsOthers l.number c.below_tuple.new.walk.joins js) (sym k.ensures.joins) c.add_node.ensures.others))
+    k.ensures.lines
 
 pub cases-values-init : goal.cases-values-init
 cases-values-init t c =
@@ -367,6 +401,26 @@ searched_node-returns-then-is_here-clause-told t c =
     c.in_ok-below.ensures.lines (subst (λ (u : Box). BodyTold c.args.cuts a g c.args.number u h v c.args.walk.now.left c.stuck.new.walk.left c.put_horizon.new.lines c.stuck.new.walk.lines c.stuck.new.walk.joins) c.look_ahead.ensures.content body_here))
     c.stuck.ensures.told
 
+pub searched_node-returns-then-is_here-clause-ended : goal.searched_node-returns-then-is_here-clause-ended
+searched_node-returns-then-is_here-clause-ended t c =
+    let g = c.args.levels.now.problem.now in
+    let level = c.level-level.result.now in
+    let box = c.args.walk.now.remains.store.box in
+    let ahead = c.in_ok-ahead.ensures.answer in
+    let h = scope_number c.in_ok-below.below in
+    let a = c.args.walk.now in
+    IfOk-weaker c.stuck.result _ _
+    (λ found e cut few.
+    let v = verdict_of found (out_of c.stuck.new.walk.joins) in
+    let horizon : is_horizon h level.number ≡ true = ap (is_horizon h) c.level-level.ensures.number ∙ (sym c.is_here.ensures ∙ c.if-is_here.true) in
+    let body = e c.args.cuts beats_none h horizon in
+    let body_at = subst (λ (f : Game). BodyTold c.args.cuts beats_none f level.number c.look_ahead.new.self.store.box h v a.left c.stuck.new.walk.left c.put_horizon.new.lines c.stuck.new.walk.lines c.stuck.new.walk.joins) c.level-level.ensures.problem body in
+    let body_here = subst (λ n. BodyTold c.args.cuts beats_none g n c.look_ahead.new.self.store.box h v a.left c.stuck.new.walk.left c.put_horizon.new.lines c.stuck.new.walk.lines c.stuck.new.walk.joins) c.level-level.ensures.number body_at in
+    let told = whole_node c.args.cuts beats_none g c.args.number box (scope_number c.args.horizon) h c.in_ok-ahead.ahead v a.left c.stuck.new.walk.left a.lines c.put_horizon.new.lines c.stuck.new.walk.lines c.stuck.new.walk.joins ahead.placed ahead.fits c.in_ok-below.ensures.below
+    c.in_ok-below.ensures.lines (subst (λ (u : Box). BodyTold c.args.cuts beats_none g c.args.number u h v a.left c.stuck.new.walk.left c.put_horizon.new.lines c.stuck.new.walk.lines c.stuck.new.walk.joins) c.look_ahead.ensures.content body_here) in
+    node_ends c.args.cuts beats_none g c.args.number box box (scope_number c.args.horizon) v a.left c.stuck.new.walk.left (length a.lines) a.lines c.stuck.new.walk.lines cut refl refl told.written)
+    c.stuck.ensures.told
+
 pub searched_node-returns-then-is_here-clause-back : goal.searched_node-returns-then-is_here-clause-back
 searched_node-returns-then-is_here-clause-back t c =
     let look = c.in_ok-ahead.ensures in
@@ -450,6 +504,35 @@ searched_node-returns-clause-told t c =
     let told = whole_node c.args.cuts a g i box (scope_number c.args.horizon) h c.in_ok-ahead.ahead v c.args.walk.now.left w.left c.args.walk.now.lines c.put_horizon.new.lines w.lines w.joins ahead.placed ahead.fits c.in_ok-below.ensures.below c.in_ok-below.ensures.lines
     (subst (λ (u : Box). BodyTold c.args.cuts a g i u h v c.args.walk.now.left w.left c.put_horizon.new.lines w.lines w.joins) look.content body_here) in
     kept_told c.args.cuts a g i box (scope_number c.args.horizon) found c.args.walk.now w c.keep_node.new.walk c.keep_node.ensures.joins c.keep_node.ensures.left c.in_ok-keep_node.ensures.lines told
+
+pub searched_node-returns-clause-ended : goal.searched_node-returns-clause-ended
+searched_node-returns-clause-ended t c =
+    let g = c.args.levels.now.problem.now in
+    let i = c.args.number in
+    let a = c.args.walk.now in
+    let w = c.own_tree.new.walk in
+    let level = c.level-level.result.now in
+    let k = level.problem.now in
+    let box = a.remains.store.box in
+    let now = c.look_ahead.new.self.store.box in
+    let look = c.in_ok-ahead.ensures in
+    let ahead = look.answer in
+    let h = scope_number c.in_ok-below.below in
+    let found = c.in_ok-found.found in
+    let v = verdict_of found (out_of w.joins) in
+    let own = outdoes k level.number c.rival_of.result in
+    let sees = subst (SeesAhead g (drop i g.scopes) i box) (sym c.in_ok-below.ensures.below) ahead.foreseen in
+    let sees_now = subst (λ (u : Box). SeesAhead g (drop i g.scopes) i u h) (sym look.content) sees in
+    let sees_at = subst (λ n. SeesAhead g (drop n g.scopes) n now h) (sym c.level-level.ensures.number) sees_now in
+    let sees_here = subst (λ (f : Game). SeesAhead f (drop level.number f.scopes) level.number now h) (sym c.level-level.ensures.problem) sees_at in
+    λ cut few.
+    let body = c.in_ok-found.ensures.told few sees_here in
+    let body_at = subst (λ (f : Game). BodyTold c.args.cuts own f level.number now h v a.left w.left c.put_horizon.new.lines w.lines w.joins) c.level-level.ensures.problem body in
+    let body_here = subst (λ n. BodyTold c.args.cuts own g n now h v a.left w.left c.put_horizon.new.lines w.lines w.joins) c.level-level.ensures.number body_at in
+    let told = whole_node c.args.cuts own g i box (scope_number c.args.horizon) h c.in_ok-ahead.ahead v a.left w.left a.lines c.put_horizon.new.lines w.lines w.joins ahead.placed ahead.fits c.in_ok-below.ensures.below c.in_ok-below.ensures.lines
+    (subst (λ (u : Box). BodyTold c.args.cuts own g i u h v a.left w.left c.put_horizon.new.lines w.lines w.joins) look.content body_here) in
+    let ends = node_ends c.args.cuts own g i box box (scope_number c.args.horizon) v a.left w.left (length a.lines) a.lines w.lines cut refl refl told.written in
+    ended_kept g i box (scope_number c.args.horizon) found (length a.lines) a.left w c.keep_node.new.walk c.keep_node.ensures.joins c.keep_node.ensures.left c.in_ok-keep_node.ensures.lines ends
 
 pub searched_node-returns-clause-back : goal.searched_node-returns-clause-back
 searched_node-returns-clause-back t c =

@@ -1,14 +1,17 @@
-use Rattle.std.proofs.Common.{◌≡◌, ◌≤◌, ◌-◌, ◌<◌, ◌∙◌, refl, subst, sym, ap, length, arith, rules}
+use Rattle.std.proofs.Common.{◌≡◌, ◌≤◌, ◌<◌, ◌∙◌, refl, subst, sym, arith}
 use Rattle.qc_model.specs.Content.{Game}
 use Rattle.qc_levels.specs.Seen.{verdict_of}
+use Rattle.proof_tree.specs.Counts.{turns_of}
+use Rattle.proof_tree.specs.Lines.{tree_lines}
+use Rattle.proof_tree.specs.Tree.{Tree}
 use Rattle.proof_tree.specs.Place.{position}
 use Rattle.search_box.specs.Looking.{scope_number}
 use Rattle.game_search.specs.Aside.{IsAside}
 use Rattle.game_search.proofs.Asides.{ended_aside}
 use Rattle.game_search.proofs.aside.AsideNodes.node_for.Goals as goal
 
-pub invariant_of-result : goal.invariant_of-result
-invariant_of-result c =
+pub invariant_of-result-clause-aside : goal.invariant_of-result-clause-aside
+invariant_of-result-clause-aside c =
     let k = c.args.self.now.problem.now in
     let l = c.args.level.now in
     let g = l.problem.now in
@@ -22,8 +25,9 @@ invariant_of-result c =
     let ls = c.args.lines.items in
     let some : 0 < end.left = omega (arith, c.if-end-eq0.false) in
     let fresh = c.if-not-is_fresh_here.ensures refl in
-    let here = ended_aside g l.number box h v end.had end.left vs ls some fresh c.requires.ended in
-    let there = subst (λ (u : Game). IsAside u l.number h vs v (end.had - end.left) ls) same here in
-    let turns = subst (λ n. IsAside k l.number h vs v n ls) (sym c.saturating_sub.ensures) there in
-    let values = subst (λ us. IsAside k l.number h us v c.saturating_sub.result ls) (sym (c.in_ok-from_slice.ensures.items ∙ c.values_before-here.ensures)) turns in
-    record { aside = values }
+    let turns = c.turns_in.result in
+    let few : (t : Tree) → ls ≡ tree_lines t → turns_of t ≤ turns = λ t e. c.turns_in.ensures t (c.as_slice.ensures.value ∙ e) in
+    let here = ended_aside g l.number box h v end.had end.left vs ls turns some few fresh c.requires.ended in
+    let there = subst (λ (u : Game). IsAside u l.number h vs v turns ls) same here in
+    let vector = subst (λ ws. IsAside k l.number h vs (verdict_of end.found ws) turns ls) (sym c.in_ok-from_slice-2.ensures.items) there in
+    subst (λ us. IsAside k l.number h us (verdict_of end.found c.in_ok-from_slice-2.field-0.items) turns ls) (sym (c.in_ok-from_slice.ensures.items ∙ c.values_before-here.ensures)) vector
