@@ -1,5 +1,5 @@
 -- A scope's join beside the records of the scope's own tree.
-use Rattle.std.proofs.Common.{◌≡◌, ◌≤◌, ◌<◌, ◌+◌, ◌*◌, ◌-◌, ◌∙◌, inl, inr, ℕ, zero, suc, Bool, true, false, cond, ◌&&◌, ◌||◌, List, [], ◌∷◌, ◌++◌, map, length, drop, take, refl, sym, ap, subst, arith, Option, None, Some, add-one, append_assoc, drop_of_length-le, ℤ}
+use Rattle.std.proofs.Common.{◌≡◌, ◌≤◌, ◌<◌, ◌+◌, ◌*◌, ◌-◌, ◌∙◌, inl, inr, ℕ, zero, suc, Bool, true, false, cond, ◌&&◌, ◌||◌, List, [], ◌∷◌, ◌++◌, map, length, drop, take, refl, sym, ap, subst, arith, Option, None, Some, append_assoc, drop_of_length-le, ℤ}
 use Rattle.std.specs.Prelude.{◌⊎◌}
 use Rattle.std.specs.List.{list_all}
 use Rattle.std.proofs.lemmas.List.{append-nil}
@@ -393,9 +393,8 @@ module _ (cuts : Bool) (above : ℤ → Bool) (g : Game) (i : ℕ) (box : Box) (
   few_turns = omega (arith, ready.room)
 
   pub next_told : i < length g.scopes → (v : Verdict) (left : ℕ) (mid new : List Line) (below joins : Joins) → has_empty box ≡ false → is_fixed g i box ≡ true → allows g i (position g (suc i) box) ≡ true → has_no_worse (tracked_at g i) (firsts xs) box ≡ true → mid ≡ old ++ Next ∷ [] →
-      NodeTold cuts (above_at g (i + 1) xs) g (i + 1) box h v had left mid new below → (StandsAt first i xs → StandsAt below i xs) → ((ys : List Seen) → StandsAt below i ys → LeafFits g i ys v → StandsAt joins i (ys ++ seen_node v ∷ [])) → EndingTold cuts above g i box h xs had left old new joins
-  next_told scope v left mid new below joins full fixed passes worse q node kept added =
-      let n = subst (λ k. NodeWritten cuts (above_at g k xs) g (drop k g.scopes) k (demands g k) box h v had left mid new) (add-one i) node.written in
+      NodeWritten cuts (above_at g (suc i) xs) g (drop (suc i) g.scopes) (suc i) (demands g (suc i)) box h v had left mid new → (StandsAt first i xs → StandsAt below i xs) → ((ys : List Seen) → StandsAt below i ys → LeafFits g i ys v → StandsAt joins i (ys ++ seen_node v ∷ [])) → EndingTold cuts above g i box h xs had left old new joins
+  next_told scope v left mid new below joins full fixed passes worse q n kept added =
       let m1 = subst (λ ss. NodeMade cuts (above_at g (suc i) xs) g ss (suc i) (demands g (suc i)) box h v had left n.tree) (sym (next_at i g.scopes)) n.made in
       let m2 = subst (λ d. NodeMade cuts (above_at g (suc i) xs) g (next_scopes (drop i g.scopes)) (suc i) d box h v had left n.tree) (sym (demands_next g g.scopes i [] scope)) m1 in
       let fits = leaf_fits g i ready.size (suc (2 * turns_of n.tree)) xs v n.made.long ready.sizes n.made.sized (omega (arith, ready.room, n.made.spent)) in
@@ -408,6 +407,13 @@ module _ (cuts : Bool) (above : ℤ → Bool) (g : Game) (i : ℕ) (box : Box) (
         };
         told = all_told g i joins (xs ++ seen_node v ∷ []) (xs ++ seen_node v ∷ []) (added xs (kept ready.stands) fits) refl;
       }
+
+-- what was told stays so where the turns, the lines and the joins do
+pub ending_kept : (cuts : Bool) (above : ℤ → Bool) (g : Game) (i : ℕ) (box : Box) (h : Option ℕ) (xs : List Seen) (had left last : ℕ) (old mid new : List Line) (a b : Joins) → last ≡ left → new ≡ mid → b ≡ a → EndingTold cuts above g i box h xs had left old mid a → EndingTold cuts above g i box h xs had last old new b
+ending_kept cuts above g i box h xs had left last old mid new a b same lines joins told =
+    subst (λ n. EndingTold cuts above g i box h xs had n old new b) (sym same)
+    (subst (λ ls. EndingTold cuts above g i box h xs had left old ls b) (sym lines)
+    (subst (λ (js : Joins). EndingTold cuts above g i box h xs had left old mid js) (sym joins) told))
 
 -- removals by constraints alone
 pruned_made : (g : Game) (i : ℕ) (d : List Condition) (box left : Box) (steps : List Step) → IsPruned g i box left [] steps → StepsMade g (drop i g.scopes) i d box [] steps

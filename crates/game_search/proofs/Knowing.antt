@@ -39,11 +39,12 @@ use Rattle.qc_joins.specs.Verdicts.{scope_own, kind_own}
 use Rattle.qc_joins.specs.declared.joins.Joins.{Joins}
 use Rattle.search_box.specs.Boxed.{Boxed}
 use Rattle.search_box.specs.Entered.{IsEntered}
-use Rattle.game_search.specs.Known.{ask_nothing, IsLike, decided_as, is_decided_as, IsDecided, IsKnown, IsFinished, StandsHere, ends_as, line_looks}
+use Rattle.game_search.specs.Known.{ask_nothing, IsLike, decided_as, is_decided_as, IsDecided, IsKnown, IsEnded, IsFinished, StandsHere, ends_as, line_looks}
 use Rattle.game_search.specs.Made.{NodeMade}
 use Rattle.game_search.specs.Own.{IsOwnSized}
-use Rattle.game_search.specs.Settled.{is_vague_verdict}
+use Rattle.game_search.specs.Settled.{is_vague_verdict, beats_none}
 use Rattle.game_search.specs.Told.{NodeTold}
+use Rattle.game_search.specs.Written.{NodeWritten}
 use Rattle.game_search.specs.declared.walk.Walk.{Walk}
 use Rattle.game_search.proofs.Bools.{two, both, below_is}
 use Rattle.game_search.proofs.Here.{stuck_own}
@@ -54,7 +55,7 @@ past : (x n : ℕ) → nat_lt x n ≡ false → n ≤ x
 past x n e = grind (arith, nat_tests)
 
 -- the value of a variable that has one left
-single_stands : (box : Box) (n x : ℕ) → x < n → x < length box → list_all is_single (take n box) ≡ true → values_left box x ≡ slice_index_or (box_values (take n box)) x (pos 0) ∷ []
+pub single_stands : (box : Box) (n x : ℕ) → x < n → x < length box → list_all is_single (take n box) ≡ true → values_left box x ≡ slice_index_or (box_values (take n box)) x (pos 0) ∷ []
 single_stands [] n x h l e = absurd (omega arith)
 single_stands (d ∷ box) zero x h l e = absurd (omega arith)
 single_stands (d ∷ box) (suc n) zero h l e = one d (both (is_single d) (list_all is_single (take n box)) e).0
@@ -173,9 +174,9 @@ decided_is false (at_most p) e = cc
 decided_is false unknown e = cc
 
 -- a node that came to lost or exact with a turn left
-pub decided_here : (above : ℤ → Bool) (g : Game) (i : ℕ) (box : Box) (h : Option ℕ) (v : Verdict) (won : Bool) (had left : ℕ) (t : Tree) → ask_nothing g.scopes ≡ true → is_decided_as won v ≡ true → 0 < left →
-    NodeMade true above g (drop i g.scopes) i (demands g i) box h v had left t → IsDecided g i h won (had - left) t box
-decided_here above g i box h v won had left t plain comes some m = record {
+pub decided_here : (above : ℤ → Bool) (g : Game) (i : ℕ) (box : Box) (h : Option ℕ) (v : Verdict) (won : Bool) (had left turns : ℕ) (t : Tree) → ask_nothing g.scopes ≡ true → is_decided_as won v ≡ true → 0 < left → turns_of t ≤ turns →
+    NodeMade true above g (drop i g.scopes) i (demands g i) box h v had left t → IsDecided g i h won turns t box
+decided_here above g i box h v won had left turns t plain comes some few m = record {
   placed = m.placed;
   verdict = ap (is_decided_as won) m.verdict ∙ comes;
   own = read_none g t (drop i g.scopes) i (demands g i) box (later_none g.scopes i plain);
@@ -184,7 +185,7 @@ decided_here above g i box h v won had left t plain comes some m = record {
   ones = m.ones;
   apart = m.apart;
   fits = m.fits;
-  few = omega (arith, m.spent, some);
+  few = few;
   opens = by m.opens;
   keeps = m.keeps;
   closed = m.closed;
@@ -215,11 +216,11 @@ decided_alike g i h won turns t a b look alike d =
       foreseen = s.foreseen d.foreseen;
     }
 
-pub node_known : (above : ℤ → Bool) (g : Game) (i : ℕ) (box : Box) (h : Option ℕ) (vs : List ℤ) (v : Verdict) (won : Bool) (had left : ℕ) (t : Tree) (ls : List Line) → ask_nothing g.scopes ≡ true → is_decided_as won v ≡ true → 0 < left → IsLike g i vs box → looks g i t ≡ true → ls ≡ tree_lines t →
-    NodeMade true above g (drop i g.scopes) i (demands g i) box h v had left t → IsKnown g i h vs won (had - left) ls
-node_known above g i box h vs v won had left t ls plain comes some like look e m =
-    let d = decided_here above g i box h v won had left t plain comes some m in
-    (t, record { lines = e; decided = λ b other. decided_alike g i h won (had - left) t box b look (likes_alike g i vs box b like other) d })
+pub node_known : (above : ℤ → Bool) (g : Game) (i : ℕ) (box : Box) (h : Option ℕ) (vs : List ℤ) (v : Verdict) (won : Bool) (had left turns : ℕ) (t : Tree) (ls : List Line) → ask_nothing g.scopes ≡ true → is_decided_as won v ≡ true → 0 < left → turns_of t ≤ turns → IsLike g i vs box → looks g i t ≡ true → ls ≡ tree_lines t →
+    NodeMade true above g (drop i g.scopes) i (demands g i) box h v had left t → IsKnown g i h vs won turns ls
+node_known above g i box h vs v won had left turns t ls plain comes some few like look e m =
+    let d = decided_here above g i box h v won had left turns t plain comes some few m in
+    (t, record { lines = e; decided = λ b other. decided_alike g i h won turns t box b look (likes_alike g i vs box b like other) d })
 
 -- a node that is decided is made
 decided_made : (above : ℤ → Bool) (g : Game) (i : ℕ) (h : Option ℕ) (won : Bool) (turns had : ℕ) (t : Tree) (box : Box) → ask_nothing g.scopes ≡ true → turns ≤ had → IsDecided g i h won turns t box →
@@ -324,11 +325,12 @@ module _ (g : Game) (i : ℕ) where
         two _ _ (steps_look steps p.0) (ending_looks end p.1)
 
 -- so where a node is finished that is decided, its lines are known
-pub finished_known : (g : Game) (i : ℕ) (box : Box) (h : Option ℕ) (found : Found) (won : Bool) (had left : ℕ) (vs : List ℤ) (ls : List Line) → ask_nothing g.scopes ≡ true → ((v : List ℤ) → ends_as won (verdict_of found v) ≡ true) → 0 < left → IsLike g i vs box → list_all (line_looks g i) ls ≡ true →
-    IsFinished g i box h found had left ls → IsKnown g i h vs won (had - left) ls
-finished_known g i box h found won had left vs ls plain ends some like look f =
-    let looked = tree_looks g i f.tree (subst (λ ms. list_all (line_looks g i) ms ≡ true) f.lines look) in
-    node_known f.above g i box h vs (verdict_of found f.vector) won had left f.tree ls plain (by won (verdict_of found f.vector) (ends f.vector) f.made.long) some like looked f.lines f.made
+pub finished_known : (g : Game) (i : ℕ) (box : Box) (h : Option ℕ) (found : Found) (won : Bool) (had left : ℕ) (vs : List ℤ) (ls : List Line) (turns : ℕ) → ask_nothing g.scopes ≡ true → ((v : List ℤ) → ends_as won (verdict_of found v) ≡ true) → 0 < left → ((t : Tree) → ls ≡ tree_lines t → turns_of t ≤ turns) → IsLike g i vs box → list_all (line_looks g i) ls ≡ true →
+    IsFinished g i box h found had left ls → IsKnown g i h vs won turns ls
+finished_known g i box h found won had left vs ls turns plain ends some few like look f =
+    let e = f.ended in
+    let looked = tree_looks g i e.tree (subst (λ ms. list_all (line_looks g i) ms ≡ true) e.lines look) in
+    node_known e.above g i box h vs (verdict_of found f.vector) won had left turns e.tree ls plain (by won (verdict_of found f.vector) (ends f.vector) e.made.long) some (few e.tree e.lines) like looked e.lines e.made
   where
     by : (b : Bool) (v : Verdict) → ends_as b v ≡ true → IsLong g i v → is_decided_as b v ≡ true
     by b lost e l = e
@@ -365,16 +367,36 @@ none_goes_on (t ∷ ss) zero s e f =
     none (Some c) e = cc
 none_goes_on (t ∷ ss) (suc i) s e f = none_goes_on ss i s e f
 
--- what was told of a node says that it is finished
+-- what was written of a node says how it ended
+pub node_ends : (cuts : Bool) (above : ℤ → Bool) (g : Game) (i : ℕ) (box now : Box) (h : Option ℕ) (v : Verdict) (had left start : ℕ) (old new : List Line) → cuts ≡ true → now ≡ box → start ≡ length old → NodeWritten cuts above g (drop i g.scopes) i (demands g i) box h v had left old new →
+    IsEnded g i now h v had left (drop start new)
+node_ends cuts above g i box now h v had left start old new cut same e w = record {
+  above = above;
+  tree = w.tree;
+  lines = ap (λ n. drop n new) e ∙ (ap (drop (length old)) w.lines ∙ drop_front old (tree_lines w.tree));
+  made = subst (λ (b : Box). NodeMade true above g (drop i g.scopes) i (demands g i) b h v had left w.tree) (sym same)
+      (subst (λ b. NodeMade b above g (drop i g.scopes) i (demands g i) box h v had left w.tree) cut w.made);
+}
+
+-- so where it was told whatever is above
+pub any_ends : (g : Game) (i : ℕ) (box : Box) (h : Option ℕ) (v : Verdict) (had left : ℕ) (old new : List Line) (joins : Joins) → ((cuts : Bool) (above : ℤ → Bool) → NodeTold cuts above g i box h v had left old new joins) →
+    IsEnded g i box h v had left (drop (length old) new)
+any_ends g i box h v had left old new joins told = node_ends true beats_none g i box box h v had left (length old) old new refl refl refl (told true beats_none).written
+
+-- it stays so where the joins, the turns and the lines do
+pub ended_kept : (g : Game) (i : ℕ) (box : Box) (h : Option ℕ) (found : Found) (start had : ℕ) (b c : Walk) → c.joins ≡ b.joins → c.left ≡ b.left → c.lines ≡ b.lines → IsEnded g i box h (verdict_of found (out_of b.joins)) had b.left (drop start b.lines) →
+    IsEnded g i box h (verdict_of found (out_of c.joins)) had c.left (drop start c.lines)
+ended_kept g i box h found start had b c joins left lines e =
+    subst (λ (js : Joins). IsEnded g i box h (verdict_of found (out_of js)) had c.left (drop start c.lines)) (sym joins)
+    (subst (λ n. IsEnded g i box h (verdict_of found (out_of b.joins)) had n (drop start c.lines)) (sym left)
+    (subst (λ ls. IsEnded g i box h (verdict_of found (out_of b.joins)) had b.left (drop start ls)) (sym lines) e))
+
+-- so it is finished
 pub node_finished : (cuts : Bool) (above : ℤ → Bool) (g : Game) (i : ℕ) (box now : Box) (h : Option ℕ) (found : Found) (vector : List ℤ) (had left start : ℕ) (old new : List Line) (joins : Joins) → cuts ≡ true → now ≡ box → start ≡ length old → NodeTold cuts above g i box h (verdict_of found vector) had left old new joins →
     IsFinished g i now h found had left (drop start new)
 node_finished cuts above g i box now h found vector had left start old new joins cut same e w = record {
-  above = above;
   vector = vector;
-  tree = w.written.tree;
-  lines = ap (λ n. drop n new) e ∙ (ap (drop (length old)) w.written.lines ∙ drop_front old (tree_lines w.written.tree));
-  made = subst (λ (b : Box). NodeMade true above g (drop i g.scopes) i (demands g i) b h (verdict_of found vector) had left w.written.tree) (sym same)
-      (subst (λ b. NodeMade b above g (drop i g.scopes) i (demands g i) box h (verdict_of found vector) had left w.written.tree) cut w.written.made);
+  ended = node_ends cuts above g i box now h (verdict_of found vector) had left start old new cut same e w.written;
 }
 
 -- what was told stays so where the joins, the turns and the lines do

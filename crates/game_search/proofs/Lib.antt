@@ -22,3 +22,5 @@ pub mod Losing
 pub mod Outdone
 pub mod Rivals
 pub mod Knowing
+pub mod Asides
+pub mod Ends

@@ -1,5 +1,5 @@
 -- The box of a search on the way through a scope's own tree, and back.
-use Rattle.std.proofs.Common.{◌≡◌, ◌≤◌, ◌<◌, ◌∙◌, ◌+◌, ◌-◌, ◌++◌, ℕ, zero, suc, Bool, true, false, not, List, [], ◌∷◌, length, take, drop, refl, sym, ap, subst, arith, ℤ, length-set, add-one, Option, None, Some, append_assoc}
+use Rattle.std.proofs.Common.{◌≡◌, ◌≤◌, ◌<◌, ◌∙◌, ◌+◌, ◌-◌, ◌++◌, ℕ, zero, suc, Bool, true, false, not, List, [], ◌∷◌, length, take, drop, refl, sym, ap, subst, arith, ℤ, length-set, Option, None, Some, append_assoc}
 use Rattle.std.proofs.lemmas.List.{append-nil}
 use Rattle.std.specs.List.{list_all}
 use Rattle.qc_model.specs.declared.problem.VarId.{VarId}
@@ -142,9 +142,9 @@ tuple_back g i a b here there store kept game others more lines left = record {
 
 -- after the node below a tuple
 pub back_below : (g k : Game) (i : ℕ) → k ≡ g → (a b c d : Walk) → IsEntered g i a.remains → IsEntered g (suc i) b.remains → b.remains.store ≡ a.remains.store → KeepsValues g i a.remains b.remains → b.joins ≡ a.joins → b.left ≡ a.left → (more : List Line) → b.lines ≡ a.lines ++ more →
-    IsBack k (i + 1) b c → d.remains ≡ c.remains → d.lines ≡ c.lines → d.left ≡ c.left → game_of d.joins ≡ game_of c.joins → KeepsOthers i c.joins d.joins → IsBack g i a d
+    IsBack k (suc i) b c → d.remains ≡ c.remains → d.lines ≡ c.lines → d.left ≡ c.left → game_of d.joins ≡ game_of c.joins → KeepsOthers i c.joins d.joins → IsBack g i a d
 back_below g k i p a b c d here there store kept joins left more lines back remains last last_left game others =
-    let n = subst (λ (u : Game). IsBack u (suc i) b c) p (subst (λ m. IsBack k m b c) (add-one i) back) in
+    let n = subst (λ (u : Game). IsBack u (suc i) b c) p back in
     record {
       problem = ap (λ (r : Boxed). r.game) remains ∙ (n.problem ∙ (there.game ∙ sym here.game));
       box = ap (λ (r : Boxed). r.store.box) remains ∙ (n.box ∙ ap (λ (s : Held). s.box) store);

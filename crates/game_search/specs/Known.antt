@@ -109,11 +109,15 @@ ends_as won (exact v) = won
 ends_as won (at_most p) = false
 ends_as won unknown = false
 
--- the lines are those of a node of scope i in this box, below the horizon h, by a search that cuts; it came to what was found,
--- and the turns that were left fell from had to left
-pub record IsFinished (g : Game) (i : ℕ) (box : Box) (h : Option ℕ) (found : Found) (had left : ℕ) (ls : List Line) : Type 0 where
+-- the lines are those of a node of scope i in this box, below the horizon h, by a search that cuts; it came to v, and the turns
+-- that were left fell from had to left
+pub record IsEnded (g : Game) (i : ℕ) (box : Box) (h : Option ℕ) (v : Verdict) (had left : ℕ) (ls : List Line) : Type 0 where
   pub above : ℤ → Bool
-  pub vector : List ℤ
   pub tree : Tree
   pub lines : ls ≡ tree_lines tree
-  pub made : NodeMade true above g (drop i g.scopes) i (demands g i) box h (verdict_of found vector) had left tree
+  pub made : NodeMade true above g (drop i g.scopes) i (demands g i) box h v had left tree
+
+-- so where it came to what was found, with some vector
+pub record IsFinished (g : Game) (i : ℕ) (box : Box) (h : Option ℕ) (found : Found) (had left : ℕ) (ls : List Line) : Type 0 where
+  pub vector : List ℤ
+  pub ended : IsEnded g i box h (verdict_of found vector) had left ls

@@ -14,3 +14,5 @@ pub mod Props
 pub mod Narrowed
 pub mod Rivals
 pub mod Known
+pub mod Aside
+pub mod Ends

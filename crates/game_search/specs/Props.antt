@@ -6,6 +6,10 @@ use mathlib.Core.HLevel.{Σ_prop_path}
 use Rattle.qc_model.specs.declared.problem.Scope.{Scope}
 use Rattle.qc_model.specs.Content.{Game}
 use Rattle.qc_model.specs.Domains.{Values, Box, values_left}
+use Rattle.qc_model.specs.Verdict.{Verdict, lost, exact, at_most, unknown}
+use Rattle.qc_joins.specs.Joins.{IsLong}
+use Rattle.qc_joins.specs.Sizes.{IsSized}
+use Rattle.game_search.specs.Own.{IsOwnSized}
 use Rattle.proof_tree.specs.declared.line.Line.{Line}
 use Rattle.proof_tree.specs.Cover.{covered, uncovered, box_to}
 use Rattle.proof_tree.specs.Diligent.{SeesAhead, Foresees, BodyForesees, EndingForesees, BranchesForesee, CaseForesees}
@@ -14,6 +18,7 @@ use Rattle.proof_tree.specs.Place.{next_scopes}
 use Rattle.proof_tree.specs.Steps.{after_steps}
 use Rattle.proof_tree.specs.Tree.{Tree, tree, Body, stuck, goal, cases, Ending, empty, barred, next, branch, Branches, no_more, piece, Case, skip, left_open, go}
 use Rattle.strategy_arena.proofs.UniqueLines.{only_tree}
+use Rattle.game_search.specs.Aside.{IsWhole, IsAsideBy, IsAside}
 use Rattle.game_search.specs.Known.{IsDecided, IsKnownBy, IsKnown}
 use Rattle.game_search.specs.declared.aim.Aim.{Aim}
 use Rattle.game_search.specs.Aims.{IsAimed}
@@ -65,3 +70,28 @@ known_by_prop g i h vs won turns ls t = hlevel (props, decided_prop)
 -- no other tree has these lines
 pub known_prop : (g : Game) (i : ℕ) (h : Option ℕ) (vs : List ℤ) (won : Bool) (turns : ℕ) (ls : List Line) → IsProp (IsKnown g i h vs won turns ls)
 known_prop g i h vs won turns ls = λ a b. Σ_prop_path (known_by_prop g i h vs won turns ls) (only_tree a.0 b.0 ls a.1.lines b.1.lines)
+
+sized_prop : (n : ℕ) (v : Verdict) → IsProp (IsSized n v)
+sized_prop n lost = Unit-prop
+sized_prop n (exact v) = hlevel props
+sized_prop n (at_most p) = hlevel props
+sized_prop n unknown = Unit-prop
+
+long_prop : (g : Game) (i : ℕ) (v : Verdict) → IsProp (IsLong g i v)
+long_prop g i lost = Unit-prop
+long_prop g i (exact v) = hlevel props
+long_prop g i (at_most p) = Unit-prop
+long_prop g i unknown = Unit-prop
+
+own_sized_prop : (n : ℕ) (o : Option ℤ) → IsProp (IsOwnSized n o)
+own_sized_prop n None = Unit-prop
+own_sized_prop n (Some v) = hlevel props
+
+whole_prop : (g : Game) (i : ℕ) (h : Option ℕ) (v : Verdict) (turns : ℕ) (t : Tree) (box : Box) → IsProp (IsWhole g i h v turns t box)
+whole_prop g i h v turns t box = hlevel (props, foresees_prop, sized_prop, long_prop, own_sized_prop)
+
+aside_by_prop : (g : Game) (i : ℕ) (h : Option ℕ) (vs : List ℤ) (v : Verdict) (turns : ℕ) (ls : List Line) (t : Tree) → IsProp (IsAsideBy g i h vs v turns ls t)
+aside_by_prop g i h vs v turns ls t = hlevel (props, whole_prop)
+
+pub aside_prop : (g : Game) (i : ℕ) (h : Option ℕ) (vs : List ℤ) (v : Verdict) (turns : ℕ) (ls : List Line) → IsProp (IsAside g i h vs v turns ls)
+aside_prop g i h vs v turns ls = λ a b. Σ_prop_path (aside_by_prop g i h vs v turns ls) (only_tree a.0 b.0 ls a.1.lines b.1.lines)

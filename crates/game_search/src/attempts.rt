@@ -9,8 +9,9 @@ ghost use Rattle.game_search.specs.Solution.{SolutionLines, outcome_by};
 ghost use Rattle.game_search.specs.Attempted.{Attempted};
 
 use crate::advice::Advice;
-use crate::known::KnownNodes;
-use crate::search::{is_decided, node};
+use crate::aside::AsideNodes;
+use crate::known::{KnownNodes, is_decided};
+use crate::search::node;
 use crate::walk::Walk;
 use proof_tree::{Outcome, StepList, cases_are_few};
 use qc_joins::Joins;
@@ -102,12 +103,12 @@ pub(crate) fn attempt(
         remains,
         joins,
         lines: Arena::new(alloc),
-        kept: Vec::new(alloc),
         steps: StepList::new(alloc),
         needed: Vec::new(alloc),
         left: turns,
         advice,
         known,
+        aside: AsideNodes::new(alloc, levels.problem),
     };
     let found = node(levels, cuts, None, 0, &mut walk)?;
     let own = first_own(levels.problem, &walk.joins);

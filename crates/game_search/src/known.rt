@@ -1,7 +1,7 @@
 //! Nodes that were settled before, whose lines stand wherever the position looks the same.
 //!
 //! Nothing is kept where a scope has a condition. So a node that is decided is lost, or exact with no value.
-ghost use Rattle.std.specs.Prelude.{◌≡◌, ◌<◌, Some, List, ℤ, length, slice_get, IfOk, IfSome, IsTrue};
+ghost use Rattle.std.specs.Prelude.{◌≡◌, ◌<◌, Some, List, ℤ, not, length, slice_get, IfOk, IfSome, IsTrue};
 ghost use Rattle.std.specs.List.{All};
 ghost use Rattle.std.proofs.Props.{props};
 ghost use Rattle.qc_levels.specs.Seen.{verdict_of};
@@ -9,8 +9,10 @@ ghost use Rattle.search_box.specs.Entered.{IsEntered};
 ghost use Rattle.search_box.specs.Looking.{scope_number};
 ghost use Rattle.game_search.specs.Props.{known_prop};
 ghost use Rattle.game_search.specs.Known.{ask_nothing, IsFinished, IsKnown, StandsHere, ends_as};
+ghost use Rattle.game_search.specs.Settled.{is_vague_verdict, beats_none};
 
 use crate::likeness::Likeness;
+use crate::turns::turns_in;
 use proof_tree::Line;
 use qc_levels::Found;
 use qc_model::{Problem, ScopeId};
@@ -40,7 +42,7 @@ const LEAST_SHARE: u32 = 8;
 const REST_BITS: u32 = 48;
 
 /// A node that was settled where nothing is optimised: its scope, the horizon in force, the number of its position and the
-/// values of the variables before the scope, whether it was won, how many turns it took at most, and the lines that stand there.
+/// values of the variables before the scope, whether it was won, how many turns its lines have at most, and these lines.
 #[derive(Drop)]
 pub(crate) struct KnownNode<'p> {
     problem: &'p Problem,
@@ -71,7 +73,7 @@ impl<'p> KnownNode<'p> {
 }
 
 /// Whether both horizons are the same.
-fn is_same(a: Option<ScopeId>, b: Option<ScopeId>) -> bool
+pub(crate) fn is_same(a: Option<ScopeId>, b: Option<ScopeId>) -> bool
     ensures { IsTrue result → scope_number a ≡ scope_number b }
 {
     match a {
@@ -109,11 +111,6 @@ pub(crate) struct NodeEnd {
     pub(crate) left: u64,
 }
 
-/// How many turns the node took.
-fn took(end: NodeEnd) -> u64 {
-    end.had.saturating_sub(end.left)
-}
-
 /// Whether the node was won. None comes where that isn't known.
 fn is_won(found: Found) -> Option<bool>
     ensures { IfSome result (λ won. (v : List ℤ) → IsTrue (ends_as won (verdict_of found v))) }
@@ -123,6 +120,18 @@ fn is_won(found: Found) -> Option<bool>
         Found::Exact => Some(true),
         Found::AtMost(_) => None,
         Found::Unknown => None,
+    }
+}
+
+/// Whether a node is lost or exact.
+pub(crate) fn is_decided(found: Found) -> bool
+    ensures { (v : List ℤ) → result ≡ not (is_vague_verdict beats_none (verdict_of found v)) }
+{
+    match found {
+        Found::Lost => true,
+        Found::Exact => true,
+        Found::AtMost(_) => false,
+        Found::Unknown => false,
     }
 }
 
@@ -161,8 +170,7 @@ impl<'p> KnownNodes<'p> {
         })
     }
 
-    /// Whether a node is kept that has so many lines: it is decided, a turn is left, and its position can be met again. One that
-    /// took more turns than it has lines isn't: a copy would spend them again, and a search that knows its tuple takes fewer.
+    /// Whether a node is kept that has so many lines: it is decided, a turn is left, and its position can be met again.
     pub(crate) fn is_wanted(
         &self,
         level: &Level,
@@ -173,7 +181,6 @@ impl<'p> KnownNodes<'p> {
         self.likeness.is_some()
             && (self.kept < FIRST_NODES || self.met >= self.kept / LEAST_SHARE)
             && end.left > 0
-            && took(end) <= lines as u64
             && lines >= LEAST_LINES
             && lines <= MOST_LINES
             && is_won(end.found).is_some()
@@ -238,7 +245,7 @@ impl<'p> KnownNodes<'p> {
             number,
             values: Vec::from_slice(alloc, here)?,
             won,
-            turns: end.had.saturating_sub(end.left),
+            turns: turns_in(lines.as_slice()),
             lines,
         }))
     }

@@ -38,20 +38,24 @@ ghost use Rattle.search_box.specs.Looking.{scope_number};
 ghost use Rattle.game_search.specs.Aims.{tracked_at, IsSpan};
 ghost use Rattle.game_search.specs.Beaten.{firsts, seen_bounds};
 ghost use Rattle.game_search.specs.Going.{IsGoing, GoesOn};
-ghost use Rattle.game_search.specs.Known.{IsFinished, StandsHere};
+ghost use Rattle.game_search.specs.Known.{IsEnded};
 ghost use Rattle.game_search.specs.Rivals.{above_at, StandsAbove, outdoes};
 ghost use Rattle.game_search.specs.Settled.{is_ended as is_ended_by, is_vague_verdict, beats_none};
 ghost use Rattle.game_search.specs.Told.{IsReady, IsBack, EndingTold, BoundedSteps, PartTold, BoundedTold, FirstTold, CaseTold, CasesTold, BodyTold, NodeTold};
+ghost use Rattle.game_search.specs.Written.{NodeWritten};
 
 use crate::aim::{Worse, aim_of, worse_than_found};
-use crate::known::NodeEnd;
+use crate::keeping::{
+    aside_at, keep_aside, keep_node, known_at, position_of, put_aside, put_known,
+};
+use crate::known::{NodeEnd, is_decided};
 use crate::narrowing::{narrow, narrow_first};
 use crate::rival::{is_outdone, rival_of};
 use crate::stage::Stage;
 use crate::walk::Walk;
 use crate::writing::{
-    copied_from, drop_before, last_to_drop, leave_out, put_horizon, put_needed, put_steps,
-    skip_and_tell, skip_between,
+    drop_before, last_to_drop, leave_out, put_horizon, put_needed, put_steps, skip_and_tell,
+    skip_between,
 };
 use proof_tree::Line;
 use prop_engine::Closed;
@@ -83,6 +87,7 @@ pub(crate) fn node(
     requires closed { number ≡ length levels.now.problem.now.scopes → IsClosedAtGoal levels.now.problem.now walk.old.remains.store.box }
     requires joins { game_of walk.old.joins ≡ levels.now.problem.now }
     ensures told { IfOk result (λ found. walk.old.left < 2147483648 → (up : List Seen) → StandsAbove walk.old.joins number up → NodeTold cuts (above_at levels.now.problem.now number up) levels.now.problem.now number walk.old.remains.store.box (scope_number horizon) (verdict_of found (out_of walk.new.joins)) walk.old.left walk.new.left walk.old.lines walk.new.lines walk.new.joins) }
+    ensures ended { IfOk result (λ found. IsTrue cuts → walk.old.left < 2147483648 → IsEnded levels.now.problem.now number walk.old.remains.store.box (scope_number horizon) (verdict_of found (out_of walk.new.joins)) walk.old.left walk.new.left (drop (length walk.old.lines) walk.new.lines)) }
     ensures back { OnOk result (IsBack levels.now.problem.now number walk.old walk.new) }
 {
     levels.problem.known();
@@ -94,76 +99,6 @@ pub(crate) fn node(
         return put_known(levels, cuts, horizon, number, at, walk);
     }
     searched_node(levels, cuts, horizon, number, position, walk)
-}
-
-/// A number of the node's position, in the first pass, where it may be met again. The first scope has one node.
-fn position_of(
-    levels: &Levels,
-    cuts: bool,
-    horizon: Option<ScopeId>,
-    number: u8,
-    walk: &Walk,
-) -> Option<u64>
-    requires scope { number < length levels.now.problem.now.scopes }
-    requires here { IsEntered levels.now.problem.now number walk.now.remains }
-{
-    if !cuts || number == 0 {
-        return None;
-    }
-    walk.known
-        .position(levels.level(ScopeId(number)), horizon, &walk.remains)
-}
-
-/// The place of the node that is known for the position, in the first pass.
-fn known_at(
-    levels: &Levels,
-    cuts: bool,
-    horizon: Option<ScopeId>,
-    number: u8,
-    position: Option<u64>,
-    walk: &Walk,
-) -> Option<usize>
-    requires scope { number < length levels.now.problem.now.scopes }
-    requires here { IsEntered levels.now.problem.now number walk.now.remains }
-    requires joins { game_of walk.now.joins ≡ levels.now.problem.now }
-    ensures cuts { IfSome result (λ at. IsTrue cuts) }
-    ensures within { IfSome result (λ at. at < length walk.now.known.nodes.items) }
-    ensures stands { IfSome result (λ at. IfSome (slice_get walk.now.known.nodes.items at) (λ n. StandsHere levels.now.problem.now number (scope_number horizon) walk.now.left walk.now.remains.store.box n.values.items n.won n.turns n.lines.items)) }
-{
-    if !cuts {
-        return None;
-    }
-    let level = levels.level(ScopeId(number));
-    walk.known
-        .find(level, horizon, position, walk.left, &walk.remains)
-}
-
-/// The node of a scope that is known for the position, whose lines are copied.
-fn put_known(
-    levels: &Levels,
-    cuts: bool,
-    horizon: Option<ScopeId>,
-    number: u8,
-    at: usize,
-    walk: &mut Walk,
-) -> Result<Found, AllocError>
-    requires scope { number < length levels.now.problem.now.scopes }
-    requires joins { game_of walk.old.joins ≡ levels.now.problem.now }
-    requires cuts { IsTrue cuts }
-    requires within { at < length walk.old.known.nodes.items }
-    requires stands { IfSome (slice_get walk.old.known.nodes.items at) (λ n. StandsHere levels.now.problem.now number (scope_number horizon) walk.old.left walk.old.remains.store.box n.values.items n.won n.turns n.lines.items) }
-    ensures told { IfOk result (λ found. (above : ℤ → Bool) → NodeTold cuts above levels.now.problem.now number walk.old.remains.store.box (scope_number horizon) (verdict_of found (out_of walk.new.joins)) walk.old.left walk.new.left walk.old.lines walk.new.lines walk.new.joins) }
-    ensures back { OnOk result (IsBack levels.now.problem.now number walk.old walk.new) }
-{
-    levels.problem.known();
-    let node = walk.known.node(at);
-    walk.lines.put_all(node.lines())?;
-    walk.left = walk.left.saturating_sub(node.turns);
-    walk.joins.clear(ScopeId(number));
-    // a node that is won comes to what the goal does where it holds, and one that is lost to what it does else
-    let found = walk.joins.goal(node.won, walk.remains.all_values());
-    walk.known.tell_met();
-    Ok(found)
 }
 
 /// The node of a scope that is searched. In the first pass its lines are kept, where they can be of use again.
@@ -181,6 +116,7 @@ fn searched_node(
     requires here { IsEntered levels.now.problem.now number walk.old.remains }
     requires joins { game_of walk.old.joins ≡ levels.now.problem.now }
     ensures told { IfOk result (λ found. walk.old.left < 2147483648 → (up : List Seen) → StandsAbove walk.old.joins number up → NodeTold cuts (above_at levels.now.problem.now number up) levels.now.problem.now number walk.old.remains.store.box (scope_number horizon) (verdict_of found (out_of walk.new.joins)) walk.old.left walk.new.left walk.old.lines walk.new.lines walk.new.joins) }
+    ensures ended { IfOk result (λ found. IsTrue cuts → walk.old.left < 2147483648 → IsEnded levels.now.problem.now number walk.old.remains.store.box (scope_number horizon) (verdict_of found (out_of walk.new.joins)) walk.old.left walk.new.left (drop (length walk.old.lines) walk.new.lines)) }
     ensures back { OnOk result (IsBack levels.now.problem.now number walk.old walk.new) }
 {
     levels.problem.known();
@@ -211,46 +147,6 @@ fn searched_node(
     Ok(found)
 }
 
-/// Keeps the lines of a node from `start` on, in the first pass, where they can be of use again.
-fn keep_node(
-    levels: &Levels,
-    cuts: bool,
-    horizon: Option<ScopeId>,
-    number: u8,
-    position: Option<u64>,
-    start: usize,
-    end: NodeEnd,
-    walk: &mut Walk,
-) -> Result<(), AllocError>
-    requires scope { number < length levels.now.problem.now.scopes }
-    requires here { IsEntered levels.now.problem.now number walk.old.remains }
-    requires joins { game_of walk.old.joins ≡ levels.now.problem.now }
-    requires finished { IsTrue cuts → end.had < 2147483648 → IsFinished levels.now.problem.now number walk.old.remains.store.box (scope_number horizon) end.found end.had end.left (drop start walk.old.lines) }
-    ensures remains { walk.new.remains ≡ walk.old.remains }
-    ensures joins { walk.new.joins ≡ walk.old.joins }
-    ensures left { walk.new.left ≡ walk.old.left }
-    ensures lines { OnOk result (walk.new.lines ≡ walk.old.lines) }
-{
-    if !cuts || end.had >= 2_147_483_648 || position.is_none() || start > walk.lines.len() {
-        return Ok(());
-    }
-    let level = levels.level(ScopeId(number));
-    let len = walk.lines.len() - start;
-    if !walk.known.is_wanted(level, &walk.remains, end, len) {
-        return Ok(());
-    }
-    let lines = copied_from(walk.alloc, &walk.lines, start)?;
-    walk.known.keep(
-        walk.alloc,
-        level,
-        horizon,
-        position,
-        &walk.remains,
-        end,
-        lines,
-    )
-}
-
 fn is_here(horizon: Option<ScopeId>, number: u8) -> bool
     ensures { result ≡ is_horizon (scope_number horizon) number }
 {
@@ -272,6 +168,7 @@ fn at_goal(
     requires closed { IsClosedAtGoal levels.now.problem.now walk.old.remains.store.box }
     requires joins { game_of walk.old.joins ≡ levels.now.problem.now }
     ensures told { IfOk result (λ found. (cuts : Bool) (above : ℤ → Bool) → NodeTold cuts above levels.now.problem.now number walk.old.remains.store.box (scope_number horizon) (verdict_of found (out_of walk.new.joins)) walk.old.left walk.new.left walk.old.lines walk.new.lines walk.new.joins) }
+    ensures ended { IfOk result (λ found. IsEnded levels.now.problem.now number walk.old.remains.store.box (scope_number horizon) (verdict_of found (out_of walk.new.joins)) walk.old.left walk.new.left (drop (length walk.old.lines) walk.new.lines)) }
     ensures back { OnOk result (IsBack levels.now.problem.now number walk.old walk.new) }
 {
     levels.problem.known();
@@ -319,7 +216,9 @@ fn own_tree(stage: &Stage, walk: &mut Walk) -> Result<Found, AllocError>
         walk.remains.all_values(),
         walk.left,
     )?;
+    let aside = walk.aside.len();
     let found = advised_tree(stage, best, walk)?;
+    walk.aside.cut(aside);
     walk.advice.leave(stage.level, walk.left);
     Ok(found)
 }
@@ -356,18 +255,6 @@ fn first_worse(stage: &Stage, best: Option<i64>) -> Option<Worse>
         return None;
     }
     worse_than_found(stage.aim, best)
-}
-
-/// Whether a node is lost or exact.
-pub(crate) fn is_decided(found: Found) -> bool
-    ensures { (v : List ℤ) → result ≡ not (is_vague_verdict beats_none (verdict_of found v)) }
-{
-    match found {
-        Found::Lost => true,
-        Found::Exact => true,
-        Found::AtMost(_) => false,
-        Found::Unknown => false,
-    }
 }
 
 /// The own tree where these values are given up first. Nothing has beaten them, so it is a tree only where it is sure what the
@@ -612,7 +499,7 @@ fn within(stage: &Stage, x: usize, tries: bool, walk: &mut Walk) -> Result<bool,
     stage.level.problem.known();
     let next = walk.remains.next_free(stage.level, x);
     if next == stage.level.stop {
-        after_tuple(stage, walk)?;
+        after_tuple(stage, tries, walk)?;
         return Ok(true);
     }
     let x = VarId(next as u16);
@@ -623,9 +510,10 @@ fn within(stage: &Stage, x: usize, tries: bool, walk: &mut Walk) -> Result<bool,
     Ok(true)
 }
 
-/// The end of a scope's own tree, where its tuple is complete.
+/// The end of a scope's own tree, where its tuple is complete. Where it `tries` a tuple after which others count, what stands
+/// below is kept aside.
 #[cycle(search)]
-fn after_tuple(stage: &Stage, walk: &mut Walk) -> Result<(), AllocError>
+fn after_tuple(stage: &Stage, tries: bool, walk: &mut Walk) -> Result<(), AllocError>
     requires going { IsGoing stage.now.level.now.problem.now stage.now.level.now.number stage.now.level.now.stop walk.old.remains }
     requires joins { game_of walk.old.joins ≡ stage.now.level.now.problem.now }
     ensures told { OnOk result ((before : List Seen) → IsReady stage.now.level.now.problem.now stage.now.level.now.number walk.old.joins (suc (2 * walk.old.left)) before → IsTrue (has_no_worse (tracked_at stage.now.level.now.problem.now stage.now.level.now.number) (firsts before) walk.old.remains.store.box) → EndingTold stage.now.cuts (outdoes stage.now.level.now.problem.now stage.now.level.now.number stage.now.rival) stage.now.level.now.problem.now stage.now.level.now.number walk.old.remains.store.box (scope_number stage.now.horizon) before walk.old.left walk.new.left walk.old.lines walk.new.lines walk.new.joins) }
@@ -639,17 +527,38 @@ fn after_tuple(stage: &Stage, walk: &mut Walk) -> Result<(), AllocError>
         return Ok(());
     }
     walk.lines.put(Line::Next)?;
-    let below = node(
+    let start = walk.lines.len();
+    let had = walk.left;
+    let found = below_tuple(stage, walk)?;
+    let left = walk.left;
+    walk.joins.add_node(ScopeId(level.number), found);
+    let is_last = is_ended(stage, &walk.joins);
+    walk.advice.note(is_last, level, walk.remains.all_values());
+    let end = NodeEnd { found, had, left };
+    keep_aside(stage, tries && !is_last, start, end, walk)
+}
+
+/// The node below a complete tuple: its lines are copied where they were kept aside, and else it is gone through.
+#[cycle(search)]
+fn below_tuple(stage: &Stage, walk: &mut Walk) -> Result<Found, AllocError>
+    requires here { IsEntered stage.now.level.now.problem.now (suc stage.now.level.now.number) walk.old.remains }
+    requires closed { suc stage.now.level.now.number ≡ length stage.now.level.now.problem.now.scopes → IsClosedAtGoal stage.now.level.now.problem.now walk.old.remains.store.box }
+    requires joins { game_of walk.old.joins ≡ stage.now.level.now.problem.now }
+    ensures told { IfOk result (λ found. walk.old.left < 2147483648 → (up : List Seen) → StandsAt walk.old.joins stage.now.level.now.number up → NodeWritten stage.now.cuts (above_at stage.now.level.now.problem.now (suc stage.now.level.now.number) up) stage.now.level.now.problem.now (drop (suc stage.now.level.now.number) stage.now.level.now.problem.now.scopes) (suc stage.now.level.now.number) (demands stage.now.level.now.problem.now (suc stage.now.level.now.number)) walk.old.remains.store.box (scope_number stage.now.horizon) (verdict_of found (out_of walk.new.joins)) walk.old.left walk.new.left walk.old.lines walk.new.lines) }
+    ensures ended { IfOk result (λ found. IsTrue stage.now.cuts → walk.old.left < 2147483648 → IsEnded stage.now.level.now.problem.now (suc stage.now.level.now.number) walk.old.remains.store.box (scope_number stage.now.horizon) (verdict_of found (out_of walk.new.joins)) walk.old.left walk.new.left (drop (length walk.old.lines) walk.new.lines)) }
+    ensures back { OnOk result (IsBack stage.now.level.now.problem.now (suc stage.now.level.now.number) walk.old walk.new) }
+{
+    stage.level.problem.known();
+    if let Some(at) = aside_at(stage, walk) {
+        return put_aside(stage, at, walk);
+    }
+    node(
         stage.levels,
         stage.cuts,
         stage.horizon,
-        level.number + 1,
+        stage.level.number + 1,
         walk,
-    )?;
-    walk.joins.add_node(ScopeId(level.number), below);
-    let is_last = is_ended(stage, &walk.joins);
-    walk.advice.note(is_last, level, walk.remains.all_values());
-    Ok(())
+    )
 }
 
 /// Whether no further leaf of the scope counts: it is settled, or outdone by the scope right above.
@@ -715,7 +624,7 @@ fn cases(stage: &Stage, x: VarId, walk: &mut Walk) -> Result<(), AllocError>
         walk.left -= 1;
         with_value(stage, x, value, false, walk)?;
         let dropped = last_to_drop(stage.cuts, walk.joins.is_settled(number), before);
-        drop_before(&mut walk.lines, &mut walk.kept, start, at, first, dropped)?;
+        drop_before(&mut walk.lines, start, at, first, dropped)?;
         let Some(next) = walk.remains.next(x, value) else {
             return Ok(());
         };

@@ -3,27 +3,29 @@ ghost use Rattle.std.specs.Prelude.{◌≡◌};
 ghost use Rattle.qc_joins.specs.Joins.{game_of};
 
 use crate::advice::Advice;
+use crate::aside::AsideNodes;
 use crate::known::KnownNodes;
-use proof_tree::{Line, Step, StepList};
+use proof_tree::{Step, StepList};
 use qc_joins::Joins;
 use search_box::SearchBox;
 use std::alloc::Global;
 use strategy_arena::Arena;
 
-/// The values left, what was seen in each scope on the way, the lines written, room for lines that are moved, the steps of the closing
-/// that was the last and room for those of them that are put, how many cases may still be gone into, which tuples are tried
-/// first, and which nodes are known.
+/// The values left, what was seen in each scope on the way, the lines written, the steps of the closing that was the last and
+/// room for those of them that are put, how many cases may still be gone into, which tuples are tried first, which nodes are
+/// known, and which are kept aside.
 #[derive(Drop)]
 pub(crate) struct Walk<'p> {
     pub(crate) alloc: Global,
     pub(crate) remains: SearchBox<'p>,
     pub(crate) joins: Joins<'p>,
     pub(crate) lines: Arena,
-    pub(crate) kept: Vec<Line>,
     pub(crate) steps: StepList,
     pub(crate) needed: Vec<Step>,
     pub(crate) left: u64,
     pub(crate) advice: Advice<'p>,
     pub(crate) known: KnownNodes<'p>,
+    pub(crate) aside: AsideNodes<'p>,
     ghost same: { known.problem.now ≡ game_of joins },
+    ghost beside: { aside.problem.now ≡ game_of joins },
 }

@@ -1,6 +1,6 @@
 //! Lines that are put in or taken out together.
 ghost use Rattle.proof_tree.specs.declared.line.Line.TheVariants.{Skip};
-ghost use Rattle.std.specs.Prelude.{◌≡◌, ◌≤◌, ◌<◌, ◌++◌, ◌∷◌, ◌&&◌, [], None, List, if◌then◌else◌, length, take, drop, map, reverse, IfOk, IfSome, OnOk, IsTrue};
+ghost use Rattle.std.specs.Prelude.{◌≡◌, ◌≤◌, ◌<◌, ◌++◌, ◌∷◌, ◌&&◌, [], None, List, if◌then◌else◌, length, drop, map, IfOk, IfSome, OnOk, IsTrue};
 ghost use Rattle.qc_model.specs.Valid.{is_number};
 ghost use Rattle.qc_model.specs.Verdict.{Seen};
 ghost use Rattle.proof_tree.specs.InPlace.{horizon_below};
@@ -142,7 +142,6 @@ pub(crate) fn last_to_drop(cuts: bool, settled: bool, before: Option<i64>) -> Op
 /// `start` to `at`.
 pub(crate) fn drop_before(
     lines: &mut Arena,
-    kept: &mut Vec<Line>,
     start: usize,
     at: usize,
     first: i64,
@@ -152,40 +151,13 @@ pub(crate) fn drop_before(
     requires place { at ≤ length lines.old }
     ensures { OnOk result (lines.new ≡ without_before last first start at lines.old) }
 {
-    match last {
-        None => Ok(()),
-        Some(value) => {
-            kept.clear();
-            set_aside(lines, kept, at)?;
-            lines.cut(start);
-            leave_out(lines, first, value, Line::Skip)?;
-            put_back(lines, kept)
-        }
+    let Some(last) = last else {
+        return Ok(());
+    };
+    if first == last {
+        return lines.replace(start, at, [Line::Skip].as_slice());
     }
-}
-
-/// Takes the lines from place `at` on off, the last one first.
-fn set_aside(lines: &mut Arena, kept: &mut Vec<Line>, at: usize) -> Result<(), AllocError>
-    requires none { kept.old.items ≡ [] }
-    requires place { at ≤ length lines.old }
-    ensures { OnOk result ((lines.new ≡ take at lines.old) × (reverse kept.new.items ≡ drop at lines.old)) }
-{
-    while lines.len() > at {
-        if let Some(line) = lines.pop() {
-            kept.push(line)?;
-        }
-    }
-    Ok(())
-}
-
-/// Appends the lines that were taken off, the last one first.
-fn put_back(lines: &mut Arena, kept: &mut Vec<Line>) -> Result<(), AllocError>
-    ensures { OnOk result (lines.new ≡ lines.old ++ reverse kept.old.items) }
-{
-    while let Some(line) = kept.pop() {
-        lines.put(line)?;
-    }
-    Ok(())
+    lines.replace(start, at, [Line::Range { hi: last }, Line::Skip].as_slice())
 }
 
 /// A copy of the lines from place `at` on.

@@ -1,4 +1,4 @@
-use Rattle.std.proofs.Common.{add-one, take, List, ℤ, ◌≡◌, ◌∙◌, sym, ap, refl, subst, ◌+◌, ◌-◌, ◌*◌, rules, suc, length, drop, w64, to_z, of_z, arith, true, [], ◌∷◌, ◌++◌, Option, Some, IfSome, map}
+use Rattle.std.proofs.Common.{add-one, take, List, ℤ, ◌≡◌, ◌∙◌, sym, ap, refl, subst, ◌+◌, ◌-◌, ◌*◌, rules, suc, length, drop, w64, to_z, of_z, arith, true, [], ◌∷◌, ◌++◌, Option, Some, IfSome, map, ℕ, Bool}
 use Rattle.std.specs.List.{list_all}
 use Rattle.std.proofs.lemmas.Int.{to_z-of_z}
 use Rattle.std.proofs.lemmas.List.{append-nil}
@@ -22,7 +22,7 @@ use Rattle.proof_tree.specs.declared.line.Line.TheVariants.{Skip, Open}
 use Rattle.proof_tree.specs.Place.{is_fixed_to, position}
 use Rattle.qc_model.specs.Verdict.{Seen}
 use Rattle.qc_levels.specs.Seen.{verdict_of}
-use Rattle.qc_joins.specs.Joins.{LeafFits, StandsAt, out_of}
+use Rattle.qc_joins.specs.Joins.{game_of, KeepsOthers, LeafFits, StandsAt, out_of}
 use Rattle.search_box.specs.Closes.{IsPruned, IsClosedAt}
 use Rattle.search_box.specs.Entered.{IsEntered}
 use Rattle.search_box.specs.Looking.{scope_number}
@@ -35,17 +35,23 @@ use Rattle.game_search.specs.Beaten.{seen_bounds}
 use Rattle.game_search.specs.declared.aim.Worse.{Worse}
 use Rattle.game_search.specs.Narrowed.{NarrowTold}
 use Rattle.game_search.specs.Rivals.{above_at, StandsAbove, outdoes, IsRival}
-use Rattle.game_search.specs.Settled.{is_outdone}
+use Rattle.game_search.specs.Settled.{beats_none, is_outdone}
 use Rattle.game_search.specs.Trimmed.{TrimmedPut}
-use Rattle.game_search.specs.Told.{IsReady, BoundedSteps, StepsTold, PartTold, BoundedTold, CaseTold, BodyTold, NodeTold}
+use Rattle.game_search.specs.Told.{IsBack, IsReady, PartTold, BoundedTold, CaseTold, BodyTold, NodeTold}
+use Rattle.game_search.specs.Known.{IsEnded}
+use Rattle.game_search.specs.Written.{NodeWritten}
+use Rattle.qc_model.specs.Verdict.{Verdict}
+use Rattle.proof_tree.specs.declared.line.Line.{Line}
+use Rattle.qc_joins.specs.declared.joins.Joins.{Joins}
+use Rattle.search_box.specs.Complete.{IsClosedAtGoal}
 use Rattle.game_search.specs.Uppers.{upto_between, skipped_between, seen_between, without_before}
 use Rattle.game_search.proofs.Covers.{covers_after, many_of, rest_of}
 use Rattle.game_search.proofs.Fitting.{number_among, place_fits}
 use Rattle.qc_model.specs.Demands.{demands}
 use Rattle.proof_tree.specs.Steps.{after_steps}
 use Rattle.game_search.proofs.Trimming.{needed_made}
-use Rattle.game_search.proofs.Here.{Passing, asked_here, outdone_ends, started, ready_again, case_done, case_ready, case_tried, ready_behind, case_behind, rest_skipped, rest_ended, rest_opened, rest_none, empty_told, barred_told, few_turns, next_told, pruned_told, bounded_told, stepped_told, bare_steps, part_told, part_more, branch_told, ready_first, ready_bounded, node_ended, bounded_ended, body_done, body_more, whole_node}
-use Rattle.game_search.proofs.Knowing.{node_finished, kept_told}
+use Rattle.game_search.proofs.Here.{Passing, asked_here, outdone_ends, started, ready_again, case_done, case_ready, case_tried, ready_behind, case_behind, rest_skipped, rest_ended, rest_opened, rest_none, empty_told, barred_told, few_turns, next_told, pruned_told, bounded_told, stepped_told, bare_steps, ending_kept, part_told, part_more, branch_told, ready_first, ready_bounded, node_ended, bounded_ended, body_done, body_more, whole_node}
+use Rattle.game_search.proofs.Knowing.{ended_kept, node_ends, node_finished, kept_told}
 use Rattle.game_search.proofs.Losing.{ready_after}
 use Rattle.game_search.proofs.Marks.{firsts_marks}
 use Rattle.game_search.proofs.Outdone.{rival_outdoes}
@@ -54,21 +60,42 @@ use Rattle.game_search.proofs.Bools.{both}
 use Rattle.game_search.proofs.Remains.{as_many, none_back, both_back, back_after, back_below, back_more, case_back, cut_back, entered_back, line_back, lines_both, one_fewer, taken_back, told_back, tuple_back, undone_back, back_from, same_back}
 use Rattle.game_search.proofs.search.+search.Goals as goal
 
-pub after_tuple-node-requires : goal.after_tuple-node-requires
-after_tuple-node-requires t c =
+pub after_tuple-below_tuple-requires : goal.after_tuple-below_tuple-requires
+after_tuple-below_tuple-requires t c =
+    let l = c.args.stage.now.level.now in
+    let k = l.problem.now in
+    let now = c.tuple_allowed.new.self in
+    let closed = subst (λ (s : Held). IsClosedAt k l.number s.box) (sym c.tuple_allowed.ensures.store) c.requires.going.closed in (
+      omega arith,
+      (c.tuple_allowed.ensures.entered, (λ e. goal_closed k k l.number now.store.box refl closed (add-one l.number ∙ e), c.requires.joins)),
+    )
+
+pub below_tuple-node-requires : goal.below_tuple-node-requires
+below_tuple-node-requires t c =
     let l = c.args.stage.now.level.now in
     let k = l.problem.now in
     let g = c.args.stage.now.levels.now.problem.now in
-    let now = c.tuple_allowed.new.self in
+    let now = c.args.walk.now.remains in
     let same : k ≡ g = c.args.stage.now.same in
     let scopes : length g.scopes ≡ length k.scopes = ap (λ (f : Game). length f.scopes) (sym same) in
     let variables : length g.variables ≡ length k.variables = ap (λ (f : Game). length f.variables) (sym same) in
     let place : before g (l.number + 1) ≡ l.stop = ap (λ (f : Game). before f (l.number + 1)) (sym same) ∙ (ap (before k) (add-one l.number) ∙ sym l.has_stop) in
-    let entered = subst (λ m. IsEntered g m now) (sym (add-one l.number)) (subst (λ (f : Game). IsEntered f (suc l.number) now) same c.tuple_allowed.ensures.entered) in
-    let closed = subst (λ (s : Held). IsClosedAt k l.number s.box) (sym c.tuple_allowed.ensures.store) c.requires.going.closed in (
+    let entered = subst (λ m. IsEntered g m now) (sym (add-one l.number)) (subst (λ (f : Game). IsEntered f (suc l.number) now) same c.requires.here) in (
       omega (arith, l.is_scope, scopes, variables, place),
-      (omega (arith, l.is_scope, scopes), (c.args.stage.now.within, (entered, (λ e. goal_closed k g l.number now.store.box same closed e, c.requires.joins ∙ same)))),
+      (omega (arith, l.is_scope, scopes), (c.args.stage.now.within, (entered, (λ e. subst (λ (f : Game). IsClosedAtGoal f now.store.box) same (c.requires.closed (sym (add-one l.number) ∙ (e ∙ scopes))), c.requires.joins ∙ same)))),
     )
+
+-- below the tuple
+module _ (cuts : Bool) (k : Game) (g : Game) (n : ℕ) (same : k ≡ g) (box : Box) (h : Option ℕ) (v : Verdict) (had left : ℕ) (old new : List Line) where
+  -- what was told of the node
+  below_written : (xs : List Seen) (joins : Joins) → NodeTold cuts (above_at g (n + 1) xs) g (n + 1) box h v had left old new joins → NodeWritten cuts (above_at k (suc n) xs) k (drop (suc n) k.scopes) (suc n) (demands k (suc n)) box h v had left old new
+  below_written xs joins told =
+      subst (λ m. NodeWritten cuts (above_at k m xs) k (drop m k.scopes) m (demands k m) box h v had left old new) (add-one n)
+      (subst (λ (f : Game). NodeWritten cuts (above_at f (n + 1) xs) f (drop (n + 1) f.scopes) (n + 1) (demands f (n + 1)) box h v had left old new) (sym same) told.written)
+
+  -- how it ended
+  below_ended : IsEnded g (n + 1) box h v had left new → IsEnded k (suc n) box h v had left new
+  below_ended ended = subst (λ m. IsEnded k m box h v had left new) (add-one n) (subst (λ (f : Game). IsEnded f (n + 1) box h v had left new) (sym same) ended)
 
 pub after_tuple-returns-then-not-tuple_allowed-clause-told : goal.after_tuple-returns-then-not-tuple_allowed-clause-told
 after_tuple-returns-then-not-tuple_allowed-clause-told t c =
@@ -80,29 +107,90 @@ after_tuple-returns-then-not-tuple_allowed-clause-told t c =
     λ xs ready worse. barred_told c.args.stage.now.cuts (outdoes g l.number c.args.stage.now.rival) g l.number b.store.box (scope_number c.args.stage.now.horizon) xs c.args.walk.now.left c.args.walk.now.lines c.args.walk.now.joins ready c.put.new.self c.add_barred.new.self w.here.full fixed
     (sym c.tuple_allowed.ensures.allowed ∙ c.if-not-tuple_allowed.true) c.add_barred.ensures.stands c.in_ok-put.ensures.put
 
+pub below_tuple-returns-clause-told : goal.below_tuple-returns-clause-told
+below_tuple-returns-clause-told t c =
+    let l = c.args.stage.now.level.now in
+    let g = c.args.stage.now.levels.now.problem.now in
+    let a = c.args.walk.now in
+    let w = c.node.new.walk in
+    IfOk-weaker c.node.result _ _
+    (λ found e few up stands.
+    below_written c.args.stage.now.cuts l.problem.now g l.number c.args.stage.now.same a.remains.store.box (scope_number c.args.stage.now.horizon) (verdict_of found (out_of w.joins)) a.left w.left a.lines w.lines up w.joins
+    (e few up (subst (λ m. StandsAbove a.joins m up) (sym (add-one l.number)) stands)))
+    c.node.ensures.told
+
+pub below_tuple-returns-clause-ended : goal.below_tuple-returns-clause-ended
+below_tuple-returns-clause-ended t c =
+    let l = c.args.stage.now.level.now in
+    let g = c.args.stage.now.levels.now.problem.now in
+    let a = c.args.walk.now in
+    let w = c.node.new.walk in
+    IfOk-weaker c.node.result _ _
+    (λ found e cut few.
+    below_ended c.args.stage.now.cuts l.problem.now g l.number c.args.stage.now.same a.remains.store.box (scope_number c.args.stage.now.horizon) (verdict_of found (out_of w.joins)) a.left w.left a.lines (drop (length a.lines) w.lines) (e cut few))
+    c.node.ensures.ended
+
+pub below_tuple-returns-clause-back : goal.below_tuple-returns-clause-back
+below_tuple-returns-clause-back t c =
+    let l = c.args.stage.now.level.now in
+    on_ok_weaker c.node.result
+    (λ e. subst (λ m. IsBack l.problem.now m c.args.walk.now c.node.new.walk) (add-one l.number) (subst (λ (f : Game). IsBack f (l.number + 1) c.args.walk.now c.node.new.walk) (sym c.args.stage.now.same) e))
+    c.node.ensures.back
+
+pub after_tuple-keep_aside-requires : goal.after_tuple-keep_aside-requires
+after_tuple-keep_aside-requires t c =
+    let l = c.args.stage.now.level.now in
+    let g = l.problem.now in
+    let n = suc l.number in
+    let h = scope_number c.args.stage.now.horizon in
+    let a = c.args.walk.now in
+    let w = c.below_tuple.new.walk in
+    let back = c.in_ok-found.ensures.back in
+    let found = c.in_ok-found.found in
+    let box = c.tuple_allowed.new.self.store.box in
+    let after = drop (length c.put-2.new.self) w.lines in
+    record {
+      here = entered_back g n _ w back c.tuple_allowed.ensures.entered;
+      joins = c.add_node.ensures.same ∙ (back.game ∙ c.requires.joins);
+      ended = λ cut few.
+          subst (λ k. IsEnded g n w.remains.store.box h (verdict_of found (out_of c.add_node.new.self)) a.left w.left (drop k w.lines)) (sym c.len-start.ensures)
+          (subst (λ vs. IsEnded g n w.remains.store.box h (verdict_of found vs) a.left w.left after) (sym c.add_node.ensures.out)
+          (subst (λ (b : Box). IsEnded g n b h (verdict_of found (out_of w.joins)) a.left w.left after) (sym back.box)
+          (c.in_ok-found.ensures.ended cut few)));
+    }
+
 pub after_tuple-returns-clause-told : goal.after_tuple-returns-clause-told
 after_tuple-returns-clause-told t c =
     let l = c.args.stage.now.level.now in
     let g = l.problem.now in
     let h = scope_number c.args.stage.now.horizon in
-    let b = c.args.walk.now.remains in
-    let w = c.requires.going.within in
-    let fixed = subst (λ n. is_fixed_to g l.number n b.store.box ≡ true) l.has_stop w.fixed in
-    let v = verdict_of c.in_ok-below.below (out_of c.node.new.walk.joins) in
-    λ xs ready worse.
-    let few = few_turns c.args.stage.now.cuts (outdoes g l.number c.args.stage.now.rival) g l.number b.store.box h xs c.args.walk.now.left c.args.walk.now.lines c.args.walk.now.joins ready in
-    let up = subst (λ k. StandsAbove c.args.walk.now.joins k xs) (sym (add-one l.number)) ready.stands in
-    let below = subst (λ (f : Game). NodeTold c.args.stage.now.cuts (above_at f (l.number + 1) xs) f (l.number + 1) b.store.box h v c.args.walk.now.left c.node.new.walk.left c.put-2.new.self c.node.new.walk.lines c.node.new.walk.joins) (sym c.args.stage.now.same)
-    (subst (λ (s : Held). NodeTold c.args.stage.now.cuts (above_at c.args.stage.now.levels.now.problem.now (l.number + 1) xs) c.args.stage.now.levels.now.problem.now (l.number + 1) s.box h v c.args.walk.now.left c.node.new.walk.left c.put-2.new.self c.node.new.walk.lines c.node.new.walk.joins) c.tuple_allowed.ensures.store (c.in_ok-below.ensures.told few xs up)) in
-    next_told c.args.stage.now.cuts (outdoes g l.number c.args.stage.now.rival) g l.number b.store.box h xs c.args.walk.now.left c.args.walk.now.lines c.args.walk.now.joins ready l.is_scope v c.node.new.walk.left c.put-2.new.self c.node.new.walk.lines c.node.new.walk.joins c.add_node.new.self w.here.full fixed
-    (sym c.tuple_allowed.ensures.allowed ∙ c.if-not-tuple_allowed.false) worse c.in_ok-put-2.ensures.put below (c.in_ok-below.ensures.back.joins l.number xs (omega arith))
-    (λ ys s fits. c.add_node.ensures.stands ys s (subst (λ (f : Game). LeafFits f l.number ys v) (sym (c.in_ok-below.ensures.back.game ∙ c.requires.joins)) fits))
+    let cuts = c.args.stage.now.cuts in
+    let above = outdoes g l.number c.args.stage.now.rival in
+    let a = c.args.walk.now in
+    let b = a.remains in
+    let within = c.requires.going.within in
+    let fixed = subst (λ n. is_fixed_to g l.number n b.store.box ≡ true) l.has_stop within.fixed in
+    let w = c.below_tuple.new.walk in
+    let v = verdict_of c.in_ok-found.found (out_of w.joins) in
+    on_ok_weaker c.keep_aside.result
+    (λ q xs ready worse.
+    let few = few_turns cuts above g l.number b.store.box h xs a.left a.lines a.joins ready in
+    let below = subst (λ (s : Held). NodeWritten cuts (above_at g (suc l.number) xs) g (drop (suc l.number) g.scopes) (suc l.number) (demands g (suc l.number)) s.box h v a.left w.left c.put-2.new.self w.lines) c.tuple_allowed.ensures.store (c.in_ok-found.ensures.told few xs ready.stands) in
+    let told = next_told cuts above g l.number b.store.box h xs a.left a.lines a.joins ready l.is_scope v w.left c.put-2.new.self w.lines w.joins c.add_node.new.self within.here.full fixed
+    (sym c.tuple_allowed.ensures.allowed ∙ c.if-not-tuple_allowed.false) worse c.in_ok-put-2.ensures.put below (c.in_ok-found.ensures.back.joins l.number xs (omega arith))
+    (λ ys s fits. c.add_node.ensures.stands ys s (subst (λ (f : Game). LeafFits f l.number ys v) (sym (c.in_ok-found.ensures.back.game ∙ c.requires.joins)) fits)) in
+    ending_kept cuts above g l.number b.store.box h xs a.left w.left _ a.lines w.lines _ c.add_node.new.self _ c.keep_aside.ensures.left q c.keep_aside.ensures.joins told)
+    c.keep_aside.ensures.lines
 
 pub after_tuple-returns-clause-back : goal.after_tuple-returns-clause-back
 after_tuple-returns-clause-back t c =
     let l = c.args.stage.now.level.now in
-    back_below l.problem.now _ l.number (sym c.args.stage.now.same) c.args.walk.now _ c.node.new.walk _ c.requires.going.within.here c.tuple_allowed.ensures.entered c.tuple_allowed.ensures.store c.tuple_allowed.ensures.kept refl refl _ c.in_ok-put-2.ensures.put c.in_ok-below.ensures.back
-    refl refl refl c.add_node.ensures.same c.add_node.ensures.others
+    let k = c.keep_aside in
+    on_ok_weaker k.result
+    (λ q. back_below l.problem.now l.problem.now l.number refl c.args.walk.now _ c.below_tuple.new.walk k.new.walk c.requires.going.within.here c.tuple_allowed.ensures.entered c.tuple_allowed.ensures.store c.tuple_allowed.ensures.kept refl refl _ c.in_ok-put-2.ensures.put c.in_ok-found.ensures.back
+    k.ensures.remains q k.ensures.left (ap game_of k.ensures.joins ∙ c.add_node.ensures.same)
+    (subst (λ (js : Joins). KeepsOthers l.number c.below_tuple.new.walk.joins js) (sym k.ensures.joins) c.add_node.ensures.others))
+    k.ensures.lines
 
 pub cases-values-init : goal.cases-values-init
 cases-values-init t c =
@@ -313,6 +401,26 @@ searched_node-returns-then-is_here-clause-told t c =
     c.in_ok-below.ensures.lines (subst (λ (u : Box). BodyTold c.args.cuts a g c.args.number u h v c.args.walk.now.left c.stuck.new.walk.left c.put_horizon.new.lines c.stuck.new.walk.lines c.stuck.new.walk.joins) c.look_ahead.ensures.content body_here))
     c.stuck.ensures.told
 
+pub searched_node-returns-then-is_here-clause-ended : goal.searched_node-returns-then-is_here-clause-ended
+searched_node-returns-then-is_here-clause-ended t c =
+    let g = c.args.levels.now.problem.now in
+    let level = c.level-level.result.now in
+    let box = c.args.walk.now.remains.store.box in
+    let ahead = c.in_ok-ahead.ensures.answer in
+    let h = scope_number c.in_ok-below.below in
+    let a = c.args.walk.now in
+    IfOk-weaker c.stuck.result _ _
+    (λ found e cut few.
+    let v = verdict_of found (out_of c.stuck.new.walk.joins) in
+    let horizon : is_horizon h level.number ≡ true = ap (is_horizon h) c.level-level.ensures.number ∙ (sym c.is_here.ensures ∙ c.if-is_here.true) in
+    let body = e c.args.cuts beats_none h horizon in
+    let body_at = subst (λ (f : Game). BodyTold c.args.cuts beats_none f level.number c.look_ahead.new.self.store.box h v a.left c.stuck.new.walk.left c.put_horizon.new.lines c.stuck.new.walk.lines c.stuck.new.walk.joins) c.level-level.ensures.problem body in
+    let body_here = subst (λ n. BodyTold c.args.cuts beats_none g n c.look_ahead.new.self.store.box h v a.left c.stuck.new.walk.left c.put_horizon.new.lines c.stuck.new.walk.lines c.stuck.new.walk.joins) c.level-level.ensures.number body_at in
+    let told = whole_node c.args.cuts beats_none g c.args.number box (scope_number c.args.horizon) h c.in_ok-ahead.ahead v a.left c.stuck.new.walk.left a.lines c.put_horizon.new.lines c.stuck.new.walk.lines c.stuck.new.walk.joins ahead.placed ahead.fits c.in_ok-below.ensures.below
+    c.in_ok-below.ensures.lines (subst (λ (u : Box). BodyTold c.args.cuts beats_none g c.args.number u h v a.left c.stuck.new.walk.left c.put_horizon.new.lines c.stuck.new.walk.lines c.stuck.new.walk.joins) c.look_ahead.ensures.content body_here) in
+    node_ends c.args.cuts beats_none g c.args.number box box (scope_number c.args.horizon) v a.left c.stuck.new.walk.left (length a.lines) a.lines c.stuck.new.walk.lines cut refl refl told.written)
+    c.stuck.ensures.told
+
 pub searched_node-returns-then-is_here-clause-back : goal.searched_node-returns-then-is_here-clause-back
 searched_node-returns-then-is_here-clause-back t c =
     let look = c.in_ok-ahead.ensures in
@@ -396,6 +504,35 @@ searched_node-returns-clause-told t c =
     let told = whole_node c.args.cuts a g i box (scope_number c.args.horizon) h c.in_ok-ahead.ahead v c.args.walk.now.left w.left c.args.walk.now.lines c.put_horizon.new.lines w.lines w.joins ahead.placed ahead.fits c.in_ok-below.ensures.below c.in_ok-below.ensures.lines
     (subst (λ (u : Box). BodyTold c.args.cuts a g i u h v c.args.walk.now.left w.left c.put_horizon.new.lines w.lines w.joins) look.content body_here) in
     kept_told c.args.cuts a g i box (scope_number c.args.horizon) found c.args.walk.now w c.keep_node.new.walk c.keep_node.ensures.joins c.keep_node.ensures.left c.in_ok-keep_node.ensures.lines told
+
+pub searched_node-returns-clause-ended : goal.searched_node-returns-clause-ended
+searched_node-returns-clause-ended t c =
+    let g = c.args.levels.now.problem.now in
+    let i = c.args.number in
+    let a = c.args.walk.now in
+    let w = c.own_tree.new.walk in
+    let level = c.level-level.result.now in
+    let k = level.problem.now in
+    let box = a.remains.store.box in
+    let now = c.look_ahead.new.self.store.box in
+    let look = c.in_ok-ahead.ensures in
+    let ahead = look.answer in
+    let h = scope_number c.in_ok-below.below in
+    let found = c.in_ok-found.found in
+    let v = verdict_of found (out_of w.joins) in
+    let own = outdoes k level.number c.rival_of.result in
+    let sees = subst (SeesAhead g (drop i g.scopes) i box) (sym c.in_ok-below.ensures.below) ahead.foreseen in
+    let sees_now = subst (λ (u : Box). SeesAhead g (drop i g.scopes) i u h) (sym look.content) sees in
+    let sees_at = subst (λ n. SeesAhead g (drop n g.scopes) n now h) (sym c.level-level.ensures.number) sees_now in
+    let sees_here = subst (λ (f : Game). SeesAhead f (drop level.number f.scopes) level.number now h) (sym c.level-level.ensures.problem) sees_at in
+    λ cut few.
+    let body = c.in_ok-found.ensures.told few sees_here in
+    let body_at = subst (λ (f : Game). BodyTold c.args.cuts own f level.number now h v a.left w.left c.put_horizon.new.lines w.lines w.joins) c.level-level.ensures.problem body in
+    let body_here = subst (λ n. BodyTold c.args.cuts own g n now h v a.left w.left c.put_horizon.new.lines w.lines w.joins) c.level-level.ensures.number body_at in
+    let told = whole_node c.args.cuts own g i box (scope_number c.args.horizon) h c.in_ok-ahead.ahead v a.left w.left a.lines c.put_horizon.new.lines w.lines w.joins ahead.placed ahead.fits c.in_ok-below.ensures.below c.in_ok-below.ensures.lines
+    (subst (λ (u : Box). BodyTold c.args.cuts own g i u h v a.left w.left c.put_horizon.new.lines w.lines w.joins) look.content body_here) in
+    let ends = node_ends c.args.cuts own g i box box (scope_number c.args.horizon) v a.left w.left (length a.lines) a.lines w.lines cut refl refl told.written in
+    ended_kept g i box (scope_number c.args.horizon) found (length a.lines) a.left w c.keep_node.new.walk c.keep_node.ensures.joins c.keep_node.ensures.left c.in_ok-keep_node.ensures.lines ends
 
 pub searched_node-returns-clause-back : goal.searched_node-returns-clause-back
 searched_node-returns-clause-back t c =

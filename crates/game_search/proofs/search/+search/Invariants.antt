@@ -80,7 +80,10 @@ abbrev pub decreases-try_against_rival : goal.decreases-try_against_rival
 decreases-try_against_rival l = 14 * ((length l.stage.now.level.now.problem.now.scopes - l.stage.now.level.now.number) + (length l.stage.now.level.now.problem.now.variables - l.x.0)) + 1
 
 abbrev pub decreases-after_tuple : goal.decreases-after_tuple
-decreases-after_tuple l = 14 * ((length l.stage.now.level.now.problem.now.scopes - l.stage.now.level.now.number) + (length l.stage.now.level.now.problem.now.variables - l.stage.now.level.now.stop)) + 1
+decreases-after_tuple l = 14 * ((length l.stage.now.level.now.problem.now.scopes - l.stage.now.level.now.number) + (length l.stage.now.level.now.problem.now.variables - l.stage.now.level.now.stop)) + 2
+
+abbrev pub decreases-below_tuple : goal.decreases-below_tuple
+decreases-below_tuple l = 14 * ((length l.stage.now.level.now.problem.now.scopes - l.stage.now.level.now.number) + (length l.stage.now.level.now.problem.now.variables - l.stage.now.level.now.stop)) + 1
 
 abbrev pub invariant-cases-values : goal.invariant-cases-values
 invariant-cases-values l = record {

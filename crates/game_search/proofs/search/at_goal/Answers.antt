@@ -10,6 +10,7 @@ use Rattle.proof_tree.specs.Place.{position}
 use Rattle.search_box.specs.Entered.{IsEntered}
 use Rattle.search_box.proofs.Places.{read_numbers}
 use Rattle.game_search.proofs.Here.{goal_there, lost_there}
+use Rattle.game_search.proofs.Knowing.{any_ends}
 use Rattle.game_search.proofs.Remains.{none_back, line_back, back_more}
 use Rattle.game_search.proofs.search.at_goal.Goals as goal
 
@@ -43,3 +44,9 @@ returns-clause-back c =
     let g = c.args.levels.now.problem.now in
     let a = c.args.walk.now in
     back_more g c.args.number a a _ (none_back g c.args.number a) refl c.goal.ensures.same (λ j xs h s. c.goal.ensures.all j xs s) _ c.in_ok-put-2.ensures.put (omega arith)
+
+pub returns-then-is_here-clause-ended : goal.returns-then-is_here-clause-ended
+returns-then-is_here-clause-ended c = any_ends _ _ _ _ _ _ _ _ _ _ (returns-then-is_here-clause-told c)
+
+pub returns-clause-ended : goal.returns-clause-ended
+returns-clause-ended c = any_ends _ _ _ _ _ _ _ _ _ _ (returns-clause-told c)

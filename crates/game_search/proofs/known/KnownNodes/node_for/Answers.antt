@@ -1,6 +1,9 @@
-use Rattle.std.proofs.Common.{◌≡◌, ◌-◌, ◌<◌, ◌∙◌, refl, subst, sym, true, arith, rules}
+use Rattle.std.proofs.Common.{◌≡◌, ◌≤◌, ◌<◌, ◌∙◌, refl, subst, sym, true, arith, rules}
 use Rattle.std.specs.List.{list_all}
 use Rattle.qc_model.specs.Content.{Game}
+use Rattle.proof_tree.specs.Counts.{turns_of}
+use Rattle.proof_tree.specs.Lines.{tree_lines}
+use Rattle.proof_tree.specs.Tree.{Tree}
 use Rattle.proof_tree.specs.Place.{position}
 use Rattle.search_box.specs.Looking.{scope_number}
 use Rattle.game_search.specs.Known.{ask_nothing, IsKnown, line_looks}
@@ -25,7 +28,8 @@ invariant_of-result c =
     let like = c.if-not-stand_alike.ensures.like refl in
     let looks = subst (λ ms. list_all (line_looks g l.number) ms ≡ true) c.as_slice.ensures.value (c.if-not-stand_alike.ensures.looks refl) in
     let some : 0 < left = omega (arith, c.if-end-eq0.false) in
-    let here = finished_known g l.number box h c.args.end.found won had left vs ls plain c.in-Some-is_won.ensures some like looks c.requires.finished in
-    let there = subst (λ (u : Game). IsKnown u l.number h vs won (had - left) ls) e here in
-    let turns = subst (λ n. IsKnown k l.number h vs won n ls) (sym c.saturating_sub.ensures) there in
-    record { known = subst (λ us. IsKnown k l.number h us won c.saturating_sub.result ls) (sym (c.in_ok-from_slice.ensures.items ∙ c.values_before-here.ensures)) turns }
+    let turns = c.turns_in.result in
+    let few : (t : Tree) → ls ≡ tree_lines t → turns_of t ≤ turns = λ t e. c.turns_in.ensures t (c.as_slice-2.ensures.value ∙ e) in
+    let here = finished_known g l.number box h c.args.end.found won had left vs ls turns plain c.in-Some-is_won.ensures some few like looks c.requires.finished in
+    let there = subst (λ (u : Game). IsKnown u l.number h vs won turns ls) e here in
+    record { known = subst (λ us. IsKnown k l.number h us won turns ls) (sym (c.in_ok-from_slice.ensures.items ∙ c.values_before-here.ensures)) there }

@@ -1,4 +1,4 @@
-use Rattle.std.proofs.Common.{◌≡◌, ◌∙◌, ◌++◌, [], subst, length, List}
+use Rattle.std.proofs.Common.{◌≡◌, ◌∙◌, ◌++◌, [], refl, subst, length, List}
 use Rattle.std.specs.Prelude.{IfSome}
 use Rattle.qc_model.specs.Content.{Game}
 use Rattle.qc_model.specs.Demands.{demands}
@@ -9,8 +9,9 @@ use Rattle.proof_tree.specs.declared.line.Line.{Line}
 use Rattle.search_box.specs.Looking.{scope_number}
 use Rattle.game_search.specs.Known.{StandsHere}
 use Rattle.game_search.specs.declared.known.KnownNode.{KnownNode}
-use Rattle.game_search.proofs.Knowing.{stands_told}
-use Rattle.game_search.proofs.search.put_known.Goals as goal
+use Rattle.game_search.specs.Settled.{beats_none}
+use Rattle.game_search.proofs.Knowing.{node_ends, stands_told}
+use Rattle.game_search.proofs.keeping.put_known.Goals as goal
 
 pub returns-clause-told : goal.returns-clause-told
 returns-clause-told c =
@@ -28,3 +29,6 @@ returns-clause-told c =
     let written = subst (λ (ls : List Line). c.put_all.new.self ≡ a.lines ++ ls) c.lines.ensures c.in_ok-put_all.ensures.put in
     λ above.
     stands_told c.args.cuts above g i box h node.values.items v node.won node.turns a.left _ (length g.scopes) values node.lines.items a.lines c.put_all.new.self joins c.requires.cuts here c.saturating_sub-walk.ensures comes written (c.goal-found.ensures.all i [] c.clear.ensures.stands)
+
+pub returns-clause-ended : goal.returns-clause-ended
+returns-clause-ended c = node_ends c.args.cuts beats_none _ _ _ _ _ _ _ _ _ _ _ c.requires.cuts refl refl (returns-clause-told c beats_none).written
