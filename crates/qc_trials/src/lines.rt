@@ -1,5 +1,5 @@
 //! A text written from lines, a write that fails in its midst, lines that are cut, and lines read as a tree.
-ghost use Rattle.std.specs.Prelude.{IfOk, IsTrue};
+ghost use Rattle.std.specs.Prelude.{◌≡◌, length, IfOk, IsTrue};
 ghost use Rattle.std.specs.List.{list_all};
 ghost use Rattle.strategy_arena.specs.Certificate.{line_fits, IsOneTree};
 
@@ -80,7 +80,9 @@ fn lines_are_cut(rt: HostRuntime) -> Result<(), Fail> {
 }
 
 // Lines whose numbers do not fit 32 bits, and between them one whose numbers do.
-fn wide_lines(alloc: Global) -> Result<Arena, AllocError> {
+fn wide_lines(alloc: Global) -> Result<Arena, AllocError>
+    ensures { IfOk result (λ arena. length arena ≡ 3) }
+{
     let mut arena = Arena::new(alloc);
     arena.put(Line::Range { hi: -2_147_483_649 })?;
     arena.put(Line::Range { hi: 2_147_483_647 })?;

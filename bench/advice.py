@@ -1,0 +1,53 @@
+#!/usr/bin/env python3
+"""Builds the program with a search that is advised wrongly, to see that advice costs time and nothing else.
+
+    python3 bench/advice.py PROGRAM [--checkout FOLDER]
+
+At each node the greatest value of each variable is tried first, whatever the search has learnt, and it is asked again however
+often that fails. Nothing is proved of such a program, though the proofs of the search ask nothing of its advice.
+`python3 bench/player.py --program PROGRAM` compares its outcomes with those of a program written apart.
+"""
+import argparse
+import os
+import shutil
+import subprocess
+import tempfile
+
+from unproved import TOP, build
+
+# What stands in a file of the search, once, and what is put in its place.
+WRONG = [
+    ("advice.rt", "                standing.is_known && (standing.last > 0 || self.kept(level).is_some())\n", "                true\n"),
+    ("advice.rt", "        self.choose(level, remains)\n", "        true\n"),
+    ("search.rt", "    let value = walk.advice.value(x);\n", "    let value = walk.remains.last(x);\n"),
+]
+
+
+def advise_wrongly(folder):
+    for name, right, wrong in WRONG:
+        path = os.path.join(folder, "crates", "game_search", "src", name)
+        with open(path, encoding="utf-8") as it:
+            text = it.read()
+        if text.count(right) != 1:
+            raise SystemExit(f"{name} has changed: {right.strip()} doesn't stand there once")
+        with open(path, "w", encoding="utf-8") as it:
+            it.write(text.replace(right, wrong))
+
+
+def main():
+    words = argparse.ArgumentParser(description=__doc__, formatter_class=argparse.RawDescriptionHelpFormatter)
+    words.add_argument("program", help="where to write it")
+    words.add_argument("--checkout", default=TOP, help="the checkout to build; this one else")
+    chosen = words.parse_args()
+    with tempfile.TemporaryDirectory(prefix="advice-") as folder:
+        files = subprocess.run(["git", "ls-files", "-z"], cwd=chosen.checkout, capture_output=True, text=True, check=True).stdout
+        for name in files.split("\0")[:-1]:
+            place = os.path.join(folder, name)
+            os.makedirs(os.path.dirname(place), exist_ok=True)
+            shutil.copy2(os.path.join(chosen.checkout, name), place)
+        advise_wrongly(folder)
+        build(folder, os.path.realpath(chosen.program))
+
+
+if __name__ == "__main__":
+    main()
