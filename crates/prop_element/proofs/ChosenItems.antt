@@ -1,6 +1,8 @@
 -- Places whose items fit what is left, and what each variable may keep.
-use Rattle.std.proofs.Common.{◌≡◌, ◌≢◌, ℕ, zero, suc, ◌+◌, ◌<◌, ◌⊎◌, inl, inr, Bool, true, false, not, ◌&&◌, ◌||◌, List, [], ◌∷◌, length, map, set, get_or, refl, sym, ap, ◌∙◌, subst, arith, ℤ}
+use Rattle.std.proofs.Common.{◌≡◌, ◌≢◌, ℕ, zero, suc, ◌+◌, ◌<◌, ◌≤◌, ◌⊎◌, inl, inr, Bool, true, false, not, ◌&&◌, ◌||◌, List, [], ◌∷◌, length, map, set, get_or, refl, sym, ap, ◌∙◌, subst, arith, ℤ}
 use Rattle.std.specs.Prelude.{int_lt, int_le, pos, ◌+ℤ◌, ◌≤ℤ◌, ◌==◌}
+use Rattle.std.specs.Prelude.{Option, Some, None, IfNone, IfSome}
+use Rattle.std.specs.Option.{is_some}
 use Rattle.std.specs.List.{list_any, list_all}
 use Rattle.std.proofs.lemmas.Int.{ints}
 use Rattle.std.proofs.lemmas.List.{get_or-map}
@@ -18,13 +20,15 @@ use Rattle.qc_arguments.specs.Repeats.{same_variable, has_repeat}
 use Rattle.qc_arguments.proofs.Values.{has_first}
 use Rattle.qc_arguments.proofs.Bools.{or_left, or_right, or_none, neither, clash, not_true}
 use Rattle.qc_arguments.proofs.Items.{flipped, other_left, none_at}
-use Rattle.qc_arguments.proofs.Kept.{through, low_end, high_end, apart, at_least, at_most, passes, was_left, same_end}
+use Rattle.qc_arguments.proofs.Kept.{through, reaches, low_end, high_end, apart, at_least, at_most, passes, was_left, same_end}
 use Rattle.qc_refuter.specs.Commons.{IsLeastCommon, IsGreatestCommon}
-use Rattle.qc_refuter.specs.Met.{is_open}
-use Rattle.qc_refuter.proofs.Domains.{small_left, none_common, some_common}
+use Rattle.qc_refuter.specs.Met.{is_domain_left, is_open}
+use Rattle.qc_refuter.proofs.Domains.{small_left, some_left, none_common, some_common}
+use Rattle.qc_refuter.proofs.Commons.{walk_start}
 use Rattle.prop_base.specs.Closed.{keeps_arg}
 use Rattle.prop_compare.proofs.Sides.{open_place}
-use Rattle.prop_element.specs.Choices.{IsChoice, item_fits, IsFirstItem, IsLastItem, NoItem, IsMet, IsMetSomewhere, IsLowestMet, IsHighestMet, IsLowerMet, IsHigherMet}
+use Rattle.prop_element.specs.Choices.{IsChoice, item_fits, IsFirstItem, IsLastItem, NoItem, IsLeastMet, IsMet, IsMetSomewhere, IsLowestMet, IsHighestMet, IsLowerMet, IsHigherMet}
+use Rattle.prop_element.specs.Elements.{NoneFrom}
 use Rattle.prop_element.specs.Extremes.{item_at}
 use Rattle.prop_element.specs.Hulls.{IsHull}
 use Rattle.prop_element.proofs.Moved.{set_here, all_each, itself}
@@ -354,9 +358,6 @@ none_before box a items r k j w p h m = clash (item_fits box a items r j) (met_f
 nothing_met : (box : Box) (a : Arg) (items : List Arg) (r : Arg) (k : ℕ) (w : ℤ) → misses (left_to box (item_at items k)) (left_to box r) ≡ true → IsMet box a items r k w → ⊥
 nothing_met box a items r k w h m = clash (misses (left_to box (item_at items k)) (left_to box r)) h (some_common (left_to box (item_at items k)) (left_to box r) w m.item m.result)
 
-pub lower_none : (box : Box) (a : Arg) (items : List Arg) (r : Arg) (best : ℤ) (k : ℕ) → IsMetSomewhere box a items r best → misses (left_to box (item_at items k)) (left_to box r) ≡ true → IsLowerMet box a items r best k best
-lower_none box a items r best k s h = record { some = s; was = itself best; here = λ w m. absurd (nothing_met box a items r k w h m) }
-
 pub higher_none : (box : Box) (a : Arg) (items : List Arg) (r : Arg) (best : ℤ) (k : ℕ) → IsMetSomewhere box a items r best → misses (left_to box (item_at items k)) (left_to box r) ≡ true → IsHigherMet box a items r best k best
 higher_none box a items r best k s h = record { some = s; was = itself best; here = λ w m. absurd (nothing_met box a items r k w h m) }
 
@@ -413,3 +414,97 @@ only_one box a items r s e f g n = subst (λ k. IsLastItem box a items r k) (sym
 
 pub some_met : (box : Box) (a : Arg) (items : List Arg) (r : Arg) (k : ℕ) (v : ℤ) → IsFirstItem box a items r k → IsLeastCommon (left_to box (item_at items k)) (left_to box r) v → IsMetSomewhere box a items r v
 some_met box a items r k v f c = low_met box a items r k v f.place (first (has_value (left_to box a) (pos (k + 1))) (not (misses (left_to box (item_at items k)) (left_to box r))) f.fits) c
+
+-- the least of the item, where r may be it
+pub least_is_common : (d e : Values) (v : ℤ) → is_domain_left d ≡ true → v ≡ least_value d → has_value e v ≡ true → IsLeastCommon d e v
+least_is_common d e v o q h =
+    let w = walk_start d e v (some_left d o) q in
+    record {
+      first = w.there;
+      second = h;
+      all = w.all;
+    }
+
+-- a place that is not left, and one that is met
+pub place_gone : (box : Box) (a : Arg) (items : List Arg) (r : Arg) (k : ℕ) → has_value (left_to box a) (pos (k + 1)) ≡ false → item_fits box a items r k ≡ false
+place_gone box a items r k h = ap (λ z. z && not (misses (left_to box (item_at items k)) (left_to box r))) h
+
+pub least_met : (box : Box) (a : Arg) (items : List Arg) (r : Arg) (k : ℕ) (v : ℤ) → has_value (left_to box a) (pos (k + 1)) ≡ true → IsLeastCommon (left_to box (item_at items k)) (left_to box r) v → IsLeastMet box a items r k v
+least_met box a items r k v h c = record {
+  fits = together (has_value (left_to box a) (pos (k + 1))) (not (misses (left_to box (item_at items k)) (left_to box r))) h (ap not (some_common (left_to box (item_at items k)) (left_to box r) v c.first c.second));
+  least = c;
+}
+
+pub some_exactly : (o : Option ℤ) (b : Bool) (P : ℤ → Type 0) → IfNone o (b ≡ false) → IfSome o P → ((v : ℤ) → P v → b ≡ true) → is_some o ≡ b
+some_exactly None b P n s f = sym n
+some_exactly (Some v) b P n s f = sym (f v s)
+
+none_met : (box : Box) (a : Arg) (items : List Arg) (r : Arg) (k : ℕ) (w : ℤ) → item_fits box a items r k ≡ false → IsMet box a items r k w → ⊥
+none_met box a items r k w h m = clash (item_fits box a items r k) (met_fits box a items r k w m) h
+
+left_at : (box : Box) (a : Arg) (items : List Arg) (r : Arg) (k : ℕ) → item_fits box a items r k ≡ true → has_value (left_to box a) (pos (k + 1)) ≡ true
+left_at box a items r k f = first (has_value (left_to box a) (pos (k + 1))) (not (misses (left_to box (item_at items k)) (left_to box r))) f
+
+-- what one place adds to the best value
+pub lower_unfit : (box : Box) (a : Arg) (items : List Arg) (r : Arg) (best : ℤ) (k : ℕ) → IsMetSomewhere box a items r best → item_fits box a items r k ≡ false → IsLowerMet box a items r best k best
+lower_unfit box a items r best k s h = record { some = s; was = itself best; here = λ w m. absurd (none_met box a items r k w h m) }
+
+pub lower_over : (box : Box) (a : Arg) (items : List Arg) (r : Arg) (best v : ℤ) (k : ℕ) → IsMetSomewhere box a items r best → v ≡ least_value (left_to box (item_at items k)) → int_le best v ≡ true → IsLowerMet box a items r best k best
+lower_over box a items r best v k s e h = record {
+  some = s;
+  was = itself best;
+  here = λ w m. through best (least_value (left_to box (item_at items k))) w (subst (λ z. best ≤ℤ z) e (ordered_by best v h)) (low_end (left_to box (item_at items k)) w m.item);
+}
+
+pub higher_under : (box : Box) (a : Arg) (items : List Arg) (r : Arg) (best v : ℤ) (k : ℕ) → IsMetSomewhere box a items r best → v ≡ greatest_value (left_to box (item_at items k)) → int_le v best ≡ true → IsHigherMet box a items r best k best
+higher_under box a items r best v k s e h = record {
+  some = s;
+  was = itself best;
+  here = λ w m. through w (greatest_value (left_to box (item_at items k))) best (high_end (left_to box (item_at items k)) w m.item) (subst (λ z. z ≤ℤ best) e (ordered_by v best h));
+}
+
+pub higher_kept : (box : Box) (a : Arg) (items : List Arg) (r : Arg) (best : ℤ) (k : ℕ) (v : ℤ) → IsMetSomewhere box a items r best → IsGreatestCommon (left_to box (item_at items k)) (left_to box r) v → int_lt best v ≡ false → IsHigherMet box a items r best k best
+higher_kept box a items r best k v s c l = record { some = s; was = itself best; here = λ w m. through w v best (c.all w m.item m.result) (reaches best v l) }
+
+pub lower_kept : (box : Box) (a : Arg) (items : List Arg) (r : Arg) (best : ℤ) (k : ℕ) (v : ℤ) → IsMetSomewhere box a items r best → IsLeastMet box a items r k v → int_lt v best ≡ false → IsLowerMet box a items r best k best
+lower_kept box a items r best k v s c l = record { some = s; was = itself best; here = λ w m. through best v w (reaches v best l) (c.least.all w m.item m.result) }
+
+pub lower_taken : (box : Box) (a : Arg) (items : List Arg) (r : Arg) (best : ℤ) (k : ℕ) (v : ℤ) → k < length items → IsLeastMet box a items r k v → int_lt v best ≡ true → IsLowerMet box a items r best k v
+lower_taken box a items r best k v h c l = lower_some box a items r best k v h (left_at box a items r k c.fits) c.least l
+
+-- the walk over the places
+no_item_by : (j k : ℕ) → (j < k) ⊎ (k ≤ j)
+no_item_by j k = grind (arith, nat_tests)
+
+pub no_item : (box : Box) (a : Arg) (items : List Arg) (r : Arg) (k m : ℕ) → ((j : ℕ) → j < k → item_fits box a items r j ≡ false) → m ≤ k → NoneFrom (left_to box a) (length items) m → NoItem box a items r
+no_item box a items r k m f l g j h = by (no_item_by j k)
+  where
+    by : (j < k) ⊎ (k ≤ j) → item_fits box a items r j ≡ false
+    by (inl i) = f j i
+    by (inr i) = place_gone box a items r j (g j (omega (arith, l, i)) h)
+
+pub lowest_start : (box : Box) (a : Arg) (items : List Arg) (r : Arg) (s : ℕ) (v : ℤ) → IsFirstItem box a items r s → IsLeastCommon (left_to box (item_at items s)) (left_to box r) v → (j : ℕ) (w : ℤ) → j < s + 1 → IsMet box a items r j w → v ≤ℤ w
+lowest_start box a items r s v f c j w h m = by (split_last j s h)
+  where
+    by : (j < s) ⊎ (j ≡ s) → v ≤ℤ w
+    by (inl i) = absurd (none_before box a items r s j w f i m)
+    by (inr e) = let n = subst (λ z. IsMet box a items r z w) e m in c.all w n.item n.result
+
+past_last : (box : Box) (a : Arg) (items : List Arg) (r : Arg) (e k j : ℕ) (w : ℤ) → IsLastItem box a items r e → e + 1 ≤ k → j < length items → IsMet box a items r j w → j < k
+past_last box a items r e k j w p l i m = by (no_item_by j k)
+  where
+    by : (j < k) ⊎ (k ≤ j) → j < k
+    by (inl h) = h
+    by (inr h) = absurd (none_met box a items r j w (p.none j (omega (arith, l, h)) i) m)
+
+pub lowest_all : (box : Box) (a : Arg) (items : List Arg) (r : Arg) (e k : ℕ) (v : ℤ) → IsLastItem box a items r e → e + 1 ≤ k → IsMetSomewhere box a items r v → ((j : ℕ) (w : ℤ) → j < k → IsMet box a items r j w → v ≤ℤ w) → IsLowestMet box a items r v
+lowest_all box a items r e k v p l s g = record {
+  some = s;
+  all = λ j w i m. g j w (past_last box a items r e k j w p l i m) m;
+}
+
+pub highest_all : (box : Box) (a : Arg) (items : List Arg) (r : Arg) (e k : ℕ) (v : ℤ) → IsLastItem box a items r e → e + 1 ≤ k → IsMetSomewhere box a items r v → ((j : ℕ) (w : ℤ) → j < k → IsMet box a items r j w → w ≤ℤ v) → IsHighestMet box a items r v
+highest_all box a items r e k v p l s g = record {
+  some = s;
+  all = λ j w i m. g j w (past_last box a items r e k j w p l i m) m;
+}

@@ -1,6 +1,6 @@
 -- Places of an array of numbers that fit what is left, and what each variable may keep.
-use Rattle.std.proofs.Common.{◌≡◌, ℕ, zero, suc, ◌+◌, ◌<◌, ◌≤◌, ◌⊎◌, inl, inr, true, false, not, ◌&&◌, List, [], ◌∷◌, length, set, get_or, refl, sym, ap, ◌∙◌, subst, arith, ℤ}
-use Rattle.std.specs.Prelude.{pos, ◌+ℤ◌, ◌≤ℤ◌, int_le}
+use Rattle.std.proofs.Common.{◌≡◌, ℕ, zero, suc, ◌+◌, ◌<◌, ◌≤◌, ◌⊎◌, inl, inr, Bool, true, false, not, ◌&&◌, List, [], ◌∷◌, length, set, get_or, refl, sym, ap, ◌∙◌, subst, arith, ℤ}
+use Rattle.std.specs.Prelude.{pos, ◌+ℤ◌, ◌≤ℤ◌, ◌<ℤ◌, int_le, int_lt}
 use Rattle.std.proofs.lemmas.Int.{ints}
 use Rattle.std.proofs.lemmas.Bool.Decides.{nat_tests}
 use Rattle.qc_model.specs.declared.problem.Arg.{Arg}
@@ -20,8 +20,9 @@ use Rattle.qc_arguments.proofs.Kept.{through, low_end, high_end, apart, at_least
 use Rattle.qc_arguments.proofs.Items.{flipped}
 use Rattle.prop_compare.proofs.Sides.{open_place, with_other}
 use Rattle.prop_element.specs.Hulls.{IsHull}
-use Rattle.prop_element.specs.Elements.{IsElement, place_fits, IsFirstPlace, IsLastPlace, NoPlace, IsLowerPlace, IsHigherPlace, IsLowestPlace, IsHighestPlace}
+use Rattle.prop_element.specs.Elements.{IsElement, place_fits, IsFirstPlace, IsLastPlace, NoPlace, NoneBefore, NoneFrom, IsLowerPlace, IsHigherPlace, IsLowestPlace, IsHighestPlace}
 use Rattle.prop_element.proofs.Moved.{set_here}
+use Rattle.prop_element.proofs.Sets.{left_none, left_none_over}
 
 -- some place fits, counted from any number on
 next_place : (n : ℕ) → pos n +ℤ pos 1 ≡ pos (n + 1)
@@ -185,3 +186,75 @@ highest_stop b ns c k v p f e h = record {
   fits = f;
   all = λ j l g. through (get_or ns j (pos 0)) (greatest_value c) (get_or ns k (pos 0)) (high_end c (get_or ns j (pos 0)) (second (has_value b (pos (j + 1))) (has_value c (get_or ns j (pos 0))) g)) (subst (λ z. z ≤ℤ get_or ns k (pos 0)) e (ordered_by v (get_or ns k (pos 0)) h));
 }
+
+-- places that are not left
+pub before_least : (b : Values) (v : ℤ) (k : ℕ) → v ≡ least_value b → pos (k + 1) ≡ v → NoneBefore b k
+before_least b v k e f j h = left_none b (pos (j + 1)) (subst (λ z. pos (j + 1) <ℤ z) (f ∙ e) (under j k h))
+  where
+    under : (j k : ℕ) → j < k → pos (j + 1) <ℤ pos (k + 1)
+    under j k h = grind (arith, ints)
+
+pub over_greatest : (b : Values) (v : ℤ) (n k : ℕ) → v ≡ greatest_value b → pos (k + 1) ≡ v → NoneFrom b n (k + 1)
+over_greatest b v n k e f j h l = left_none_over b (pos (j + 1)) (subst (λ z. z <ℤ pos (j + 1)) (f ∙ e) (over j k h))
+  where
+    over : (j k : ℕ) → k + 1 ≤ j → pos (k + 1) <ℤ pos (j + 1)
+    over j k h = grind (arith, ints)
+
+pub none_counted : (b : Values) (v : ℤ) (n : ℕ) → v ≡ greatest_value b → int_lt v (pos 1) ≡ true → NoneFrom b n 0
+none_counted b v n e f j h l = left_none_over b (pos (j + 1)) (subst (λ z. z <ℤ pos (j + 1)) e (over j v f))
+  where
+    over : (j : ℕ) (v : ℤ) → int_lt v (pos 1) ≡ true → v <ℤ pos (j + 1)
+    over j v f = grind (arith, ints)
+
+pub unfit_before : (b : Values) (ns : List ℤ) (c : Values) (k : ℕ) → NoneBefore b k → (j : ℕ) → j < k → place_fits b ns c j ≡ false
+unfit_before b ns c k f j h = ap (λ z. z && has_value c (get_or ns j (pos 0))) (f j h)
+
+pub unfit_from : (b : Values) (ns : List ℤ) (c : Values) (n k : ℕ) → NoneFrom b n k → (j : ℕ) → k ≤ j → j < n → place_fits b ns c j ≡ false
+unfit_from b ns c n k f j h l = ap (λ z. z && has_value c (get_or ns j (pos 0))) (f j h l)
+
+pub unfit_by_number : (b : Values) (ns : List ℤ) (c : Values) (k : ℕ) → has_value c (get_or ns k (pos 0)) ≡ false → place_fits b ns c k ≡ false
+unfit_by_number b ns c k h = by (has_value b (pos (k + 1))) (has_value c (get_or ns k (pos 0))) h
+  where
+    by : (p q : Bool) → q ≡ false → (p && q) ≡ false
+    by true q e = e
+    by false q e = refl
+
+before_or_not : (j k : ℕ) → (j < k) ⊎ (k ≤ j)
+before_or_not j k = grind (arith, nat_tests)
+
+pub no_place : (b : Values) (ns : List ℤ) (c : Values) (k m : ℕ) → ((j : ℕ) → j < k → place_fits b ns c j ≡ false) → m ≤ k → NoneFrom b (length ns) m → NoPlace b ns c
+no_place b ns c k m f l g j h = by (before_or_not j k)
+  where
+    by : (j < k) ⊎ (k ≤ j) → place_fits b ns c j ≡ false
+    by (inl i) = f j i
+    by (inr i) = unfit_from b ns c (length ns) m g j (omega (arith, l, i)) h
+
+-- the walk has passed all places but the last that fits, or has come to it
+last_or_not : (j k e : ℕ) → e ≤ k → (j < k) ⊎ ((j ≡ e) ⊎ (e < j))
+last_or_not j k e h = grind (arith, nat_tests)
+
+pub lowest_done : (b : Values) (ns : List ℤ) (c : Values) (k e n : ℕ) → IsLastPlace b ns c e → e ≤ k → n < length ns → place_fits b ns c n ≡ true → get_or ns n (pos 0) ≤ℤ get_or ns e (pos 0) →
+    ((j : ℕ) → j < k → place_fits b ns c j ≡ true → get_or ns n (pos 0) ≤ℤ get_or ns j (pos 0)) → IsLowestPlace b ns c n
+lowest_done b ns c k e n p l h f q g = record {
+  place = h;
+  fits = f;
+  all = λ j i t. by j i t (last_or_not j k e l);
+}
+  where
+    by : (j : ℕ) → j < length ns → place_fits b ns c j ≡ true → (j < k) ⊎ ((j ≡ e) ⊎ (e < j)) → get_or ns n (pos 0) ≤ℤ get_or ns j (pos 0)
+    by j i t (inl m) = g j m t
+    by j i t (inr (inl m)) = subst (λ z. get_or ns n (pos 0) ≤ℤ get_or ns z (pos 0)) (sym m) q
+    by j i t (inr (inr m)) = absurd (clash (place_fits b ns c j) t (p.none j m i))
+
+pub highest_done : (b : Values) (ns : List ℤ) (c : Values) (k e n : ℕ) → IsLastPlace b ns c e → e ≤ k → n < length ns → place_fits b ns c n ≡ true → get_or ns e (pos 0) ≤ℤ get_or ns n (pos 0) →
+    ((j : ℕ) → j < k → place_fits b ns c j ≡ true → get_or ns j (pos 0) ≤ℤ get_or ns n (pos 0)) → IsHighestPlace b ns c n
+highest_done b ns c k e n p l h f q g = record {
+  place = h;
+  fits = f;
+  all = λ j i t. by j i t (last_or_not j k e l);
+}
+  where
+    by : (j : ℕ) → j < length ns → place_fits b ns c j ≡ true → (j < k) ⊎ ((j ≡ e) ⊎ (e < j)) → get_or ns j (pos 0) ≤ℤ get_or ns n (pos 0)
+    by j i t (inl m) = g j m t
+    by j i t (inr (inl m)) = subst (λ z. get_or ns z (pos 0) ≤ℤ get_or ns n (pos 0)) (sym m) q
+    by j i t (inr (inr m)) = absurd (clash (place_fits b ns c j) t (p.none j m i))

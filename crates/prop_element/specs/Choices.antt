@@ -10,6 +10,7 @@ use Rattle.qc_model.specs.Left.{some_item_meets}
 use Rattle.qc_model.specs.Refuted.{left_to, refuted_by}
 use Rattle.qc_arguments.specs.Repeats.{has_repeat}
 use Rattle.qc_arguments.specs.Written.{arg_at, args_at}
+use Rattle.qc_refuter.specs.Commons.{IsLeastCommon}
 use Rattle.prop_base.specs.Closed.{keeps_arg}
 use Rattle.prop_element.specs.Extremes.{item_at}
 
@@ -42,6 +43,11 @@ pub record IsLastItem (box : Box) (a : Arg) (items : List Arg) (r : Arg) (k : �
 -- no place fits
 abbrev pub NoItem : Box → Arg → List Arg → Arg → Type 0
 NoItem box a items r = (j : ℕ) → j < length items → IsFalse (item_fits box a items r j)
+
+-- place k fits, and v is the least value that its item and r may both be
+pub record IsLeastMet (box : Box) (a : Arg) (items : List Arg) (r : Arg) (k : ℕ) (v : ℤ) : Type 0 where
+  pub fits : IsTrue (item_fits box a items r k)
+  pub least : IsLeastCommon (left_to box (item_at items k)) (left_to box r) v
 
 -- place k is left, and its item and r may both be v
 pub record IsMet (box : Box) (a : Arg) (items : List Arg) (r : Arg) (k : ℕ) (v : ℤ) : Type 0 where

@@ -1,5 +1,5 @@
 -- Constraints that say which number of an array stands at a place.
-use Rattle.std.specs.Prelude.{◌≡◌, ◌⊎◌, ◌<◌, ◌+◌, ℕ, Bool, not, ◌&&◌, List, length, get_or, ℤ, pos, ◌≤ℤ◌, IsTrue, IsFalse}
+use Rattle.std.specs.Prelude.{◌≡◌, ◌⊎◌, ◌<◌, ◌≤◌, ◌+◌, ℕ, Bool, not, ◌&&◌, List, length, get_or, ℤ, pos, ◌≤ℤ◌, IsTrue, IsFalse}
 use Rattle.qc_model.specs.declared.problem.Arg.{Arg}
 use Rattle.qc_model.specs.declared.problem.Pred.TheVariants.{ArrayIntElement, ArrayBoolElement}
 use Rattle.qc_model.specs.Closed.{keeps_ends}
@@ -25,6 +25,13 @@ pub record IsElementRule (c : Rule) : Type 0 where
 -- the place, counted from 1, is among the first values, and its number among the others
 abbrev pub place_fits : Values → List ℤ → Values → ℕ → Bool
 place_fits b ns c k = has_value b (pos (k + 1)) && has_value c (get_or ns k (pos 0))
+
+-- none of the places before k, counted from 1, is among the values, and none of so many from k on
+abbrev pub NoneBefore : Values → ℕ → Type 0
+NoneBefore b k = (j : ℕ) → j < k → IsFalse (has_value b (pos (j + 1)))
+
+abbrev pub NoneFrom : Values → ℕ → ℕ → Type 0
+NoneFrom b n k = (j : ℕ) → k ≤ j → j < n → IsFalse (has_value b (pos (j + 1)))
 
 -- the first place that fits, and the last
 pub record IsFirstPlace (b : Values) (ns : List ℤ) (c : Values) (k : ℕ) : Type 0 where

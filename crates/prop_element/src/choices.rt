@@ -3,25 +3,68 @@
 //! The place keeps the numbers from the first place that fits to the last: one that is left, and whose item has a value in
 //! common with the result. The result keeps what it has in common with items at such places, from the least to the
 //! greatest. While two places fit, no item loses anything; where one does, its item is to equal the result.
-ghost use Rattle.std.specs.Prelude.{◌≡◌, ◌<◌, ◌≤◌, ◌∷◌, IsTrue, IfNone, IfSome, length};
+ghost use Rattle.std.specs.Prelude.{◌≡◌, ◌<◌, ◌≤◌, ◌∷◌, IsTrue, IsFalse, IfNone, IfSome, length};
 ghost use Rattle.std.specs.List.{list_all};
 ghost use Rattle.qc_model.specs.Closed.{keeps_ends};
 ghost use Rattle.qc_arguments.specs.Asked.{IsAsked};
 ghost use Rattle.qc_arguments.specs.Repeats.{has_repeat};
 ghost use Rattle.qc_arguments.specs.Written.{arg_at, args_at};
 ghost use Rattle.qc_refuter.specs.Met.{is_open};
+ghost use Rattle.qc_model.specs.Domains.{misses};
+ghost use Rattle.qc_model.specs.Refuted.{left_to};
+ghost use Rattle.qc_refuter.specs.Commons.{IsLeastCommon};
 ghost use Rattle.prop_base.specs.Closed.{IsCut, keeps_arg};
-ghost use Rattle.prop_element.specs.Choices.{IsChoice, IsChoiceRule, item_fits, IsFirstItem, IsLastItem, NoItem, IsMetSomewhere, IsLowestMet, IsHighestMet, IsLowerMet, IsHigherMet};
+ghost use Rattle.prop_element.specs.Extremes.{item_at};
+ghost use Rattle.prop_element.specs.Choices.{IsChoice, IsChoiceRule, item_fits, IsFirstItem, IsLastItem, NoItem, IsLeastMet, IsMetSomewhere, IsLowestMet, IsHighestMet, IsLowerMet, IsHigherMet};
 
-use crate::elements::counted;
+use crate::elements::{counted, places_before, places_up_to};
 use crate::hulls::{any_cut, arg_cut, whole_cut};
 use fd_store::Store;
 use prop_base::Cut;
-use prop_compare::{are_apart, greatest, greatest_common, has, least, least_common};
+use prop_compare::{greatest, greatest_common, has, least, least_common};
 use qc_arguments::{arguments, is_among, is_repeated, is_same, items_at, one_at};
 use qc_model::{Arg, Constraint, Problem};
 
-// Whether place k, counted from 0, is left, and its item has a value in common with r.
+/// A place, counted from 0, and the least value that its item has in common with the result.
+#[derive(Clone, Copy)]
+struct Met {
+    place: usize,
+    least: i64,
+}
+
+// The least value left to both, which most often is the least of the item.
+#[inline(always)]
+fn least_of_both(item: Arg, r: Arg, store: &Store) -> Option<i64>
+    requires item { IsTrue (is_open store.now.box item) }
+    requires last { IsTrue (is_open store.now.box r) }
+    ensures none { IfNone result (IsTrue (misses (left_to store.now.box item) (left_to store.now.box r))) }
+    ensures some { IfSome result (λ v. IsLeastCommon (left_to store.now.box item) (left_to store.now.box r) v) }
+{
+    let v = least(item, store);
+    if has(r, v, store) {
+        return Some(v);
+    }
+    least_common(item, r, store)
+}
+
+// The least value that r has in common with the item at place k, where that place, counted from 0, is left.
+#[inline(always)]
+fn met_at(a: Arg, items: &[Arg], r: Arg, k: usize, store: &Store) -> Option<i64>
+    requires place { k < length items.now }
+    requires few { length items.now ≤ 1000 }
+    requires first { IsTrue (is_open store.now.box a) }
+    requires items { IsTrue (list_all (is_open store.now.box) items.now) }
+    requires last { IsTrue (is_open store.now.box r) }
+    ensures none { IfNone result (IsFalse (item_fits store.now.box a items.now r k)) }
+    ensures some { IfSome result (λ v. IsLeastMet store.now.box a items.now r k v) }
+{
+    if !has(a, counted(k), store) {
+        return None;
+    }
+    least_of_both(items[k], r, store)
+}
+
+// Whether place k is left, and its item has a value in common with r.
 fn fits(a: Arg, items: &[Arg], r: Arg, k: usize, store: &Store) -> bool
     requires place { k < length items.now }
     requires few { length items.now ≤ 1000 }
@@ -30,41 +73,45 @@ fn fits(a: Arg, items: &[Arg], r: Arg, k: usize, store: &Store) -> bool
     requires last { IsTrue (is_open store.now.box r) }
     ensures { result ≡ item_fits store.now.box a items.now r k }
 {
-    has(a, counted(k), store) && !are_apart(items[k], r, store)
+    met_at(a, items, r, k, store).is_some()
 }
 
-fn first_item(a: Arg, items: &[Arg], r: Arg, store: &Store) -> Option<usize>
+fn first_item(a: Arg, items: &[Arg], r: Arg, store: &Store) -> Option<Met>
     requires few { length items.now ≤ 1000 }
     requires first { IsTrue (is_open store.now.box a) }
     requires items { IsTrue (list_all (is_open store.now.box) items.now) }
     requires last { IsTrue (is_open store.now.box r) }
     ensures none { IfNone result (NoItem store.now.box a items.now r) }
-    ensures some { IfSome result (λ k. IsFirstItem store.now.box a items.now r k) }
+    ensures first { IfSome result (λ met. IsFirstItem store.now.box a items.now r met.place) }
+    ensures least { IfSome result (λ met. IsLeastCommon (left_to store.now.box (item_at items.now met.place)) (left_to store.now.box r) met.least) }
 {
-    for k in 0..items.len() {
-        if fits(a, items, r, k, store) {
-            return Some(k);
+    let from = places_before(a, store);
+    let until = places_up_to(a, items.len(), store);
+    for k in from..until {
+        if let Some(v) = met_at(a, items, r, k, store) {
+            return Some(Met { place: k, least: v });
         }
     }
     None
 }
 
-fn last_item(a: Arg, items: &[Arg], r: Arg, store: &Store) -> Option<usize>
+// The walk back ends at the first place that fits.
+fn last_item(a: Arg, items: &[Arg], r: Arg, start: usize, store: &Store) -> usize
     requires few { length items.now ≤ 1000 }
     requires first { IsTrue (is_open store.now.box a) }
     requires items { IsTrue (list_all (is_open store.now.box) items.now) }
     requires last { IsTrue (is_open store.now.box r) }
-    ensures none { IfNone result (NoItem store.now.box a items.now r) }
-    ensures some { IfSome result (λ k. IsLastItem store.now.box a items.now r k) }
+    requires start { IsFirstItem store.now.box a items.now r start }
+    ensures { IsLastItem store.now.box a items.now r result }
 {
-    let mut k = items.len();
-    while k > 0 {
+    let mut k = places_up_to(a, items.len(), store);
+    while k > start + 1 {
         k -= 1;
         if fits(a, items, r, k, store) {
-            return Some(k);
+            return k;
         }
     }
-    None
+    start
 }
 
 // The least value that r has in common with the item at place k, where that place is left and the value less than the
@@ -78,10 +125,10 @@ fn lower_met(a: Arg, items: &[Arg], r: Arg, best: i64, k: usize, store: &Store) 
     requires last { IsTrue (is_open store.now.box r) }
     ensures { IsLowerMet store.now.box a items.now r best k result }
 {
-    if !has(a, counted(k), store) {
+    if best <= least(items[k], store) {
         return best;
     }
-    let Some(v) = least_common(items[k], r, store) else {
+    let Some(v) = met_at(a, items, r, k, store) else {
         return best;
     };
     if v < best { v } else { best }
@@ -97,6 +144,9 @@ fn higher_met(a: Arg, items: &[Arg], r: Arg, best: i64, k: usize, store: &Store)
     requires last { IsTrue (is_open store.now.box r) }
     ensures { IsHigherMet store.now.box a items.now r best k result }
 {
+    if greatest(items[k], store) <= best {
+        return best;
+    }
     if !has(a, counted(k), store) {
         return best;
     }
@@ -106,20 +156,30 @@ fn higher_met(a: Arg, items: &[Arg], r: Arg, best: i64, k: usize, store: &Store)
     if best < v { v } else { best }
 }
 
-// The least value that r has in common with an item whose place is left, from one that it has on. The walk stops where
-// none can be less.
-fn lowest_met(a: Arg, items: &[Arg], r: Arg, some: i64, store: &Store) -> i64
+// The least value that r has in common with an item whose place is left, from the one that it has in common with the
+// first. The walk stops where none can be less.
+fn lowest_met(
+    a: Arg,
+    items: &[Arg],
+    r: Arg,
+    start: usize,
+    end: usize,
+    some: i64,
+    store: &Store,
+) -> i64
     requires few { length items.now ≤ 1000 }
-    requires some { IsMetSomewhere store.now.box a items.now r some }
+    requires start { IsFirstItem store.now.box a items.now r start }
+    requires end { IsLastItem store.now.box a items.now r end }
+    requires some { IsLeastCommon (left_to store.now.box (item_at items.now start)) (left_to store.now.box r) some }
     requires first { IsTrue (is_open store.now.box a) }
     requires items { IsTrue (list_all (is_open store.now.box) items.now) }
     requires last { IsTrue (is_open store.now.box r) }
     ensures { IsLowestMet store.now.box a items.now r result }
 {
-    let end = least(r, store);
+    let low = least(r, store);
     let mut best = some;
-    for k in 0..items.len() {
-        if best <= end {
+    for k in start + 1..end + 1 {
+        if best <= low {
             return best;
         }
         best = lower_met(a, items, r, best, k, store);
@@ -127,18 +187,28 @@ fn lowest_met(a: Arg, items: &[Arg], r: Arg, some: i64, store: &Store) -> i64
     best
 }
 
-fn highest_met(a: Arg, items: &[Arg], r: Arg, some: i64, store: &Store) -> i64
+fn highest_met(
+    a: Arg,
+    items: &[Arg],
+    r: Arg,
+    start: usize,
+    end: usize,
+    some: i64,
+    store: &Store,
+) -> i64
     requires few { length items.now ≤ 1000 }
+    requires start { IsFirstItem store.now.box a items.now r start }
+    requires end { IsLastItem store.now.box a items.now r end }
     requires some { IsMetSomewhere store.now.box a items.now r some }
     requires first { IsTrue (is_open store.now.box a) }
     requires items { IsTrue (list_all (is_open store.now.box) items.now) }
     requires last { IsTrue (is_open store.now.box r) }
     ensures { IsHighestMet store.now.box a items.now r result }
 {
-    let end = greatest(r, store);
+    let high = greatest(r, store);
     let mut best = some;
-    for k in 0..items.len() {
-        if end <= best {
+    for k in start..end + 1 {
+        if high <= best {
             return best;
         }
         best = higher_met(a, items, r, best, k, store);
@@ -188,12 +258,12 @@ fn met_cut(
     requires choice { IsChoice rule.now a items.now r }
     requires start { IsFirstItem store.now.box a items.now r start }
     requires end { IsLastItem store.now.box a items.now r end }
-    requires some { IsMetSomewhere store.now.box a items.now r some }
+    requires some { IsLeastCommon (left_to store.now.box (item_at items.now start)) (left_to store.now.box r) some }
     ensures none { IfNone result (IsTrue (keeps_arg rule.now store.now.box r) × IsTrue (list_all (keeps_arg rule.now store.now.box) items.now)) }
     ensures some { IfSome result (λ cut. IsCut rule.now store.now.box cut) }
 {
-    let low = lowest_met(a, items, r, some, store);
-    let high = highest_met(a, items, r, some, store);
+    let low = lowest_met(a, items, r, start, end, some, store);
+    let high = highest_met(a, items, r, start, end, some, store);
     if let Some(cut) = arg_cut(rule, r, low, high, store) {
         return Some(cut);
     }
@@ -221,19 +291,15 @@ fn chosen_cut(
     ensures none { IfNone result (IsTrue (keeps_ends store.now.box rule.now)) }
     ensures some { IfSome result (λ cut. IsCut rule.now store.now.box cut) }
 {
-    let Some(start) = first_item(a, items, r, store) else {
+    let Some(first) = first_item(a, items, r, store) else {
         return unfit_cut(problem, rule, a, items, r, store);
     };
-    let Some(end) = last_item(a, items, r, store) else {
-        return unfit_cut(problem, rule, a, items, r, store);
-    };
-    let Some(some) = least_common(items[start], r, store) else {
-        return unfit_cut(problem, rule, a, items, r, store);
-    };
+    let start = first.place;
+    let end = last_item(a, items, r, start, store);
     if let Some(cut) = arg_cut(rule, a, counted(start), counted(end), store) {
         return Some(cut);
     }
-    met_cut(rule, a, items, r, start, end, some, store)
+    met_cut(rule, a, items, r, start, end, first.least, store)
 }
 
 /// What a constraint that its last argument is the item at its first one takes next. No variable stands twice.

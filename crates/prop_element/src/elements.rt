@@ -1,5 +1,5 @@
 //! What is taken where a number is to stand at a place of an array.
-ghost use Rattle.std.specs.Prelude.{◌≡◌, ◌<◌, ◌+◌, ◌≤◌, IsTrue, IfNone, IfSome, length, pos};
+ghost use Rattle.std.specs.Prelude.{◌≡◌, ◌<◌, ◌+◌, ◌≤◌, IsTrue, IfNone, IfSome, length, pos, ◌≤ℤ◌};
 ghost use Rattle.qc_model.specs.Closed.{keeps_ends};
 ghost use Rattle.qc_arguments.specs.Written.{arg_at};
 ghost use Rattle.qc_model.specs.Refuted.{left_to, refuted_by};
@@ -7,7 +7,7 @@ ghost use Rattle.qc_arguments.specs.Asked.{IsAsked};
 ghost use Rattle.qc_refuter.specs.Met.{is_open};
 ghost use Rattle.prop_base.specs.Closed.{IsCut, keeps_arg};
 ghost use Rattle.qc_arguments.specs.Repeats.{same_variable};
-ghost use Rattle.prop_element.specs.Elements.{IsElement, IsElementRule, place_fits, IsFirstPlace, IsLastPlace, NoPlace, IsLowerPlace, IsHigherPlace, IsLowestPlace, IsHighestPlace};
+ghost use Rattle.prop_element.specs.Elements.{IsElement, IsElementRule, place_fits, IsFirstPlace, IsLastPlace, NoPlace, NoneBefore, NoneFrom, IsLowerPlace, IsHigherPlace, IsLowestPlace, IsHighestPlace};
 
 use crate::hulls::{arg_cut, whole_cut};
 use fd_store::Store;
@@ -23,7 +23,41 @@ fn fits(a: Arg, numbers: &[i64], r: Arg, k: usize, store: &Store) -> bool
     requires last { IsTrue (is_open store.now.box r) }
     ensures { result ≡ place_fits (left_to store.now.box a) numbers.now (left_to store.now.box r) k }
 {
-    has(a, k as i64 + 1, store) && has(r, numbers[k], store)
+    has(r, numbers[k], store) && has(a, k as i64 + 1, store)
+}
+
+// The place of a number that counts from 1, counted from 0.
+fn place_of(number: i64) -> usize
+    requires { pos 1 ≤ℤ number }
+    ensures { pos (result + 1) ≡ number }
+{
+    (number - 1) as usize
+}
+
+/// How many places stand before the first that is left.
+pub(crate) fn places_before(a: Arg, store: &Store) -> usize
+    requires { IsTrue (is_open store.now.box a) }
+    ensures { NoneBefore (left_to store.now.box a) result }
+{
+    let first = least(a, store);
+    if first < 1 {
+        return 0;
+    }
+    place_of(first)
+}
+
+/// How many of so many places stand up to the last that is left.
+pub(crate) fn places_up_to(a: Arg, count: usize, store: &Store) -> usize
+    requires { IsTrue (is_open store.now.box a) }
+    ensures most { result ≤ count }
+    ensures none { NoneFrom (left_to store.now.box a) count result }
+{
+    let last = greatest(a, store);
+    if last < 1 {
+        return 0;
+    }
+    let k = place_of(last);
+    if k < count { k + 1 } else { count }
 }
 
 fn first_place(a: Arg, numbers: &[i64], r: Arg, store: &Store) -> Option<usize>
@@ -32,7 +66,9 @@ fn first_place(a: Arg, numbers: &[i64], r: Arg, store: &Store) -> Option<usize>
     ensures none { IfNone result (NoPlace (left_to store.now.box a) numbers.now (left_to store.now.box r)) }
     ensures some { IfSome result (λ k. IsFirstPlace (left_to store.now.box a) numbers.now (left_to store.now.box r) k) }
 {
-    for k in 0..numbers.len() {
+    let from = places_before(a, store);
+    let until = places_up_to(a, numbers.len(), store);
+    for k in from..until {
         if fits(a, numbers, r, k, store) {
             return Some(k);
         }
@@ -40,23 +76,25 @@ fn first_place(a: Arg, numbers: &[i64], r: Arg, store: &Store) -> Option<usize>
     None
 }
 
-fn last_place(a: Arg, numbers: &[i64], r: Arg, store: &Store) -> Option<usize>
+// The walk back ends at the first place that fits.
+fn last_place(a: Arg, numbers: &[i64], r: Arg, start: usize, store: &Store) -> usize
     requires first { IsTrue (is_open store.now.box a) }
     requires last { IsTrue (is_open store.now.box r) }
-    ensures none { IfNone result (NoPlace (left_to store.now.box a) numbers.now (left_to store.now.box r)) }
-    ensures some { IfSome result (λ k. IsLastPlace (left_to store.now.box a) numbers.now (left_to store.now.box r) k) }
+    requires start { IsFirstPlace (left_to store.now.box a) numbers.now (left_to store.now.box r) start }
+    ensures { IsLastPlace (left_to store.now.box a) numbers.now (left_to store.now.box r) result }
 {
-    let mut k = numbers.len();
-    while k > 0 {
+    let mut k = places_up_to(a, numbers.len(), store);
+    while k > start + 1 {
         k -= 1;
         if fits(a, numbers, r, k, store) {
-            return Some(k);
+            return k;
         }
     }
-    None
+    start
 }
 
 // Place k, where it fits and has a number that is less than that of the best place; the best place otherwise.
+#[inline(always)]
 fn lower_place(a: Arg, numbers: &[i64], r: Arg, best: usize, k: usize, store: &Store) -> usize
     requires place { k < length numbers.now }
     requires best { best < length numbers.now }
@@ -75,6 +113,7 @@ fn lower_place(a: Arg, numbers: &[i64], r: Arg, best: usize, k: usize, store: &S
 }
 
 // Place k, where it fits and has a number that is greater than that of the best place; the best place otherwise.
+#[inline(always)]
 fn higher_place(a: Arg, numbers: &[i64], r: Arg, best: usize, k: usize, store: &Store) -> usize
     requires place { k < length numbers.now }
     requires best { best < length numbers.now }
@@ -93,16 +132,17 @@ fn higher_place(a: Arg, numbers: &[i64], r: Arg, best: usize, k: usize, store: &
 }
 
 // Of the places that fit, one with the least number. The walk stops where none can be less.
-fn lowest_place(a: Arg, numbers: &[i64], r: Arg, from: usize, store: &Store) -> usize
+fn lowest_place(a: Arg, numbers: &[i64], r: Arg, start: usize, end: usize, store: &Store) -> usize
     requires first { IsTrue (is_open store.now.box a) }
     requires last { IsTrue (is_open store.now.box r) }
-    requires from { IsFirstPlace (left_to store.now.box a) numbers.now (left_to store.now.box r) from }
+    requires start { IsFirstPlace (left_to store.now.box a) numbers.now (left_to store.now.box r) start }
+    requires end { IsLastPlace (left_to store.now.box a) numbers.now (left_to store.now.box r) end }
     ensures { IsLowestPlace (left_to store.now.box a) numbers.now (left_to store.now.box r) result }
 {
-    let end = least(r, store);
-    let mut best = from;
-    for k in from..numbers.len() {
-        if numbers[best] <= end {
+    let low = least(r, store);
+    let mut best = lower_place(a, numbers, r, start, end, store);
+    for k in start..end {
+        if numbers[best] <= low {
             return best;
         }
         best = lower_place(a, numbers, r, best, k, store);
@@ -110,16 +150,17 @@ fn lowest_place(a: Arg, numbers: &[i64], r: Arg, from: usize, store: &Store) -> 
     best
 }
 
-fn highest_place(a: Arg, numbers: &[i64], r: Arg, from: usize, store: &Store) -> usize
+fn highest_place(a: Arg, numbers: &[i64], r: Arg, start: usize, end: usize, store: &Store) -> usize
     requires first { IsTrue (is_open store.now.box a) }
     requires last { IsTrue (is_open store.now.box r) }
-    requires from { IsFirstPlace (left_to store.now.box a) numbers.now (left_to store.now.box r) from }
+    requires start { IsFirstPlace (left_to store.now.box a) numbers.now (left_to store.now.box r) start }
+    requires end { IsLastPlace (left_to store.now.box a) numbers.now (left_to store.now.box r) end }
     ensures { IsHighestPlace (left_to store.now.box a) numbers.now (left_to store.now.box r) result }
 {
-    let end = greatest(r, store);
-    let mut best = from;
-    for k in from..numbers.len() {
-        if end <= numbers[best] {
+    let high = greatest(r, store);
+    let mut best = higher_place(a, numbers, r, start, end, store);
+    for k in start..end {
+        if high <= numbers[best] {
             return best;
         }
         best = higher_place(a, numbers, r, best, k, store);
@@ -170,16 +211,14 @@ fn placed_cut(
     let Some(start) = first_place(a, numbers, r, store) else {
         return either_cut(problem, rule, a, r, store);
     };
-    let Some(end) = last_place(a, numbers, r, store) else {
-        return either_cut(problem, rule, a, r, store);
-    };
+    let end = last_place(a, numbers, r, start, store);
     let from = counted(start);
     let to = counted(end);
     if let Some(cut) = arg_cut(rule, a, from, to, store) {
         return Some(cut);
     }
-    let low = lowest_place(a, numbers, r, start, store);
-    let high = highest_place(a, numbers, r, start, store);
+    let low = lowest_place(a, numbers, r, start, end, store);
+    let high = highest_place(a, numbers, r, start, end, store);
     arg_cut(rule, r, numbers[low], numbers[high], store)
 }
 

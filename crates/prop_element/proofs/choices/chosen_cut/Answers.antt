@@ -7,7 +7,7 @@ use Rattle.qc_model.specs.declared.problem.Arg.{Arg}
 use Rattle.qc_refuter.specs.Met.{is_open}
 use Rattle.prop_element.specs.Choices.{IsChoice, IsFirstItem, IsLastItem}
 use Rattle.prop_element.specs.Hulls.{IsHull}
-use Rattle.prop_element.proofs.ChosenItems.{place_hull, some_met}
+use Rattle.prop_element.proofs.ChosenItems.{place_hull}
 use Rattle.prop_element.proofs.choices.chosen_cut.Goals as goal
 
 pub arg_cut-requires-clause-hull : goal.arg_cut-requires-clause-hull
@@ -19,14 +19,9 @@ arg_cut-requires-clause-hull c x e =
     let items = c.args.items.now in
     let r = c.args.r in
     let C : Arg → Type 0 = λ z. IsChoice u z items r in
-    let F : Arg → Type 0 = λ z. IsFirstItem box z items r c.in-Some.start in
-    let L : Arg → Type 0 = λ z. IsLastItem box z items r c.in-Some-last_item.end in
-    let h = place_hull u box x items r c.in-Some.start c.in-Some-last_item.end (subst (λ z. is_open box z ≡ true) e c.requires.first) (subst C e c.requires.choice) (subst F e c.in-Some.ensures.some) (subst L e c.in-Some-last_item.ensures.some) in
-    let P : ℤ → Type 0 = λ z. IsHull u box x.0 z (pos (c.in-Some-last_item.end + 1)) in
+    let F : Arg → Type 0 = λ z. IsFirstItem box z items r c.in-Some.first.place in
+    let L : Arg → Type 0 = λ z. IsLastItem box z items r c.last_item-end.result in
+    let h = place_hull u box x items r c.in-Some.first.place c.last_item-end.result (subst (λ z. is_open box z ≡ true) e c.requires.first) (subst C e c.requires.choice) (subst F e c.in-Some.ensures.first) (subst L e c.last_item-end.ensures) in
+    let P : ℤ → Type 0 = λ z. IsHull u box x.0 z (pos (c.last_item-end.result + 1)) in
     let Q : ℤ → Type 0 = λ z. IsHull u box x.0 c.counted.result z in
     simp to_z-of_z (subst Q (sym c.counted-2.ensures) (subst P (sym c.counted.ensures) h))
-
-pub met_cut-requires-clause-some : goal.met_cut-requires-clause-some
-met_cut-requires-clause-some c =
-    let s_fits : SFits w64 c.in-Some-least_common.some = search rules in
-    simp to_z-of_z (some_met c.args.store.now.box c.args.a c.args.items.now c.args.r c.in-Some.start c.in-Some-least_common.some c.in-Some.ensures.some c.in-Some-least_common.ensures.some)

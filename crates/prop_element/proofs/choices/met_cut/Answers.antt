@@ -9,7 +9,7 @@ use Rattle.prop_base.specs.Closed.{keeps_arg}
 use Rattle.prop_different.proofs.Options.{none_so}
 use Rattle.prop_element.specs.Extremes.{item_at}
 use Rattle.prop_element.specs.Choices.{IsChoice, IsLowestMet, IsHighestMet}
-use Rattle.prop_element.proofs.ChosenItems.{result_hull, item_hull, two_keep, one_keeps, only_one}
+use Rattle.prop_element.proofs.ChosenItems.{result_hull, item_hull, two_keep, one_keeps, only_one, some_met}
 use Rattle.prop_element.proofs.Moved.{open_item}
 use Rattle.prop_element.proofs.choices.met_cut.Goals as goal
 
@@ -52,3 +52,11 @@ returns-clause-none c =
     let items = c.args.items.now in
     none_so c.arg_cut-2.result (keeps_arg u box (item_at items c.args.start) ≡ true) ((keeps_arg u box c.args.r ≡ true) × (list_all (keeps_arg u box) items ≡ true))
     (λ k. (c.in_default.ensures.none, one_keeps u box c.args.a items c.args.r c.args.start c.requires.choice c.requires.start k)) c.arg_cut-2.ensures.none
+
+pub highest_met-high-requires-clause-some : goal.highest_met-high-requires-clause-some
+highest_met-high-requires-clause-some c =
+    let v_fits : SFits w64 c.args.some = search rules in
+    simp to_z-of_z (some_met c.args.store.now.box c.args.a c.args.items.now c.args.r c.args.start c.args.some c.requires.start c.requires.some)
+
+pub arg_cut-requires-2-clause-open : goal.arg_cut-requires-2-clause-open
+arg_cut-requires-2-clause-open c = open_item c.args.store.now.box c.args.items.now c.args.start c.requires.items c.requires.start.place

@@ -9,4 +9,5 @@ invariant-loop-k l = record {
   place : l.best < length l.numbers;
   fits : place_fits (left_to l.store.box l.a) l.numbers (left_to l.store.box l.r) l.best ≡ true;
   all : (j : ℕ) → j < l.k → place_fits (left_to l.store.box l.a) l.numbers (left_to l.store.box l.r) j ≡ true → get_or l.numbers l.best (pos 0) ≤ℤ get_or l.numbers j (pos 0);
+  end : get_or l.numbers l.best (pos 0) ≤ℤ get_or l.numbers l.end (pos 0);
 }

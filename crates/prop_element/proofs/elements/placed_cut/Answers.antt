@@ -24,9 +24,9 @@ arg_cut-requires-clause-hull c x e =
     let r = c.args.r in
     let E : Arg → Type 0 = λ z. IsElement u z ns r in
     let F : Arg → Type 0 = λ z. IsFirstPlace (left_to box z) ns (left_to box r) c.in-Some.start in
-    let L : Arg → Type 0 = λ z. IsLastPlace (left_to box z) ns (left_to box r) c.in-Some-last_place.end in
-    let h = place_hull u box x ns r c.in-Some.start c.in-Some-last_place.end (subst (λ z. is_open box z ≡ true) e c.requires.first) (subst E e c.requires.element) (subst F e c.in-Some.ensures.some) (subst L e c.in-Some-last_place.ensures.some) in
-    let P : ℤ → Type 0 = λ z. IsHull u box x.0 z (pos (c.in-Some-last_place.end + 1)) in
+    let L : Arg → Type 0 = λ z. IsLastPlace (left_to box z) ns (left_to box r) c.last_place-end.result in
+    let h = place_hull u box x ns r c.in-Some.start c.last_place-end.result (subst (λ z. is_open box z ≡ true) e c.requires.first) (subst E e c.requires.element) (subst F e c.in-Some.ensures.some) (subst L e c.last_place-end.ensures) in
+    let P : ℤ → Type 0 = λ z. IsHull u box x.0 z (pos (c.last_place-end.result + 1)) in
     let Q : ℤ → Type 0 = λ z. IsHull u box x.0 c.counted-from.result z in
     simp to_z-of_z (subst Q (sym c.counted-to.ensures) (subst P (sym c.counted-from.ensures) h))
 
