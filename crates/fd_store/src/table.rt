@@ -28,12 +28,14 @@ pub(crate) fn has_no_gap(cell: Cell) -> bool
 }
 
 /// A place of the trail: what a word and a cell were before a change.
+///
+/// The cell stands first: then it is copied straight to the trail, since no other field is written there before it.
 #[derive(Clone, Copy)]
 pub(crate) struct Change {
+    pub(crate) cell: Cell,
     pub(crate) bits: u64,
     pub(crate) word: usize,
     pub(crate) var: usize,
-    pub(crate) cell: Cell,
 }
 
 // Stands in a change for a word, where none was changed.
@@ -56,6 +58,23 @@ impl Table {
         ensures few { length self.now.words.items ≤ 100000 }
     {
         self.cells[x]
+    }
+
+    // Records the cell of x, which is about to change while the words stay.
+    pub(crate) fn record(&mut self, x: usize)
+        requires var { x < length self.old.cells.items }
+        requires room { 0 < self.old.trail.spare }
+        ensures words { self.new.words.items ≡ self.old.words.items }
+        ensures cells { self.new.cells.items ≡ self.old.cells.items }
+        ensures trail { (c : Cell) → self.new.trail.items ≡ self.old.trail.items ++ record { bits = 0; word = NO_WORD; var = x; cell = slice_index_or self.old.cells.items x c } ∷ [] }
+        ensures spare { self.new.trail.spare + 1 ≡ self.old.trail.spare }
+    {
+        self.trail.push_spare(Change {
+            bits: 0,
+            word: NO_WORD,
+            var: x,
+            cell: self.cells[x],
+        });
     }
 
     // Puts another cell in the place of the x-th, and leaves the words.

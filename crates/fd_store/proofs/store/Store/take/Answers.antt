@@ -11,7 +11,7 @@ returns-clause-past c =
     let t = c.self.inside.table in
     let u = c.cut.new.self in
     subst (λ (h : Held). Follows h (held u.words.items u.cells.items u.trail.items u.trail.spare)) c.self.view_is
-    (follows t.words.items u.words.items t.cells.items u.cells.items t.trail.items u.trail.items t.trail.spare u.trail.spare c.cut.ensures.back)
+    (follows t.words.items u.words.items t.cells.items u.cells.items t.trail.items u.trail.items t.trail.spare u.trail.spare c.cut.ensures.takes.back)
 
 pub returns-clause-spare : goal.returns-clause-spare
 returns-clause-spare c =
@@ -19,7 +19,7 @@ returns-clause-spare c =
     let u = c.cut.new.self in
     omega (
       arith,
-      c.cut.ensures.spare,
+      c.cut.ensures.takes.spare,
       held_trail t.words.items t.cells.items t.trail.items t.trail.spare c.args.self.now c.self.view_is,
       held_spare t.words.items t.cells.items t.trail.items t.trail.spare c.args.self.now c.self.view_is,
       held_trail u.words.items u.cells.items u.trail.items u.trail.spare _ refl,
@@ -31,7 +31,7 @@ returns-clause-few c =
     let u = c.cut.new.self in
     omega (
       arith,
-      c.cut.ensures.few,
+      c.cut.ensures.takes.few,
       ap (λ (h : Held). length (values_left h.box c.args.x.0)) c.self.view_is,
       held_trail t.words.items t.cells.items t.trail.items t.trail.spare c.args.self.now c.self.view_is,
       held_trail u.words.items u.cells.items u.trail.items u.trail.spare _ refl,
