@@ -3,7 +3,6 @@ ghost use Rattle.std.specs.Prelude.{◌≡◌, ◌<◌, ◌≤◌, ◌+◌, ℕ,
 ghost use Rattle.qc_model.specs.Domains.{declared_box, values_left, is_none_left, least_value, greatest_value, has_value, is_single, is_ascending, box_without, values_within, values_outside};
 ghost use Rattle.std.specs.List.{list_all};
 ghost use Rattle.qc_model.specs.Valid.{is_number};
-ghost use Rattle.fd_store.specs.Takes.{removed_of};
 ghost use Rattle.fd_store.specs.Held.{trail_len, past_box, removal, removal_need, count_left, Follows, IsUndone, values_from, values_up_to, least_of, greatest_of};
 
 use crate::answer::Removed;
@@ -212,18 +211,6 @@ impl Store {
         ensures spare { self.new.spare + trail_len self.new ≡ self.old.spare + trail_len self.old }
         ensures few { trail_len self.new + length (values_left self.new.box x.0) ≤ trail_len self.old + length (values_left self.old.box x.0) }
         ensures answer { result ≡ removal (values_within lo hi (values_left self.old.box x.0)) (values_outside lo hi (values_left self.old.box x.0)) }
-    {
-        self.take(x, lo, hi)
-    }
-
-    fn take(&mut self, x: VarId, lo: i64, hi: i64) -> Removed
-        requires var { x.0 < length self.old.box }
-        requires room { removal_need (values_left self.old.box x.0) lo hi ≤ self.old.spare }
-        ensures content { self.new.box ≡ box_without self.old.box x.0 lo hi }
-        ensures past { Follows self.old self.new }
-        ensures spare { self.new.spare + trail_len self.new ≡ self.old.spare + trail_len self.old }
-        ensures few { trail_len self.new + length (values_left self.new.box x.0) ≤ trail_len self.old + length (values_left self.old.box x.0) }
-        ensures answer { result ≡ removed_of (length (values_left self.old.box x.0)) (length (values_left self.new.box x.0)) }
     {
         self.table.cut(x.0 as usize, lo, hi)
     }
