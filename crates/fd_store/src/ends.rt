@@ -6,7 +6,7 @@ ghost use Rattle.fd_store.specs.Places.{is_kept, is_inside, count_below};
 ghost use Rattle.fd_store.specs.Sound.{IsCell};
 ghost use Rattle.fd_store.specs.Takes.{Takes, IsSoundTable, box_in};
 
-use crate::table::{Cell, Table};
+use crate::table::{Cell, Table, record};
 use crate::words::{count_set, end_of_set, next_set};
 
 impl Table {
@@ -98,8 +98,8 @@ impl Table {
         ensures step { length self.new.trail.items ≡ length self.old.trail.items + 1 }
         ensures some { 0 < length (values_left (box_in self.new) x) }
     {
-        self.record(x);
         let kept = &mut self.cells[x];
+        record(&mut self.trail, x, *kept);
         kept.first = e;
         kept.size = cell.end - e;
     }
@@ -119,8 +119,8 @@ impl Table {
         ensures step { length self.new.trail.items ≡ length self.old.trail.items + 1 }
         ensures some { 0 < length (values_left (box_in self.new) x) }
     {
-        self.record(x);
         let kept = &mut self.cells[x];
+        record(&mut self.trail, x, *kept);
         kept.end = a;
         kept.size = a - cell.first;
     }

@@ -41,6 +41,20 @@ pub(crate) struct Change {
 // Stands in a change for a word, where none was changed.
 pub(crate) const NO_WORD: usize = usize::MAX;
 
+// Records the cell of x, which is about to change while the words stay.
+pub(crate) fn record(trail: &mut PagedStack<Change>, x: usize, cell: Cell)
+    requires { 0 < trail.old.spare }
+    ensures items { trail.new.items ≡ trail.old.items ++ record { bits = 0; word = NO_WORD; var = x; cell = cell } ∷ [] }
+    ensures spare { trail.new.spare + 1 ≡ trail.old.spare }
+{
+    trail.push_spare(Change {
+        cell,
+        bits: 0,
+        word: NO_WORD,
+        var: x,
+    });
+}
+
 #[derive(Drop)]
 pub(crate) struct Table {
     pub(crate) words: Vec<u64>,
@@ -60,23 +74,6 @@ impl Table {
         self.cells[x]
     }
 
-    // Records the cell of x, which is about to change while the words stay.
-    pub(crate) fn record(&mut self, x: usize)
-        requires var { x < length self.old.cells.items }
-        requires room { 0 < self.old.trail.spare }
-        ensures words { self.new.words.items ≡ self.old.words.items }
-        ensures cells { self.new.cells.items ≡ self.old.cells.items }
-        ensures trail { (c : Cell) → self.new.trail.items ≡ self.old.trail.items ++ record { bits = 0; word = NO_WORD; var = x; cell = slice_index_or self.old.cells.items x c } ∷ [] }
-        ensures spare { self.new.trail.spare + 1 ≡ self.old.trail.spare }
-    {
-        self.trail.push_spare(Change {
-            bits: 0,
-            word: NO_WORD,
-            var: x,
-            cell: self.cells[x],
-        });
-    }
-
     // Puts another cell in the place of the x-th, and leaves the words.
     pub(crate) fn replace(&mut self, x: usize, cell: Cell)
         requires var { x < length self.old.cells.items }
@@ -86,12 +83,7 @@ impl Table {
         ensures trail { self.new.trail.items ≡ self.old.trail.items ++ record { bits = 0; word = NO_WORD; var = x; cell = slice_index_or self.old.cells.items x cell } ∷ [] }
         ensures spare { self.new.trail.spare + 1 ≡ self.old.trail.spare }
     {
-        self.trail.push_spare(Change {
-            bits: 0,
-            word: NO_WORD,
-            var: x,
-            cell: self.cells[x],
-        });
+        record(&mut self.trail, x, self.cells[x]);
         self.cells[x] = cell;
     }
 
