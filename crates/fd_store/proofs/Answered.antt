@@ -1,5 +1,7 @@
 -- What a store sees of its table, and what a removal answers.
-use Rattle.std.proofs.Common.{◌≡◌, ◌≢◌, ℕ, suc, List, [], ◌∷◌, ◌+◌, ◌<◌, ◌≤◌, not, length, drop, get_or, refl, sym, ap, ◌∙◌, arith, ℤ}
+use Rattle.std.proofs.Common.{◌≡◌, ℕ, suc, List, [], ◌∷◌, ◌+◌, ◌<◌, ◌≤◌, not, length, drop, get_or, cond, true, false, refl, sym, ap, ◌∙◌, arith, ℤ}
+use Rattle.std.specs.Prelude.{◌==◌}
+use Rattle.std.proofs.lemmas.Bool.Decides.{nat_tests}
 use Rattle.std.proofs.lemmas.List.{get_or-set_same}
 use Rattle.std.proofs.lemmas.List.Sums.{sum_by-cons}
 use Rattle.std.proofs.lemmas.List.Filters.{length-filter_both}
@@ -10,6 +12,7 @@ use Rattle.fd_store.specs.declared.table.Change.{Change}
 use Rattle.fd_store.specs.Held.{Held, trail_len, past_box, count_left, removal}
 use Rattle.fd_store.specs.Places.{is_kept, cell_values, box_of}
 use Rattle.fd_store.specs.Sound.{IsCell, IsSound, cells_left}
+use Rattle.fd_store.specs.Takes.{removed_of}
 use Rattle.fd_store.specs.Trail.{cells_before, words_before, held}
 use Rattle.fd_store.proofs.Past.{length-past_boxes, past_is}
 use Rattle.fd_store.proofs.Values.{length-values}
@@ -26,20 +29,6 @@ without_same box x lo hi h = get_or-set_same box x (values_outside lo hi (values
 split : (lo hi : ℤ) (vs : Values) → length (values_within lo hi vs) + length (values_outside lo hi vs) ≡ length vs
 split lo hi vs = length-filter_both (is_within lo hi) (λ v. not (is_within lo hi v)) (λ v. refl) vs
 
-nothing : (go stay : Values) → length go ≡ 0 → Nothing ≡ removal go stay
-nothing [] stay e = refl
-nothing (v ∷ go) stay e = absurd (omega arith)
-
-emptied : (go stay : Values) → 0 < length go → length stay ≡ 0 → Emptied ≡ removal go stay
-emptied [] stay h e = absurd (omega arith)
-emptied (v ∷ go) [] h e = refl
-emptied (v ∷ go) (w ∷ stay) h e = absurd (omega arith)
-
-some : (go stay : Values) → 0 < length go → 0 < length stay → Some ≡ removal go stay
-some [] stay h k = absurd (omega arith)
-some (v ∷ go) [] h k = absurd (omega arith)
-some (v ∷ go) (w ∷ stay) h k = refl
-
 -- the numbers of values that go and that stay
 pub record Counted (box new : Box) (x : ℕ) (lo hi : ℤ) : Type 0 where
   pub whole : length (values_within lo hi (values_left box x)) + length (values_outside lo hi (values_left box x)) ≡ length (values_left box x)
@@ -51,17 +40,35 @@ counted box new x lo hi h e = record {
   stay = ap (λ b. length (values_left b x)) e ∙ ap length (without_same box x lo hi h);
 }
 
-pub answer_nothing : (box new : Box) (x : ℕ) (lo hi : ℤ) → Counted box new x lo hi → length (values_left box x) ≡ length (values_left new x) →
-    Nothing ≡ removal (values_within lo hi (values_left box x)) (values_outside lo hi (values_left box x))
-answer_nothing box new x lo hi k q = nothing (values_within lo hi (values_left box x)) (values_outside lo hi (values_left box x)) (omega (arith, k.whole, k.stay, q))
+-- so the numbers tell what became of them
+pub answer_counted : (box new : Box) (x : ℕ) (lo hi : ℤ) → Counted box new x lo hi →
+    removed_of (length (values_left box x)) (length (values_left new x)) ≡ removal (values_within lo hi (values_left box x)) (values_outside lo hi (values_left box x))
+answer_counted box new x lo hi k =
+    ap (removed_of (length (values_left box x))) k.stay
+    ∙ (ap (λ n. removed_of n (length stay)) (sym k.whole) ∙ by go stay)
+  where
+    go : Values
+    go = values_within lo hi (values_left box x)
 
-pub answer_emptied : (box new : Box) (x : ℕ) (lo hi : ℤ) → Counted box new x lo hi → length (values_left box x) ≢ length (values_left new x) → length (values_left new x) ≡ 0 →
-    Emptied ≡ removal (values_within lo hi (values_left box x)) (values_outside lo hi (values_left box x))
-answer_emptied box new x lo hi k q z = emptied (values_within lo hi (values_left box x)) (values_outside lo hi (values_left box x)) (omega (arith, k.whole, k.stay, z)) (omega (arith, k.stay, z))
+    stay : Values
+    stay = values_outside lo hi (values_left box x)
 
-pub answer_some : (box new : Box) (x : ℕ) (lo hi : ℤ) → Counted box new x lo hi → length (values_left box x) ≢ length (values_left new x) → length (values_left new x) ≢ 0 →
-    Some ≡ removal (values_within lo hi (values_left box x)) (values_outside lo hi (values_left box x))
-answer_some box new x lo hi k q z = some (values_within lo hi (values_left box x)) (values_outside lo hi (values_left box x)) (omega (arith, k.whole, k.stay)) (omega (arith, k.stay))
+    same : (n : ℕ) → (0 + n == n) ≡ true
+    same n = grind (arith, nat_tests)
+
+    none : (m : ℕ) → (suc m + 0 == 0) ≡ false
+    none m = grind (arith, nat_tests)
+
+    some : (n : ℕ) → (suc n == 0) ≡ false
+    some n = grind (arith, nat_tests)
+
+    more : (m n : ℕ) → (suc m + suc n == suc n) ≡ false
+    more m n = grind (arith, nat_tests)
+
+    by : (us vs : Values) → removed_of (length us + length vs) (length vs) ≡ removal us vs
+    by [] vs = ap (λ b. cond b Nothing (cond (length vs == 0) Emptied Some)) (same (length vs))
+    by (u ∷ us) [] = ap (λ b. cond b Nothing Emptied) (none (length us))
+    by (u ∷ us) (v ∷ vs) = ap (λ b. cond b Nothing (cond (suc (length vs) == 0) Emptied Some)) (more (length us) (length vs)) ∙ ap (λ b. cond b Emptied Some) (some (length vs))
 
 -- how many values are left to all cells, as a box
 lengths_are : (words : List ℕ) (cells : List Cell) → ((x : ℕ) (c : Cell) → x < length cells → get_or cells x c ≡ c → IsCell words c) → count_left (box_of words cells) ≡ cells_left cells

@@ -171,7 +171,7 @@ pub base_fits : (words : List ℕ) (c : Cell) → IsCell words c → SFits w64 c
 base_fits words c i = omega (arith, ints, i.low, i.high)
 
 -- the cell that a change records
-recorded_cell : (cells : List Cell) (x : ℕ) (c d : Cell) → x < length cells → get_or cells x c ≡ c → get_or cells x d ≡ c
+pub recorded_cell : (cells : List Cell) (x : ℕ) (c d : Cell) → x < length cells → get_or cells x c ≡ c → get_or cells x d ≡ c
 recorded_cell [] x c d h e = absurd (omega arith)
 recorded_cell (o ∷ os) zero c d h e = e
 recorded_cell (o ∷ os) (suc x) c d h e = recorded_cell os x c d (omega arith) e

@@ -1,6 +1,6 @@
 -- The least and the greatest value of a cell, and the places that a removal takes.
 use Rattle.std.proofs.Common.{◌≡◌, ◌⊎◌, inl, inr, ℕ, List, ◌+◌, ◌-◌, ◌*◌, ◌/◌, ◌<◌, ◌≤◌, Bool, true, false, not, ◌&&◌, cond, length, get_or, refl, sym, ap, subst, ◌∙◌, arith, ℤ, [], ◌∷◌}
-use Rattle.std.specs.Prelude.{pos, ◌+ℤ◌, ◌-ℤ◌, ◌≤ℤ◌, nat_abs, int_lt, int_le, nat_le, nat_lt}
+use Rattle.std.specs.Prelude.{pos, ◌+ℤ◌, ◌-ℤ◌, ◌<ℤ◌, ◌≤ℤ◌, nat_abs, int_lt, int_le, nat_le, nat_lt}
 use Rattle.std.specs.Int.{int_min, int_max}
 use Rattle.std.proofs.lemmas.Bool.Decides.{nat_tests}
 use Rattle.std.proofs.lemmas.Int.{ints}
@@ -123,6 +123,89 @@ need_none words c lo hi a e i s h = elim (near c.first c.end) [
 
 span_within : (c : Cell) (lo hi : ℤ) (a e k : ℕ) → IsSpan c lo hi a e → c.first ≤ k → k < c.end → is_inside a e k ≡ is_within lo hi (c.base +ℤ pos k)
 span_within c lo hi a e k s h l = ap (λ b. b && nat_lt k e) (s.low k h l) ∙ ap (λ b. int_le lo (c.base +ℤ pos k) && b) (s.high k h l)
+
+-- the places of a removal at an end, and of one beyond it
+pub span_low : (c : Cell) (lo hi : ℤ) (k : ℕ) → lo ≤ℤ (c.base +ℤ pos c.first) → hi ≡ c.base +ℤ pos k → c.first ≤ k → k + 1 < c.end → IsSpan c lo hi c.first (k + 1)
+span_low c lo hi k h e l m = record {
+  from = omega arith;
+  most = omega arith;
+  low = λ j p q. from_first c.base c.first j h p;
+  high = λ j p q. up_to_place c.base j e;
+  least = λ q. least_is c.base c.first h;
+  greatest = λ q. greatest_is c.base c.end e m;
+}
+  where
+    from_first : (b : ℤ) (first j : ℕ) → lo ≤ℤ (b +ℤ pos first) → first ≤ j → nat_le first j ≡ int_le lo (b +ℤ pos j)
+    from_first b first j h p = grind (arith, ints, nat_tests)
+
+    up_to_place : (b : ℤ) (j : ℕ) → hi ≡ b +ℤ pos k → nat_lt j (k + 1) ≡ int_le (b +ℤ pos j) hi
+    up_to_place b j e = grind (arith, ints, nat_tests)
+
+    least_is : (b : ℤ) (first : ℕ) → lo ≤ℤ (b +ℤ pos first) → int_max lo (b +ℤ pos first) ≡ b +ℤ pos first
+    least_is b first h = grind (arith, ints)
+
+    greatest_is : (b : ℤ) (end : ℕ) → hi ≡ b +ℤ pos k → k + 1 < end → int_min hi (b +ℤ pos (end - 1)) ≡ b +ℤ pos (k + 1 - 1)
+    greatest_is b end e m = grind (arith, ints)
+
+pub span_high : (c : Cell) (lo hi : ℤ) (k : ℕ) → (c.base +ℤ pos c.end) ≤ℤ (hi +ℤ pos 1) → lo ≡ c.base +ℤ pos k → c.first < k → k < c.end → IsSpan c lo hi k c.end
+span_high c lo hi k h e l m = record {
+  from = omega arith;
+  most = omega arith;
+  low = λ j p q. from_place c.base j e;
+  high = λ j p q. up_to_end c.base c.end j h q;
+  least = λ q. least_is c.base c.first e l;
+  greatest = λ q. greatest_is c.base c.end h m;
+}
+  where
+    from_place : (b : ℤ) (j : ℕ) → lo ≡ b +ℤ pos k → nat_le k j ≡ int_le lo (b +ℤ pos j)
+    from_place b j e = grind (arith, ints, nat_tests)
+
+    up_to_end : (b : ℤ) (end j : ℕ) → (b +ℤ pos end) ≤ℤ (hi +ℤ pos 1) → j < end → nat_lt j end ≡ int_le (b +ℤ pos j) hi
+    up_to_end b end j h q = grind (arith, ints, nat_tests)
+
+    least_is : (b : ℤ) (first : ℕ) → lo ≡ b +ℤ pos k → first < k → int_max lo (b +ℤ pos first) ≡ b +ℤ pos k
+    least_is b first e l = grind (arith, ints)
+
+    greatest_is : (b : ℤ) (end : ℕ) → (b +ℤ pos end) ≤ℤ (hi +ℤ pos 1) → k < end → int_min hi (b +ℤ pos (end - 1)) ≡ b +ℤ pos (end - 1)
+    greatest_is b end h m = grind (arith, ints)
+
+pub span_below : (c : Cell) (lo hi : ℤ) → c.first ≤ c.end → lo ≤ℤ (c.base +ℤ pos c.first) → hi <ℤ (c.base +ℤ pos c.first) → IsSpan c lo hi c.first c.first
+span_below c lo hi o h l = record {
+  from = omega arith;
+  most = o;
+  low = λ j p q. from_first c.base c.first j h p;
+  high = λ j p q. below_first c.base c.first j l p;
+  least = λ q. least_is c.base c.first h;
+  greatest = λ q. absurd (omega arith);
+}
+  where
+    from_first : (b : ℤ) (first j : ℕ) → lo ≤ℤ (b +ℤ pos first) → first ≤ j → nat_le first j ≡ int_le lo (b +ℤ pos j)
+    from_first b first j h p = grind (arith, ints, nat_tests)
+
+    below_first : (b : ℤ) (first j : ℕ) → hi <ℤ (b +ℤ pos first) → first ≤ j → nat_lt j first ≡ int_le (b +ℤ pos j) hi
+    below_first b first j l p = grind (arith, ints, nat_tests)
+
+    least_is : (b : ℤ) (first : ℕ) → lo ≤ℤ (b +ℤ pos first) → int_max lo (b +ℤ pos first) ≡ b +ℤ pos first
+    least_is b first h = grind (arith, ints)
+
+pub span_past : (c : Cell) (lo hi : ℤ) → c.first ≤ c.end → (c.base +ℤ pos c.end) ≤ℤ lo → (c.base +ℤ pos c.end) ≤ℤ (hi +ℤ pos 1) → IsSpan c lo hi c.end c.end
+span_past c lo hi o h l = record {
+  from = o;
+  most = omega arith;
+  low = λ j p q. past_end c.base c.end j h q;
+  high = λ j p q. up_to_end c.base c.end j l q;
+  least = λ q. absurd (omega arith);
+  greatest = λ q. greatest_is c.base c.first c.end l q;
+}
+  where
+    past_end : (b : ℤ) (end j : ℕ) → (b +ℤ pos end) ≤ℤ lo → j < end → nat_le end j ≡ int_le lo (b +ℤ pos j)
+    past_end b end j h q = grind (arith, ints, nat_tests)
+
+    up_to_end : (b : ℤ) (end j : ℕ) → (b +ℤ pos end) ≤ℤ (hi +ℤ pos 1) → j < end → nat_lt j end ≡ int_le (b +ℤ pos j) hi
+    up_to_end b end j h q = grind (arith, ints, nat_tests)
+
+    greatest_is : (b : ℤ) (first end : ℕ) → (b +ℤ pos end) ≤ℤ (hi +ℤ pos 1) → first < end → int_min hi (b +ℤ pos (end - 1)) ≡ b +ℤ pos (end - 1)
+    greatest_is b first end h m = grind (arith, ints)
 
 -- a removal by values, from one by places
 pub takes_span : (t u : Table) (x : ℕ) (c : Cell) (lo hi : ℤ) (a e : ℕ) → x < length t.cells.items → get_or t.cells.items x c ≡ c → IsSpan c lo hi a e → a < e →

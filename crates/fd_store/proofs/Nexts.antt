@@ -1,7 +1,9 @@
 -- The next value that is left, up or down.
 use Rattle.std.proofs.Common.{◌≡◌, ℕ, zero, suc, ◌+◌, ◌-◌, ◌*◌, ◌<◌, ◌≤◌, Bool, true, false, ◌&&◌, cond, length, get_or, filter, refl, sym, ap, ◌∙◌, arith, ℤ, [], ◌∷◌, ◌++◌, None, Some}
-use Rattle.std.specs.Prelude.{pos, ◌+ℤ◌, int_le, nat_le, nat_lt}
+use Rattle.std.specs.Prelude.{pos, ◌+ℤ◌, ◌-ℤ◌, ◌<ℤ◌, ◌≤ℤ◌, int_le, nat_abs, nat_le, nat_lt}
+use Rattle.std.specs.Int.{int_min, int_max}
 use Rattle.std.proofs.lemmas.Bool.Decides.{nat_tests}
+use Rattle.std.proofs.lemmas.Int.{ints}
 use Rattle.std.proofs.lemmas.List.Elements.{filter-append}
 use Rattle.qc_model.specs.Domains.{Values, values_left, greatest_value}
 use Rattle.fd_store.specs.declared.table.Cell.{Cell}
@@ -107,18 +109,18 @@ prev_none t x c v e h at l test = sym (ap greatest_of (up_to_is t x c v h at
     ∙ values_none (λ k. is_kept t.words.items c k && int_le (c.base +ℤ pos k) v) c.base c.width (λ k m. none_prev (is_set t.words.items (64 * c.start + k)) (int_le (c.base +ℤ pos k) v) c.first c.end e k l (test k))))
 
 -- where no place between the ends is missing
-pub next_dense : (t : Table) (x : ℕ) (c : Cell) (v : ℤ) (a : ℕ) → x < length t.cells.items → get_or t.cells.items x c ≡ c → IsCell t.words.items c → c.size ≡ c.end - c.first → c.first ≤ a → a < c.end →
+next_at : (t : Table) (x : ℕ) (c : Cell) (v : ℤ) (a : ℕ) → x < length t.cells.items → get_or t.cells.items x c ≡ c → IsCell t.words.items c → c.size ≡ c.end - c.first → c.first ≤ a → a < c.end →
     ((k : ℕ) → c.first ≤ k → k < c.end → nat_le a k ≡ int_le v (c.base +ℤ pos k)) → Some (c.base +ℤ pos a) ≡ least_of (values_from v (values_left (box_in t) x))
-next_dense t x c v a h at i d low l test =
+next_at t x c v a h at i d low l test =
     ap (λ k. Some (c.base +ℤ pos k)) place
     ∙ next_found t x c v a (64 * c.start + a) h at i low test (omega arith) (omega arith) (set_dense t.words.items c a i d low l) (λ p m n. absurd (omega arith))
   where
     place : a ≡ 64 * c.start + a - 64 * c.start
     place = omega arith
 
-pub prev_dense : (t : Table) (x : ℕ) (c : Cell) (v : ℤ) (e : ℕ) → x < length t.cells.items → get_or t.cells.items x c ≡ c → IsCell t.words.items c → c.size ≡ c.end - c.first → c.first < e → e ≤ c.end →
+prev_at : (t : Table) (x : ℕ) (c : Cell) (v : ℤ) (e : ℕ) → x < length t.cells.items → get_or t.cells.items x c ≡ c → IsCell t.words.items c → c.size ≡ c.end - c.first → c.first < e → e ≤ c.end →
     ((k : ℕ) → c.first ≤ k → k < c.end → nat_lt k e ≡ int_le (c.base +ℤ pos k) v) → Some (c.base +ℤ pos (e - 1)) ≡ greatest_of (values_up_to v (values_left (box_in t) x))
-prev_dense t x c v e h at i d low l test =
+prev_at t x c v e h at i d low l test =
     ap (λ k. Some (c.base +ℤ pos k)) place
     ∙ prev_found t x c v e (64 * c.start + e) h at i l test (omega arith) (omega arith) (ap (is_set t.words.items) last ∙ set_dense t.words.items c (e - 1) i d (omega arith) (omega arith)) (λ p m n. absurd (omega arith))
   where
@@ -127,3 +129,50 @@ prev_dense t x c v e h at i d low l test =
 
     last : 64 * c.start + e - 1 ≡ 64 * c.start + (e - 1)
     last = omega arith
+
+-- the place of a value between the ends
+place_of : (b v : ℤ) (first end : ℕ) → (b +ℤ pos first) ≤ℤ v → v <ℤ (b +ℤ pos end) → (k : ℕ) × (first ≤ k) × (k < end) × (v ≡ b +ℤ pos k)
+place_of b v first end l m = (nat_abs (v -ℤ b), omega (arith, ints), omega (arith, ints), omega (arith, ints))
+
+-- then the next value is v itself or the least one, and the one before is v itself or the greatest one
+pub next_dense : (t : Table) (x : ℕ) (c : Cell) (v next : ℤ) → x < length t.cells.items → get_or t.cells.items x c ≡ c → IsCell t.words.items c → c.size ≡ c.end - c.first →
+    next ≡ int_max v (c.base +ℤ pos c.first) → next <ℤ (c.base +ℤ pos c.end) → Some next ≡ least_of (values_from v (values_left (box_in t) x))
+next_dense t x c v next h at i d e m =
+    let p = place_of c.base next c.first c.end (above c.base c.first e) m in
+    ap Some p.3 ∙ next_at t x c v p.0 h at i d p.1 p.2 (λ k l n. test c.base c.first p.0 k e p.3 l)
+  where
+    above : (b : ℤ) (first : ℕ) → next ≡ int_max v (b +ℤ pos first) → (b +ℤ pos first) ≤ℤ next
+    above b first e = grind (arith, ints)
+
+    test : (b : ℤ) (first a k : ℕ) → next ≡ int_max v (b +ℤ pos first) → next ≡ b +ℤ pos a → first ≤ k → nat_le a k ≡ int_le v (b +ℤ pos k)
+    test b first a k e p l = grind (arith, ints, nat_tests)
+
+pub next_past : (t : Table) (x : ℕ) (c : Cell) (v next : ℤ) → x < length t.cells.items → get_or t.cells.items x c ≡ c →
+    next ≡ int_max v (c.base +ℤ pos c.first) → (c.base +ℤ pos c.end) ≤ℤ next → None ≡ least_of (values_from v (values_left (box_in t) x))
+next_past t x c v next h at e m = next_none t x c v c.end h at (omega arith) (λ k l n. test c.base c.first c.end k e m l n)
+  where
+    test : (b : ℤ) (first end k : ℕ) → next ≡ int_max v (b +ℤ pos first) → (b +ℤ pos end) ≤ℤ next → first ≤ k → k < end → nat_le end k ≡ int_le v (b +ℤ pos k)
+    test b first end k e m l n = grind (arith, ints, nat_tests)
+
+pub prev_dense : (t : Table) (x : ℕ) (c : Cell) (v prev : ℤ) → x < length t.cells.items → get_or t.cells.items x c ≡ c → IsCell t.words.items c → c.size ≡ c.end - c.first →
+    prev ≡ int_min v ((c.base +ℤ pos c.end) -ℤ pos 1) → (c.base +ℤ pos c.first) ≤ℤ prev → Some prev ≡ greatest_of (values_up_to v (values_left (box_in t) x))
+prev_dense t x c v prev h at i d e m =
+    let p = place_of c.base prev c.first c.end m (below c.base c.end e) in
+    ap Some (p.3 ∙ ap (λ k. c.base +ℤ pos k) (last p.0))
+    ∙ prev_at t x c v (p.0 + 1) h at i d (omega (arith, p.1)) (omega (arith, p.2)) (λ k l n. test c.base c.end p.0 k e p.3 n)
+  where
+    below : (b : ℤ) (end : ℕ) → prev ≡ int_min v ((b +ℤ pos end) -ℤ pos 1) → prev <ℤ (b +ℤ pos end)
+    below b end e = grind (arith, ints)
+
+    last : (k : ℕ) → k ≡ k + 1 - 1
+    last k = omega arith
+
+    test : (b : ℤ) (end j k : ℕ) → prev ≡ int_min v ((b +ℤ pos end) -ℤ pos 1) → prev ≡ b +ℤ pos j → k < end → nat_lt k (j + 1) ≡ int_le (b +ℤ pos k) v
+    test b end j k e p l = grind (arith, ints, nat_tests)
+
+pub prev_past : (t : Table) (x : ℕ) (c : Cell) (v prev : ℤ) → x < length t.cells.items → get_or t.cells.items x c ≡ c →
+    prev ≡ int_min v ((c.base +ℤ pos c.end) -ℤ pos 1) → prev <ℤ (c.base +ℤ pos c.first) → None ≡ greatest_of (values_up_to v (values_left (box_in t) x))
+prev_past t x c v prev h at e m = prev_none t x c v c.first h at (omega arith) (λ k l n. test c.base c.first c.end k e m l n)
+  where
+    test : (b : ℤ) (first end k : ℕ) → prev ≡ int_min v ((b +ℤ pos end) -ℤ pos 1) → prev <ℤ (b +ℤ pos first) → first ≤ k → k < end → nat_lt k first ≡ int_le (b +ℤ pos k) v
+    test b first end k e m l n = grind (arith, ints, nat_tests)

@@ -82,6 +82,24 @@ below_first v r s e q = grind (arith, ints)
 pub above_last : (v r s : ℤ) → int_le r v ≡ true → r ≡ s → s ≤ℤ v
 above_last v r s e q = grind (arith, ints)
 
+pub not_below : (v r s : ℤ) → int_lt v r ≡ false → r ≡ s → s ≤ℤ v
+not_below v r s e q = grind (arith, ints)
+
+pub not_above : (v r s : ℤ) → int_le r v ≡ false → r ≡ s → v <ℤ s
+not_above v r s e q = grind (arith, ints)
+
+pub up_to : (v r s : ℤ) → int_le v r ≡ true → r ≡ s → v ≤ℤ s
+up_to v r s e q = grind (arith, ints)
+
+pub above : (v r s : ℤ) → int_le v r ≡ false → r ≡ s → s <ℤ v
+above v r s e q = grind (arith, ints)
+
+pub before_last : (v r s : ℤ) → int_lt v (r -ℤ pos 1) ≡ true → r ≡ s → (v +ℤ pos 1) <ℤ s
+before_last v r s e q = grind (arith, ints)
+
+pub from_last : (v r s : ℤ) → int_le (r -ℤ pos 1) v ≡ true → r ≡ s → s ≤ℤ (v +ℤ pos 1)
+from_last v r s e q = grind (arith, ints)
+
 pub from_first : (b v r : ℤ) (first k : ℕ) → int_lt v r ≡ false → r ≡ b +ℤ pos first → v ≡ b +ℤ pos k → first ≤ k
 from_first b v r first k e q p = grind (arith, ints)
 

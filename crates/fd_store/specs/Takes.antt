@@ -1,6 +1,8 @@
 -- What a step of a removal does to the words, the cells and the trail.
-use Rattle.std.specs.Prelude.{◌≡◌, ◌≤◌, ℕ, ◌+◌, length, ℤ}
+use Rattle.std.specs.Prelude.{◌≡◌, ◌≤◌, ℕ, ◌+◌, ◌==◌, cond, length, ℤ}
 use Rattle.qc_model.specs.Domains.{Box, values_left, box_without}
+use Rattle.fd_store.specs.declared.answer.Removed.{Removed}
+use Rattle.fd_store.specs.declared.answer.Removed.TheVariants.{Nothing, Emptied, Some}
 use Rattle.fd_store.specs.declared.table.Cell.{Cell}
 use Rattle.fd_store.specs.declared.table.Table.{Table}
 use Rattle.fd_store.specs.Places.{box_of}
@@ -21,6 +23,10 @@ pub record Takes (x : ℕ) (lo hi : ℤ) (t u : Table) : Type 0 where
   pub spare : u.trail.spare + length u.trail.items ≡ t.trail.spare + length t.trail.items
   -- no more places than values that went
   pub few : length u.trail.items + length (values_left (box_in u) x) ≤ length t.trail.items + length (values_left (box_in t) x)
+
+-- what became of so many values, where so many are left
+abbrev pub removed_of : ℕ → ℕ → Removed
+removed_of before left = cond (before == left) Nothing (cond (left == 0) Emptied Some)
 
 -- the same places of the same values, but for how many are left
 pub record SameEnds (c d : Cell) : Type 0 where

@@ -4,9 +4,10 @@ ghost use Rattle.std.specs.Int.{int_min, int_max};
 ghost use Rattle.qc_model.specs.Domains.{values_left};
 ghost use Rattle.fd_store.specs.Held.{removal_need};
 ghost use Rattle.fd_store.specs.Sound.{IsCell};
-ghost use Rattle.fd_store.specs.Takes.{Takes, IsSoundTable, box_in};
+ghost use Rattle.fd_store.specs.Takes.{Takes, IsSoundTable, box_in, removed_of};
 
-use crate::table::{Cell, Table};
+use crate::answer::Removed;
+use crate::table::{Cell, Table, has_no_gap};
 
 // The value at a place of a cell.
 pub(crate) fn value_at(base: i64, k: u32) -> i64
@@ -96,8 +97,8 @@ impl Table {
         }
     }
 
-    // Takes the values of x from lo to hi.
-    pub(crate) fn cut(&mut self, x: usize, lo: i64, hi: i64)
+    // Takes the values of x from lo to hi, wherever they stand.
+    fn cut_span(&mut self, x: usize, lo: i64, hi: i64)
         requires sound { IsSoundTable self.old }
         requires var { x < length self.old.cells.items }
         requires room { removal_need (values_left (box_in self.old) x) lo hi ≤ self.old.trail.spare }
@@ -109,5 +110,59 @@ impl Table {
         if a < e {
             self.cut_places(x, cell, a, e);
         }
+    }
+
+    // Takes the values of x from lo to hi, wherever they stand, and tells what became of all values of x. It isn't
+    // inlined, so that `cut` needs few registers.
+    #[inline(never)]
+    fn cut_anywhere(&mut self, x: usize, lo: i64, hi: i64) -> Removed
+        requires sound { IsSoundTable self.old }
+        requires var { x < length self.old.cells.items }
+        requires room { removal_need (values_left (box_in self.old) x) lo hi ≤ self.old.trail.spare }
+        ensures takes { Takes x lo hi self.old self.new }
+        ensures answer { result ≡ removed_of (length (values_left (box_in self.old) x)) (length (values_left (box_in self.new) x)) }
+    {
+        let before = self.size(x);
+        self.cut_span(x, lo, hi);
+        let after = self.size(x);
+        if before == after {
+            Removed::Nothing
+        } else if after == 0 {
+            Removed::Emptied
+        } else {
+            Removed::Some
+        }
+    }
+
+    // Takes the values of x from lo to hi, and tells what became of all values of x. Most removals are at an end of
+    // values without gaps: such an end moves to the value next to the removed ones, and no word is read.
+    pub(crate) fn cut(&mut self, x: usize, lo: i64, hi: i64) -> Removed
+        requires sound { IsSoundTable self.old }
+        requires var { x < length self.old.cells.items }
+        requires room { removal_need (values_left (box_in self.old) x) lo hi ≤ self.old.trail.spare }
+        ensures takes { Takes x lo hi self.old self.new }
+        ensures answer { result ≡ removed_of (length (values_left (box_in self.old) x)) (length (values_left (box_in self.new) x)) }
+    {
+        let cell = self.cell(x);
+        if has_no_gap(cell) {
+            let least = value_at(cell.base, cell.first);
+            let past = value_at(cell.base, cell.end);
+            if lo <= least {
+                if hi < least {
+                    return Removed::Nothing;
+                }
+                if hi < past - 1 {
+                    self.move_first(x, cell, offset_of(cell.base, hi) + 1);
+                    return Removed::Some;
+                }
+            } else if hi >= past - 1 {
+                if lo >= past {
+                    return Removed::Nothing;
+                }
+                self.move_end(x, cell, offset_of(cell.base, lo));
+                return Removed::Some;
+            }
+        }
+        self.cut_anywhere(x, lo, hi)
     }
 }

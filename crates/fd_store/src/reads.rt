@@ -73,8 +73,9 @@ impl Table {
         has_place(self.words.as_slice(), 64 * cell.start + k as usize)
     }
 
-    // The least value from v on.
-    pub(crate) fn next(&self, x: usize, v: i64) -> Option<i64>
+    // The least value from v on, whether or not there are gaps. It isn't inlined, so that `next` needs few registers.
+    #[inline(never)]
+    fn next_anywhere(&self, x: usize, v: i64) -> Option<i64>
         requires sound { IsSoundTable self.now }
         requires var { x < length self.now.cells.items }
         ensures { result ≡ least_of (values_from v (values_left (box_in self.now) x)) }
@@ -83,9 +84,6 @@ impl Table {
         let a = place_of(cell.base, cell.first, cell.end, v);
         if a >= cell.end {
             return None;
-        }
-        if has_no_gap(cell) {
-            return Some(value_at(cell.base, a));
         }
         let start = 64 * cell.start;
         let place = next_set(
@@ -96,8 +94,27 @@ impl Table {
         Some(value_at(cell.base, (place - start) as u32))
     }
 
-    // The greatest value up to v.
-    pub(crate) fn prev(&self, x: usize, v: i64) -> Option<i64>
+    // The least value from v on.
+    pub(crate) fn next(&self, x: usize, v: i64) -> Option<i64>
+        requires sound { IsSoundTable self.now }
+        requires var { x < length self.now.cells.items }
+        ensures { result ≡ least_of (values_from v (values_left (box_in self.now) x)) }
+    {
+        let cell = self.cell(x);
+        if !has_no_gap(cell) {
+            return self.next_anywhere(x, v);
+        }
+        let next = v.max(value_at(cell.base, cell.first));
+        if next < value_at(cell.base, cell.end) {
+            Some(next)
+        } else {
+            None
+        }
+    }
+
+    // The greatest value up to v, whether or not there are gaps. It isn't inlined, so that `prev` needs few registers.
+    #[inline(never)]
+    fn prev_anywhere(&self, x: usize, v: i64) -> Option<i64>
         requires sound { IsSoundTable self.now }
         requires var { x < length self.now.cells.items }
         ensures { result ≡ greatest_of (values_up_to v (values_left (box_in self.now) x)) }
@@ -107,9 +124,6 @@ impl Table {
         if e <= cell.first {
             return None;
         }
-        if has_no_gap(cell) {
-            return Some(value_at(cell.base, e - 1));
-        }
         let start = 64 * cell.start;
         let end = end_of_set(
             self.words.as_slice(),
@@ -117,6 +131,24 @@ impl Table {
             start + e as usize,
         );
         Some(value_at(cell.base, (end - 1 - start) as u32))
+    }
+
+    // The greatest value up to v.
+    pub(crate) fn prev(&self, x: usize, v: i64) -> Option<i64>
+        requires sound { IsSoundTable self.now }
+        requires var { x < length self.now.cells.items }
+        ensures { result ≡ greatest_of (values_up_to v (values_left (box_in self.now) x)) }
+    {
+        let cell = self.cell(x);
+        if !has_no_gap(cell) {
+            return self.prev_anywhere(x, v);
+        }
+        let prev = v.min(value_at(cell.base, cell.end) - 1);
+        if prev >= value_at(cell.base, cell.first) {
+            Some(prev)
+        } else {
+            None
+        }
     }
 
     // No removal takes many places.

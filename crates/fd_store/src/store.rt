@@ -212,27 +212,7 @@ impl Store {
         ensures few { trail_len self.new + length (values_left self.new.box x.0) ≤ trail_len self.old + length (values_left self.old.box x.0) }
         ensures answer { result ≡ removal (values_within lo hi (values_left self.old.box x.0)) (values_outside lo hi (values_left self.old.box x.0)) }
     {
-        let before = self.size(x);
-        self.take(x, lo, hi);
-        let after = self.size(x);
-        if before == after {
-            Removed::Nothing
-        } else if after == 0 {
-            Removed::Emptied
-        } else {
-            Removed::Some
-        }
-    }
-
-    fn take(&mut self, x: VarId, lo: i64, hi: i64)
-        requires var { x.0 < length self.old.box }
-        requires room { removal_need (values_left self.old.box x.0) lo hi ≤ self.old.spare }
-        ensures content { self.new.box ≡ box_without self.old.box x.0 lo hi }
-        ensures past { Follows self.old self.new }
-        ensures spare { self.new.spare + trail_len self.new ≡ self.old.spare + trail_len self.old }
-        ensures few { trail_len self.new + length (values_left self.new.box x.0) ≤ trail_len self.old + length (values_left self.old.box x.0) }
-    {
-        self.table.cut(x.0 as usize, lo, hi);
+        self.table.cut(x.0 as usize, lo, hi)
     }
 
     /// Takes the changes since the mark back: the box is the past box at the mark.

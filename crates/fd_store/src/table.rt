@@ -28,16 +28,32 @@ pub(crate) fn has_no_gap(cell: Cell) -> bool
 }
 
 /// A place of the trail: what a word and a cell were before a change.
+///
+/// The cell stands first: then it is copied straight to the trail, since no other field is written there before it.
 #[derive(Clone, Copy)]
 pub(crate) struct Change {
+    pub(crate) cell: Cell,
     pub(crate) bits: u64,
     pub(crate) word: usize,
     pub(crate) var: usize,
-    pub(crate) cell: Cell,
 }
 
 // Stands in a change for a word, where none was changed.
 pub(crate) const NO_WORD: usize = usize::MAX;
+
+// Records the cell of x, which is about to change while the words stay.
+pub(crate) fn record(trail: &mut PagedStack<Change>, x: usize, cell: Cell)
+    requires { 0 < trail.old.spare }
+    ensures items { trail.new.items ≡ trail.old.items ++ record { bits = 0; word = NO_WORD; var = x; cell = cell } ∷ [] }
+    ensures spare { trail.new.spare + 1 ≡ trail.old.spare }
+{
+    trail.push_spare(Change {
+        cell,
+        bits: 0,
+        word: NO_WORD,
+        var: x,
+    });
+}
 
 #[derive(Drop)]
 pub(crate) struct Table {
@@ -67,12 +83,7 @@ impl Table {
         ensures trail { self.new.trail.items ≡ self.old.trail.items ++ record { bits = 0; word = NO_WORD; var = x; cell = slice_index_or self.old.cells.items x cell } ∷ [] }
         ensures spare { self.new.trail.spare + 1 ≡ self.old.trail.spare }
     {
-        self.trail.push_spare(Change {
-            bits: 0,
-            word: NO_WORD,
-            var: x,
-            cell: self.cells[x],
-        });
+        record(&mut self.trail, x, self.cells[x]);
         self.cells[x] = cell;
     }
 

@@ -1,10 +1,6 @@
 use Rattle.std.proofs.Common.{◌∙◌, arith}
-use Rattle.fd_store.proofs.MovedEnds.{count_dense, place_count}
+use Rattle.fd_store.proofs.MovedEnds.{place_count}
 use Rattle.fd_store.proofs.table.Table.count.Goals as goal
-
-pub returns-then-has_no_gap : goal.returns-then-has_no_gap
-returns-then-has_no_gap c =
-    count_dense c.args.self.now.words.items c.args.cell c.args.a c.args.e c.requires.right (c.has_no_gap.ensures c.if-has_no_gap.true) c.requires.first (omega arith) c.requires.end
 
 pub returns : goal.returns
 returns c =

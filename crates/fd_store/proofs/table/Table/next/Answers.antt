@@ -1,42 +1,42 @@
-use Rattle.std.proofs.Common.{◌≡◌, ◌-◌, ◌*◌, ◌∙◌, sym, ap, rules, arith, Some}
+use Rattle.std.proofs.Common.{◌≡◌, ◌∙◌, ap, rules}
 use Rattle.std.specs.Prelude.{pos, ◌+ℤ◌}
+use Rattle.std.specs.Int.{int_max}
 use Rattle.std.proofs.lemmas.Int.{to_z-of_z}
 use mir.Val.{SFits}
 use mir.Syntax.{w64}
-use Rattle.fd_store.specs.Places.{is_set}
 use Rattle.fd_store.proofs.Cells.{base_fits}
-use Rattle.fd_store.proofs.Nexts.{next_found, next_none, next_dense}
+use Rattle.fd_store.proofs.Nexts.{next_dense, next_past}
+use Rattle.fd_store.proofs.Reading.{below_first, not_below}
 use Rattle.fd_store.proofs.table.Table.next.Goals as goal
 
-pub returns-then-a-cell : goal.returns-then-a-cell
-returns-then-a-cell c =
+pub returns-then-next-value_at : goal.returns-then-next-value_at
+returns-then-next-value_at c =
     let t = c.args.self.now in
     let k = c.cell-cell.ensures in
-    let fits : SFits w64 c.cell-cell.result.base = base_fits t.words.items c.cell-cell.result k.right in
+    let cell = c.cell-cell.result in
+    let fits : SFits w64 c.cell-cell.result.base = base_fits t.words.items cell k.right in
     let v_fits : SFits w64 c.args.v = search rules in
-    next_none t c.args.x c.cell-cell.result c.args.v c.place_of-a.result c.requires.var k.at c.if-a-cell.true (simp to_z-of_z at c.place_of-a.ensures.places)
+    let first_fits : SFits w64 c.value_at.result = search rules in
+    let second_fits : SFits w64 c.value_at-2.result = search rules in
+    let next_fits : SFits w64 c.max-next.result = search rules in
+    let least : c.value_at.result ≡ cell.base +ℤ pos cell.first = simp to_z-of_z at c.value_at.ensures in
+    let past : c.value_at-2.result ≡ cell.base +ℤ pos cell.end = simp to_z-of_z at c.value_at-2.ensures in
+    let next = (simp to_z-of_z at c.max-next.ensures.value) ∙ ap (int_max c.args.v) least in
+    let found = next_dense t c.args.x cell c.args.v c.max-next.result c.requires.var k.at k.right (c.has_no_gap.ensures c.if-not-has_no_gap.false) next
+    (below_first c.max-next.result c.value_at-2.result _ (simp to_z-of_z at c.if-next-value_at.true) past) in
+    simp to_z-of_z found
 
-pub returns-then-has_no_gap : goal.returns-then-has_no_gap
-returns-then-has_no_gap c =
+pub returns-else-next-value_at : goal.returns-else-next-value_at
+returns-else-next-value_at c =
     let t = c.args.self.now in
     let k = c.cell-cell.ensures in
-    let fits : SFits w64 c.cell-cell.result.base = base_fits t.words.items c.cell-cell.result k.right in
+    let cell = c.cell-cell.result in
+    let fits : SFits w64 c.cell-cell.result.base = base_fits t.words.items cell k.right in
     let v_fits : SFits w64 c.args.v = search rules in
-    let r_fits : SFits w64 c.value_at.result = search rules in
-    let value : c.value_at.result ≡ c.cell-cell.result.base +ℤ pos c.place_of-a.result = simp to_z-of_z at c.value_at.ensures in
-    let found = next_dense t c.args.x c.cell-cell.result c.args.v c.place_of-a.result c.requires.var k.at k.right (c.has_no_gap.ensures c.if-has_no_gap.true) c.place_of-a.ensures.from (omega (arith, c.if-a-cell.false)) (simp to_z-of_z at c.place_of-a.ensures.places) in
-    simp to_z-of_z (ap Some value ∙ found)
-
-pub returns : goal.returns
-returns c =
-    let t = c.args.self.now in
-    let k = c.cell-cell.ensures in
-    let n = c.next_set-place.ensures in
-    let fits : SFits w64 c.cell-cell.result.base = base_fits t.words.items c.cell-cell.result k.right in
-    let v_fits : SFits w64 c.args.v = search rules in
-    let r_fits : SFits w64 c.value_at-2.result = search rules in
-    let value : c.value_at-2.result ≡ c.cell-cell.result.base +ℤ pos (c.next_set-place.result - 64 * c.cell-cell.result.start) = simp to_z-of_z at c.value_at-2.ensures in
-    let found = next_found t c.args.x c.cell-cell.result c.args.v c.place_of-a.result c.next_set-place.result c.requires.var k.at k.right c.place_of-a.ensures.from
-    (simp to_z-of_z at c.place_of-a.ensures.places) n.from n.below (sym (ap (λ ws. is_set ws c.next_set-place.result) c.as_slice.ensures.value) ∙ n.found)
-    (λ p h l. sym (ap (λ ws. is_set ws p) c.as_slice.ensures.value) ∙ n.none p h l) in
-    simp to_z-of_z (ap Some value ∙ found)
+    let first_fits : SFits w64 c.value_at.result = search rules in
+    let second_fits : SFits w64 c.value_at-2.result = search rules in
+    let next_fits : SFits w64 c.max-next.result = search rules in
+    let least : c.value_at.result ≡ cell.base +ℤ pos cell.first = simp to_z-of_z at c.value_at.ensures in
+    let past : c.value_at-2.result ≡ cell.base +ℤ pos cell.end = simp to_z-of_z at c.value_at-2.ensures in
+    let next = (simp to_z-of_z at c.max-next.ensures.value) ∙ ap (int_max c.args.v) least in
+    next_past t c.args.x cell c.args.v c.max-next.result c.requires.var k.at next (not_below c.max-next.result c.value_at-2.result _ (simp to_z-of_z at c.if-next-value_at.false) past)

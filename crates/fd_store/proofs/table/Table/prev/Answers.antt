@@ -1,43 +1,44 @@
-use Rattle.std.proofs.Common.{◌≡◌, ◌-◌, ◌*◌, ◌∙◌, sym, ap, rules, arith, Some}
-use Rattle.std.specs.Prelude.{pos, ◌+ℤ◌}
-use Rattle.std.proofs.lemmas.Int.{to_z-of_z}
+use Rattle.std.proofs.Common.{◌≡◌, ◌∙◌, ap, rules, arith}
+use Rattle.std.specs.Prelude.{pos, ◌+ℤ◌, ◌-ℤ◌}
+use Rattle.std.specs.Int.{int_min}
+use Rattle.std.proofs.lemmas.Int.{ints, to_z-of_z}
 use mir.Val.{SFits}
 use mir.Syntax.{w64}
-use Rattle.fd_store.specs.Places.{is_set}
 use Rattle.fd_store.proofs.Cells.{base_fits}
-use Rattle.fd_store.proofs.Nexts.{prev_found, prev_none, prev_dense}
+use Rattle.fd_store.proofs.Nexts.{prev_dense, prev_past}
+use Rattle.fd_store.proofs.Reading.{above_last, not_above}
 use Rattle.fd_store.proofs.table.Table.prev.Goals as goal
 
-pub returns-then-e-cell : goal.returns-then-e-cell
-returns-then-e-cell c =
+pub returns-then-prev-value_at : goal.returns-then-prev-value_at
+returns-then-prev-value_at c =
     let t = c.args.self.now in
     let k = c.cell-cell.ensures in
-    let fits : SFits w64 c.cell-cell.result.base = base_fits t.words.items c.cell-cell.result k.right in
+    let cell = c.cell-cell.result in
+    let fits : SFits w64 c.cell-cell.result.base = base_fits t.words.items cell k.right in
     let v_fits : SFits w64 c.args.v = search rules in
-    prev_none t c.args.x c.cell-cell.result c.args.v c.end_of-e.result c.requires.var k.at c.if-e-cell.true (simp to_z-of_z at c.end_of-e.ensures.places)
+    let first_fits : SFits w64 c.value_at.result = search rules in
+    let second_fits : SFits w64 c.value_at-2.result = search rules in
+    let prev_fits : SFits w64 c.min-prev.result = search rules in
+    let last_fits : SFits w64 (c.value_at.result -ℤ pos 1) = omega (arith, ints) in
+    let past : c.value_at.result ≡ cell.base +ℤ pos cell.end = simp to_z-of_z at c.value_at.ensures in
+    let least : c.value_at-2.result ≡ cell.base +ℤ pos cell.first = simp to_z-of_z at c.value_at-2.ensures in
+    let prev = (simp to_z-of_z at c.min-prev.ensures.value) ∙ ap (λ r. int_min c.args.v (r -ℤ pos 1)) past in
+    let found = prev_dense t c.args.x cell c.args.v c.min-prev.result c.requires.var k.at k.right (c.has_no_gap.ensures c.if-not-has_no_gap.false) prev
+    (above_last c.min-prev.result c.value_at-2.result _ (simp to_z-of_z at c.if-prev-value_at.true) least) in
+    simp to_z-of_z found
 
-pub returns-then-has_no_gap : goal.returns-then-has_no_gap
-returns-then-has_no_gap c =
+pub returns-else-prev-value_at : goal.returns-else-prev-value_at
+returns-else-prev-value_at c =
     let t = c.args.self.now in
     let k = c.cell-cell.ensures in
-    let fits : SFits w64 c.cell-cell.result.base = base_fits t.words.items c.cell-cell.result k.right in
+    let cell = c.cell-cell.result in
+    let fits : SFits w64 c.cell-cell.result.base = base_fits t.words.items cell k.right in
     let v_fits : SFits w64 c.args.v = search rules in
-    let r_fits : SFits w64 c.value_at.result = search rules in
-    let value : c.value_at.result ≡ c.cell-cell.result.base +ℤ pos (c.end_of-e.result - 1) = simp to_z-of_z at c.value_at.ensures in
-    let found = prev_dense t c.args.x c.cell-cell.result c.args.v c.end_of-e.result c.requires.var k.at k.right (c.has_no_gap.ensures c.if-has_no_gap.true) (omega (arith, c.if-e-cell.false)) c.end_of-e.ensures.most
-    (simp to_z-of_z at c.end_of-e.ensures.places) in
-    simp to_z-of_z (ap Some value ∙ found)
-
-pub returns : goal.returns
-returns c =
-    let t = c.args.self.now in
-    let k = c.cell-cell.ensures in
-    let n = c.end_of_set-end.ensures in
-    let fits : SFits w64 c.cell-cell.result.base = base_fits t.words.items c.cell-cell.result k.right in
-    let v_fits : SFits w64 c.args.v = search rules in
-    let r_fits : SFits w64 c.value_at-2.result = search rules in
-    let value : c.value_at-2.result ≡ c.cell-cell.result.base +ℤ pos (c.end_of_set-end.result - 1 - 64 * c.cell-cell.result.start) = simp to_z-of_z at c.value_at-2.ensures in
-    let found = prev_found t c.args.x c.cell-cell.result c.args.v c.end_of-e.result c.end_of_set-end.result c.requires.var k.at k.right c.end_of-e.ensures.most
-    (simp to_z-of_z at c.end_of-e.ensures.places) n.from n.below (sym (ap (λ ws. is_set ws (c.end_of_set-end.result - 1)) c.as_slice.ensures.value) ∙ n.found)
-    (λ p h l. sym (ap (λ ws. is_set ws p) c.as_slice.ensures.value) ∙ n.none p h l) in
-    simp to_z-of_z (ap Some value ∙ found)
+    let first_fits : SFits w64 c.value_at.result = search rules in
+    let second_fits : SFits w64 c.value_at-2.result = search rules in
+    let prev_fits : SFits w64 c.min-prev.result = search rules in
+    let last_fits : SFits w64 (c.value_at.result -ℤ pos 1) = omega (arith, ints) in
+    let past : c.value_at.result ≡ cell.base +ℤ pos cell.end = simp to_z-of_z at c.value_at.ensures in
+    let least : c.value_at-2.result ≡ cell.base +ℤ pos cell.first = simp to_z-of_z at c.value_at-2.ensures in
+    let prev = (simp to_z-of_z at c.min-prev.ensures.value) ∙ ap (λ r. int_min c.args.v (r -ℤ pos 1)) past in
+    prev_past t c.args.x cell c.args.v c.min-prev.result c.requires.var k.at prev (not_above c.min-prev.result c.value_at-2.result _ (simp to_z-of_z at c.if-prev-value_at.false) least)
