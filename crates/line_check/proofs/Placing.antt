@@ -1,5 +1,5 @@
 -- Values read into their places from a box in which variables have one value left.
-use Rattle.std.proofs.Common.{◌≡◌, ℕ, zero, suc, ◌<◌, ◌≤◌, ◌+◌, Bool, true, false, ◌||◌, cond, List, [], ◌∷◌, length, take, drop, map, set, refl, sym, ap, ◌∙◌, subst, arith, ℤ, add-one}
+use Rattle.std.proofs.Common.{◌≡◌, ℕ, zero, suc, ◌<◌, ◌≤◌, ◌+◌, Bool, true, false, ◌&&◌, ◌||◌, cond, List, [], ◌∷◌, length, take, drop, map, set, refl, sym, ap, ◌∙◌, subst, arith, ℤ, add-one}
 use Rattle.std.specs.Prelude.{filter}
 use Rattle.std.specs.List.{list_all}
 use Rattle.qc_model.specs.Content.{Game}
@@ -27,6 +27,22 @@ fixed_at (d ∷ box) zero (suc stop) zero h l m e = first (is_single d) (list_al
 fixed_at (d ∷ box) zero (suc stop) (suc k) h l m e = fixed_at box zero stop k (omega arith) (omega arith) (omega arith) (second (is_single d) (list_all is_single (take stop box)) e)
 fixed_at (d ∷ box) (suc from) (suc stop) zero h l m e = absurd (omega arith)
 fixed_at (d ∷ box) (suc from) (suc stop) (suc k) h l m e = fixed_at box from stop k (omega arith) (omega arith) (omega arith) e
+
+-- all from the k-th on have one value left where it has and all after it have, and not where it hasn't
+pub fixed_next : (box : Box) (stop k : ℕ) → k < stop → stop ≤ length box → is_single (values_left box k) ≡ true → list_all is_single (drop (k + 1) (take stop box)) ≡ list_all is_single (drop k (take stop box))
+fixed_next box stop k l m e = ap (λ n. list_all is_single (drop n (take stop box))) (add-one k) ∙ go box stop k l m e
+  where
+    go : (box : Box) (stop k : ℕ) → k < stop → stop ≤ length box → is_single (values_left box k) ≡ true → list_all is_single (drop (suc k) (take stop box)) ≡ list_all is_single (drop k (take stop box))
+    go [] stop k l m e = absurd (omega arith)
+    go (d ∷ box) zero k l m e = absurd (omega arith)
+    go (d ∷ box) (suc stop) zero l m e = sym (ap (λ b. b && list_all is_single (take stop box)) e)
+    go (d ∷ box) (suc stop) (suc k) l m e = go box stop k (omega arith) (omega arith) e
+
+pub not_fixed : (box : Box) (stop k : ℕ) → k < stop → stop ≤ length box → is_single (values_left box k) ≡ false → list_all is_single (drop k (take stop box)) ≡ false
+not_fixed [] stop k l m e = absurd (omega arith)
+not_fixed (d ∷ box) zero k l m e = absurd (omega arith)
+not_fixed (d ∷ box) (suc stop) zero l m e = ap (λ b. b && list_all is_single (take stop box)) e
+not_fixed (d ∷ box) (suc stop) (suc k) l m e = not_fixed box stop k (omega arith) (omega arith) e
 
 -- one value more
 pub placed_more : (vs : List ℤ) (box : Box) (k : ℕ) (v : ℤ) → k < length vs → k < length box → values_left box k ≡ only v → take k box ≡ map only (take k vs) → take (k + 1) box ≡ map only (take (k + 1) (set vs k v))

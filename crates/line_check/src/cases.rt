@@ -24,6 +24,7 @@ fn either(one: bool, other: bool) -> bool
 
 impl<'p> Machine<'p> {
     /// A case that isn't gone into.
+    #[inline(always)]
     fn skip_line(&mut self, x: VarId, mark: Mark, from: i64, upto: Option<i64>, is_open: bool)
         requires fork { IsAtFork self.old }
         requires top { self.old.nesting ≡ open_as.Branch x mark from ∷ rest self.old.nesting }
@@ -59,16 +60,17 @@ impl<'p> Machine<'p> {
         let Some(ends) = case_ends(self.remains.store(), x, from, upto) else {
             return false;
         };
-        let before = self.remains.store().size(x);
-        self.remains.keep(x, ends.first, ends.last);
-        if self.remains.store().size(x) == before {
-            return false;
-        }
+        // the branch moves on before the values go, while its place is at hand: a case that isn't taken ends all
         self.nesting.set_top(Open::Branch {
             x,
             mark,
             from: ends.last + 1,
         });
+        let before = self.remains.store().size(x);
+        self.remains.keep(x, ends.first, ends.last);
+        if self.remains.store().size(x) == before {
+            return false;
+        }
         self.turns = self.turns.saturating_add(1);
         true
     }

@@ -17,7 +17,8 @@ use qc_model::{ConId, ScopeId, VarId};
 const LEAST: i64 = -1_000_000_000;
 
 impl<'p> Machine<'p> {
-    fn empty_line(&mut self)
+    #[inline(never)]
+    pub(crate) fn empty_line(&mut self)
         requires within { IsWithin self.old }
         ensures tells { PartTells self.old self.new (λ d. ledger_end (game_of self.old) d line_of.Empty) }
         ensures ready { IsReady self.new }
@@ -30,7 +31,8 @@ impl<'p> Machine<'p> {
         self.close_part();
     }
 
-    fn barred_line(&mut self)
+    #[inline(never)]
+    pub(crate) fn barred_line(&mut self)
         requires within { IsWithin self.old }
         ensures tells { PartTells self.old self.new (λ d. ledger_end (game_of self.old) d line_of.Barred) }
         ensures ready { IsReady self.new }

@@ -12,6 +12,7 @@ mod closing;
 mod cover;
 mod ends;
 mod judge;
+mod kinds;
 mod laws;
 mod ledgers;
 mod legal;

@@ -81,7 +81,8 @@ impl<'p> Machine<'p> {
         }
     }
 
-    fn goal_line(&mut self)
+    #[inline(never)]
+    pub(crate) fn goal_line(&mut self)
         requires node { IsAtNode self.old }
         ensures tells { NodeTells self.old self.new (λ d. ledger_body (game_of self.old) d line_of.Goal) }
         ensures ready { IsReady self.new }

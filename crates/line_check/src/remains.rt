@@ -1,5 +1,5 @@
 //! The values left to each variable, and whether a variable has none.
-ghost use Rattle.std.specs.Prelude.{◌≡◌, ◌<◌, ◌≤◌, true, false, not, [], length, IfOk, IsTrue};
+ghost use Rattle.std.specs.Prelude.{◌≡◌, ◌<◌, ◌≤◌, true, false, not, [], length, ℤ, pos, negsuc, IfOk, IsTrue};
 ghost use Rattle.qc_model.specs.Domains.{Box, is_sub_box, declared_box, box_within, box_without, has_empty, is_none_left, values_left, values_within};
 ghost use Rattle.qc_model.specs.Valid.{is_number};
 ghost use Rattle.fd_store.specs.Held.{trail_len, past_box, count_left, Follows, IsUndone};
@@ -48,14 +48,24 @@ fn count_values(store: &Store) -> usize
     values
 }
 
-/// Whether some number from lo to hi lies between the ends of x.
+/// Whether some value of x is at most hi.
 #[inline(always)]
-fn reaches(store: &Store, x: VarId, lo: i64, hi: i64) -> bool
+fn reaches_down(store: &Store, x: VarId, hi: i64) -> bool
     requires var { x.0 < length store.now.box }
     requires left { is_none_left (values_left store.now.box x.0) ≡ false }
-    ensures { result ≡ false → is_none_left (values_within lo hi (values_left store.now.box x.0)) ≡ true }
+    ensures { result ≡ false → (lo : ℤ) → is_none_left (values_within lo hi (values_left store.now.box x.0)) ≡ true }
 {
-    lo <= store.max(x) && store.min(x) <= hi
+    store.min(x) <= hi
+}
+
+/// Whether some value of x is at least lo.
+#[inline(always)]
+fn reaches_up(store: &Store, x: VarId, lo: i64) -> bool
+    requires var { x.0 < length store.now.box }
+    requires left { is_none_left (values_left store.now.box x.0) ≡ false }
+    ensures { result ≡ false → (hi : ℤ) → is_none_left (values_within lo hi (values_left store.now.box x.0)) ≡ true }
+{
+    lo <= store.max(x)
 }
 
 impl Remains {
@@ -124,28 +134,53 @@ impl Remains {
         }
     }
 
-    /// Whether x may have a value from lo to hi, by its ends.
+    /// Whether x may have a value of at most hi, by its ends.
     #[inline(always)]
-    fn may_have(&self, x: VarId, lo: i64, hi: i64) -> bool
+    fn may_reach_down(&self, x: VarId, hi: i64) -> bool
         requires var { x.0 < length self.now.box }
-        ensures { result ≡ false → is_none_left (values_within lo hi (values_left self.now.box x.0)) ≡ true }
+        ensures { result ≡ false → (lo : ℤ) → is_none_left (values_within lo hi (values_left self.now.box x.0)) ≡ true }
     {
         if self.empty {
             return true;
         }
-        reaches(&self.store, x, lo, hi)
+        reaches_down(&self.store, x, hi)
     }
 
-    /// Takes the values from lo to hi out of x, which often lie beyond its ends.
+    /// Whether x may have a value of at least lo, by its ends.
     #[inline(always)]
-    fn cut_beyond(&mut self, x: VarId, lo: i64, hi: i64)
+    fn may_reach_up(&self, x: VarId, lo: i64) -> bool
+        requires var { x.0 < length self.now.box }
+        ensures { result ≡ false → (hi : ℤ) → is_none_left (values_within lo hi (values_left self.now.box x.0)) ≡ true }
+    {
+        if self.empty {
+            return true;
+        }
+        reaches_up(&self.store, x, lo)
+    }
+
+    /// Takes the values up to hi out of x, where often there are none.
+    #[inline(always)]
+    fn cut_down(&mut self, x: VarId, hi: i64)
         requires var { x.0 < length self.old.box }
-        ensures content { self.new.box ≡ box_without self.old.box x.0 lo hi }
+        ensures content { self.new.box ≡ box_without self.old.box x.0 (negsuc 999999999) hi }
         ensures past { Follows self.old self.new }
         ensures fewer { (large : Box) → is_sub_box self.old.box large ≡ true → is_sub_box self.new.box large ≡ true }
     {
-        if self.may_have(x, lo, hi) {
-            self.cut(x, lo, hi);
+        if self.may_reach_down(x, hi) {
+            self.cut(x, -1_000_000_000, hi);
+        }
+    }
+
+    /// Takes the values from lo on out of x, where often there are none.
+    #[inline(always)]
+    fn cut_up(&mut self, x: VarId, lo: i64)
+        requires var { x.0 < length self.old.box }
+        ensures content { self.new.box ≡ box_without self.old.box x.0 lo (pos 1000000000) }
+        ensures past { Follows self.old self.new }
+        ensures fewer { (large : Box) → is_sub_box self.old.box large ≡ true → is_sub_box self.new.box large ≡ true }
+    {
+        if self.may_reach_up(x, lo) {
+            self.cut(x, lo, 1_000_000_000);
         }
     }
 
@@ -160,8 +195,8 @@ impl Remains {
         ensures fewer { (large : Box) → is_sub_box self.old.box large ≡ true → is_sub_box self.new.box large ≡ true }
     {
         self.store.known(x);
-        self.cut_beyond(x, -1_000_000_000, first - 1);
-        self.cut_beyond(x, last + 1, 1_000_000_000);
+        self.cut_down(x, first - 1);
+        self.cut_up(x, last + 1);
     }
 
     /// Goes back to a box in which each variable had a value.

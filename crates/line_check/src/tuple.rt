@@ -13,17 +13,27 @@ use fd_store::Store;
 use qc_model::VarId;
 use qc_rules::{Level, Levels, all_hold};
 
-/// Whether each variable from `from` to the one before `stop` has one value left.
-fn are_fixed(store: &Store, from: usize, stop: usize) -> bool
+/// Reads the one value left to each variable from `from` to the one before `stop` into its place, as `read_values` does,
+/// and says whether each has one: it stops at the first that hasn't.
+fn read_fixed(store: &Store, from: u16, stop: u16, values: &mut [i64]) -> bool
     requires order { from ≤ stop }
     requires bound { stop ≤ length store.now.box }
-    requires few { length store.now.box ≤ 500 }
-    ensures { result ≡ list_all is_single (drop from (take stop store.now.box)) }
+    requires each { length values.old ≡ length store.now.box }
+    requires numbers { list_all is_number values.old ≡ true }
+    requires placed { take from store.now.box ≡ map only (take from values.old) }
+    ensures fixed { result ≡ list_all is_single (drop from (take stop store.now.box)) }
+    ensures read { result ≡ true → take stop store.now.box ≡ map only (take stop values.new) }
+    ensures kept { take from values.new ≡ take from values.old }
+    ensures each { length values.new ≡ length values.old }
+    ensures numbers { list_all is_number values.new ≡ true }
 {
     for k in from..stop {
-        if !store.is_fixed(VarId(k as u16)) {
+        let x = VarId(k);
+        if !store.is_fixed(x) {
             return false;
         }
+        store.known(x);
+        values[k as usize] = store.min(x);
     }
     true
 }
@@ -69,10 +79,14 @@ pub(crate) fn tuple_allowed(level: &Level, remains: &Remains, values: &mut [i64]
     if remains.is_empty() {
         return None;
     }
-    if !are_fixed(remains.store(), level.from, level.stop) {
+    if !read_fixed(
+        remains.store(),
+        level.from as u16,
+        level.stop as u16,
+        values,
+    ) {
         return None;
     }
-    read_values(remains.store(), level.from, level.stop, values);
     Some(all_hold(problem, level.rules, &values[..level.stop]))
 }
 

@@ -13,8 +13,9 @@ use crate::open::{Due, Open};
 use proof_tree::Line;
 
 impl<'p> Machine<'p> {
+    /// A line where a case is due, at the branch that was opened last.
     #[inline(always)]
-    fn fork_line(&mut self, line: Line)
+    pub(crate) fn at_top(&mut self, line: Line)
         requires fork { IsAtFork self.old }
         ensures tells { PartTells self.old self.new (λ d. at_entry d.entries (λ b fs. ledger_fork (game_of self.old) d b fs line)) }
         ensures ready { IsReady self.new }
@@ -41,8 +42,9 @@ impl<'p> Machine<'p> {
         }
     }
 
-    /// Takes the next line. Once one was out of place all others are passed over.
-    pub fn line(&mut self, line: Line)
+    /// The next line, whatever it is.
+    #[inline(never)]
+    fn any_line(&mut self, line: Line)
         requires ready { IsReady self.old }
         ensures tells { (n : ℕ) (p : Maybe Kept) → n < 4294967296 → TellsAfter n self.old p → TellsAfter (suc n) self.new (goes (game_of self.old) p line) }
         ensures ready { IsReady self.new }
@@ -53,10 +55,94 @@ impl<'p> Machine<'p> {
             Due::Prune { k, mark } => self.at_prune(k, mark, line),
             Due::Body => self.at_body(line),
             Due::Part => self.at_end(line),
-            Due::Case => self.fork_line(line),
+            Due::Case => self.at_top(line),
             Due::Ranged { high } => self.ranged_line(high, line),
             Due::Ended => self.due = Due::Wrong,
             Due::Wrong => {}
+        }
+    }
+
+    /// The next line, where it is one of those that come seldom. Its copy is made here, so that `line` needs no place for one.
+    #[inline(always)]
+    fn seldom(&mut self, line: Line)
+        requires ready { IsReady self.old }
+        ensures tells { (n : ℕ) (p : Maybe Kept) → n < 4294967296 → TellsAfter n self.old p → TellsAfter (suc n) self.new (goes (game_of self.old) p line) }
+        ensures ready { IsReady self.new }
+        ensures same { game_of self.new ≡ game_of self.old }
+    {
+        self.any_line(line);
+    }
+
+    /// The next line, where a case is due.
+    #[inline(always)]
+    fn fork_line(&mut self, line: Line)
+        requires ready { IsReady self.old }
+        requires due { self.old.due ≡ due_of.Case }
+        ensures tells { (n : ℕ) (p : Maybe Kept) → n < 4294967296 → TellsAfter n self.old p → TellsAfter (suc n) self.new (goes (game_of self.old) p line) }
+        ensures ready { IsReady self.new }
+        ensures same { game_of self.new ≡ game_of self.old }
+    {
+        match line {
+            Line::Dot => self.fork_dot(),
+            Line::Skip => self.fork_skip(),
+            Line::Next => self.fork_next(),
+            Line::Branch { x } => self.fork_branch(x),
+            Line::Prune { x, lo, hi, c } => self.fork_prune(x, lo, hi, c),
+            _ => self.seldom(line),
+        }
+    }
+
+    /// The next line, where a node is due.
+    #[inline(always)]
+    fn node_line(&mut self, line: Line)
+        requires ready { IsReady self.old }
+        requires due { self.old.due ≡ due_of.Node }
+        ensures tells { (n : ℕ) (p : Maybe Kept) → n < 4294967296 → TellsAfter n self.old p → TellsAfter (suc n) self.new (goes (game_of self.old) p line) }
+        ensures ready { IsReady self.new }
+        ensures same { game_of self.new ≡ game_of self.old }
+    {
+        match line {
+            Line::Goal => self.goal_line(),
+            Line::Branch { x } => self.node_branch(x),
+            Line::Prune { x, lo, hi, c } => self.node_prune(x, lo, hi, c),
+            _ => self.seldom(line),
+        }
+    }
+
+    /// The next line, where a part of a scope's own tree is due.
+    #[inline(always)]
+    fn part_line(&mut self, line: Line)
+        requires ready { IsReady self.old }
+        requires due { self.old.due ≡ due_of.Part }
+        ensures tells { (n : ℕ) (p : Maybe Kept) → n < 4294967296 → TellsAfter n self.old p → TellsAfter (suc n) self.new (goes (game_of self.old) p line) }
+        ensures ready { IsReady self.new }
+        ensures same { game_of self.new ≡ game_of self.old }
+    {
+        match line {
+            Line::Next => self.part_next(),
+            Line::Branch { x } => self.part_branch(x),
+            Line::Prune { x, lo, hi, c } => self.part_prune(x, lo, hi, c),
+            Line::Empty => self.empty_line(),
+            Line::Barred => self.barred_line(),
+            _ => self.seldom(line),
+        }
+    }
+
+    /// Takes the next line. Once one was out of place all others are passed over.
+    ///
+    /// The lines that come most often are told apart here, in the reader's own loop, and go on with their numbers alone.
+    #[inline(always)]
+    pub fn line(&mut self, line: Line)
+        requires ready { IsReady self.old }
+        ensures tells { (n : ℕ) (p : Maybe Kept) → n < 4294967296 → TellsAfter n self.old p → TellsAfter (suc n) self.new (goes (game_of self.old) p line) }
+        ensures ready { IsReady self.new }
+        ensures same { game_of self.new ≡ game_of self.old }
+    {
+        match self.due {
+            Due::Node => self.node_line(line),
+            Due::Part => self.part_line(line),
+            Due::Case => self.fork_line(line),
+            _ => self.seldom(line),
         }
     }
 

@@ -116,7 +116,9 @@ impl<'p> Checker<'p> {
         }
     }
 
-    // Reads the next bytes, line by line where they are whole lines, and else one by one.
+    // Reads the next bytes, line by line where they are whole lines, and else one by one. Not inlined, so that the loop has
+    // the registers to itself.
+    #[inline(never)]
     fn read_each(&mut self, bytes: &[u8])
         requires ready { IsReady self.old.machine }
         requires room { self.old.read + length bytes.now ≤ 2 ^ 32 }

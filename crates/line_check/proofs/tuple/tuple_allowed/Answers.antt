@@ -11,34 +11,16 @@ use Rattle.line_check.proofs.Readings.{box_size, rules_valid}
 use Rattle.line_check.proofs.Placing.{numbers_to, position_placed}
 use Rattle.line_check.proofs.tuple.tuple_allowed.Goals as goal
 
-pub are_fixed-requires-clause-bound : goal.are_fixed-requires-clause-bound
-are_fixed-requires-clause-bound c =
+pub read_fixed-requires-clause-bound : goal.read_fixed-requires-clause-bound
+read_fixed-requires-clause-bound c =
     let size = box_size c.args.level.now.problem.now c.args.remains.now.box c.requires.declared in
     let same = ap (λ (h : Held). length h.box) c.store.ensures in
     omega (arith, size, same, c.args.level.now.stop_within)
 
-pub are_fixed-requires-clause-few : goal.are_fixed-requires-clause-few
-are_fixed-requires-clause-few c =
+pub read_fixed-requires-clause-each : goal.read_fixed-requires-clause-each
+read_fixed-requires-clause-each c =
     let size = box_size c.args.level.now.problem.now c.args.remains.now.box c.requires.declared in
     let same = ap (λ (h : Held). length h.box) c.store.ensures in
-    omega (arith, size, same, c.known.ensures.few_variables)
-
-pub read_values-requires-clause-bound : goal.read_values-requires-clause-bound
-read_values-requires-clause-bound c =
-    let size = box_size c.args.level.now.problem.now c.args.remains.now.box c.requires.declared in
-    let same = ap (λ (h : Held). length h.box) c.store-2.ensures in
-    omega (arith, size, same, c.args.level.now.stop_within)
-
-pub read_values-requires-clause-few : goal.read_values-requires-clause-few
-read_values-requires-clause-few c =
-    let size = box_size c.args.level.now.problem.now c.args.remains.now.box c.requires.declared in
-    let same = ap (λ (h : Held). length h.box) c.store-2.ensures in
-    omega (arith, size, same, c.known.ensures.few_variables)
-
-pub read_values-requires-clause-each : goal.read_values-requires-clause-each
-read_values-requires-clause-each c =
-    let size = box_size c.args.level.now.problem.now c.args.remains.now.box c.requires.declared in
-    let same = ap (λ (h : Held). length h.box) c.store-2.ensures in
     c.requires.each ∙ (sym size ∙ sym same)
 
 pub all_hold-requires-clause-rules : goal.all_hold-requires-clause-rules
@@ -47,7 +29,7 @@ all_hold-requires-clause-rules c =
     subst (λ rules. list_all (is_constraint g.variables) rules ≡ true) (sym c.args.level.now.has_rules) (rules_valid g c.args.level.now.number c.known.ensures.constraints)
 
 pub all_hold-requires-clause-values : goal.all_hold-requires-clause-values
-all_hold-requires-clause-values c = numbers_to c.args.level.now.stop c.read_values.new.values c.read_values.ensures.numbers
+all_hold-requires-clause-values c = numbers_to c.args.level.now.stop c.read_fixed.new.values c.read_fixed.ensures.numbers
 
 joined : (e f a : Bool) (o : Option Bool) → e ≡ false → f ≡ true → o ≡ Some a → o ≡ cond (not e && f) (Some a) None
 joined e f a o p q r = r ∙ sym (ap (λ b. cond (not b && f) (Some a) None) p ∙ ap (λ b. cond b (Some a) None) q)
@@ -59,13 +41,13 @@ returns-clause-tuple c =
     let from = c.args.level.now.from in
     let stop = c.args.level.now.stop in
     let box = c.args.remains.now.box in
-    let placed : IsAt g (suc i) c.read_values.new.values box =
-    subst (λ n. take n box ≡ map only (take n c.read_values.new.values)) c.args.level.now.has_stop (sym (ap (λ (h : Held). take stop h.box) c.store-2.ensures) ∙ c.read_values.ensures.read) in
+    let placed : IsAt g (suc i) c.read_fixed.new.values box =
+    subst (λ n. take n box ≡ map only (take n c.read_fixed.new.values)) c.args.level.now.has_stop (sym (ap (λ (h : Held). take stop h.box) c.store.ensures) ∙ c.read_fixed.ensures.read c.if-not-read_fixed.false) in
     let fixed : is_fixed g i box ≡ true =
     sym (ap (λ n. list_all is_single (drop n (take stop box))) c.args.level.now.has_from ∙ ap (λ n. list_all is_single (drop (before g i) (take n box))) c.args.level.now.has_stop)
-    ∙ (sym (ap (λ (h : Held). list_all is_single (drop from (take stop h.box))) c.store.ensures) ∙ (sym c.are_fixed.ensures ∙ c.if-not-are_fixed.false)) in
+    ∙ (sym (ap (λ (h : Held). list_all is_single (drop from (take stop h.box))) c.store.ensures) ∙ (sym c.read_fixed.ensures.fixed ∙ c.if-not-read_fixed.false)) in
     let holds : c.all_hold.result ≡ allows g i (position g (suc i) box) =
     c.all_hold.ensures
-    ∙ (ap (λ rules. list_all (λ r. holds_on r (take stop c.read_values.new.values)) rules) c.args.level.now.has_rules
-    ∙ (ap (λ m. allows g i (take m c.read_values.new.values)) c.args.level.now.has_stop ∙ ap (allows g i) (sym (position_placed g (suc i) c.read_values.new.values box placed)))) in
+    ∙ (ap (λ rules. list_all (λ r. holds_on r (take stop c.read_fixed.new.values)) rules) c.args.level.now.has_rules
+    ∙ (ap (λ m. allows g i (take m c.read_fixed.new.values)) c.args.level.now.has_stop ∙ ap (allows g i) (sym (position_placed g (suc i) c.read_fixed.new.values box placed)))) in
     joined (has_empty box) (is_fixed g i box) (allows g i (position g (suc i) box)) (Some c.all_hold.result) (sym c.is_empty.ensures ∙ c.if-is_empty.false) fixed (ap Some holds)

@@ -19,7 +19,7 @@ case_ends-requires c =
     let m = c.args.self.now in
     record { var = inside_there c.store.result.now m.remains c.args.x.0 c.store.ensures (variable_inside m c.args.x c.args.mark c.args.from (rest m.nesting) c.requires.top c.requires.fork) }
 
-found : (c : After-keep) → IsCase (values_left c.args.self.now.remains.box c.args.x.0) c.args.from c.args.upto c.in-Some.ends.first c.in-Some.ends.last
+found : (c : After-set_top) → IsCase (values_left c.args.self.now.remains.box c.args.x.0) c.args.from c.args.upto c.in-Some.ends.first c.in-Some.ends.last
 found c =
     let from_fits : SFits w64 c.args.from = search rules in
     let first_fits : SFits w64 c.in-Some.ends.first = search rules in
@@ -35,7 +35,7 @@ kept c =
     simp to_z-of_z at c.keep.ensures.content
 
 top : (c : After-set_top) → c.set_top.new.self ≡ Branch c.args.x c.args.mark (c.in-Some.ends.last +ℤ pos 1) ∷ rest c.args.self.now.nesting
-top c = c.set_top.ensures ∙ ap (λ v. Branch c.args.x c.args.mark v ∷ rest c.args.self.now.nesting) (passed_after c.in-Some.ends.last (found (goal.at.After-set_top c).After-keep).last_number)
+top c = c.set_top.ensures ∙ ap (λ v. Branch c.args.x c.args.mark v ∷ rest c.args.self.now.nesting) (passed_after c.in-Some.ends.last (found c).last_number)
 
 before : (c : After-size) → c.size-before.result ≡ length (values_left c.args.self.now.remains.box c.args.x.0)
 before c = c.size-before.ensures ∙ ap (λ (h : Held). length (values_left h.box c.args.x.0)) c.store-2.ensures
@@ -47,26 +47,26 @@ pub returns-then-size-before-clause-taken : goal.returns-then-size-before-clause
 returns-then-size-before-clause-taken c =
     let m = c.args.self.now in
     let at = goal.at.returns-then-size-before-clause-taken c in
-    sym (take_no m c.args.x c.args.mark c.args.from (rest m.nesting) c.requires.top c.requires.fork c.args.upto c.in-Some.ends.first c.in-Some.ends.last (found at.After-keep) c.keep.new.self.box (kept at.After-keep)
+    sym (take_no m c.args.x c.args.mark c.args.from (rest m.nesting) c.requires.top c.requires.fork c.args.upto c.in-Some.ends.first c.in-Some.ends.last (found at.After-set_top) c.keep.new.self.box (kept at.After-keep)
     (sym (after at.After-size) ∙ (c.if-size-before.true ∙ before at.After-size)))
 
 pub returns-clause-taken : goal.returns-clause-taken
 returns-clause-taken c =
     let m = c.args.self.now in
     let at = goal.at.returns-clause-taken c in
-    sym (take_yes m c.args.x c.args.mark c.args.from (rest m.nesting) c.requires.top c.requires.fork c.args.upto c.in-Some.ends.first c.in-Some.ends.last (found at.After-keep) c.keep.new.self.box (kept at.After-keep)
+    sym (take_yes m c.args.x c.args.mark c.args.from (rest m.nesting) c.requires.top c.requires.fork c.args.upto c.in-Some.ends.first c.in-Some.ends.last (found at.After-set_top) c.keep.new.self.box (kept at.After-keep)
     (λ e. c.if-size-before.false (after at.After-size ∙ (e ∙ sym (before at.After-size)))))
 
 pub returns-clause-into : goal.returns-clause-into
 returns-clause-into c = λ yes.
     let m = c.args.self.now in
     let at = goal.at.returns-clause-into c in
-    take_into m c.args.x c.args.mark c.args.from (rest m.nesting) c.requires.top c.requires.fork c.args.upto c.in-Some.ends.first c.in-Some.ends.last (found at.After-keep) c.keep.new.self c.set_top.new.self c.saturating_add-self.result
+    take_into m c.args.x c.args.mark c.args.from (rest m.nesting) c.requires.top c.requires.fork c.args.upto c.in-Some.ends.first c.in-Some.ends.last (found at.After-set_top) c.keep.new.self c.set_top.new.self c.saturating_add-self.result
     c.keep.ensures.past (c.keep.ensures.fewer (declared_box (game_of m)) c.requires.fork.sound.declared) (kept at.After-keep) (top at.After-set_top) c.saturating_add-self.ensures
 
 pub returns-clause-within : goal.returns-clause-within
 returns-clause-within c = λ yes.
     let m = c.args.self.now in
     let at = goal.at.returns-clause-within c in
-    take_within m c.args.x c.args.mark c.args.from (rest m.nesting) c.requires.top c.requires.fork c.args.upto c.in-Some.ends.first c.in-Some.ends.last (found at.After-keep) c.keep.new.self c.set_top.new.self c.saturating_add-self.result
+    take_within m c.args.x c.args.mark c.args.from (rest m.nesting) c.requires.top c.requires.fork c.args.upto c.in-Some.ends.first c.in-Some.ends.last (found at.After-set_top) c.keep.new.self c.set_top.new.self c.saturating_add-self.result
     c.keep.ensures.past (c.keep.ensures.fewer (declared_box (game_of m)) c.requires.fork.sound.declared) (kept at.After-keep) (top at.After-set_top) c.saturating_add-self.ensures

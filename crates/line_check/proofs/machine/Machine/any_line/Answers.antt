@@ -7,7 +7,7 @@ use Rattle.line_check.specs.Ledger.{at_entry, ledger_case}
 use Rattle.line_check.specs.Machine.{game_of, IsReadyAt}
 use Rattle.line_check.specs.Telling.{TellsAt, PartTells}
 use Rattle.line_check.proofs.Turning.{node_after, prune_after, body_after, part_after, case_after, ranged_after}
-use Rattle.line_check.proofs.machine.Machine.line.Goals as goal
+use Rattle.line_check.proofs.machine.Machine.any_line.Goals as goal
 
 pub returns-in-Node-clause-tells : goal.returns-in-Node-clause-tells
 returns-in-Node-clause-tells c = λ n p few t.
@@ -37,7 +37,7 @@ pub returns-in-Case-clause-tells : goal.returns-in-Case-clause-tells
 returns-in-Case-clause-tells c = λ n p few t.
     let m = c.args.self.now in
     let ready = subst (IsReadyAt m) c.in-Case.is c.requires.ready in
-    case_after m c.fork_line.new.self c.args.line ready.sound.laws c.fork_line.ensures.same c.fork_line.ensures.tells n p few (subst (λ u. TellsAt m u p) c.in-Case.is t.tells) t.sizes
+    case_after m c.at_top.new.self c.args.line ready.sound.laws c.at_top.ensures.same c.at_top.ensures.tells n p few (subst (λ u. TellsAt m u p) c.in-Case.is t.tells) t.sizes
 
 pub returns-in-Ranged-clause-tells : goal.returns-in-Ranged-clause-tells
 returns-in-Ranged-clause-tells c = λ n p few t.
