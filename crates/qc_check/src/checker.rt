@@ -117,6 +117,8 @@ impl<'p> Checker<'p> {
     }
 
     // Reads the next bytes, line by line where they are whole lines, and else one by one.
+    // Its loop needs the registers, which a caller would keep values in.
+    #[inline(never)]
     fn read_each(&mut self, bytes: &[u8])
         requires ready { IsReady self.old.machine }
         requires room { self.old.read + length bytes.now ≤ 2 ^ 32 }
