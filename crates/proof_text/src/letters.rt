@@ -3,7 +3,6 @@ ghost use Rattle.std.specs.Prelude.{◌≤◌, ◌≡◌, ◌∷◌, []};
 ghost use Rattle.proof_text.specs.declared.letters.Opened.TheVariants.{Line as LineOpened};
 ghost use Rattle.proof_text.specs.declared.part_line.PartLine.TheVariants.{Short, Letter};
 ghost use Rattle.proof_text.specs.Symbols.{chosen, ending_choices, case_choices, body_choices, node_choices, one_choices, node as a_node, body as a_body, cases as some_cases, case as a_case, branches as some_branches, prunes};
-ghost use Rattle.proof_tree.specs.declared.tree.Version.TheVariants.{One as One_version, Two as Two_version};
 ghost use Rattle.proof_text.specs.Letters.{Opens, Opening};
 
 use crate::part_line::{Kind, PartLine};
