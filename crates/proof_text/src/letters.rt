@@ -3,7 +3,6 @@ ghost use Rattle.std.specs.Prelude.{◌≤◌, ◌≡◌, ◌∷◌, []};
 ghost use Rattle.proof_text.specs.declared.letters.Opened.TheVariants.{Line as LineOpened};
 ghost use Rattle.proof_text.specs.declared.part_line.PartLine.TheVariants.{Short, Letter};
 ghost use Rattle.proof_text.specs.Symbols.{chosen, ending_choices, case_choices, body_choices, node_choices, one_choices, node as a_node, body as a_body, cases as some_cases, case as a_case, branches as some_branches, prunes};
-ghost use Rattle.proof_tree.specs.declared.tree.Version.TheVariants.{One as One_version, Two as Two_version};
 ghost use Rattle.proof_text.specs.Letters.{Opens, Opening};
 
 use crate::part_line::{Kind, PartLine};
@@ -166,33 +165,17 @@ pub(crate) fn open_horizon(version: Version, nesting: u16, byte: u8) -> Opened
 }
 
 // The letter of a line in a branch that doesn't end.
-fn open_one(nesting: u16, byte: u8) -> Opened
-    requires limit { nesting ≤ 1000 }
-    requires goes_on { byte ≡ 46 → ⊥ }
-    ensures { Opening One_version nesting (some_branches One_version nesting ∷ []) (some_branches One_version nesting ∷ []) byte result }
-{
-    case_letter(Version::One, nesting, byte)
-}
-
-fn open_two(nesting: u16, byte: u8) -> Opened
-    requires limit { nesting ≤ 1000 }
-    requires goes_on { byte ≡ 46 → ⊥ }
-    ensures { Opening Two_version nesting (some_branches Two_version nesting ∷ []) (some_branches Two_version nesting ∷ []) byte result }
-{
-    if byte == b'r' {
-        return long(Kind::Range, Place::Case);
-    }
-    case_letter(Version::Two, nesting, byte)
-}
-
 #[inline(always)]
 pub(crate) fn open_branch(version: Version, nesting: u16, byte: u8) -> Opened
     requires limit { nesting ≤ 1000 }
     requires goes_on { byte ≡ 46 → ⊥ }
     ensures { Opening version nesting (some_branches version nesting ∷ []) (some_branches version nesting ∷ []) byte result }
 {
-    match version {
-        Version::One => open_one(nesting, byte),
-        Version::Two => open_two(nesting, byte),
+    match byte {
+        b'r' => match version {
+            Version::One => Opened::Wrong,
+            Version::Two => long(Kind::Range, Place::Case),
+        },
+        _ => case_letter(version, nesting, byte),
     }
 }

@@ -7,6 +7,7 @@ ghost use Rattle.proof_text.specs.Reading.{Passes, Fails, BeginsNot};
 
 use crate::part_fault::PartFault;
 
+#[inline(always)]
 pub(crate) fn byte(text: &[u8], wanted: u8) -> Result<&[u8], PartFault>
     ensures ok { IfOk result (λ rest. (text.now ≡ wanted ∷ rest.now) × Passes (a_byte wanted ∷ []) text.now rest.now) }
     ensures err { IfErr result (λ fault. Fails (a_byte wanted ∷ []) text.now fault) }
@@ -54,8 +55,26 @@ pub(crate) fn with_digit(value: u64, byte: u8, most: u64) -> Option<u64>
     }
 }
 
+// The digits of a number after its first, and the byte after them.
 #[inline(always)]
 fn digits(text: &[u8], first: u64, most: u64, end: u8) -> Result<(u64, &[u8]), PartFault>
+    requires { (9 ≤ most) × (most ≤ 2 ^ 62) × (end < 48) × (1 ≤ first) × (first ≤ most) }
+    ensures ok { IfOk result (λ r. (decimal first ++ text.now ≡ decimal r.0 ++ end ∷ r.1.now) × (1 ≤ r.0) × (r.0 ≤ most) × Passes (some_digits most first end ∷ []) text.now r.1.now) }
+    ensures err { IfErr result (λ fault. Fails (some_digits most first end ∷ []) text.now fault) }
+{
+    let Some((byte, after)) = text.split_first() else {
+        return Err(PartFault::Wrong { left: 0 });
+    };
+    // a number of one digit, as most are, needs no loop
+    if *byte == end {
+        return Ok((first, after));
+    }
+    more_digits(text, first, most, end)
+}
+
+// The same, digit by digit.
+#[inline(always)]
+fn more_digits(text: &[u8], first: u64, most: u64, end: u8) -> Result<(u64, &[u8]), PartFault>
     requires { (9 ≤ most) × (most ≤ 2 ^ 62) × (end < 48) × (1 ≤ first) × (first ≤ most) }
     ensures ok { IfOk result (λ r. (decimal first ++ text.now ≡ decimal r.0 ++ end ∷ r.1.now) × (1 ≤ r.0) × (r.0 ≤ most) × Passes (some_digits most first end ∷ []) text.now r.1.now) }
     ensures err { IfErr result (λ fault. Fails (some_digits most first end ∷ []) text.now fault) }

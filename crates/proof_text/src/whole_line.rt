@@ -38,6 +38,10 @@ fn horizon(text: &[u8]) -> Option<(Line, &[u8])>
 fn branch(text: &[u8]) -> Option<(Line, &[u8])>
     ensures { IfSome result (λ r. ReadsPart (LetterPart BranchKind) text.now r.0 r.1.now) }
 {
+    // no shorter text has a whole line; tested once, its first bytes need no test each
+    if text.len() < 3 {
+        return None;
+    }
     let Some(rest) = after(text, b' ') else {
         return None;
     };
@@ -62,6 +66,10 @@ fn range(text: &[u8]) -> Option<(Line, &[u8])>
 fn prune(text: &[u8]) -> Option<(Line, &[u8])>
     ensures { IfSome result (λ r. ReadsPart (LetterPart PruneKind) text.now r.0 r.1.now) }
 {
+    // as in a branch
+    if text.len() < 9 {
+        return None;
+    }
     let Ok(((x, lo, hi), rest)) = removed(text, b' ') else {
         return None;
     };

@@ -2,7 +2,7 @@ use Rattle.std.proofs.Common.{◌≡◌, ◌≤◌, ◌++◌, ◌∷◌, length,
 use Rattle.std.specs.Fmt.{decimal}
 use Rattle.proof_text.specs.Symbols.{Symbol, digits}
 use Rattle.proof_text.specs.Running.{run}
-use Rattle.proof_text.proofs.scan.digits.Given as goal
+use Rattle.proof_text.proofs.scan.more_digits.Given as goal
 
 abbrev pub invariant-loop-byte : goal.invariant-loop-byte
 invariant-loop-byte l = record {

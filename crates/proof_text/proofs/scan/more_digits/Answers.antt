@@ -1,6 +1,6 @@
 use Rattle.std.proofs.Common.{◌∙◌, arith}
 use Rattle.proof_text.proofs.Sequences.{digit_goes, digit_told}
-use Rattle.proof_text.proofs.scan.digits.Goals as goal
+use Rattle.proof_text.proofs.scan.more_digits.Goals as goal
 
 pub loop-byte-preserved : goal.loop-byte-preserved
 loop-byte-preserved c =
