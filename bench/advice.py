@@ -17,9 +17,16 @@ from unproved import TOP, build
 
 # What stands in a file of the search, once, and what is put in its place.
 WRONG = [
-    ("advice.rt", "                standing.is_known && (standing.last > 0 || self.kept(level).is_some())\n", "                true\n"),
+    (
+        "advice.rt",
+        "            Some(standing) if standing.is_known => {\n"
+        "                standing.last > 0 || self.kept(level).is_some()\n"
+        "            }\n"
+        "            Some(standing) => standing.signs > 0,\n",
+        "            Some(_) => true,\n",
+    ),
     ("advice.rt", "        self.choose(level, remains)\n", "        true\n"),
-    ("search.rt", "    let value = walk.advice.value(x);\n", "    let value = walk.remains.last(x);\n"),
+    ("tries.rt", "    let value = walk.advice.value(x);\n", "    let value = walk.remains.last(x);\n"),
 ]
 
 

@@ -1,9 +1,9 @@
 //! Which tuple of a scope is tried first.
 //!
 //! It is the tuple that ended the same position before (`residues`, `positions`), where one is kept; else the latest of the last
-//! tuples that ended nodes of the scope (`tuples`) whose values are all left, or what a free search finds (`looks`). A tuple ends
-//! a node where it settles it, or gives a bound that the incumbent of the scope right above beats. What is tried is proved as any
-//! case is, so bad advice costs turns and time, and nothing else.
+//! tuples that ended nodes of the scope (`tuples`) whose values are all left, or what a free search finds (`looks`); and before
+//! there is one, what most clauses want (`signs`). A tuple ends a node where it settles it, or gives a bound that the incumbent of
+//! the scope right above beats. What is tried is proved as any case is, so bad advice costs turns and time, and nothing else.
 ghost use Rattle.std.specs.Prelude.{◌≡◌, false, IsTrue};
 
 use crate::aim::Aim;
@@ -11,60 +11,19 @@ use crate::bests::Bests;
 use crate::looks::Looks;
 use crate::positions::Positions;
 use crate::residues::Residues;
+use crate::signs::Signs;
+use crate::standing::{Source, Standing};
 use crate::tuples::{KEPT, Tuples};
 use qc_model::{Kind, ScopeId, VarId};
 use qc_rules::{Level, Levels};
 use search_box::SearchBox;
 use std::alloc::{AllocError, Global};
 
-/// How often advice may fail before it is asked no more, where it never serves.
-const FIRST_TRUST: u8 = 4;
-
-/// How much advice can be trusted.
-const MOST_TRUST: u8 = 32;
-
-/// What a try that fails costs of the trust, where one that serves earns 1.
-const LOST_TRUST: u8 = 2;
+/// A value that no domain has.
+const NO_VALUE: i64 = i64::MIN;
 
 /// The widest tuple that is kept for a position.
 const MOST_WIDTH: usize = 32;
-
-/// How many positions of a scope are kept before it is asked whether that serves.
-const FIRST_NOTES: u32 = 1024;
-
-/// One in so many of the positions that are kept has to have been met before, else no more are.
-const LEAST_SHARE: u32 = 8;
-
-/// Where the tuple comes from that is tried.
-#[derive(Clone, Copy)]
-enum Source {
-    /// None is tried.
-    Nowhere,
-    /// It ended the same position before.
-    Position,
-    /// It is one of the last that ended nodes of the scope.
-    Last,
-}
-
-/// What is known of one scope's advice.
-#[derive(Clone, Copy)]
-struct Standing {
-    /// Whether some tuple ended a node of the scope.
-    is_known: bool,
-    /// Which tuple is tried at the node, and which of the last tuples is the first that may be tried after it.
-    source: Source,
-    next: usize,
-    /// How far the last tuple is trusted, and those of positions.
-    last: u8,
-    kept: u8,
-    /// How many positions were kept, and how many of them had been met before.
-    notes: u32,
-    met: u32,
-    /// Whether the last one had.
-    was_met: bool,
-    /// The number of the position that the search is at, where a tuple may be kept for it.
-    position: Option<u64>,
-}
 
 /// For each scope the values of the tuple that is tried, in the places of its variables, the last tuples, those of positions,
 /// and how far both are trusted: a try that serves makes up for one that fails.
@@ -75,6 +34,7 @@ pub(crate) struct Advice<'p> {
     scopes: Vec<Standing>,
     residues: Residues,
     positions: Positions,
+    signs: Signs,
     looks: Looks<'p>,
     bests: Bests<'p>,
 }
@@ -88,23 +48,14 @@ impl<'p> Advice<'p> {
         tries: bool,
     ) -> Result<Advice<'p>, AllocError> {
         levels.problem.known();
-        let standing = Standing {
-            is_known: false,
-            source: Source::Nowhere,
-            next: 0,
-            last: FIRST_TRUST,
-            kept: FIRST_TRUST,
-            notes: 0,
-            met: 0,
-            was_met: false,
-            position: None,
-        };
         let values = vec![in alloc; 0i64; levels.problem.variables()]?;
         let tuples = Tuples::new(alloc, levels.problem.variables())?;
-        let scopes = vec![in alloc; standing; levels.problem.scopes()]?;
+        let mut scopes = vec![in alloc; Standing::new(); levels.problem.scopes()]?;
         let wanted = wanted_scopes(alloc, levels, tries)?;
         let residues = Residues::new(alloc, levels, wanted.as_slice())?;
         let positions = Positions::new(alloc, widest(levels, wanted.as_slice()))?;
+        let signs = Signs::new(alloc, levels)?;
+        trust_signs(scopes.as_mut_slice(), levels, &signs);
         let looks = Looks::new(alloc, levels, tries);
         let bests = Bests::new(alloc, levels, tries);
         Ok(Advice {
@@ -113,6 +64,7 @@ impl<'p> Advice<'p> {
             scopes,
             residues,
             positions,
+            signs,
             looks,
             bests,
         })
@@ -173,9 +125,10 @@ impl<'p> Advice<'p> {
     /// Whether there is a tuple that is worth a try at the node of the scope.
     pub(crate) fn is_asked(&self, level: &Level) -> bool {
         match self.scopes.get(level.number as usize) {
-            Some(standing) => {
-                standing.is_known && (standing.last > 0 || self.kept(level).is_some())
+            Some(standing) if standing.is_known => {
+                standing.last > 0 || self.kept(level).is_some()
             }
+            Some(standing) => standing.signs > 0,
             None => false,
         }
     }
@@ -221,7 +174,23 @@ impl<'p> Advice<'p> {
             self.take_kept(level, number);
             return true;
         }
-        self.take_last(level, next, remains)
+        if standing.is_known {
+            return self.take_last(level, next, remains);
+        }
+        self.take_signs(level);
+        true
+    }
+
+    /// Takes for each variable the value that its owner wants by the signs of its literals.
+    fn take_signs(&mut self, level: &Level) {
+        for x in level.from..level.stop {
+            let value = self.signs.value(level.kind, x);
+            self.put(x, value.unwrap_or(NO_VALUE));
+        }
+        if let Some(standing) = self.scopes.get_mut(level.number as usize) {
+            standing.source = Source::Signs;
+            standing.next = KEPT;
+        }
     }
 
     /// Takes the tuple that is kept for the position.
@@ -255,6 +224,14 @@ impl<'p> Advice<'p> {
     /// The value that x has in the tuple that is tried.
     pub(crate) fn value(&self, x: VarId) -> i64 {
         value_at(self.values.as_slice(), x.0 as usize)
+    }
+
+    /// Whether a variable whose value in the tuple isn't left takes another: signs say of each variable by itself what is wanted.
+    pub(crate) fn is_loose(&self, level: &Level) -> bool {
+        match self.scopes.get(level.number as usize) {
+            Some(standing) => matches!(standing.source, Source::Signs),
+            None => false,
+        }
     }
 
     /// The number of the scope's position, where a tuple is kept for it.
@@ -311,52 +288,10 @@ impl<'p> Advice<'p> {
         }
     }
 
-    /// Learns whether a try of the tuple that was chosen served. Where the scope above can outdo this one, a try that fails costs
-    /// one case of many, and is no reason to ask no more.
+    /// Learns whether a try of the tuple that was chosen served, and whether the scope above can outdo this one.
     pub(crate) fn tell(&mut self, level: &Level, served: bool, has_rival: bool) {
-        if has_rival && !served {
-            return;
-        }
         if let Some(standing) = self.scopes.get_mut(level.number as usize) {
-            standing.tell(served);
-        }
-    }
-}
-
-impl Standing {
-    fn keeps_positions(&self) -> bool {
-        self.kept > 0 && (self.notes < FIRST_NOTES || self.met >= self.notes / LEAST_SHARE)
-    }
-
-    fn note(&mut self, is_met: bool) {
-        self.notes = self.notes.saturating_add(1);
-        self.was_met = is_met;
-        if is_met {
-            self.met = self.met.saturating_add(1);
-        }
-    }
-
-    /// From now on this one of the last tuples is tried, or none.
-    fn take(&mut self, allowed: Option<usize>) {
-        self.source = match allowed {
-            Some(_) => Source::Last,
-            None => Source::Nowhere,
-        };
-        self.next = match allowed {
-            Some(k) => k.saturating_add(1),
-            None => KEPT,
-        };
-    }
-
-    /// Learns whether a try served. A tuple that served was kept just now; it was one of a position where that had been met.
-    fn tell(&mut self, served: bool) {
-        match self.source {
-            Source::Nowhere => {}
-            Source::Position if self.was_met || !served => {
-                self.kept = trusted_then(self.kept, served);
-            }
-            Source::Position => self.last = trusted_then(self.last, served),
-            Source::Last => self.last = trusted_then(self.last, served),
+            standing.tell(served, has_rival);
         }
     }
 }
@@ -368,11 +303,16 @@ fn value_at(values: &[i64], x: usize) -> i64 {
     }
 }
 
-fn trusted_then(left: u8, served: bool) -> u8 {
-    if !served {
-        return left.saturating_sub(LOST_TRUST);
+/// From now on the signs are trusted at first where a scope has some.
+fn trust_signs(scopes: &mut [Standing], levels: &Levels, signs: &Signs) {
+    levels.problem.known();
+    for i in 0..levels.problem.scopes() {
+        if signs.has(levels.level(ScopeId(i as u8))) {
+            if let Some(standing) = scopes.get_mut(i) {
+                standing.trust_signs();
+            }
+        }
     }
-    if left < MOST_TRUST { left + 1 } else { left }
 }
 
 /// Which scopes' positions are kept: those that can be settled and aren't too wide. The first one has one node, and at the last

@@ -14,7 +14,7 @@ ghost use Rattle.game_search.specs.Known.{IsEnded};
 ghost use Rattle.game_search.specs.Props.{aside_prop};
 ghost use Rattle.game_search.specs.Settled.{is_vague_verdict, beats_none};
 
-use crate::known::{NodeEnd, is_decided, is_same};
+use crate::known::{LEAST_LINES, NodeEnd, is_decided, is_same};
 use crate::likeness::is_fresh;
 use crate::turns::turns_in;
 use proof_tree::Line;
@@ -23,9 +23,6 @@ use qc_model::{Problem, ScopeId};
 use qc_rules::Level;
 use search_box::SearchBox;
 use std::alloc::{AllocError, Global};
-
-/// How many lines a node has at least that is kept: what is shorter is searched as fast as it is looked up and copied.
-const LEAST_LINES: usize = 8;
 
 /// How many lines all nodes have together at most.
 const MOST_LINES_IN_ALL: usize = 1_048_576;
@@ -231,8 +228,8 @@ impl<'p> AsideNodes<'p> {
         Ok(())
     }
 
-    /// The place in the list of the node whose lines stand at the scope's node that is here, where as many turns are left as it
-    /// took.
+    /// The place in the list of the node whose lines stand at the scope's node that is here, where as many turns are left as
+    /// they have.
     pub(crate) fn find(
         &self,
         level: &Level,

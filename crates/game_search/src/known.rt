@@ -24,7 +24,7 @@ use std::alloc::{AllocError, Global};
 const PLACES: usize = 65_536;
 
 /// How many lines a node has at least that is kept: what is shorter is searched as fast as it is looked up and copied.
-const LEAST_LINES: usize = 8;
+pub(crate) const LEAST_LINES: usize = 8;
 
 /// How many lines it has at most.
 const MOST_LINES: usize = 4_096;
@@ -323,8 +323,8 @@ impl<'p> KnownNodes<'p> {
         likeness.number(level, horizon, remains.values_before(level))
     }
 
-    /// The place in the list of the node that is known for the position with this number, where as many turns are left as it
-    /// took.
+    /// The place in the list of the node that is known for the position with this number, where as many turns are left as its
+    /// lines have.
     pub(crate) fn find(
         &self,
         level: &Level,

@@ -44,7 +44,8 @@ ghost use Rattle.game_search.specs.Settled.{is_ended as is_ended_by, is_vague_ve
 ghost use Rattle.game_search.specs.Told.{IsReady, IsBack, EndingTold, BoundedSteps, PartTold, BoundedTold, FirstTold, CaseTold, CasesTold, BodyTold, NodeTold};
 ghost use Rattle.game_search.specs.Written.{NodeWritten};
 
-use crate::aim::{Worse, aim_of, worse_than_found};
+use crate::aim::{Worse, aim_of};
+use crate::endings::{at_goal, is_ended, is_here, stuck, verdict};
 use crate::keeping::{
     aside_at, keep_aside, keep_node, known_at, position_of, put_aside, put_known,
 };
@@ -52,6 +53,7 @@ use crate::known::{NodeEnd, is_decided};
 use crate::narrowing::{narrow, narrow_first};
 use crate::rival::{is_outdone, rival_of};
 use crate::stage::Stage;
+use crate::tries::{first_worse, is_advised, is_worth_again, most_tries, value_to_try};
 use crate::walk::Walk;
 use crate::writing::{
     drop_before, last_to_drop, leave_out, put_horizon, put_needed, put_steps, skip_and_tell,
@@ -59,17 +61,10 @@ use crate::writing::{
 };
 use proof_tree::Line;
 use prop_engine::Closed;
-use qc_joins::Joins;
 use qc_levels::Found;
 use qc_model::{ScopeId, VarId};
-use qc_rules::{Level, Levels};
+use qc_rules::Levels;
 use std::alloc::AllocError;
-
-/// How many turns a tree that ended outdone has to have taken, so that it is worth to try its last tuple alone.
-const LONG_TREE: u64 = 3;
-
-/// How many tuples are tried at a node of a scope that another can outdo: a case of each is little beside all cases.
-const MOST_TRIES: usize = 3;
 
 /// The node of a scope, or of the goal, in the box that the walk holds, below the horizon in force. Where it is exact,
 /// its vector is the one that the walk's joins handed out last.
@@ -147,60 +142,6 @@ fn searched_node(
     Ok(found)
 }
 
-fn is_here(horizon: Option<ScopeId>, number: u8) -> bool
-    ensures { result ≡ is_horizon (scope_number horizon) number }
-{
-    match horizon {
-        None => false,
-        Some(scope) => scope.0 == number,
-    }
-}
-
-/// The goal, where each variable has its value, or where a horizon tells that it isn't passed.
-fn at_goal(
-    levels: &Levels,
-    horizon: Option<ScopeId>,
-    number: u8,
-    walk: &mut Walk,
-) -> Result<Found, AllocError>
-    requires scope { number ≡ length levels.now.problem.now.scopes }
-    requires here { IsEntered levels.now.problem.now number walk.old.remains }
-    requires closed { IsClosedAtGoal levels.now.problem.now walk.old.remains.store.box }
-    requires joins { game_of walk.old.joins ≡ levels.now.problem.now }
-    ensures told { IfOk result (λ found. (cuts : Bool) (above : ℤ → Bool) → NodeTold cuts above levels.now.problem.now number walk.old.remains.store.box (scope_number horizon) (verdict_of found (out_of walk.new.joins)) walk.old.left walk.new.left walk.old.lines walk.new.lines walk.new.joins) }
-    ensures ended { IfOk result (λ found. IsEnded levels.now.problem.now number walk.old.remains.store.box (scope_number horizon) (verdict_of found (out_of walk.new.joins)) walk.old.left walk.new.left (drop (length walk.old.lines) walk.new.lines)) }
-    ensures back { OnOk result (IsBack levels.now.problem.now number walk.old walk.new) }
-{
-    levels.problem.known();
-    walk.remains.known();
-    if is_here(horizon, number) {
-        walk.lines.put(Line::Stuck)?;
-        return Ok(Found::Lost);
-    }
-    walk.lines.put(Line::Goal)?;
-    let holds = walk.remains.goal_holds(levels);
-    let values = walk.remains.all_values();
-    Ok(walk.joins.goal(holds, values))
-}
-
-/// The node of a scope that nobody passes: its owner has no allowed tuple.
-fn stuck(level: &Level, walk: &mut Walk) -> Result<Found, AllocError>
-    requires here { IsEntered level.now.problem.now level.now.number walk.old.remains }
-    requires joins { game_of walk.old.joins ≡ level.now.problem.now }
-    ensures told { IfOk result (λ found. (cuts : Bool) (above : ℤ → Bool) (h : Option ℕ) → is_horizon h level.now.number ≡ true → BodyTold cuts above level.now.problem.now level.now.number walk.old.remains.store.box h (verdict_of found (out_of walk.new.joins)) walk.old.left walk.new.left walk.old.lines walk.new.lines walk.new.joins) }
-    ensures back { OnOk result (IsBack level.now.problem.now level.now.number walk.old walk.new) }
-{
-    level.problem.known();
-    walk.remains.known();
-    walk.lines.put(Line::Stuck)?;
-    let number = ScopeId(level.number);
-    let values = walk.remains.values_before(level);
-    let found = walk.joins.stuck(number, values);
-    // no leaf was seen, so the join tells no value of the scope's own
-    walk.joins.clear(number);
-    Ok(found)
-}
-
 /// The own tree of a scope's node.
 #[cycle(search)]
 fn own_tree(stage: &Stage, walk: &mut Walk) -> Result<Found, AllocError>
@@ -244,17 +185,6 @@ fn advised_tree(stage: &Stage, best: Option<i64>, walk: &mut Walk) -> Result<Fou
     }
     walk.lines.cut(begun);
     whole_tree(stage, walk)
-}
-
-/// The values that are worse than one that was found. Without cuts none is looked for.
-fn first_worse(stage: &Stage, best: Option<i64>) -> Option<Worse>
-    ensures cuts { IfSome result (λ w. IsTrue stage.now.cuts) }
-    ensures span { IfSome result (λ w. IsSpan stage.now.level.now.problem.now stage.now.level.now.number w) }
-{
-    if !stage.cuts {
-        return None;
-    }
-    worse_than_found(stage.aim, best)
 }
 
 /// The own tree where these values are given up first. Nothing has beaten them, so it is a tree only where it is sure what the
@@ -344,11 +274,6 @@ fn advised_part(stage: &Stage, walk: &mut Walk) -> Result<bool, AllocError>
     Ok(false)
 }
 
-/// How many tuples are tried at most.
-fn most_tries(stage: &Stage) -> usize {
-    if stage.rival.is_some() { MOST_TRIES } else { 1 }
-}
-
 /// So without a try before. Where the values are gone over and the tree ends outdone by the scope above, the tuple that did it
 /// is tried alone, since no value before it counts.
 #[cycle(search)]
@@ -373,19 +298,6 @@ fn shortened_part(stage: &Stage, walk: &mut Walk) -> Result<(), AllocError>
     Ok(())
 }
 
-/// Whether the own tree, which took turns since so many were left, would be shorter where the tuple that ended it is tried
-/// alone.
-fn is_worth_again(stage: &Stage, had: u64, walk: &Walk) -> bool
-    requires { game_of walk.now.joins ≡ stage.now.level.now.problem.now }
-    ensures { IsTrue result → IsTrue stage.now.cuts }
-{
-    let number = ScopeId(stage.level.number);
-    stage.cuts
-        && had.saturating_sub(walk.left) > LONG_TREE
-        && !walk.joins.is_settled(number)
-        && is_outdone(stage.rival, &walk.joins, number)
-}
-
 /// So where the next advised tuple is tried.
 #[cycle(search)]
 fn tried_part(stage: &Stage, walk: &mut Walk) -> Result<bool, AllocError>
@@ -404,13 +316,6 @@ fn tried_part(stage: &Stage, walk: &mut Walk) -> Result<bool, AllocError>
     }
     walk.lines.cut(from);
     Ok(false)
-}
-
-/// Whether a tuple is tried first at a node. Without cuts none is.
-fn is_advised(stage: &Stage, walk: &Walk) -> bool
-    ensures { IsTrue result → IsTrue stage.now.cuts }
-{
-    stage.cuts && walk.advice.is_asked(stage.level)
 }
 
 /// A scope's own tree in the box as it is closed. With `tries` only the values of an advised tuple are gone into, if the box
@@ -436,21 +341,6 @@ fn closed_part(stage: &Stage, tries: bool, walk: &mut Walk) -> Result<bool, Allo
     let is_whole = part(stage, level.from, closed, tries, walk)?;
     walk.remains.undo_to(mark);
     Ok(is_whole)
-}
-
-/// What a node comes to whose own tree is done.
-fn verdict(level: &Level, walk: &mut Walk) -> Found
-    requires here { IsEntered level.now.problem.now level.now.number walk.old.remains }
-    requires joins { game_of walk.old.joins ≡ level.now.problem.now }
-    ensures verdict { (xs : List Seen) → StandsAt walk.old.joins level.now.number xs → verdict_of result (out_of walk.new.joins) ≡ verdict_at level.now.problem.now level.now.number (position level.now.problem.now level.now.number walk.old.remains.store.box) xs }
-    ensures joins { KeepsAll walk.old.joins walk.new.joins }
-    ensures game { game_of walk.new.joins ≡ game_of walk.old.joins }
-    ensures remains { walk.new.remains ≡ walk.old.remains }
-    ensures lines { walk.new.lines ≡ walk.old.lines }
-    ensures left { walk.new.left ≡ walk.old.left }
-{
-    let values = walk.remains.values_before(level);
-    walk.joins.finish(ScopeId(level.number), values)
 }
 
 /// The steps of the closing that was the last, and what follows them: the box that they leave is closed, where the variables of the scope before x have
@@ -561,18 +451,6 @@ fn below_tuple(stage: &Stage, walk: &mut Walk) -> Result<Found, AllocError>
     )
 }
 
-/// Whether no further leaf of the scope counts: it is settled, or outdone by the scope right above.
-fn is_ended(stage: &Stage, joins: &Joins) -> bool
-    requires joins { game_of joins.now ≡ stage.now.level.now.problem.now }
-    ensures { IsTrue result → (xs : List Seen) → StandsAt joins.now stage.now.level.now.number xs → IsTrue (is_ended_by (outdoes stage.now.level.now.problem.now stage.now.level.now.number stage.now.rival) (drop stage.now.level.now.number stage.now.level.now.problem.now.scopes) (list_after stage.now.level.now.problem.now (drop stage.now.level.now.number stage.now.level.now.problem.now.scopes) (demands stage.now.level.now.problem.now stage.now.level.now.number)) xs) }
-{
-    let number = ScopeId(stage.level.number);
-    if joins.is_settled(number) {
-        return true;
-    }
-    is_outdone(stage.rival, joins, number)
-}
-
 /// A branch on x, the next variable of the scope that has more values than one.
 #[cycle(search)]
 fn over_values(stage: &Stage, x: VarId, walk: &mut Walk) -> Result<(), AllocError>
@@ -680,28 +558,6 @@ fn try_branch(stage: &Stage, x: VarId, walk: &mut Walk) -> Result<bool, AllocErr
     }
     walk.lines.put(Line::Dot)?;
     Ok(true)
-}
-
-/// The advised value of x, where it is left and the case may be gone into.
-fn value_to_try(stage: &Stage, x: VarId, walk: &Walk) -> Option<i64>
-    requires var { x.0 < stage.now.level.now.stop }
-    requires going { IsGoing stage.now.level.now.problem.now stage.now.level.now.number x.0 walk.now.remains }
-    ensures cuts { IfSome result (λ v. IsTrue stage.now.cuts) }
-    ensures turn { IfSome result (λ v. 0 < walk.now.left) }
-    ensures value { IfSome result (λ v. IsTrue (has_value (values_left walk.now.remains.store.box x.0) v)) }
-{
-    walk.remains.known();
-    if !stage.cuts {
-        return None;
-    }
-    if walk.left == 0 {
-        return None;
-    }
-    let value = walk.advice.value(x);
-    if !walk.remains.has(x, value) {
-        return None;
-    }
-    Some(value)
 }
 
 /// The cases of a branch on x where this value is gone into before all others, and whether no other counts after it: then the

@@ -3,7 +3,7 @@ use Rattle.qc_model.specs.Content.{Game}
 use Rattle.game_search.specs.Rivals.{outdoes}
 use Rattle.game_search.specs.Settled.{is_outdone}
 use Rattle.game_search.proofs.Here.{asked_here, settled_ends, outdone_ends}
-use Rattle.game_search.proofs.search.is_ended.Goals as goal
+use Rattle.game_search.proofs.endings.is_ended.Goals as goal
 
 pub returns-then-is_settled : goal.returns-then-is_settled
 returns-then-is_settled c =

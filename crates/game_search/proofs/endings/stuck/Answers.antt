@@ -11,7 +11,7 @@ use Rattle.qc_joins.specs.Verdicts.{stuck_of}
 use Rattle.search_box.proofs.Places.{read_numbers}
 use Rattle.game_search.proofs.Here.{stuck_told}
 use Rattle.game_search.proofs.Remains.{none_back, back_more}
-use Rattle.game_search.proofs.search.stuck.Goals as goal
+use Rattle.game_search.proofs.endings.stuck.Goals as goal
 
 pub returns-clause-told : goal.returns-clause-told
 returns-clause-told c =

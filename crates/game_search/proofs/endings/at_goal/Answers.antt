@@ -12,7 +12,7 @@ use Rattle.search_box.proofs.Places.{read_numbers}
 use Rattle.game_search.proofs.Here.{goal_there, lost_there}
 use Rattle.game_search.proofs.Knowing.{any_ends}
 use Rattle.game_search.proofs.Remains.{none_back, line_back, back_more}
-use Rattle.game_search.proofs.search.at_goal.Goals as goal
+use Rattle.game_search.proofs.endings.at_goal.Goals as goal
 
 pub returns-then-is_here-clause-told : goal.returns-then-is_here-clause-told
 returns-then-is_here-clause-told c =

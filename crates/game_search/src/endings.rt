@@ -1,0 +1,107 @@
+//! Nodes that have no tree of their own, and what a scope's tree comes to.
+ghost use Rattle.std.specs.Prelude.{◌≡◌, ◌≤◌, ◌<◌, ◌++◌, ℤ, Bool, Option, ℕ, List, length, drop, true, IfOk, OnOk, IsTrue};
+ghost use Rattle.qc_model.specs.Demands.{demands};
+ghost use Rattle.qc_model.specs.Verdict.{Seen};
+ghost use Rattle.proof_tree.specs.InPlace.{is_horizon};
+ghost use Rattle.proof_tree.specs.Place.{list_after, position};
+ghost use Rattle.qc_levels.specs.Seen.{verdict_of};
+ghost use Rattle.qc_joins.specs.Joins.{game_of, out_of, StandsAt, KeepsAll};
+ghost use Rattle.qc_joins.specs.Verdicts.{verdict_at};
+ghost use Rattle.search_box.specs.Complete.{IsClosedAtGoal};
+ghost use Rattle.search_box.specs.Entered.{IsEntered};
+ghost use Rattle.search_box.specs.Looking.{scope_number};
+ghost use Rattle.game_search.specs.Known.{IsEnded};
+ghost use Rattle.game_search.specs.Rivals.{outdoes};
+ghost use Rattle.game_search.specs.Settled.{is_ended as is_ended_by};
+ghost use Rattle.game_search.specs.Told.{IsBack, BodyTold, NodeTold};
+
+use crate::rival::is_outdone;
+use crate::stage::Stage;
+use crate::walk::Walk;
+use proof_tree::Line;
+use qc_joins::Joins;
+use qc_levels::Found;
+use qc_model::ScopeId;
+use qc_rules::{Level, Levels};
+use std::alloc::AllocError;
+
+/// The goal, where each variable has its value, or where a horizon tells that it isn't passed.
+pub(crate) fn at_goal(
+    levels: &Levels,
+    horizon: Option<ScopeId>,
+    number: u8,
+    walk: &mut Walk,
+) -> Result<Found, AllocError>
+    requires scope { number ≡ length levels.now.problem.now.scopes }
+    requires here { IsEntered levels.now.problem.now number walk.old.remains }
+    requires closed { IsClosedAtGoal levels.now.problem.now walk.old.remains.store.box }
+    requires joins { game_of walk.old.joins ≡ levels.now.problem.now }
+    ensures told { IfOk result (λ found. (cuts : Bool) (above : ℤ → Bool) → NodeTold cuts above levels.now.problem.now number walk.old.remains.store.box (scope_number horizon) (verdict_of found (out_of walk.new.joins)) walk.old.left walk.new.left walk.old.lines walk.new.lines walk.new.joins) }
+    ensures ended { IfOk result (λ found. IsEnded levels.now.problem.now number walk.old.remains.store.box (scope_number horizon) (verdict_of found (out_of walk.new.joins)) walk.old.left walk.new.left (drop (length walk.old.lines) walk.new.lines)) }
+    ensures back { OnOk result (IsBack levels.now.problem.now number walk.old walk.new) }
+{
+    levels.problem.known();
+    walk.remains.known();
+    if is_here(horizon, number) {
+        walk.lines.put(Line::Stuck)?;
+        return Ok(Found::Lost);
+    }
+    walk.lines.put(Line::Goal)?;
+    let holds = walk.remains.goal_holds(levels);
+    let values = walk.remains.all_values();
+    Ok(walk.joins.goal(holds, values))
+}
+
+/// The node of a scope that nobody passes: its owner has no allowed tuple.
+pub(crate) fn stuck(level: &Level, walk: &mut Walk) -> Result<Found, AllocError>
+    requires here { IsEntered level.now.problem.now level.now.number walk.old.remains }
+    requires joins { game_of walk.old.joins ≡ level.now.problem.now }
+    ensures told { IfOk result (λ found. (cuts : Bool) (above : ℤ → Bool) (h : Option ℕ) → is_horizon h level.now.number ≡ true → BodyTold cuts above level.now.problem.now level.now.number walk.old.remains.store.box h (verdict_of found (out_of walk.new.joins)) walk.old.left walk.new.left walk.old.lines walk.new.lines walk.new.joins) }
+    ensures back { OnOk result (IsBack level.now.problem.now level.now.number walk.old walk.new) }
+{
+    level.problem.known();
+    walk.remains.known();
+    walk.lines.put(Line::Stuck)?;
+    let number = ScopeId(level.number);
+    let values = walk.remains.values_before(level);
+    let found = walk.joins.stuck(number, values);
+    // no leaf was seen, so the join tells no value of the scope's own
+    walk.joins.clear(number);
+    Ok(found)
+}
+
+pub(crate) fn is_here(horizon: Option<ScopeId>, number: u8) -> bool
+    ensures { result ≡ is_horizon (scope_number horizon) number }
+{
+    match horizon {
+        None => false,
+        Some(scope) => scope.0 == number,
+    }
+}
+
+/// What a node comes to whose own tree is done.
+pub(crate) fn verdict(level: &Level, walk: &mut Walk) -> Found
+    requires here { IsEntered level.now.problem.now level.now.number walk.old.remains }
+    requires joins { game_of walk.old.joins ≡ level.now.problem.now }
+    ensures verdict { (xs : List Seen) → StandsAt walk.old.joins level.now.number xs → verdict_of result (out_of walk.new.joins) ≡ verdict_at level.now.problem.now level.now.number (position level.now.problem.now level.now.number walk.old.remains.store.box) xs }
+    ensures joins { KeepsAll walk.old.joins walk.new.joins }
+    ensures game { game_of walk.new.joins ≡ game_of walk.old.joins }
+    ensures remains { walk.new.remains ≡ walk.old.remains }
+    ensures lines { walk.new.lines ≡ walk.old.lines }
+    ensures left { walk.new.left ≡ walk.old.left }
+{
+    let values = walk.remains.values_before(level);
+    walk.joins.finish(ScopeId(level.number), values)
+}
+
+/// Whether no further leaf of the scope counts: it is settled, or outdone by the scope right above.
+pub(crate) fn is_ended(stage: &Stage, joins: &Joins) -> bool
+    requires joins { game_of joins.now ≡ stage.now.level.now.problem.now }
+    ensures { IsTrue result → (xs : List Seen) → StandsAt joins.now stage.now.level.now.number xs → IsTrue (is_ended_by (outdoes stage.now.level.now.problem.now stage.now.level.now.number stage.now.rival) (drop stage.now.level.now.number stage.now.level.now.problem.now.scopes) (list_after stage.now.level.now.problem.now (drop stage.now.level.now.number stage.now.level.now.problem.now.scopes) (demands stage.now.level.now.problem.now stage.now.level.now.number)) xs) }
+{
+    let number = ScopeId(stage.level.number);
+    if joins.is_settled(number) {
+        return true;
+    }
+    is_outdone(stage.rival, joins, number)
+}

@@ -1,0 +1,79 @@
+//! When something is tried first at a node, and which value of a variable that is.
+ghost use Rattle.std.specs.Prelude.{◌≡◌, ◌<◌, IfSome, IsTrue};
+ghost use Rattle.qc_model.specs.Domains.{has_value, values_left};
+ghost use Rattle.qc_joins.specs.Joins.{game_of};
+ghost use Rattle.game_search.specs.Aims.{IsSpan};
+ghost use Rattle.game_search.specs.Going.{IsGoing};
+
+use crate::aim::{Worse, worse_than_found};
+use crate::rival::is_outdone;
+use crate::stage::Stage;
+use crate::walk::Walk;
+use qc_model::{ScopeId, VarId};
+
+/// How many turns a tree that ended outdone has to have taken, so that it is worth to try its last tuple alone.
+const LONG_TREE: u64 = 3;
+
+/// How many tuples are tried at a node of a scope that another can outdo: a case of each is little beside all cases.
+const MOST_TRIES: usize = 3;
+
+/// Whether a tuple is tried first at a node. Without cuts none is.
+pub(crate) fn is_advised(stage: &Stage, walk: &Walk) -> bool
+    ensures { IsTrue result → IsTrue stage.now.cuts }
+{
+    stage.cuts && walk.advice.is_asked(stage.level)
+}
+
+/// How many tuples are tried at most.
+pub(crate) fn most_tries(stage: &Stage) -> usize {
+    if stage.rival.is_some() { MOST_TRIES } else { 1 }
+}
+
+/// The advised value of x, where it is left and the case may be gone into.
+pub(crate) fn value_to_try(stage: &Stage, x: VarId, walk: &Walk) -> Option<i64>
+    requires var { x.0 < stage.now.level.now.stop }
+    requires going { IsGoing stage.now.level.now.problem.now stage.now.level.now.number x.0 walk.now.remains }
+    ensures cuts { IfSome result (λ v. IsTrue stage.now.cuts) }
+    ensures turn { IfSome result (λ v. 0 < walk.now.left) }
+    ensures value { IfSome result (λ v. IsTrue (has_value (values_left walk.now.remains.store.box x.0) v)) }
+{
+    walk.remains.known();
+    if !stage.cuts {
+        return None;
+    }
+    if walk.left == 0 {
+        return None;
+    }
+    let value = walk.advice.value(x);
+    if walk.remains.has(x, value) {
+        return Some(value);
+    }
+    if walk.advice.is_loose(stage.level) {
+        return Some(walk.remains.first(x));
+    }
+    None
+}
+
+/// Whether the own tree, which took turns since so many were left, would be shorter where the tuple that ended it is tried
+/// alone.
+pub(crate) fn is_worth_again(stage: &Stage, had: u64, walk: &Walk) -> bool
+    requires { game_of walk.now.joins ≡ stage.now.level.now.problem.now }
+    ensures { IsTrue result → IsTrue stage.now.cuts }
+{
+    let number = ScopeId(stage.level.number);
+    stage.cuts
+        && had.saturating_sub(walk.left) > LONG_TREE
+        && !walk.joins.is_settled(number)
+        && is_outdone(stage.rival, &walk.joins, number)
+}
+
+/// The values that are worse than one that was found. Without cuts none is looked for.
+pub(crate) fn first_worse(stage: &Stage, best: Option<i64>) -> Option<Worse>
+    ensures cuts { IfSome result (λ w. IsTrue stage.now.cuts) }
+    ensures span { IfSome result (λ w. IsSpan stage.now.level.now.problem.now stage.now.level.now.number w) }
+{
+    if !stage.cuts {
+        return None;
+    }
+    worse_than_found(stage.aim, best)
+}
