@@ -1,5 +1,5 @@
 //! Nodes that have no tree of their own, and what a scope's tree comes to.
-ghost use Rattle.std.specs.Prelude.{◌≡◌, ◌≤◌, ◌<◌, ◌++◌, ℤ, Bool, Option, ℕ, List, length, drop, true, IfOk, OnOk, IsTrue};
+ghost use Rattle.std.specs.Prelude.{◌≡◌, ◌<◌, ℤ, Bool, Option, ℕ, List, length, drop, true, IfOk, OnOk, IsTrue};
 ghost use Rattle.qc_model.specs.Demands.{demands};
 ghost use Rattle.qc_model.specs.Verdict.{Seen};
 ghost use Rattle.proof_tree.specs.InPlace.{is_horizon};
@@ -70,6 +70,7 @@ pub(crate) fn stuck(level: &Level, walk: &mut Walk) -> Result<Found, AllocError>
     Ok(found)
 }
 
+/// Whether the horizon in force is at this scope: the node is stuck there.
 pub(crate) fn is_here(horizon: Option<ScopeId>, number: u8) -> bool
     ensures { result ≡ is_horizon (scope_number horizon) number }
 {

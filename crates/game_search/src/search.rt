@@ -19,19 +19,17 @@
 //! Where a leaf settles its scope, so that no other leaf changes what the node comes to, the cases after it are left
 //! out, and the join isn't told of them. They are left out too where the leaves of a scope of the opponent give a bound that
 //! the incumbent of the scope right above beats. Where no turn is left the cases that remain are left open.
-ghost use Rattle.std.specs.Prelude.{◌≡◌, ◌≤◌, ◌<◌, ◌∷◌, ◌++◌, ◌+◌, ◌*◌, ℤ, suc, Bool, Option, ℕ, [], List, length, drop, not, true, false, IfOk, IfSome, OnOk, IsTrue, IsFalse, slice_get};
+ghost use Rattle.std.specs.Prelude.{◌≡◌, ◌≤◌, ◌<◌, ◌∷◌, ◌++◌, ◌+◌, ◌*◌, ℤ, suc, Option, [], List, length, drop, not, true, false, IfOk, IfSome, OnOk, IsTrue, IsFalse};
 ghost use Rattle.qc_model.specs.Demands.{demands};
 ghost use Rattle.qc_model.specs.Domains.{Box, has_value, is_single, values_left};
 ghost use Rattle.qc_model.specs.Game.{is_of_scope};
-ghost use Rattle.qc_model.specs.Verdict.{Seen, lost};
+ghost use Rattle.qc_model.specs.Verdict.{Seen};
 ghost use Rattle.proof_tree.specs.Cover.{box_to};
 ghost use Rattle.proof_tree.specs.Diligent.{SeesAhead};
 ghost use Rattle.proof_tree.specs.Incumbents.{has_no_worse};
-ghost use Rattle.proof_tree.specs.InPlace.{is_horizon};
-ghost use Rattle.proof_tree.specs.Place.{list_after, position};
+ghost use Rattle.proof_tree.specs.Place.{position};
 ghost use Rattle.qc_levels.specs.Seen.{verdict_of};
-ghost use Rattle.qc_joins.specs.Joins.{game_of, out_of, StandsAt, KeepsAll};
-ghost use Rattle.qc_joins.specs.Verdicts.{verdict_at};
+ghost use Rattle.qc_joins.specs.Joins.{game_of, out_of, StandsAt};
 ghost use Rattle.search_box.specs.Complete.{IsClosedAtGoal};
 ghost use Rattle.search_box.specs.Entered.{IsEntered};
 ghost use Rattle.search_box.specs.Looking.{scope_number};
@@ -40,7 +38,7 @@ ghost use Rattle.game_search.specs.Beaten.{firsts, seen_bounds};
 ghost use Rattle.game_search.specs.Going.{IsGoing, GoesOn};
 ghost use Rattle.game_search.specs.Known.{IsEnded};
 ghost use Rattle.game_search.specs.Rivals.{above_at, StandsAbove, outdoes};
-ghost use Rattle.game_search.specs.Settled.{is_ended as is_ended_by, is_vague_verdict, beats_none};
+ghost use Rattle.game_search.specs.Settled.{is_vague_verdict, beats_none};
 ghost use Rattle.game_search.specs.Told.{IsReady, IsBack, EndingTold, BoundedSteps, PartTold, BoundedTold, FirstTold, CaseTold, CasesTold, BodyTold, NodeTold};
 ghost use Rattle.game_search.specs.Written.{NodeWritten};
 
