@@ -6,7 +6,7 @@ ghost use Rattle.qc_model.specs.Valid.{is_number};
 mod cases;
 
 use self::cases::{Case, Written};
-use crate::drafts::{EXISTS, draft, variable};
+use qc_drafts::{EXISTS, draft, variable};
 use qc_evaluation::{holds, satisfies};
 use qc_model::{
     Arg, ArgKind, Args, Argument, ConId, Constraint, Domain, Draft, Numbers, ScopeId, Set,

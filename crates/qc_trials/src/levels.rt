@@ -1,5 +1,5 @@
 //! Demanded lists, the order of vectors, and what the leaves of a node come to.
-use crate::sums::least_sum;
+use qc_drafts::least_sum;
 use qc_levels::{Demands, Entry, ExistsJoin, ForallJoin, Found, Leaf, Value, compare};
 use qc_model::{AggId, ScopeId, Sense, Target, VarId};
 use std::alloc::{AllocError, Global};

@@ -7,12 +7,6 @@
 #[cfg(test)]
 mod arguments;
 #[cfg(test)]
-mod boxes;
-#[cfg(test)]
-mod cascade;
-#[cfg(test)]
-mod drafts;
-#[cfg(test)]
 mod evaluation;
 #[cfg(test)]
 mod formulas;
@@ -22,10 +16,6 @@ mod generated;
 mod grammar;
 #[cfg(test)]
 mod intervals;
-#[cfg(test)]
-mod joins;
-#[cfg(test)]
-mod judging;
 #[cfg(test)]
 mod levels;
 #[cfg(test)]
@@ -37,22 +27,14 @@ mod outside;
 #[cfg(test)]
 mod pages;
 #[cfg(test)]
-mod plays;
-#[cfg(test)]
 mod readings;
-#[cfg(test)]
-mod search;
 #[cfg(test)]
 mod spans;
 #[cfg(test)]
 mod store;
-#[cfg(test)]
-mod sums;
 #[cfg(test)]
 mod texts;
 #[cfg(test)]
 mod tokens;
 #[cfg(test)]
 mod trees;
-#[cfg(test)]
-mod worst;

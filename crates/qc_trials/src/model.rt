@@ -1,5 +1,5 @@
 //! Which drafts `build` takes, at the edges of the limits and of what is seen.
-use crate::drafts::{EXISTS, FORALL, aggregate, draft, variable, wishing};
+use qc_drafts::{EXISTS, FORALL, aggregate, draft, variable, wishing};
 use qc_model::{
     AggId, Arg, Args, Argument, Constraint, Domain, Draft, Family, Fold, Kind, Pred, Scope,
     ScopeId, Sense, Target, VarId, build, family_of,

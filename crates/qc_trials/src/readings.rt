@@ -1,5 +1,5 @@
 //! The refusals, and what a new problem has, where chosen owners meet the worst ties of small games.
-use crate::drafts::{EXISTS, draft, variable, wishing};
+use qc_drafts::{EXISTS, draft, variable, wishing};
 use qc_model::{Domain, Draft, Problem, Scope, ScopeId, Sense, Target, VarId, build};
 use qc_pessimist::{NoReading, Places, pessimistic};
 use std::alloc::{AllocError, Global};

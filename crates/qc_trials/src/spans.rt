@@ -1,6 +1,6 @@
 //! Where the variables and constraints of each scope stand, in one game that was worked through by hand.
-use crate::drafts::{EXISTS, FORALL, constraint, draft, variable};
 use qc_arguments::Span;
+use qc_drafts::{EXISTS, FORALL, constraint, draft, variable};
 use qc_model::{Arg, Domain, Pred, Problem, ScopeId, VarId, build};
 use qc_rules::Levels;
 use std::alloc::{AllocError, Global};

@@ -1,6 +1,6 @@
 //! A store: two variables through removals at both ends and between them, and back.
-use crate::drafts::{EXISTS, draft, variable};
 use fd_store::{Removed, Store};
+use qc_drafts::{EXISTS, draft, variable};
 use qc_model::{Domain, Numbers, Problem, VarId, build};
 use std::alloc::{AllocError, Global};
 use std::test::Fail;

@@ -2,7 +2,7 @@
 ghost use Rattle.std.specs.Prelude.{◌≡◌, ◌<◌, length};
 ghost use Rattle.qc_joins.specs.Joins.{game_of};
 
-use crate::sums::least_sum;
+use qc_drafts::least_sum;
 use qc_joins::Joins;
 use qc_levels::Found;
 use qc_model::ScopeId;

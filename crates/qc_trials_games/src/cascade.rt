@@ -1,11 +1,11 @@
 //! What lies ahead of a scope, in small games that were worked through by hand.
 ghost use Rattle.std.specs.Prelude.{◌<◌, ◌≤◌, length};
 
-use crate::drafts::{EXISTS, FORALL, constraint, draft, variable};
 use fd_store::Store;
 use prop_engine::Engine;
 use prop_families::Families;
 use qc_cascade::{Entered, enter, enter_under};
+use qc_drafts::{EXISTS, FORALL, constraint, draft, variable};
 use qc_model::{Arg, Domain, Pred, Problem, ScopeId, VarId, build};
 use qc_rules::Levels;
 use std::alloc::{AllocError, Global};

@@ -1,9 +1,9 @@
 //! Outcomes, optima and lines of searches of small games, against what was worked out by hand.
 ghost use Rattle.std.specs.Prelude.{◌≤◌};
 
-use crate::drafts::{EXISTS, FORALL, aggregate, constraint, draft, scope_of, variable, wishing};
 use game_search::{solve, solve_flat};
 use proof_tree::Outcome;
+use qc_drafts::{EXISTS, FORALL, aggregate, constraint, draft, scope_of, variable, wishing};
 use qc_model::{
     AggId, Arg, Domain, Fold, Kind, Pred, Problem, Sense, Target, VarId, Variable, build,
 };

@@ -3,9 +3,9 @@ ghost use Rattle.std.specs.Prelude.{◌<◌, length};
 ghost use Rattle.qc_model.specs.Game.{before};
 ghost use Rattle.search_box.specs.Entered.{IsEntered};
 
-use crate::drafts::{EXISTS, FORALL, constraint, draft, variable};
 use proof_tree::StepList;
 use prop_engine::Closed;
+use qc_drafts::{EXISTS, FORALL, constraint, draft, variable};
 use qc_model::{Arg, Domain, Pred, Problem, ScopeId, VarId, build};
 use qc_rules::Levels;
 use search_box::SearchBox;

@@ -1,7 +1,7 @@
 //! What no clause says of plays: that a deep tree is let go, and that the calls find memory.
-use crate::drafts::{EXISTS, constraint, draft, scope_of, variable};
 use proof_text::read_cert;
 use proof_tree::Certificate;
+use qc_drafts::{EXISTS, constraint, draft, scope_of, variable};
 use qc_model::{Arg, Domain, Kind, Numbers, Pred, Problem, VarId, build};
 use qc_play::{
     Counter, CounterEntry, CounterList, Plan, PlanEntry, PlanList, PlayFault, Side, make_counter,

@@ -1,6 +1,6 @@
 //! The pessimistic optimum of a small game, against what was worked out by hand.
-use crate::drafts::{draft, variable, wishing};
 use proof_tree::Outcome;
+use qc_drafts::{draft, variable, wishing};
 use qc_model::{
     Arg, Args, Argument, Constraint, Domain, Numbers, Pred, Problem, Scope, ScopeId, Sense, Target,
     VarId, build,

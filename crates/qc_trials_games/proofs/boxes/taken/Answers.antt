@@ -5,7 +5,7 @@ use Rattle.search_box.specs.Closes.{IsClosingAt}
 use Rattle.search_box.specs.Entered.{IsEntered}
 use Rattle.search_box.proofs.Entering.{within_first}
 use Rattle.search_box.proofs.Goings.{closed_full}
-use Rattle.qc_trials.proofs.boxes.taken.Goals as goal
+use Rattle.qc_trials_games.proofs.boxes.taken.Goals as goal
 
 pub close_after-requires-clause-here : goal.close_after-requires-clause-here
 close_after-requires-clause-here c =

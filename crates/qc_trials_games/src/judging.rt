@@ -1,9 +1,9 @@
 //! What the lines of certificates come to, in small games, with certificates worked out by hand.
 ghost use Rattle.std.specs.Prelude.{◌≤◌, ◌^◌, length};
 
-use crate::drafts::{EXISTS, FORALL, aggregate, constraint, draft, variable, wishing};
 use line_check::{Answer, Found, judge_lines};
 use proof_tree::Line;
+use qc_drafts::{EXISTS, FORALL, aggregate, constraint, draft, variable, wishing};
 use qc_model::{
     AggId, Arg, ConId, Constraint, Domain, Fold, Pred, Problem, Scope, Sense, Target, VarId,
     Variable, build,
