@@ -6,6 +6,10 @@
 Run it at the top of a checkout, after ./qecode has built the program. Nothing here is part of the gate. With --against
 each line ends with what it was in the results of that file; with --write the results go into the file. A problem that
 the program doesn't take yet has status 4. Less memory than this script's own, some 45 MB, can't be told.
+
+Of each game whose certificate is long it is told how fast it is checked, by the least processor time of some runs. The
+yardsticks: 50 MB a second where a certificate has no steps, as all but that of `elements` here, and half the time that it
+took to find and write.
 """
 import argparse
 import json
@@ -19,6 +23,9 @@ import time
 PROGRAM = "crates/qc_program/out/qc_program"
 LIMIT = 4_194_304
 USAGE = 3
+# A shorter certificate is found and checked in a time that the program's start takes up.
+LONG = 100_000
+RUNS = 7
 
 
 def measured(words, output):
@@ -27,6 +34,17 @@ def measured(words, output):
     child = subprocess.Popen([PROGRAM, *words], stdout=output)
     _, status, usage = os.wait4(child.pid, 0)
     return time.monotonic() - begin, usage.ru_maxrss / 1024, os.waitstatus_to_exitcode(status)
+
+
+def least(words, output):
+    """The least processor seconds of some runs of the program on these words, which write to a file of this name."""
+    seconds = []
+    for _ in range(RUNS):
+        with open(output, "wb") as file:
+            child = subprocess.Popen([PROGRAM, *words], stdout=file)
+            _, _, usage = os.wait4(child.pid, 0)
+        seconds.append(usage.ru_utime + usage.ru_stime)
+    return min(seconds)
 
 
 def texts():
@@ -135,6 +153,16 @@ def solved(text, certificate):
     return result
 
 
+def tell_yardsticks(text, certificate):
+    """How fast a long certificate is checked, and how long that takes beside finding and writing it."""
+    size = os.path.getsize(certificate)
+    if size < LONG:
+        return
+    solve = least(["solve", text, "--turns", "10000000"], certificate)
+    check = least(["check", text, certificate], os.devnull)
+    print(f"{'':30} {size / check / 1e6:6.0f} MB a second, {check / solve:.2f} of the time to solve", flush=True)
+
+
 def measure(results, folder):
     text, certificate = os.path.join(folder, "text"), os.path.join(folder, "certificate")
     for name, content in texts():
@@ -150,6 +178,7 @@ def measure(results, folder):
         results.add(f"print: {name}", measured(["print", text], subprocess.DEVNULL))
         results.add(f"solve: {name}", solved(text, certificate))
         results.add(f"check: {name}", measured(["check", text, certificate], subprocess.DEVNULL))
+        tell_yardsticks(text, certificate)
 
 
 def main():
