@@ -1,0 +1,14 @@
+pub mod TermSums
+pub mod Standings
+pub mod Told
+pub mod Shape
+pub mod Products
+pub mod Moves
+pub mod Tells
+pub mod Apart
+pub mod Fronts
+pub mod Changed
+pub mod Adding
+pub mod RuleTerms
+pub mod Zeros
+pub mod Building

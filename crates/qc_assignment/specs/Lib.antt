@@ -1,0 +1,4 @@
+pub mod Assigned
+pub mod Balance
+pub mod Terms
+pub mod Keeping

@@ -1,0 +1,15 @@
+//! A value for each variable, changed one by one, and whether constraints hold on the values.
+//!
+//! A checker goes through tuples in an order in which few values change from one to the next. So of each sum that is
+//! compared with a number its balance is kept, and moved as a value changes; and of each constraint whether it is known to
+//! hold, which is forgotten where one of its variables changes. What is asked after a change costs what it touched.
+#![tactic(auto)]
+
+mod assignment;
+mod begin;
+mod standing;
+mod term;
+mod terms;
+mod test;
+
+pub use assignment::Assignment;
