@@ -2,7 +2,8 @@
 //!
 //! A checker goes through tuples in an order in which few values change from one to the next. So of each sum that is
 //! compared with a number its balance is kept, and moved as a value changes; and of each constraint whether it is known to
-//! hold, which is forgotten where one of its variables changes. What is asked after a change costs what it touched.
+//! hold, which is forgotten where one of its variables changes. So whether constraints hold costs a look at each, and an
+//! evaluation of those that a change touched, which for a sum is one comparison.
 #![tactic(auto)]
 
 mod assignment;
