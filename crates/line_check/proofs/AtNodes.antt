@@ -133,6 +133,7 @@ module _ (m : Machine) (js : Joins) (w : IsAtNode m) (others : KeepsOthers m.num
           laws = s.laws;
           tracks = s.tracks;
           joined = same ∙ s.joined;
+          valued = s.valued;
           value_each = s.value_each;
           numbers = s.numbers;
           declared = s.declared;
@@ -225,6 +226,7 @@ module _ (m : Machine) (k : ℕ) (mark : Mark) (w : IsSeeing m k mark) (t : Held
             laws = s.laws;
             tracks = s.tracks;
             joined = s.joined;
+            valued = s.valued;
             value_each = s.value_each;
             numbers = s.numbers;
             declared = s.declared;
@@ -263,6 +265,7 @@ module _ (m : Machine) (k : ℕ) (mark : Mark) (w : IsSeeing m k mark) (t : Held
           laws = s.laws;
           tracks = s.tracks;
           joined = s.joined;
+          valued = s.valued;
           value_each = s.value_each;
           numbers = s.numbers;
           declared = subst (λ b. is_box_of (game_of m) b ≡ true) (sym e) w.box.declared;

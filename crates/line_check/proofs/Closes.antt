@@ -61,6 +61,7 @@ module _ (m : Machine) (t : Held) (x : VarId) (mark : Mark) (from : ℤ) (more :
       laws = s.laws;
       tracks = s.tracks;
       joined = s.joined;
+      valued = s.valued;
       value_each = s.value_each;
       numbers = s.numbers;
       declared = subst (λ c. is_box_of (game_of m) c ≡ true) (sym b) frames_top.0.box.declared;
@@ -139,6 +140,7 @@ module _ (m : Machine) (js : Joins) (i : ℕ) (h : Option ℕ) (more rest : List
       laws = s.laws;
       tracks = s.tracks;
       joined = same ∙ s.joined;
+      valued = s.valued;
       value_each = s.value_each;
       numbers = s.numbers;
       declared = s.declared;

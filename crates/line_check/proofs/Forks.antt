@@ -82,6 +82,7 @@ module _ (m : Machine) (x : VarId) (mark : Mark) (from : ℤ) (more : List Open)
               laws = s.laws;
               tracks = s.tracks;
               joined = same ∙ s.joined;
+              valued = s.valued;
               value_each = s.value_each;
               numbers = s.numbers;
               declared = s.declared;
@@ -140,6 +141,7 @@ module _ (m : Machine) (x : VarId) (mark : Mark) (from : ℤ) (more : List Open)
               laws = s.laws;
               tracks = s.tracks;
               joined = s.joined;
+              valued = s.valued;
               value_each = s.value_each;
               numbers = s.numbers;
               declared = declared;
@@ -228,6 +230,7 @@ module _ (m : Machine) (x : VarId) (mark : Mark) (from : ℤ) (more : List Open)
             laws = s.laws;
             tracks = s.tracks;
             joined = s.joined;
+            valued = s.valued;
             value_each = s.value_each;
             numbers = s.numbers;
             declared = s.declared;

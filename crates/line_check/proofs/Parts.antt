@@ -2,10 +2,6 @@
 use Rattle.std.proofs.Common.{◌≡◌, ℕ, suc, ◌<◌, ◌+◌, ◌-◌, Bool, true, false, not, ◌&&◌, cond, List, [], ◌∷◌, ◌++◌, length, drop, append-nil, refl, sym, ap, ◌∙◌, subst, arith, ℤ, Option, Some, None}
 use Rattle.std.specs.Prelude.{nat_lt, nat_le, IsSome, filter, int_le, negsuc}
 use Rattle.std.specs.List.{list_all}
-use Rattle.std.specs.Prelude.{Vec}
-use Rattle.std.specs.Global.{Global}
-use Rattle.std.specs.Vec.{with_items}
-use Rattle.std.proofs.lemmas.List.{with_items_is}
 use Rattle.std.proofs.lemmas.Int.{ints}
 use Rattle.std.proofs.lemmas.Bool.Decides.{nat_tests}
 use Rattle.qc_model.specs.declared.problem.VarId.{VarId}
@@ -20,6 +16,7 @@ use Rattle.std.proofs.lemmas.List.{length-map}
 use Rattle.qc_model.proofs.Before.{before-le}
 use Rattle.qc_model.proofs.Readable.{first, second}
 use Rattle.qc_arguments.specs.Asked.{is_box_of}
+use Rattle.qc_assignment.specs.Assigned.{Assigned}
 use Rattle.qc_joins.specs.Joins.{game_of as game_joined, StandsAt, KeepsOthers}
 use Rattle.qc_joins.specs.declared.joins.Joins.{Joins}
 use Rattle.proof_tree.specs.Place.{position, is_fixed}
@@ -80,20 +77,16 @@ tuple_bars g i box = by (has_empty box) (is_fixed g i box) (allows g i (position
     by false false a = refl
 
 -- what reading a tuple leaves
-pub record IsRead (g : Game) (i : ℕ) (box : Box) (old new : List ℤ) (found : Option Bool) : Type 0 where
+pub record IsRead (g : Game) (i : ℕ) (box : Box) (old new : Assigned) (found : Option Bool) : Type 0 where
   pub tuple : found ≡ tuple_of g i box
-  pub kept : values_to g i new ≡ values_to g i old
-  pub placed : IsSome found → IsAt g (suc i) new box
-  pub each : length new ≡ length old
-  pub numbers : list_all is_number new ≡ true
+  pub kept : values_to g i new.items ≡ values_to g i old.items
+  pub placed : IsSome found → IsAt g (suc i) new.items box
+  pub game : new.game ≡ old.game
+  pub each : length new.items ≡ length old.items
+  pub numbers : list_all is_number new.items ≡ true
 
--- the values as they were written back
-pub read_back : (g : Game) (i : ℕ) (box : Box) (v : Vec ℤ Global) (vs : List ℤ) (found : Option Bool) → IsRead g i box v.items vs found → IsRead g i box v.items (with_items v vs).items found
-read_back g i box v vs found r = subst (λ ws. IsRead g i box v.items ws found) (sym (with_items_is v vs (r.each ∙ sym v.ok.0))) r
-
-pub read_there : (g u : Game) (i n : ℕ) (box : Box) (old was new : List ℤ) (found : Option Bool) → u ≡ g → n ≡ i → was ≡ old → IsRead u n box was new found → IsRead g i box old new found
-read_there g u i n box old was new found e f h r =
-    subst (λ vs. IsRead g i box vs new found) h (subst (λ k. IsRead g k box was new found) f (subst (λ w. IsRead w n box was new found) e r))
+pub read_there : (g u : Game) (i n : ℕ) (box : Box) (old new : Assigned) (found : Option Bool) → u ≡ g → n ≡ i → IsRead u n box old new found → IsRead g i box old new found
+read_there g u i n box old new found e f r = subst (λ k. IsRead g k box old new found) f (subst (λ w. IsRead w n box old new found) e r)
 
 some_tuple : (o : Option Bool) (b : Bool) → is_tuple b o ≡ true → IsSome o
 some_tuple None b e = cc
@@ -131,12 +124,13 @@ empty_tells m new e h n d es xs u few p k =
     subst (Tells new) (sym (a_ledger (has_empty m.remains.box) (part_ended m base es (xs ++ [])) e)) q
 
 -- a tuple has been read
-module _ (m : Machine) (v : Vec ℤ Global) (found : Option Bool) (w : IsWithin m) (r : IsRead (game_of m) m.number m.remains.box m.values.items v.items found) where
+module _ (m : Machine) (v : Assigned) (found : Option Bool) (w : IsWithin m) (r : IsRead (game_of m) m.number m.remains.box m.values v found) where
   read_sound : IsSound (record m { values = v })
   read_sound = let s = w.sound in record {
     laws = s.laws;
     tracks = s.tracks;
     joined = s.joined;
+    valued = r.game ∙ s.valued;
     value_each = r.each ∙ s.value_each;
     numbers = r.numbers;
     declared = s.declared;
@@ -155,6 +149,7 @@ module _ (m : Machine) (v : Vec ℤ Global) (found : Option Bool) (w : IsWithin 
         laws = s.laws;
         tracks = s.tracks;
         joined = same ∙ s.joined;
+        valued = s.valued;
         value_each = s.value_each;
         numbers = s.numbers;
         declared = s.declared;
@@ -202,6 +197,7 @@ module _ (m : Machine) (v : Vec ℤ Global) (found : Option Bool) (w : IsWithin 
             laws = s.laws;
             tracks = s.tracks;
             joined = s.joined;
+            valued = s.valued;
             value_each = s.value_each;
             numbers = s.numbers;
             declared = s.declared;
@@ -277,6 +273,7 @@ module _ (m : Machine) (w : IsWithin m) (x : VarId) (mark : Mark) (fs : List Ope
           laws = s.laws;
           tracks = s.tracks;
           joined = s.joined;
+          valued = s.valued;
           value_each = s.value_each;
           numbers = s.numbers;
           declared = s.declared;
@@ -317,6 +314,7 @@ module _ (m : Machine) (w : IsWithin m) (t : Held) (f : Follows m.remains t) (de
     laws = s.laws;
     tracks = s.tracks;
     joined = s.joined;
+    valued = s.valued;
     value_each = s.value_each;
     numbers = s.numbers;
     declared = declared;
@@ -336,6 +334,7 @@ module _ (m : Machine) (w : IsWithin m) (t : Held) (f : Follows m.remains t) (de
           laws = s.laws;
           tracks = s.tracks;
           joined = s.joined;
+          valued = s.valued;
           value_each = s.value_each;
           numbers = s.numbers;
           declared = s.declared;
@@ -379,6 +378,7 @@ module _ (m : Machine) (w : IsWithin m) (t : Held) (js : Joins) (f : Follows m.r
           laws = s.laws;
           tracks = s.tracks;
           joined = same ∙ s.joined;
+          valued = s.valued;
           value_each = s.value_each;
           numbers = s.numbers;
           declared = s.declared;

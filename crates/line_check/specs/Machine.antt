@@ -64,6 +64,7 @@ pub record IsSound (m : Machine) : Type 0 where
   pub laws : VerdictLaws (game_of m)
   pub tracks : TracksAll (game_of m) m.bounds
   pub joined : game_joined m.joins ≡ game_of m
+  pub valued : m.values.game ≡ game_of m
   pub value_each : length m.values.items ≡ length (game_of m).variables
   pub numbers : list_all is_number m.values.items ≡ true
   pub declared : is_box_of (game_of m) m.remains.box ≡ true

@@ -11,6 +11,7 @@ use crate::nesting::Nesting;
 use crate::open::Due;
 use crate::remains::Remains;
 use proof_tree::Line;
+use qc_assignment::Assignment;
 use qc_joins::Joins;
 use qc_levels::Found;
 use qc_model::Problem;
@@ -29,7 +30,7 @@ impl<'p> Machine<'p> {
         let bounds = Bounds::new(alloc, problem)?;
         let remains = Remains::new(alloc, problem)?;
         let joins = Joins::new(alloc, problem)?;
-        let values = vec![in alloc; 0i64; problem.variables()]?;
+        let values = Assignment::new(alloc, problem)?;
         let nesting = Nesting::new(alloc)?;
         Ok(Machine {
             levels,

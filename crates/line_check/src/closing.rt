@@ -53,7 +53,7 @@ impl<'p> Machine<'p> {
         let count = self.count_before();
         self.found = self
             .joins
-            .finish(ScopeId(self.number), &self.values[..count]);
+            .finish(ScopeId(self.number), &self.values.values()[..count]);
         self.own = self.joins.own(ScopeId(self.number));
         self.close_node();
     }

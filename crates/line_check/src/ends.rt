@@ -39,7 +39,7 @@ impl<'p> Machine<'p> {
         ensures same { game_of self.new ≡ game_of self.old }
     {
         let level = self.levels.level(ScopeId(self.number));
-        let found = tuple_allowed(level, &self.remains, self.values.as_mut_slice());
+        let found = tuple_allowed(level, &self.remains, &mut self.values);
         if !says(found, false) {
             self.due = Due::Wrong;
             return;
@@ -57,7 +57,7 @@ impl<'p> Machine<'p> {
     {
         self.levels.problem.known();
         let level = self.levels.level(ScopeId(self.number));
-        let found = tuple_allowed(level, &self.remains, self.values.as_mut_slice());
+        let found = tuple_allowed(level, &self.remains, &mut self.values);
         if !says(found, true) {
             self.due = Due::Wrong;
             return;

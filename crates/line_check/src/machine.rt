@@ -4,6 +4,7 @@ use crate::bounds::Bounds;
 use crate::nesting::Nesting;
 use crate::open::Due;
 use crate::remains::Remains;
+use qc_assignment::Assignment;
 use qc_joins::Joins;
 use qc_levels::Found;
 use qc_rules::Levels;
@@ -17,7 +18,7 @@ pub struct Machine<'p> {
     pub(crate) remains: Remains,
     pub(crate) joins: Joins<'p>,
     // the first of them are the values of the variables before the scope that is read
-    pub(crate) values: Vec<i64>,
+    pub(crate) values: Assignment<'p>,
     pub(crate) nesting: Nesting,
     pub(crate) due: Due,
     pub(crate) number: u8,

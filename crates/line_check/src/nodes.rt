@@ -11,7 +11,7 @@ ghost use Rattle.proof_tree.specs.declared.line.Line.TheVariants as line_of;
 use crate::legal::prune;
 use crate::machine::Machine;
 use crate::open::Due;
-use crate::tuple::goal_holds;
+use crate::tuple::goal_is_met;
 use fd_store::Mark;
 use proof_tree::Line;
 use qc_levels::Found;
@@ -46,7 +46,7 @@ impl<'p> Machine<'p> {
         let count = self.count_before();
         self.found = self
             .joins
-            .stuck(ScopeId(self.number), &self.values[..count]);
+            .stuck(ScopeId(self.number), &self.values.values()[..count]);
         self.own = None;
         self.close_node();
     }
@@ -96,8 +96,8 @@ impl<'p> Machine<'p> {
             self.due = Due::Wrong;
             return;
         }
-        let holds = goal_holds(&self.levels, self.values.as_slice());
-        self.found = self.joins.goal(holds, self.values.as_slice());
+        let holds = goal_is_met(&self.levels, &mut self.values);
+        self.found = self.joins.goal(holds, self.values.values());
         self.own = None;
         self.close_node();
     }

@@ -1,8 +1,9 @@
 //! Whether the tuple of a scope is allowed, and whether the goal holds.
-ghost use Rattle.std.specs.Prelude.{◌≡◌, ◌≤◌, true, false, suc, length, map, take, drop, IsSome};
+ghost use Rattle.std.specs.Prelude.{◌≡◌, ◌≤◌, ◌-◌, true, false, suc, length, map, take, drop, IsSome};
 ghost use Rattle.std.specs.List.{list_all};
 ghost use Rattle.qc_model.specs.Domains.{has_empty, is_single};
 ghost use Rattle.qc_model.specs.Game.{allows};
+ghost use Rattle.qc_model.specs.Holds.{holds_on};
 ghost use Rattle.qc_model.specs.Valid.{is_number};
 ghost use Rattle.qc_arguments.specs.Asked.{is_box_of};
 ghost use Rattle.line_check.specs.Machine.{IsAt, only, values_to};
@@ -10,22 +11,25 @@ ghost use Rattle.line_check.specs.Tuples.{tuple_of, is_tuple};
 
 use crate::remains::Remains;
 use fd_store::Store;
-use qc_model::VarId;
+use qc_arguments::Span;
+use qc_assignment::Assignment;
+use qc_model::{ScopeId, VarId};
 use qc_rules::{Level, Levels, all_hold};
 
 /// Reads the one value left to each variable from `from` to the one before `stop` into its place, as `read_values` does,
 /// and says whether each has one: it stops at the first that hasn't.
-fn read_fixed(store: &Store, from: u16, stop: u16, values: &mut [i64]) -> bool
+fn read_fixed(store: &Store, from: u16, stop: u16, values: &mut Assignment) -> bool
     requires order { from ≤ stop }
     requires bound { stop ≤ length store.now.box }
-    requires each { length values.old ≡ length store.now.box }
-    requires numbers { list_all is_number values.old ≡ true }
-    requires placed { take from store.now.box ≡ map only (take from values.old) }
+    requires each { length values.old.items ≡ length store.now.box }
+    requires numbers { list_all is_number values.old.items ≡ true }
+    requires placed { take from store.now.box ≡ map only (take from values.old.items) }
     ensures fixed { result ≡ list_all is_single (drop from (take stop store.now.box)) }
-    ensures read { result ≡ true → take stop store.now.box ≡ map only (take stop values.new) }
-    ensures kept { take from values.new ≡ take from values.old }
-    ensures each { length values.new ≡ length values.old }
-    ensures numbers { list_all is_number values.new ≡ true }
+    ensures read { result ≡ true → take stop store.now.box ≡ map only (take stop values.new.items) }
+    ensures kept { take from values.new.items ≡ take from values.old.items }
+    ensures game { values.new.game ≡ values.old.game }
+    ensures each { length values.new.items ≡ length values.old.items }
+    ensures numbers { list_all is_number values.new.items ≡ true }
 {
     for k in from..stop {
         let x = VarId(k);
@@ -33,9 +37,22 @@ fn read_fixed(store: &Store, from: u16, stop: u16, values: &mut [i64]) -> bool
             return false;
         }
         store.known(x);
-        values[k as usize] = store.min(x);
+        values.set(x, store.min(x));
     }
     true
+}
+
+/// Whether the constraints of the span all hold on the values. Many scopes have none, so that this is told at once.
+#[inline(always)]
+fn span_holds(values: &mut Assignment, span: Span) -> bool
+    requires { span.end ≤ length values.old.game.constraints }
+    ensures holds { result ≡ list_all (λ c. holds_on c values.old.items) (take (span.end - span.first) (drop span.first values.old.game.constraints)) }
+    ensures same { values.new ≡ values.old }
+{
+    if span.end <= span.first {
+        return true;
+    }
+    values.all_hold(span)
 }
 
 /// Reads the one value left to each variable from `from` to the one before `stop` into its place. Those before stand
@@ -63,19 +80,24 @@ pub fn read_values(store: &Store, from: usize, stop: usize, values: &mut [i64])
 /// Whether the tuple of the scope is allowed; None where a variable has no value, or one of the scope has several. The
 /// values of the variables before the scope stand in the first places; where there is an answer, those of the scope
 /// stand after them.
-pub(crate) fn tuple_allowed(level: &Level, remains: &Remains, values: &mut [i64]) -> Option<bool>
+pub(crate) fn tuple_allowed(
+    level: &Level,
+    remains: &Remains,
+    values: &mut Assignment,
+) -> Option<bool>
     requires declared { is_box_of level.now.problem.now remains.now.box ≡ true }
-    requires each { length values.old ≡ length level.now.problem.now.variables }
-    requires numbers { list_all is_number values.old ≡ true }
-    requires placed { has_empty remains.now.box ≡ false → IsAt level.now.problem.now level.now.number values.old remains.now.box }
+    requires game { values.old.game ≡ level.now.problem.now }
+    requires each { length values.old.items ≡ length level.now.problem.now.variables }
+    requires numbers { list_all is_number values.old.items ≡ true }
+    requires placed { has_empty remains.now.box ≡ false → IsAt level.now.problem.now level.now.number values.old.items remains.now.box }
     ensures tuple { result ≡ tuple_of level.now.problem.now level.now.number remains.now.box }
-    ensures kept { values_to level.now.problem.now level.now.number values.new ≡ values_to level.now.problem.now level.now.number values.old }
-    ensures placed { IsSome result → IsAt level.now.problem.now (suc level.now.number) values.new remains.now.box }
-    ensures each { length values.new ≡ length values.old }
-    ensures numbers { list_all is_number values.new ≡ true }
+    ensures kept { values_to level.now.problem.now level.now.number values.new.items ≡ values_to level.now.problem.now level.now.number values.old.items }
+    ensures placed { IsSome result → IsAt level.now.problem.now (suc level.now.number) values.new.items remains.now.box }
+    ensures game { values.new.game ≡ values.old.game }
+    ensures each { length values.new.items ≡ length values.old.items }
+    ensures numbers { list_all is_number values.new.items ≡ true }
 {
-    let problem = level.problem;
-    problem.known();
+    level.problem.known();
     if remains.is_empty() {
         return None;
     }
@@ -87,7 +109,19 @@ pub(crate) fn tuple_allowed(level: &Level, remains: &Remains, values: &mut [i64]
     ) {
         return None;
     }
-    Some(all_hold(problem, level.rules, &values[..level.stop]))
+    Some(span_holds(values, level.constraints))
+}
+
+/// Whether the goal holds on the values.
+pub(crate) fn goal_is_met(levels: &Levels, values: &mut Assignment) -> bool
+    requires game { values.old.game ≡ levels.now.problem.now }
+    requires each { length values.old.items ≡ length levels.now.problem.now.variables }
+    ensures holds { result ≡ allows levels.now.problem.now (length levels.now.problem.now.scopes) values.old.items }
+    ensures same { values.new ≡ values.old }
+{
+    levels.problem.known();
+    let goal = ScopeId(levels.problem.scopes() as u8);
+    values.all_hold(levels.constraints_between(goal, goal))
 }
 
 /// Whether the goal holds on these values, one for each variable.

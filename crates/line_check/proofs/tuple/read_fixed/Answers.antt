@@ -1,4 +1,5 @@
-use Rattle.std.proofs.Common.{◌≡◌, ◌∙◌, sym, ap, arith, true, length-set, to_z, of_z, w64}
+use Rattle.std.proofs.Common.{◌≡◌, ◌∙◌, ◌+◌, sym, ap, subst, arith, true, length, take, map, set, length-set, to_z, of_z, w64}
+use Rattle.std.specs.List.{list_all}
 use Rattle.qc_model.specs.Domains.{values_left, least_value, is_single}
 use Rattle.qc_model.specs.Valid.{is_number}
 use Rattle.line_check.specs.Machine.{only}
@@ -13,7 +14,7 @@ pub loop-k-preserved : goal.loop-k-preserved
 loop-k-preserved c =
     let box = c.args.store.now.box in
     let k = c.loop-k.k in
-    let vs = c.loop-k.values in
+    let vs = c.loop-k.values.items in
     let d = values_left box k in
     let single : is_single d ≡ true = sym c.is_fixed.ensures ∙ c.if-not-is_fixed.false in
     let number = least_number d (single_some d single) c.known.ensures.numbers in
@@ -21,10 +22,12 @@ loop-k-preserved c =
     let e : w ≡ least_value d = ap (λ z. to_z w64 (of_z w64 z)) c.min.ensures ∙ passed_number (least_value d) number in
     let inv = c.loop-k.invariant in
     let below = c.loop-k-test.true in
+    let put : c.set.new.self.items ≡ set vs k w = c.set.ensures.items in
     record {
       fixed = fixed_next box c.args.stop k below c.requires.bound single ∙ inv.fixed;
-      read = placed_more vs box k w (omega (arith, inv.each, c.requires.each, c.requires.bound, below)) (omega (arith, c.requires.bound, below)) (single_only d single ∙ ap only (sym e)) inv.read;
-      kept = kept_before vs c.args.from k w c.loop-k.auto.k ∙ inv.kept;
-      each = length-set vs k w ∙ inv.each;
-      numbers = numbers_set vs k w inv.numbers (ap is_number e ∙ number);
+      read = placed_more vs box k w (omega (arith, inv.each, c.requires.each, c.requires.bound, below)) (omega (arith, c.requires.bound, below)) (single_only d single ∙ ap only (sym e)) inv.read ∙ sym (ap (λ us. map only (take (k + 1) us)) put);
+      kept = ap (take c.args.from) put ∙ (kept_before vs c.args.from k w c.loop-k.auto.k ∙ inv.kept);
+      game = c.set.ensures.game ∙ inv.game;
+      each = ap length put ∙ (length-set vs k w ∙ inv.each);
+      numbers = subst (λ us. list_all is_number us ≡ true) (sym put) (numbers_set vs k w inv.numbers (ap is_number e ∙ number));
     }

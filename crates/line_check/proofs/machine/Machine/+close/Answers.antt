@@ -31,10 +31,10 @@ close_scope-returns-clause-tells t c = λ n d es xs p.
     let g = game_of m in
     let s = c.requires.within.sound in
     let js = c.finish-self.new.self in
-    let vals : take c.count_before-count.result c.deref.result.now ≡ before_of m = ap (take c.count_before-count.result) c.deref.ensures.value ∙ ap (λ k. take k m.values.items) c.count_before-count.ensures in
+    let vals : take c.count_before-count.result c.values.result.now ≡ before_of m = ap (take c.count_before-count.result) c.values.ensures ∙ ap (λ k. take k m.values.items) c.count_before-count.ensures in
     let verdict =
     c.finish-self.ensures.verdict xs p.part.stands
-    ∙ (ap (λ (u : Game). verdict_at u m.number (take c.count_before-count.result c.deref.result.now) xs) s.joined ∙ ap (λ a. verdict_at g m.number a xs) vals) in
+    ∙ (ap (λ (u : Game). verdict_at u m.number (take c.count_before-count.result c.values.result.now) xs) s.joined ∙ ap (λ a. verdict_at g m.number a xs) vals) in
     let own : c.own-self.result ≡ own_at g m.number xs =
     c.own-self.ensures xs (c.finish-self.ensures.all m.number xs p.part.stands) ∙ ap (λ (u : Game). own_at u m.number xs) (c.finish-self.ensures.same ∙ s.joined) in
     let v = verdict_at g m.number (before_of m) xs in

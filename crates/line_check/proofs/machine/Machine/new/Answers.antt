@@ -1,6 +1,7 @@
-use Rattle.std.proofs.Common.{◌≡◌, ◌∙◌, sym, ap, subst, refl, rules, length, arith, true, replicate}
+use Rattle.std.proofs.Common.{◌≡◌, ◌∙◌, sym, ap, subst, refl, length, arith, true}
 use Rattle.std.specs.Prelude.{pos}
 use Rattle.std.specs.List.{list_all}
+use Rattle.std.proofs.lemmas.List.{length-replicate}
 use Rattle.qc_model.specs.Valid.{is_number}
 use Rattle.qc_model.specs.Content.{Game}
 use Rattle.qc_model.specs.Domains.{has_empty}
@@ -26,15 +27,17 @@ returns-clause-ready c =
     let g = c.args.problem.now in
     let same : c.in_ok-levels.levels.problem.now ≡ g = c.in_ok-levels.ensures in
     let box = c.in_ok-remains.ensures.0 in
-    let size : length c.in_ok-values.values.items ≡ c.variables.result = search rules in
-    let zeros : c.in_ok-values.values.items ≡ replicate c.variables.result (pos 0) = c.in_ok-values.ensures.items_if_clones_equal (λ y e. e) in
+    let values = c.in_ok-values.values in
+    let numbers : list_all is_number values.items ≡ true = subst (λ vs. list_all is_number vs ≡ true) (sym c.in_ok-values.ensures.zeros) (numbers_none (length g.variables)) in
+    let size : length values.items ≡ length g.variables = ap length c.in_ok-values.ensures.zeros ∙ length-replicate (length g.variables) (pos 0) in
     record {
       sound = record {
         laws = subst VerdictLaws (sym same) (verdict_laws g c.known.ensures);
         tracks = subst (λ (u : Game). TracksAll u c.in_ok-bounds.bounds) (sym same) c.in_ok-bounds.ensures;
         joined = c.in_ok-joins.ensures.same ∙ sym same;
-        value_each = size ∙ (c.variables.ensures ∙ sym (ap (λ (u : Game). length u.variables) same));
-        numbers = subst (λ vs. list_all is_number vs ≡ true) (sym zeros) (numbers_none c.variables.result);
+        valued = c.in_ok-values.ensures.game ∙ sym same;
+        value_each = size ∙ sym (ap (λ (u : Game). length u.variables) same);
+        numbers = numbers;
         declared = subst (λ (u : Game). is_box_of u c.in_ok-remains.remains.box ≡ true) (sym same) (declared_is g c.in_ok-remains.remains.box c.known.ensures.domains box);
         inside = omega arith;
         placed = λ full. at_first c.in_ok-levels.levels.problem.now c.in_ok-values.values.items c.in_ok-remains.remains.box;

@@ -1,22 +1,20 @@
 use Rattle.std.proofs.Common.{◌≡◌, ◌∙◌, sym, ap, true}
-use Rattle.std.specs.Vec.{with_items}
 use Rattle.line_check.specs.State.{goes_on}
 use Rattle.line_check.specs.Tuples.{is_tuple}
 use Rattle.line_check.specs.Ledger.{space_left}
 use Rattle.line_check.specs.Machine.{game_of}
 use Rattle.line_check.specs.Telling.{part_at}
-use Rattle.line_check.proofs.Parts.{IsRead, read_there, read_back, tuple_goes, next_ready, next_tells, no_room, not_first}
+use Rattle.line_check.proofs.Parts.{IsRead, read_there, tuple_goes, next_ready, next_tells, no_room, not_first}
 use Rattle.line_check.proofs.machine.Machine.next_line.Goals as goal
 use Rattle.line_check.proofs.machine.Machine.next_line.Goals.{After-tuple_allowed-found, After-says}
 
-read : (c : After-tuple_allowed-found) → IsRead (game_of c.args.self.now) c.args.self.now.number c.args.self.now.remains.box c.args.self.now.values.items (with_items c.args.self.now.values c.tuple_allowed-found.new.values).items c.tuple_allowed-found.result
+read : (c : After-tuple_allowed-found) → IsRead (game_of c.args.self.now) c.args.self.now.number c.args.self.now.remains.box c.args.self.now.values c.tuple_allowed-found.new.values c.tuple_allowed-found.result
 read c =
     let m = c.args.self.now in
     let l = c.level-level in
     let t = c.tuple_allowed-found in
-    read_back (game_of m) m.number m.remains.box m.values t.new.values t.result
-    (read_there (game_of m) l.result.now.problem.now m.number l.result.now.number m.remains.box m.values.items c.as_mut_slice.result.now t.new.values t.result l.ensures.problem l.ensures.number c.as_mut_slice.ensures.value
-    (record { tuple = t.ensures.tuple; kept = t.ensures.kept; placed = t.ensures.placed; each = t.ensures.each; numbers = t.ensures.numbers }))
+    read_there (game_of m) l.result.now.problem.now m.number l.result.now.number m.remains.box m.values t.new.values t.result l.ensures.problem l.ensures.number
+    (record { tuple = t.ensures.tuple; kept = t.ensures.kept; placed = t.ensures.placed; game = t.ensures.game; each = t.ensures.each; numbers = t.ensures.numbers })
 
 says : (c : After-says) → c.says.result ≡ goes_on (game_of c.args.self.now) c.args.self.now.number c.args.self.now.remains.box
 says c =
@@ -38,12 +36,12 @@ pub returns-clause-tells : goal.returns-clause-tells
 returns-clause-tells c =
     let m = c.args.self.now in
     let t = c.tuple_allowed-found in
-    next_tells m (with_items m.values t.new.values) t.result c.requires.within (read (goal.at.returns-clause-tells c).After-tuple_allowed-found) c.push.new.self c.push.ensures
+    next_tells m t.new.values t.result c.requires.within (read (goal.at.returns-clause-tells c).After-tuple_allowed-found) c.push.new.self c.push.ensures
     (sym (says (goal.at.returns-clause-tells c).After-says) ∙ c.if-not-says.false) (sym c.has_room.ensures ∙ c.if-not-has_room.false)
 
 pub returns-clause-ready : goal.returns-clause-ready
 returns-clause-ready c =
     let m = c.args.self.now in
     let t = c.tuple_allowed-found in
-    next_ready m (with_items m.values t.new.values) t.result c.requires.within (read (goal.at.returns-clause-ready c).After-tuple_allowed-found) c.push.new.self c.push.ensures
+    next_ready m t.new.values t.result c.requires.within (read (goal.at.returns-clause-ready c).After-tuple_allowed-found) c.push.new.self c.push.ensures
     (sym (says (goal.at.returns-clause-ready c).After-says) ∙ c.if-not-says.false)
