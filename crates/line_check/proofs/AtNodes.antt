@@ -39,7 +39,9 @@ use Rattle.line_check.specs.LedgerSizes.{EntriesKeep}
 use Rattle.line_check.specs.Machine.{game_of, values_to, before_of, IsAt, IsFull, IsSound, IsAtNode, IsWithin, IsSeeing}
 use Rattle.line_check.specs.Telling.{IsNode, IsNodeEnd, GoesUp, came, node_at, node_ended, stuck_ended, Tells, NodeTells, PartTells}
 use Rattle.line_check.proofs.Frames.{past_now, frames_same, entries_same, entries_joins}
-use Rattle.line_check.proofs.Placing.{position_placed, at_filtered, numbers_to}
+use Rattle.line_check.proofs.Placing.{position_placed, numbers_to}
+use Rattle.line_check.proofs.Known.{read_here, reads_back}
+use Rattle.line_check.specs.Known.{ReadBy}
 use Rattle.line_check.proofs.LedgerSizes.{one_node}
 use Rattle.line_check.proofs.Parts.{a_ledger, followed_sound, followed_open}
 
@@ -140,6 +142,7 @@ module _ (m : Machine) (js : Joins) (w : IsAtNode m) (others : KeepsOthers m.num
           inside = s.inside;
           placed = s.placed;
           frames = s.frames;
+          read = s.read;
         };
         scope = scope_is;
       }
@@ -203,6 +206,36 @@ module _ (m : Machine) (w : IsAtNode m) (k : ℕ) (mark : Mark) (at : mark.at �
       goal_none [] e = cc
       goal_none (s ∷ ss) e = omega arith
 
+  pub horizon_ready : IsSeeing (record m { due = due.Prune k mark }) k mark
+  horizon_ready =
+      let s = w.sound in
+      let now : past_box m.remains mark.at ≡ m.remains.box = past_now m.remains mark.at at in
+      record {
+        within = record {
+          sound = record {
+            laws = s.laws;
+            tracks = s.tracks;
+            joined = s.joined;
+            valued = s.valued;
+            value_each = s.value_each;
+            numbers = s.numbers;
+            declared = s.declared;
+            inside = s.inside;
+            placed = s.placed;
+            frames = s.frames;
+            read = s.read;
+          };
+          scope = ahead.0;
+        };
+        order = ahead.1;
+        bound = ahead.2;
+        at = omega (arith, at);
+        box = subst (IsFull (game_of m) m.number m.values.items) (sym now) (record { declared = s.declared; full = w.full; placed = s.placed w.full });
+        frames = frames_same (game_of m) m.remains m.remains m.values.items m.number (trail_len m.remains) mark.at m.nesting (omega (arith, at)) (λ j l. refl) s.frames;
+        read = read_here m.remains m.values.items m.reads mark.at now w.full s.read.here;
+        known = λ j l. let p = s.read.here.past j l in omega (arith, p, at);
+      }
+
   pub horizon_tells : NodeTells m (record m { due = due.Prune k mark }) (λ d. ledger_node (game_of m) d (Horizon (suc k)))
   horizon_tells n d es u few p keeps =
       let base = node_at m d es u in (
@@ -215,7 +248,7 @@ module _ (m : Machine) (w : IsAtNode m) (k : ℕ) (mark : Mark) (at : mark.at �
 -- a removal of a horizon
 module _ (m : Machine) (k : ℕ) (mark : Mark) (w : IsSeeing m k mark) (t : Held) (f : Follows m.remains t) (declared : is_box_of (game_of m) t.box ≡ true) (x : VarId) (lo hi : ℤ) (e : t.box ≡ box_without m.remains.box x.0 lo hi) where
   seen_sound : IsSound (record m { remains = t })
-  seen_sound = followed_sound m w.within t f declared (at_filtered (game_of m) m.number m.values.items m.remains.box t.box x.0 (λ v. not (is_within lo hi v)) e w.within.sound.placed)
+  seen_sound = followed_sound m w.within t f declared x.0 (λ v. not (is_within lo hi v)) e
 
   pub seen_ready : IsSeeing (record m { remains = t; due = due.Prune k mark }) k mark
   seen_ready =
@@ -233,6 +266,7 @@ module _ (m : Machine) (k : ℕ) (mark : Mark) (w : IsSeeing m k mark) (t : Held
             inside = s.inside;
             placed = s.placed;
             frames = s.frames;
+            read = s.read;
           };
           scope = w.within.scope;
         };
@@ -241,6 +275,8 @@ module _ (m : Machine) (k : ℕ) (mark : Mark) (w : IsSeeing m k mark) (t : Held
         at = let a = w.at in let l = f.longer in omega (arith, a, l);
         box = subst (IsFull (game_of m) m.number m.values.items) (sym (f.boxes mark.at w.at)) w.box;
         frames = frames_same (game_of m) m.remains t m.values.items m.number mark.at mark.at m.nesting (omega arith) (λ j l. f.boxes j (let a = w.at in omega (arith, l, a))) w.frames;
+        read = subst (λ b. ReadBy b m.values.items m.reads mark.at) (sym (f.boxes mark.at w.at)) w.read;
+        known = w.known;
       }
 
   pub seen_tells : (c : ConId) → is_legal (game_of m) m.number (suc k) None (PruneStep x lo hi c) m.remains.box ≡ true →
@@ -272,6 +308,7 @@ module _ (m : Machine) (k : ℕ) (mark : Mark) (w : IsSeeing m k mark) (t : Held
           inside = s.inside;
           placed = λ full. subst (IsAt (game_of m) m.number m.values.items) (sym e) w.box.placed;
           frames = frames_same (game_of m) m.remains t m.values.items m.number mark.at (trail_len t) m.nesting (let l = u.len in omega (arith, l)) u.boxes w.frames;
+          read = reads_back (game_of m) m.remains t m.values.items m.reads m.reads m.number mark.at m.nesting u e refl (omega arith) w.known w.read w.frames s.read;
         };
         full = ap has_empty e ∙ w.box.full;
       }

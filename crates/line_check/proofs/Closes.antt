@@ -25,6 +25,9 @@ use Rattle.line_check.specs.Machine.{game_of, fork_at, values_to, before_of, IsA
 use Rattle.line_check.specs.Telling.{AreEntries, AreOpen, IsPartEnd, IsNodeEnd, GoesUp, IsLeft, part_at, part_ended, node_ended, came, TellsPart}
 use Rattle.line_check.proofs.Frames.{at_fewer, frames_same, entries_same, entries_joins}
 use Rattle.line_check.proofs.LedgerSizes.{closes_up}
+use Rattle.line_check.proofs.Known.{reads_back, reads_open}
+use Rattle.line_check.specs.Known.{mark_of, ReadBy, AreBranchesRead}
+use Rattle.line_check.specs.declared.reads.Reads.{Reads}
 
 -- the branch that is open last
 pub record TopIs (g : Game) (s : Held) (vs : List ℤ) (js : Joins) (i : ℕ) (fs : List Open) (x : VarId) (mark : Mark) (from : ℤ) (es : List Entry) : Type 0 where
@@ -45,7 +48,7 @@ pub top_fork : (m : Machine) (x : VarId) (mark : Mark) (from : ℤ) (more : List
 top_fork m x mark from more e s = let h : IsFork (game_of m) m.remains m.values.items m.number (trail_len m.remains) x mark × AreFrames (game_of m) m.remains m.values.items m.number mark.at more = subst (AreFrames (game_of m) m.remains m.values.items m.number (trail_len m.remains)) e s.frames in h.0
 
 -- what is open after going back to the branch that is open last
-module _ (m : Machine) (t : Held) (x : VarId) (mark : Mark) (from : ℤ) (more : List Open) (e : m.nesting ≡ Branch x mark from ∷ more) (s : IsSound m) (u : IsUndone mark.at m.remains t) (b : t.box ≡ past_box m.remains mark.at) where
+module _ (m : Machine) (t : Held) (x : VarId) (mark : Mark) (from : ℤ) (more : List Open) (e : m.nesting ≡ Branch x mark from ∷ more) (s : IsSound m) (u : IsUndone mark.at m.remains t) (b : t.box ≡ past_box m.remains mark.at) (q : Reads) (marks : q.marks.items ≡ m.reads.marks.items) (fewer : q.count ≤ m.reads.count) (known : (k : ℕ) → k < q.count → mark_of q k ≤ mark.at) where
   frames_top : IsFork (game_of m) m.remains m.values.items m.number (trail_len m.remains) x mark × AreFrames (game_of m) m.remains m.values.items m.number mark.at more
   frames_top = subst (AreFrames (game_of m) m.remains m.values.items m.number (trail_len m.remains)) e s.frames
 
@@ -55,7 +58,10 @@ module _ (m : Machine) (t : Held) (x : VarId) (mark : Mark) (from : ℤ) (more :
       subst (AreFrames (game_of m) m.remains m.values.items m.number mark.at) (sym e)
       (record { scope = h.0.scope; at = omega arith; variable = h.0.variable; box = h.0.box }, h.1)
 
-  pub back_ready : IsAtFork (record m { remains = t; due = due.Case })
+  read_top : ReadBy (past_box m.remains mark.at) m.values.items m.reads mark.at
+  read_top = let h : ReadBy (past_box m.remains mark.at) m.values.items m.reads mark.at × AreBranchesRead m.remains m.values.items m.reads more = subst (AreBranchesRead m.remains m.values.items m.reads) e s.read.branches in h.0
+
+  pub back_ready : IsAtFork (record m { remains = t; reads = q; due = due.Case })
   back_ready = record {
     sound = record {
       laws = s.laws;
@@ -68,19 +74,20 @@ module _ (m : Machine) (t : Held) (x : VarId) (mark : Mark) (from : ℤ) (more :
       inside = s.inside;
       placed = λ full. subst (IsAt (game_of m) m.number m.values.items) (sym b) frames_top.0.box.placed;
       frames = frames_same (game_of m) m.remains t m.values.items m.number mark.at (trail_len t) m.nesting (let l = u.len in omega (arith, l)) u.boxes frames_at;
+      read = reads_back (game_of m) m.remains t m.values.items m.reads q m.number mark.at m.nesting u b marks fewer known read_top frames_at s.read;
     };
     back = subst (IsBack t) (sym e) (b ∙ sym (u.boxes mark.at (omega arith)));
   }
 
-  pub back_tells : (n : ℕ) (d : Ledger) (es : List Entry) (xs : List Seen) → IsPartEnd n m d es xs → TellsPart (record m { remains = t; due = due.Case }) case_awaited (Some (part_ended m d es xs))
+  pub back_tells : (n : ℕ) (d : Ledger) (es : List Entry) (xs : List Seen) → IsPartEnd n m d es xs → TellsPart (record m { remains = t; reads = q; due = due.Case }) case_awaited (Some (part_ended m d es xs))
   back_tells n d es xs p =
       let k = top_is (game_of m) m.remains m.values.items m.joins m.number x mark from more m.nesting es e p.part.entries in
-      let kept : AreOpen (record m { remains = t; due = due.Case }) es = entries_same (game_of m) m.remains t m.values.items m.joins m.number mark.at m.nesting es u.boxes frames_at p.part.entries in (
+      let kept : AreOpen (record m { remains = t; reads = q; due = due.Case }) es = entries_same (game_of m) m.remains t m.values.items m.joins m.number mark.at m.nesting es u.boxes frames_at p.part.entries in (
         d,
         es,
         xs,
         record { counts = p.part.counts; entries = kept; stands = p.part.stands },
-        ap Some (ap (λ fs. part_ended m d fs xs) k.split ∙ (ap (λ c. let r : Ledger = record d { box = c; entries = branch_entry (fork_at m.remains x mark from) ∷ k.outer; awaited = case_awaited; number = m.number; horizon = m.horizon; seen = xs; before = before_of m } in r) (sym b) ∙ ap (λ fs. part_at (record m { remains = t; due = due.Case }) d fs xs case_awaited) (sym k.split))),
+        ap Some (ap (λ fs. part_ended m d fs xs) k.split ∙ (ap (λ c. let r : Ledger = record d { box = c; entries = branch_entry (fork_at m.remains x mark from) ∷ k.outer; awaited = case_awaited; number = m.number; horizon = m.horizon; seen = xs; before = before_of m } in r) (sym b) ∙ ap (λ fs. part_at (record m { remains = t; reads = q; due = due.Case }) d fs xs case_awaited) (sym k.split))),
       )
 
 -- a scope's own tree that isn't within a branch
@@ -147,6 +154,7 @@ module _ (m : Machine) (js : Joins) (i : ℕ) (h : Option ℕ) (more rest : List
       inside = let k = s.inside in omega (arith, k, back);
       placed = subst (λ j. has_empty m.remains.box ≡ false → IsAt (game_of m) j m.values.items m.remains.box) (sym back) (λ full. at_fewer (game_of m) m.number m.values.items m.remains.box (s.placed full));
       frames = subst (λ j. AreFrames (game_of m) m.remains m.values.items j (trail_len m.remains) rest) (sym back) (subst (AreFrames (game_of m) m.remains m.values.items (m.number - 1) (trail_len m.remains)) (sym r) frames_next.1);
+      read = reads_open (game_of m) m.remains m.values.items m.reads m.nesting rest (λ b. subst (AreBranchesRead m.remains m.values.items m.reads) (sym r) (subst (AreBranchesRead m.remains m.values.items m.reads) e b)) s.read;
     };
     scope = let k = s.inside in let p = frames_next.0 in omega (arith, k, back, p);
   }

@@ -29,6 +29,8 @@ use Rattle.line_check.specs.Telling.{AreEntries, AreOpen, IsPart, IsPartEnd, Goe
 use Rattle.line_check.proofs.Cuts.{fewer, not_fewer}
 use Rattle.line_check.proofs.Frames.{frames_same, entries_same, entries_joins}
 use Rattle.line_check.proofs.Placing.{at_filtered}
+use Rattle.line_check.proofs.Known.{reads_open, reads_followed}
+use Rattle.line_check.specs.Known.{ReadBy, AreBranchesRead}
 use Rattle.line_check.proofs.Readings.{box_size}
 use Rattle.line_check.proofs.LedgerSizes.{all_drop, part_also, none_seen}
 use Rattle.line_check.proofs.Closes.{top_is, top_fork}
@@ -89,6 +91,7 @@ module _ (m : Machine) (x : VarId) (mark : Mark) (from : ℤ) (more : List Open)
               inside = s.inside;
               placed = s.placed;
               frames = frames_again;
+              read = reads_open (game_of m) m.remains m.values.items m.reads m.nesting gs (λ b. subst (AreBranchesRead m.remains m.values.items m.reads) (sym e) (subst (AreBranchesRead m.remains m.values.items m.reads) top b)) s.read;
             };
             back = subst (IsBack m.remains) (sym e) is_back;
           }
@@ -156,6 +159,8 @@ module _ (m : Machine) (x : VarId) (mark : Mark) (from : ℤ) (more : List Open)
                 },
                 frames_same (game_of m) m.remains t m.values.items m.number mark.at mark.at more (omega arith) (λ k l. f.boxes k (let a = inner.at in omega (arith, l, a))) frames_more,
               );
+              read = reads_open (game_of m) t m.values.items m.reads m.nesting gs (λ b. subst (AreBranchesRead t m.values.items m.reads) (sym e) (subst (AreBranchesRead t m.values.items m.reads) top b))
+                  (reads_followed (game_of m) m.remains t m.values.items m.reads m.number m.nesting x.0 (is_within start end) f box s.frames s.read);
             };
             scope = inner.scope;
           }
@@ -237,6 +242,9 @@ module _ (m : Machine) (x : VarId) (mark : Mark) (from : ℤ) (more : List Open)
             inside = s.inside;
             placed = s.placed;
             frames = subst (AreFrames (game_of m) m.remains m.values.items m.number (trail_len m.remains)) (sym e) (frames_same (game_of m) m.remains m.remains m.values.items m.number mark.at (trail_len m.remains) more is_fork.at (λ k l. refl) frames_more);
+            read = reads_open (game_of m) m.remains m.values.items m.reads m.nesting gs (λ b.
+                let h : ReadBy (past_box m.remains mark.at) m.values.items m.reads mark.at × AreBranchesRead m.remains m.values.items m.reads more = subst (AreBranchesRead m.remains m.values.items m.reads) top b in
+                subst (AreBranchesRead m.remains m.values.items m.reads) (sym e) h.1) s.read;
           };
           scope = is_fork.scope;
         }

@@ -19,6 +19,7 @@ pub mod LedgerRight
 pub mod LedgerSizes
 pub mod Closes
 pub mod Placing
+pub mod Known
 pub mod Prefixes
 pub mod Parts
 pub mod Tracking

@@ -1,5 +1,5 @@
 -- What the machine tells after a line in a scope's own tree.
-use Rattle.std.proofs.Common.{◌≡◌, ℕ, suc, ◌<◌, ◌+◌, ◌-◌, Bool, true, false, not, ◌&&◌, cond, List, [], ◌∷◌, ◌++◌, length, drop, append-nil, refl, sym, ap, ◌∙◌, subst, arith, ℤ, Option, Some, None}
+use Rattle.std.proofs.Common.{◌≡◌, ℕ, suc, ◌<◌, ◌+◌, ◌-◌, Bool, true, false, not, ◌&&◌, cond, List, [], ◌∷◌, ◌++◌, length, drop, set, append-nil, refl, sym, ap, ◌∙◌, subst, arith, ℤ, Option, Some, None}
 use Rattle.std.specs.Prelude.{nat_lt, nat_le, IsSome, filter, int_le, negsuc}
 use Rattle.std.specs.List.{list_all}
 use Rattle.std.proofs.lemmas.Int.{ints}
@@ -30,16 +30,19 @@ use Rattle.line_check.specs.declared.open.Open.{Open}
 use Rattle.line_check.specs.declared.open.Open.TheVariants.{Next, Branch}
 use Rattle.line_check.specs.declared.open.Due.TheVariants as due
 use Rattle.line_check.specs.declared.machine.Machine.{Machine}
+use Rattle.line_check.specs.declared.reads.Reads.{Reads}
+use Rattle.line_check.specs.Known.{HasRead, AreBranchesRead}
 use Rattle.line_check.specs.State.{Fork, bars, goes_on, may_branch, fork_on, is_own_step}
 use Rattle.line_check.specs.Tuples.{tuple_of, is_tuple}
 use Rattle.line_check.specs.Awaited.{Awaited, node_awaited, part_awaited, case_awaited}
 use Rattle.line_check.specs.Ledger.{Ledger, Entry, next_entry, branch_entry, only_ledger, ledger_end, part_closed, place_at, marks_of, space_left}
-use Rattle.line_check.specs.LedgerSizes.{ClosesKeep}
+use Rattle.line_check.specs.LedgerSizes.{ClosesKeep, PartKeeps}
 use Rattle.line_check.specs.Tracking.{BoundShows}
 use Rattle.line_check.specs.Machine.{game_of, fork_at, values_to, before_of, IsAt, IsFull, AreFrames, IsSound, IsAtNode, IsWithin, IsBack, IsAtFork}
 use Rattle.line_check.specs.Telling.{AreEntries, AreOpen, IsPart, IsPartEnd, node_at, part_at, part_ended, Tells, PartTells}
 use Rattle.line_check.proofs.Frames.{past_now, at_values, frames_same, entries_same, entries_joins, frames_values, entries_values}
 use Rattle.line_check.proofs.Placing.{at_filtered}
+use Rattle.line_check.proofs.Known.{reads_open, read_here, reads_followed}
 use Rattle.line_check.proofs.LedgerSizes.{OneMark, part_also, none_seen}
 
 -- tests that pass or fail
@@ -76,17 +79,24 @@ tuple_bars g i box = by (has_empty box) (is_fixed g i box) (allows g i (position
     by false true a = refl
     by false false a = refl
 
--- what reading a tuple leaves
-pub record IsRead (g : Game) (i : ℕ) (box : Box) (old new : Assigned) (found : Option Bool) : Type 0 where
-  pub tuple : found ≡ tuple_of g i box
+-- what reading on leaves
+pub record IsReadOn (g : Game) (i : ℕ) (s : Held) (old new : Assigned) (before after : Reads) : Type 0 where
   pub kept : values_to g i new.items ≡ values_to g i old.items
-  pub placed : IsSome found → IsAt g (suc i) new.items box
   pub game : new.game ≡ old.game
   pub each : length new.items ≡ length old.items
   pub numbers : list_all is_number new.items ≡ true
+  pub places : length after.marks.items ≡ length before.marks.items
+  pub here : HasRead s new.items after
+  pub branches : (fs : List Open) → AreBranchesRead s old.items before fs → AreBranchesRead s new.items after fs
 
-pub read_there : (g u : Game) (i n : ℕ) (box : Box) (old new : Assigned) (found : Option Bool) → u ≡ g → n ≡ i → IsRead u n box old new found → IsRead g i box old new found
-read_there g u i n box old new found e f r = subst (λ k. IsRead g k box old new found) f (subst (λ w. IsRead w n box old new found) e r)
+-- and reading a tuple
+pub record IsRead (g : Game) (i : ℕ) (s : Held) (old new : Assigned) (before after : Reads) (found : Option Bool) : Type 0 where
+  pub on : IsReadOn g i s old new before after
+  pub tuple : found ≡ tuple_of g i s.box
+  pub placed : IsSome found → IsAt g (suc i) new.items s.box
+
+pub read_there : (g u : Game) (i n : ℕ) (s : Held) (old new : Assigned) (before after : Reads) (found : Option Bool) → u ≡ g → n ≡ i → IsRead u n s old new before after found → IsRead g i s old new before after found
+read_there g u i n s old new before after found e f r = subst (λ k. IsRead g k s old new before after found) f (subst (λ w. IsRead w n s old new before after found) e r)
 
 some_tuple : (o : Option Bool) (b : Bool) → is_tuple b o ≡ true → IsSome o
 some_tuple None b e = cc
@@ -123,9 +133,9 @@ empty_tells m new e h n d es xs u few p k =
     }) in
     subst (Tells new) (sym (a_ledger (has_empty m.remains.box) (part_ended m base es (xs ++ [])) e)) q
 
--- a tuple has been read
-module _ (m : Machine) (v : Assigned) (found : Option Bool) (w : IsWithin m) (r : IsRead (game_of m) m.number m.remains.box m.values v found) where
-  read_sound : IsSound (record m { values = v })
+-- more values have been read
+module _ (m : Machine) (v : Assigned) (q : Reads) (w : IsWithin m) (r : IsReadOn (game_of m) m.number m.remains m.values v m.reads q) where
+  read_sound : IsSound (record m { values = v; reads = q })
   read_sound = let s = w.sound in record {
     laws = s.laws;
     tracks = s.tracks;
@@ -137,14 +147,32 @@ module _ (m : Machine) (v : Assigned) (found : Option Bool) (w : IsWithin m) (r 
     inside = s.inside;
     placed = λ full. at_values (game_of m) m.number m.values.items v.items m.remains.box r.kept (s.placed full);
     frames = frames_values (game_of m) m.remains m.values.items v.items m.number (trail_len m.remains) m.nesting r.kept s.frames;
+    read = record { places = r.places ∙ s.read.places; here = r.here; branches = r.branches m.nesting s.read.branches };
   }
 
-  read_open : (es : List Entry) → AreOpen m es → AreOpen (record m { values = v }) es
+  read_open : (es : List Entry) → AreOpen m es → AreOpen (record m { values = v; reads = q }) es
   read_open es h = entries_values (game_of m) m.remains m.values.items v.items m.joins m.number m.nesting es r.kept h
 
+  pub read_within : IsWithin (record m { values = v; reads = q })
+  read_within = record { sound = read_sound; scope = w.scope }
+
+  -- a line that comes after
+  pub read_tells : (new : Machine) (f : Ledger → Option Ledger) → PartTells (record m { values = v; reads = q }) new f → PartTells m new f
+  read_tells new f h n d es xs u few p k =
+      subst (λ a. let r : Ledger = record (part_at m d es xs u) { before = a } in Tells new (f r)) r.kept
+      (h n d es xs u few (record { counts = p.counts; entries = read_open es p.entries; stands = p.stands }) (subst (PartKeeps (game_of m) n es m.number xs) (sym r.kept) k))
+
+-- a tuple has been read
+module _ (m : Machine) (v : Assigned) (q : Reads) (found : Option Bool) (w : IsWithin m) (r : IsRead (game_of m) m.number m.remains m.values v m.reads q found) where
+  tuple_sound : IsSound (record m { values = v; reads = q })
+  tuple_sound = read_sound m v q w r.on
+
+  tuple_open : (es : List Entry) → AreOpen m es → AreOpen (record m { values = v; reads = q }) es
+  tuple_open es h = read_open m v q w r.on es h
+
   module _ (js : Joins) (others : KeepsOthers m.number m.joins js) (same : game_joined js ≡ game_joined m.joins) where
-    pub barred_within : IsWithin (record m { values = v; joins = js })
-    barred_within = let s = read_sound in record {
+    pub barred_within : IsWithin (record m { values = v; reads = q; joins = js })
+    barred_within = let s = tuple_sound in record {
       sound = record {
         laws = s.laws;
         tracks = s.tracks;
@@ -156,12 +184,13 @@ module _ (m : Machine) (v : Assigned) (found : Option Bool) (w : IsWithin m) (r 
         inside = s.inside;
         placed = s.placed;
         frames = s.frames;
+        read = s.read;
       };
       scope = w.scope;
     }
 
     pub barred_tells : (new : Machine) (stands : (xs : List Seen) → StandsAt m.joins m.number xs → StandsAt js m.number (xs ++ seen_barred ∷ [])) → bars (game_of m) m.number m.remains.box ≡ true →
-        ((n : ℕ) (d : Ledger) (es : List Entry) (xs : List Seen) → IsPartEnd n (record m { values = v; joins = js }) d es xs → Tells new (Some (part_ended (record m { values = v; joins = js }) d es xs))) →
+        ((n : ℕ) (d : Ledger) (es : List Entry) (xs : List Seen) → IsPartEnd n (record m { values = v; reads = q; joins = js }) d es xs → Tells new (Some (part_ended (record m { values = v; reads = q; joins = js }) d es xs))) →
         PartTells m new (λ d. ledger_end (game_of m) d Barred)
     barred_tells new stands e h n d es xs u few p k =
         let base = part_at m d es xs u in
@@ -170,17 +199,17 @@ module _ (m : Machine) (v : Assigned) (found : Option Bool) (w : IsWithin m) (r 
           few = omega (arith, few);
           part = record {
             counts = p.counts;
-            entries = entries_joins (game_of m) m.remains v.items m.joins js m.number (trail_len m.remains) m.nesting es (λ j zs l. others j zs (λ eq. absurd (omega (arith, l, eq)))) read_sound.frames (read_open es p.entries);
+            entries = entries_joins (game_of m) m.remains v.items m.joins js m.number (trail_len m.remains) m.nesting es (λ j zs l. others j zs (λ eq. absurd (omega (arith, l, eq)))) tuple_sound.frames (tuple_open es p.entries);
             stands = stands xs p.stands;
           };
-          sizes = subst (ClosesKeep (game_of m) (suc n) es m.number ys) (sym r.kept) (part_also (game_of m) n es m.number xs (seen_barred ∷ []) (before_of m) (none_barred (game_of m) m.number) k);
+          sizes = subst (ClosesKeep (game_of m) (suc n) es m.number ys) (sym r.on.kept) (part_also (game_of m) n es m.number xs (seen_barred ∷ []) (before_of m) (none_barred (game_of m) m.number) k);
         }) in
-        subst (Tells new) (ap Some (ap (part_closed (game_of m) base es m.number m.horizon ys) r.kept) ∙ sym (a_ledger (bars (game_of m) m.number m.remains.box) (part_ended m base es ys) e)) q
+        subst (Tells new) (ap Some (ap (part_closed (game_of m) base es m.number m.horizon ys) r.on.kept) ∙ sym (a_ledger (bars (game_of m) m.number m.remains.box) (part_ended m base es ys) e)) q
 
   -- the node after the tuple
   module _ (fs : List Open) (e : fs ≡ Next m.horizon ∷ m.nesting) (goes : goes_on (game_of m) m.number m.remains.box ≡ true) where
     abbrev nexted : Machine
-    nexted = record m { values = v; nesting = fs; number = m.number + 1; due = due.Node }
+    nexted = record m { values = v; reads = q; nesting = fs; number = m.number + 1; due = due.Node }
 
     back : m.number + 1 - 1 ≡ m.number
     back = omega arith
@@ -190,7 +219,7 @@ module _ (m : Machine) (v : Assigned) (found : Option Bool) (w : IsWithin m) (r 
 
     pub next_ready : IsAtNode nexted
     next_ready =
-        let s = read_sound in
+        let s = tuple_sound in
         let placed : IsAt (game_of m) (m.number + 1) v.items m.remains.box = subst (λ j. IsAt (game_of m) j v.items m.remains.box) (sym later) (r.placed (some_tuple found true (ap (is_tuple true) r.tuple ∙ (sym (tuple_goes (game_of m) m.number m.remains.box) ∙ goes)))) in
         record {
           sound = record {
@@ -204,6 +233,7 @@ module _ (m : Machine) (v : Assigned) (found : Option Bool) (w : IsWithin m) (r 
             inside = let l = w.scope in omega (arith, l);
             placed = λ full. placed;
             frames = subst (AreFrames (game_of m) m.remains v.items (m.number + 1) (trail_len m.remains)) (sym e) (omega arith, subst (λ j. AreFrames (game_of m) m.remains v.items j (trail_len m.remains) m.nesting) (sym back) s.frames);
+            read = reads_open (game_of m) m.remains v.items q m.nesting fs (λ b. subst (AreBranchesRead m.remains v.items q) (sym e) b) s.read;
           };
           full = full_tuple (game_of m) m.number m.remains.box goes;
         }
@@ -217,13 +247,13 @@ module _ (m : Machine) (v : Assigned) (found : Option Bool) (w : IsWithin m) (r 
           record {
             counts = p.counts;
             entries = subst (λ gs. AreEntries (game_of m) m.remains v.items m.joins (m.number + 1) gs new) (sym e)
-                (refl, ap (λ j. values_to (game_of m) j m.values.items) (sym back) ∙ old_values, subst (λ j. StandsAt m.joins j xs) (sym back) p.stands, subst (λ j. AreEntries (game_of m) m.remains v.items m.joins j m.nesting es) (sym back) (read_open es p.entries));
+                (refl, ap (λ j. values_to (game_of m) j m.values.items) (sym back) ∙ old_values, subst (λ j. StandsAt m.joins j xs) (sym back) p.stands, subst (λ j. AreEntries (game_of m) m.remains v.items m.joins j m.nesting es) (sym back) (tuple_open es p.entries));
           },
           both_hold (goes_on (game_of m) m.number m.remains.box) (space_left base) (node_at nexted base new node_awaited) goes (ap (λ l. nat_lt l 1000) (open_count (game_of m) m.remains m.values.items m.joins m.number m.nesting es p.entries) ∙ room),
         )
       where
         old_values : values_to (game_of m) (m.number + 1 - 1) m.values.items ≡ values_to (game_of m) (m.number + 1 - 1) v.items
-        old_values = ap (λ j. values_to (game_of m) j m.values.items) back ∙ (sym r.kept ∙ ap (λ j. values_to (game_of m) j v.items) (sym back))
+        old_values = ap (λ j. values_to (game_of m) j m.values.items) back ∙ (sym r.on.kept ∙ ap (λ j. values_to (game_of m) j v.items) (sym back))
 
 pub no_room : (m : Machine) (d : Ledger) (es : List Entry) (xs : List Seen) (u : Awaited) (a : Bool) (e : Ledger) → IsPart m d es xs → nat_lt (length m.nesting) 1000 ≡ false → only_ledger (a && space_left (part_at m d es xs u)) e ≡ None
 no_room m d es xs u a e p room =
@@ -253,21 +283,25 @@ of_scope g i x e =
     lower : (m n : ℕ) → nat_lt m n ≡ true → m < n
     lower m n h = grind (arith, nat_tests)
 
+pub branch_inside : (g : Game) (i x : ℕ) (box : Box) → may_branch g i x box ≡ true → x < length g.variables
+branch_inside g i x box may = of_scope g i x (second (not (has_empty box)) (is_of_scope g i x) (first (not (has_empty box) && is_of_scope g i x) _ may))
+
+pub branch_full : (g : Game) (i x : ℕ) (box : Box) → may_branch g i x box ≡ true → has_empty box ≡ false
+branch_full g i x box may = by (has_empty box) (first (not (has_empty box)) _ (first (not (has_empty box) && is_of_scope g i x) _ may))
+  where
+    by : (b : Bool) → not b ≡ true → b ≡ false
+    by true q = cc
+    by false q = refl
+
 module _ (m : Machine) (w : IsWithin m) (x : VarId) (mark : Mark) (fs : List Open) (e : fs ≡ Branch x mark (negsuc 999999999) ∷ m.nesting) (at : mark.at ≡ trail_len m.remains) (may : may_branch (game_of m) m.number x.0 m.remains.box ≡ true) where
   abbrev branched : Machine
   branched = record m { nesting = fs; due = due.Case }
-
-  branch_full : has_empty m.remains.box ≡ false
-  branch_full = by (has_empty m.remains.box) (first (not (has_empty m.remains.box)) _ (first (not (has_empty m.remains.box) && is_of_scope (game_of m) m.number x.0) _ may))
-    where
-      by : (b : Bool) → not b ≡ true → b ≡ false
-      by true q = cc
-      by false q = refl
 
   pub branch_ready : IsAtFork branched
   branch_ready =
       let s = w.sound in
       let now : past_box m.remains mark.at ≡ m.remains.box = past_now m.remains mark.at at in
+      let full = branch_full (game_of m) m.number x.0 m.remains.box may in
       record {
         sound = record {
           laws = s.laws;
@@ -283,11 +317,12 @@ module _ (m : Machine) (w : IsWithin m) (x : VarId) (mark : Mark) (fs : List Ope
             record {
               scope = w.scope;
               at = omega (arith, at);
-              variable = of_scope (game_of m) m.number x.0 (second (not (has_empty m.remains.box)) (is_of_scope (game_of m) m.number x.0) (first (not (has_empty m.remains.box) && is_of_scope (game_of m) m.number x.0) _ may));
-              box = subst (IsFull (game_of m) m.number m.values.items) (sym now) (record { declared = s.declared; full = branch_full; placed = s.placed branch_full });
+              variable = branch_inside (game_of m) m.number x.0 m.remains.box may;
+              box = subst (IsFull (game_of m) m.number m.values.items) (sym now) (record { declared = s.declared; full = full; placed = s.placed full });
             },
             frames_same (game_of m) m.remains m.remains m.values.items m.number (trail_len m.remains) mark.at m.nesting (omega (arith, at)) (λ k l. refl) s.frames,
           );
+          read = reads_open (game_of m) m.remains m.values.items m.reads m.nesting fs (λ b. subst (AreBranchesRead m.remains m.values.items m.reads) (sym e) (read_here m.remains m.values.items m.reads mark.at now full s.read.here, b)) s.read;
         };
         back = subst (IsBack m.remains) (sym e) (sym now);
       }
@@ -309,8 +344,8 @@ module _ (m : Machine) (w : IsWithin m) (x : VarId) (mark : Mark) (fs : List Ope
 
 -- after a removal
 module _ (m : Machine) (w : IsWithin m) (t : Held) (f : Follows m.remains t) (declared : is_box_of (game_of m) t.box ≡ true) where
-  pub followed_sound : (has_empty t.box ≡ false → IsAt (game_of m) m.number m.values.items t.box) → IsSound (record m { remains = t })
-  followed_sound placed = let s = w.sound in record {
+  pub followed_sound : (x : ℕ) (p : ℤ → Bool) → t.box ≡ set m.remains.box x (filter p (values_left m.remains.box x)) → IsSound (record m { remains = t })
+  followed_sound x p e = let s = w.sound in record {
     laws = s.laws;
     tracks = s.tracks;
     joined = s.joined;
@@ -319,8 +354,9 @@ module _ (m : Machine) (w : IsWithin m) (t : Held) (f : Follows m.remains t) (de
     numbers = s.numbers;
     declared = declared;
     inside = s.inside;
-    placed = placed;
+    placed = at_filtered (game_of m) m.number m.values.items m.remains.box t.box x p e s.placed;
     frames = frames_same (game_of m) m.remains t m.values.items m.number (trail_len m.remains) (trail_len t) m.nesting f.longer f.boxes s.frames;
+    read = reads_followed (game_of m) m.remains t m.values.items m.reads m.number m.nesting x p f e s.frames s.read;
   }
 
   pub followed_open : (es : List Entry) → AreOpen m es → AreOpen (record m { remains = t }) es
@@ -328,7 +364,7 @@ module _ (m : Machine) (w : IsWithin m) (t : Held) (f : Follows m.remains t) (de
 
   pub pruned_ready : (x : VarId) (lo hi : ℤ) → t.box ≡ box_without m.remains.box x.0 lo hi → IsWithin (record m { remains = t; due = due.Part })
   pruned_ready x lo hi e =
-      let s = followed_sound (at_filtered (game_of m) m.number m.values.items m.remains.box t.box x.0 (λ v. not (is_within lo hi v)) e w.sound.placed) in
+      let s = followed_sound x.0 (λ v. not (is_within lo hi v)) e in
       record {
         sound = record {
           laws = s.laws;
@@ -341,6 +377,7 @@ module _ (m : Machine) (w : IsWithin m) (t : Held) (f : Follows m.remains t) (de
           inside = s.inside;
           placed = s.placed;
           frames = s.frames;
+          read = s.read;
         };
         scope = w.scope;
       }
@@ -368,7 +405,7 @@ module _ (m : Machine) (w : IsWithin m) (t : Held) (js : Joins) (f : Follows m.r
   bounded = record m { remains = t; joins = js; due = due.Part }
 
   bounded_sound : IsSound (record m { remains = t })
-  bounded_sound = followed_sound m w t f declared (at_filtered (game_of m) m.number m.values.items m.remains.box t.box x.0 (λ v. not (is_within lo hi v)) e w.sound.placed)
+  bounded_sound = followed_sound m w t f declared x.0 (λ v. not (is_within lo hi v)) e
 
   pub bound_ready : IsWithin bounded
   bound_ready =
@@ -385,6 +422,7 @@ module _ (m : Machine) (w : IsWithin m) (t : Held) (js : Joins) (f : Follows m.r
           inside = s.inside;
           placed = s.placed;
           frames = s.frames;
+          read = s.read;
         };
         scope = w.scope;
       }

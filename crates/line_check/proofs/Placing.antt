@@ -84,18 +84,18 @@ pub position_placed : (g : Game) (i : ℕ) (vs : List ℤ) (box : Box) → IsAt 
 position_placed g i vs box h = ap box_values h ∙ values_only (values_to g i vs)
 
 -- after values of one variable went, unless one has none left
-or_first : (a b : Bool) → (a || b) ≡ false → a ≡ false
+pub or_first : (a b : Bool) → (a || b) ≡ false → a ≡ false
 or_first true b e = e
 or_first false b e = refl
 
-or_second : (a b : Bool) → (a || b) ≡ false → b ≡ false
+pub or_second : (a b : Bool) → (a || b) ≡ false → b ≡ false
 or_second true b e = cc
 or_second false b e = e
 
 neither : (a b : Bool) → a ≡ false → b ≡ false → (a || b) ≡ false
 neither a b e f = ap (λ c. c || b) e ∙ f
 
-full_before : (p : ℤ → Bool) (box : Box) (x : ℕ) → has_empty (set box x (filter p (values_left box x))) ≡ false → has_empty box ≡ false
+pub full_before : (p : ℤ → Bool) (box : Box) (x : ℕ) → has_empty (set box x (filter p (values_left box x))) ≡ false → has_empty box ≡ false
 full_before p [] x f = f
 full_before p ([] ∷ box) zero f = or_first true (has_empty box) f
 full_before p ((v ∷ d) ∷ box) zero f = or_second (is_none_left (filter p (v ∷ d))) (has_empty box) f

@@ -11,5 +11,6 @@ pub mod LedgerHeld
 pub mod LedgerSizes
 pub mod Tracking
 pub mod Found
+pub mod Known
 pub mod Machine
 pub mod Telling

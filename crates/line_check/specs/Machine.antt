@@ -18,6 +18,7 @@ use Rattle.line_check.specs.declared.machine.Machine.{Machine}
 use Rattle.line_check.specs.State.{Fork}
 use Rattle.line_check.specs.LedgerSizes.{VerdictLaws}
 use Rattle.line_check.specs.Tracking.{TracksAll}
+use Rattle.line_check.specs.Known.{mark_of, ReadBy, HasReads}
 
 abbrev pub game_of : Machine → Game
 game_of m = m.levels.problem.now
@@ -71,6 +72,7 @@ pub record IsSound (m : Machine) : Type 0 where
   pub inside : m.number ≤ length (game_of m).scopes
   pub placed : has_empty m.remains.box ≡ false → IsAt (game_of m) m.number m.values.items m.remains.box
   pub frames : AreFrames (game_of m) m.remains m.values.items m.number (trail_len m.remains) m.nesting
+  pub read : HasReads (game_of m) m.remains m.values.items m.reads m.nesting
 
 -- at a node, where each variable has a value
 pub record IsAtNode (m : Machine) : Type 0 where
@@ -82,7 +84,8 @@ pub record IsWithin (m : Machine) : Type 0 where
   pub sound : IsSound m
   pub scope : m.number < length (game_of m).scopes
 
--- in a horizon at k, where the mark is one of the trail that no frame's is beyond, at the node's box
+-- in a horizon at k, where the mark is one of the trail that no frame's is beyond, at the node's box; nothing was read
+-- since
 pub record IsSeeing (m : Machine) (k : ℕ) (mark : Mark) : Type 0 where
   pub within : IsWithin m
   pub order : m.number ≤ k
@@ -90,6 +93,8 @@ pub record IsSeeing (m : Machine) (k : ℕ) (mark : Mark) : Type 0 where
   pub at : mark.at ≤ trail_len m.remains
   pub box : IsFull (game_of m) m.number m.values.items (past_box m.remains mark.at)
   pub frames : AreFrames (game_of m) m.remains m.values.items m.number mark.at m.nesting
+  pub read : ReadBy (past_box m.remains mark.at) m.values.items m.reads mark.at
+  pub known : (k : ℕ) → k < m.reads.count → mark_of m.reads k ≤ mark.at
 
 -- the branch that is open last is at its own box
 abbrev pub IsBack : Held → List Open → Type 0

@@ -9,6 +9,7 @@ use crate::bounds::Bounds;
 use crate::machine::Machine;
 use crate::nesting::Nesting;
 use crate::open::Due;
+use crate::reads::Reads;
 use crate::remains::Remains;
 use proof_tree::Line;
 use qc_assignment::Assignment;
@@ -31,6 +32,7 @@ impl<'p> Machine<'p> {
         let remains = Remains::new(alloc, problem)?;
         let joins = Joins::new(alloc, problem)?;
         let values = Assignment::new(alloc, problem)?;
+        let reads = Reads::new(alloc, problem.variables())?;
         let nesting = Nesting::new(alloc)?;
         Ok(Machine {
             levels,
@@ -38,6 +40,7 @@ impl<'p> Machine<'p> {
             remains,
             joins,
             values,
+            reads,
             nesting,
             due: Due::Node,
             number: 0,

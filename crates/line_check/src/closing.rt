@@ -39,6 +39,7 @@ impl<'p> Machine<'p> {
         let _ = x;
         let _ = from;
         self.remains.undo_to(mark);
+        self.reads.back_to(mark);
         self.due = Due::Case;
     }
 

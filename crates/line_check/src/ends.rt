@@ -39,7 +39,7 @@ impl<'p> Machine<'p> {
         ensures same { game_of self.new ≡ game_of self.old }
     {
         let level = self.levels.level(ScopeId(self.number));
-        let found = tuple_allowed(level, &self.remains, &mut self.values);
+        let found = tuple_allowed(level, &self.remains, &mut self.values, &mut self.reads);
         if !says(found, false) {
             self.due = Due::Wrong;
             return;
@@ -57,7 +57,7 @@ impl<'p> Machine<'p> {
     {
         self.levels.problem.known();
         let level = self.levels.level(ScopeId(self.number));
-        let found = tuple_allowed(level, &self.remains, &mut self.values);
+        let found = tuple_allowed(level, &self.remains, &mut self.values, &mut self.reads);
         if !says(found, true) {
             self.due = Due::Wrong;
             return;
@@ -108,6 +108,9 @@ impl<'p> Machine<'p> {
             self.due = Due::Wrong;
             return;
         }
+        // read before the mark, these stay known in all cases of the branch
+        self.reads
+            .read_on(self.remains.store(), x.0 as usize, &mut self.values);
         let mark = self.remains.mark();
         self.nesting.push(Open::Branch {
             x,

@@ -20,6 +20,7 @@ mod machine;
 mod nesting;
 mod nodes;
 mod open;
+mod reads;
 mod remains;
 mod tuple;
 mod turn;

@@ -3,6 +3,7 @@
 use crate::bounds::Bounds;
 use crate::nesting::Nesting;
 use crate::open::Due;
+use crate::reads::Reads;
 use crate::remains::Remains;
 use qc_assignment::Assignment;
 use qc_joins::Joins;
@@ -19,6 +20,7 @@ pub struct Machine<'p> {
     pub(crate) joins: Joins<'p>,
     // the first of them are the values of the variables before the scope that is read
     pub(crate) values: Assignment<'p>,
+    pub(crate) reads: Reads,
     pub(crate) nesting: Nesting,
     pub(crate) due: Due,
     pub(crate) number: u8,

@@ -238,6 +238,7 @@ impl<'p> Machine<'p> {
             self.due = Due::Wrong;
             return;
         }
+        // nothing was read since the mark, so what is known stays so
         self.remains.undo_to(mark);
         self.horizon = Some(k);
         self.due = Due::Body;

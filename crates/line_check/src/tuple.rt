@@ -1,46 +1,23 @@
 //! Whether the tuple of a scope is allowed, and whether the goal holds.
-ghost use Rattle.std.specs.Prelude.{◌≡◌, ◌≤◌, ◌-◌, true, false, suc, length, map, take, drop, IsSome};
+ghost use Rattle.std.specs.Prelude.{◌≡◌, ◌≤◌, ◌-◌, true, false, suc, length, map, take, drop, List, IsSome};
 ghost use Rattle.std.specs.List.{list_all};
 ghost use Rattle.qc_model.specs.Domains.{has_empty, is_single};
 ghost use Rattle.qc_model.specs.Game.{allows};
 ghost use Rattle.qc_model.specs.Holds.{holds_on};
 ghost use Rattle.qc_model.specs.Valid.{is_number};
 ghost use Rattle.qc_arguments.specs.Asked.{is_box_of};
-ghost use Rattle.line_check.specs.Machine.{IsAt, only, values_to};
+ghost use Rattle.line_check.specs.declared.open.Open.{Open};
+ghost use Rattle.line_check.specs.Known.{HasRead, AreBranchesRead};
+ghost use Rattle.line_check.specs.Machine.{only, IsAt, values_to};
 ghost use Rattle.line_check.specs.Tuples.{tuple_of, is_tuple};
 
+use crate::reads::Reads;
 use crate::remains::Remains;
 use fd_store::Store;
 use qc_arguments::Span;
 use qc_assignment::Assignment;
 use qc_model::{ScopeId, VarId};
 use qc_rules::{Level, Levels, all_hold};
-
-/// Reads the one value left to each variable from `from` to the one before `stop` into its place, as `read_values` does,
-/// and says whether each has one: it stops at the first that hasn't.
-fn read_fixed(store: &Store, from: u16, stop: u16, values: &mut Assignment) -> bool
-    requires order { from ≤ stop }
-    requires bound { stop ≤ length store.now.box }
-    requires each { length values.old.items ≡ length store.now.box }
-    requires numbers { list_all is_number values.old.items ≡ true }
-    requires placed { take from store.now.box ≡ map only (take from values.old.items) }
-    ensures fixed { result ≡ list_all is_single (drop from (take stop store.now.box)) }
-    ensures read { result ≡ true → take stop store.now.box ≡ map only (take stop values.new.items) }
-    ensures kept { take from values.new.items ≡ take from values.old.items }
-    ensures game { values.new.game ≡ values.old.game }
-    ensures each { length values.new.items ≡ length values.old.items }
-    ensures numbers { list_all is_number values.new.items ≡ true }
-{
-    for k in from..stop {
-        let x = VarId(k);
-        if !store.is_fixed(x) {
-            return false;
-        }
-        store.known(x);
-        values.set(x, store.min(x));
-    }
-    true
-}
 
 /// Whether the constraints of the span all hold on the values. Many scopes have none, so that this is told at once.
 #[inline(always)]
@@ -79,20 +56,26 @@ pub fn read_values(store: &Store, from: usize, stop: usize, values: &mut [i64])
 
 /// Whether the tuple of the scope is allowed; None where a variable has no value, or one of the scope has several. The
 /// values of the variables before the scope stand in the first places; where there is an answer, those of the scope
-/// stand after them.
+/// stand after them. Only what isn't known to stand is read.
 pub(crate) fn tuple_allowed(
     level: &Level,
     remains: &Remains,
     values: &mut Assignment,
+    reads: &mut Reads,
 ) -> Option<bool>
     requires declared { is_box_of level.now.problem.now remains.now.box ≡ true }
     requires game { values.old.game ≡ level.now.problem.now }
     requires each { length values.old.items ≡ length level.now.problem.now.variables }
     requires numbers { list_all is_number values.old.items ≡ true }
+    requires places { length reads.old.marks.items ≡ length level.now.problem.now.variables }
+    requires read { HasRead remains.now values.old.items reads.old }
     requires placed { has_empty remains.now.box ≡ false → IsAt level.now.problem.now level.now.number values.old.items remains.now.box }
     ensures tuple { result ≡ tuple_of level.now.problem.now level.now.number remains.now.box }
     ensures kept { values_to level.now.problem.now level.now.number values.new.items ≡ values_to level.now.problem.now level.now.number values.old.items }
     ensures placed { IsSome result → IsAt level.now.problem.now (suc level.now.number) values.new.items remains.now.box }
+    ensures read { HasRead remains.now values.new.items reads.new }
+    ensures branches { (fs : List Open) → AreBranchesRead remains.now values.old.items reads.old fs → AreBranchesRead remains.now values.new.items reads.new fs }
+    ensures places { length reads.new.marks.items ≡ length reads.old.marks.items }
     ensures game { values.new.game ≡ values.old.game }
     ensures each { length values.new.items ≡ length values.old.items }
     ensures numbers { list_all is_number values.new.items ≡ true }
@@ -101,12 +84,7 @@ pub(crate) fn tuple_allowed(
     if remains.is_empty() {
         return None;
     }
-    if !read_fixed(
-        remains.store(),
-        level.from as u16,
-        level.stop as u16,
-        values,
-    ) {
+    if !reads.read_on(remains.store(), level.stop, values) {
         return None;
     }
     Some(span_holds(values, level.constraints))

@@ -151,3 +151,8 @@ bad_read r m h n bytes b k read e says more =
 pub still_stopped : (s : Stop) (n : ℕ) (bytes next : List ℕ) → IsStopped s n bytes → IsStopped s n (bytes ++ next)
 still_stopped BadStop n bytes next h = λ more. subst (IsNotACertificate n) (sym (append_assoc bytes next more)) (h (next ++ more))
 still_stopped DeepStop n bytes next h = λ more. subst (IsTooDeep n) (sym (append_assoc bytes next more)) (h (next ++ more))
+
+-- all bytes after a fault, where the first of them is the fault
+pub all_stopped : (s : Stop) (n : ℕ) (before bytes : List ℕ) → 0 < length bytes → IsStopped s n (before ++ slice_index bytes 0 ∷ []) → IsStopped s n (before ++ bytes)
+all_stopped s n before [] h k = absurd (omega arith)
+all_stopped s n before (b ∷ bytes) h k = subst (IsStopped s n) (append_assoc before (b ∷ []) bytes) (still_stopped s n (before ++ b ∷ []) bytes k)

@@ -1,5 +1,5 @@
 //! The checker, byte by byte.
-ghost use Rattle.std.specs.Prelude.{◌≡◌, ◌≤◌, ◌<◌, ◌+◌, ◌^◌, ◌++◌, ◌∷◌, [], None, length, take, IfOk, ℕ, List};
+ghost use Rattle.std.specs.Prelude.{◌≡◌, ◌≤◌, ◌<◌, ◌+◌, ◌^◌, ◌++◌, ◌∷◌, [], None, length, take, IfOk, IfNone, IfSome, ℕ, List};
 ghost use Rattle.line_check.specs.Machine.{game_of, IsReady};
 ghost use Rattle.qc_model.specs.Content.{Game};
 ghost use Rattle.qc_check.specs.Checking.{Comes, IsChecking, IsStopped};
@@ -74,54 +74,44 @@ impl<'p> Checker<'p> {
     }
 
     // Reads some of the next bytes, where none was a fault: a whole line where they begin with one, else
-    // one byte. How many were read.
-    fn some(&mut self, bytes: &[u8]) -> usize
+    // one byte. How many were read; None where the byte is a fault, and all bytes after it are passed over.
+    fn some(&mut self, bytes: &[u8]) -> Option<usize>
         requires ready { IsReady self.old.machine }
         requires more { 0 < length bytes.now }
         requires room { self.old.read + length bytes.now ≤ 2 ^ 32 }
         requires going { self.old.stop ≡ None }
         ensures ready { IsReady self.new.machine }
         ensures same { game_of self.new.machine ≡ game_of self.old.machine }
-        ensures size { (0 < result) × (result ≤ length bytes.now) }
-        ensures read { self.new.read ≤ self.old.read + result }
-        ensures checking { (before : List ℕ) → IsChecking self.old before → IsChecking self.new (before ++ take result bytes.now) }
+        ensures read { IfSome result (λ size. self.new.read ≤ self.old.read + size) }
+        ensures last { IfNone result (self.new.read ≤ self.old.read + length bytes.now) }
+        ensures size { IfSome result (λ size. (0 < size) × (size ≤ length bytes.now)) }
+        ensures goes_on { IfSome result (λ size. self.new.stop ≡ None) }
+        ensures checking { IfSome result (λ size. (before : List ℕ) → IsChecking self.old before → IsChecking self.new (before ++ take size bytes.now)) }
+        ensures stopped { IfNone result ((before : List ℕ) → IsChecking self.old before → IsChecking self.new (before ++ bytes.now)) }
     {
         match self.reader.line(bytes) {
             Some((whole, size)) => {
                 self.read += size as u64;
                 self.machine.line(whole);
-                size
+                Some(size)
             }
             None => {
                 self.next(bytes[0]);
-                1
+                match self.stop {
+                    None => Some(1),
+                    Some(_) => None,
+                }
             }
         }
     }
 
-    // Reads some of the next bytes. After a fault all are passed over.
-    fn step(&mut self, bytes: &[u8]) -> usize
-        requires ready { IsReady self.old.machine }
-        requires more { 0 < length bytes.now }
-        requires room { self.old.read + length bytes.now ≤ 2 ^ 32 }
-        ensures ready { IsReady self.new.machine }
-        ensures same { game_of self.new.machine ≡ game_of self.old.machine }
-        ensures size { (0 < result) × (result ≤ length bytes.now) }
-        ensures read { self.new.read ≤ self.old.read + result }
-        ensures checking { (before : List ℕ) → IsChecking self.old before → IsChecking self.new (before ++ take result bytes.now) }
-    {
-        match self.stop {
-            Some(_) => bytes.len(),
-            None => self.some(bytes),
-        }
-    }
-
-    // Reads the next bytes, line by line where they are whole lines, and else one by one. Not inlined, so that the loop has
-    // the registers to itself.
+    // Reads the next bytes, where none was a fault: line by line where they are whole lines, and else one by one. After a
+    // fault all are passed over. Not inlined, so that the loop has the registers to itself.
     #[inline(never)]
     fn read_each(&mut self, bytes: &[u8])
         requires ready { IsReady self.old.machine }
         requires room { self.old.read + length bytes.now ≤ 2 ^ 32 }
+        requires going { self.old.stop ≡ None }
         ensures ready { IsReady self.new.machine }
         ensures same { game_of self.new.machine ≡ game_of self.old.machine }
         ensures read { self.new.read ≤ self.old.read + length bytes.now }
@@ -129,8 +119,10 @@ impl<'p> Checker<'p> {
     {
         let mut rest = bytes;
         while !rest.is_empty() {
-            let size = self.step(rest);
-            rest = &rest[size..];
+            match self.some(rest) {
+                Some(size) => rest = &rest[size..],
+                None => return,
+            }
         }
     }
 

@@ -1,4 +1,5 @@
-use Rattle.std.proofs.Common.{◌≡◌, ◌∷◌}
+use Rattle.std.proofs.Common.{◌≡◌, ◌∷◌, ℕ, Vec, ap}
+use Rattle.std.specs.Global.{Global}
 use Rattle.line_check.specs.declared.open.Open.TheVariants.{Branch}
 use Rattle.line_check.specs.Places.{rest}
 use Rattle.line_check.proofs.Closes.{back_tells, back_ready, top_fork}
@@ -16,9 +17,11 @@ returns-clause-tells c =
     let m = c.args.self.now in
     let top : m.nesting ≡ Branch c.args.x c.args.mark c.args.from ∷ rest m.nesting = c.requires.top in
     back_tells m c.undo_to.new.self c.args.x c.args.mark c.args.from (rest m.nesting) top c.requires.within.sound c.undo_to.ensures.past c.undo_to.ensures.content
+    c.back_to.new.self (ap (λ (v : Vec ℕ Global). v.items) c.back_to.ensures.marks) c.back_to.ensures.fewer c.back_to.ensures.past
 
 pub returns-clause-ready : goal.returns-clause-ready
 returns-clause-ready c =
     let m = c.args.self.now in
     let top : m.nesting ≡ Branch c.args.x c.args.mark c.args.from ∷ rest m.nesting = c.requires.top in
     back_ready m c.undo_to.new.self c.args.x c.args.mark c.args.from (rest m.nesting) top c.requires.within.sound c.undo_to.ensures.past c.undo_to.ensures.content
+    c.back_to.new.self (ap (λ (v : Vec ℕ Global). v.items) c.back_to.ensures.marks) c.back_to.ensures.fewer c.back_to.ensures.past

@@ -32,6 +32,7 @@ found_sound m js f a same e s = subst (λ b. IsSound (found_with m js f b)) (sym
   inside = s.inside;
   placed = s.placed;
   frames = s.frames;
+  read = s.read;
 })
 
 pub close_node-requires : goal.close_node-requires

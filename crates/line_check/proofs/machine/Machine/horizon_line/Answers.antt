@@ -4,7 +4,7 @@ use Rattle.line_check.specs.declared.open.Due.TheVariants as due
 use Rattle.line_check.specs.Ledger.{ledger_node}
 use Rattle.line_check.specs.Machine.{game_of}
 use Rattle.line_check.specs.Telling.{NodeTells}
-use Rattle.line_check.proofs.AtNodes.{horizon_tells}
+use Rattle.line_check.proofs.AtNodes.{horizon_ready, horizon_tells}
 use Rattle.line_check.proofs.machine.Machine.horizon_line.Goals as goal
 
 pub returns-clause-tells : goal.returns-clause-tells
@@ -14,3 +14,6 @@ returns-clause-tells c =
     let back : suc (k - 1) ≡ k = omega arith in
     subst (λ j. NodeTells m (record m { due = due.Prune (k - 1) c.mark-mark.result }) (λ d. ledger_node (game_of m) d (Horizon j))) back
     (horizon_tells m c.requires.node (k - 1) c.mark-mark.result c.mark-mark.ensures (sym c.may_see_to.ensures ∙ c.if-not-may_see_to.false))
+
+pub returns-clause-ready : goal.returns-clause-ready
+returns-clause-ready c = horizon_ready c.args.self.now c.requires.node (c.args.k - 1) c.mark-mark.result c.mark-mark.ensures (sym c.may_see_to.ensures ∙ c.if-not-may_see_to.false)

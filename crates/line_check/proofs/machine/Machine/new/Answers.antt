@@ -13,6 +13,7 @@ use Rattle.line_check.specs.Machine.{AreFrames}
 use Rattle.line_check.proofs.Emptying.{declared_full}
 use Rattle.line_check.proofs.Declared.{declared_is}
 use Rattle.line_check.proofs.LedgerSizes.{verdict_laws}
+use Rattle.line_check.proofs.Known.{none_read}
 use Rattle.line_check.proofs.Turning.{new_tells, at_first, numbers_none}
 use Rattle.line_check.proofs.machine.Machine.new.Goals as goal
 
@@ -42,6 +43,7 @@ returns-clause-ready c =
         inside = omega arith;
         placed = λ full. at_first c.in_ok-levels.levels.problem.now c.in_ok-values.values.items c.in_ok-remains.remains.box;
         frames = subst (AreFrames c.in_ok-levels.levels.problem.now c.in_ok-remains.remains c.in_ok-values.values.items 0 (trail_len c.in_ok-remains.remains)) (sym c.in_ok-nesting.ensures) tt;
+        read = none_read c.in_ok-levels.levels.problem.now c.in_ok-remains.remains c.in_ok-values.values.items c.in_ok-reads.reads c.in_ok-nesting.nesting c.in_ok-nesting.ensures c.in_ok-reads.ensures.none (c.in_ok-reads.ensures.places ∙ (c.variables.ensures ∙ sym (ap (λ (u : Game). length u.variables) same)));
       };
       full = ap has_empty box ∙ declared_full g c.known.ensures.domains;
     }

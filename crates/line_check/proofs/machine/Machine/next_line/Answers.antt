@@ -8,13 +8,17 @@ use Rattle.line_check.proofs.Parts.{IsRead, read_there, tuple_goes, next_ready, 
 use Rattle.line_check.proofs.machine.Machine.next_line.Goals as goal
 use Rattle.line_check.proofs.machine.Machine.next_line.Goals.{After-tuple_allowed-found, After-says}
 
-read : (c : After-tuple_allowed-found) → IsRead (game_of c.args.self.now) c.args.self.now.number c.args.self.now.remains.box c.args.self.now.values c.tuple_allowed-found.new.values c.tuple_allowed-found.result
+read : (c : After-tuple_allowed-found) → IsRead (game_of c.args.self.now) c.args.self.now.number c.args.self.now.remains c.args.self.now.values c.tuple_allowed-found.new.values c.args.self.now.reads c.tuple_allowed-found.new.reads c.tuple_allowed-found.result
 read c =
     let m = c.args.self.now in
     let l = c.level-level in
     let t = c.tuple_allowed-found in
-    read_there (game_of m) l.result.now.problem.now m.number l.result.now.number m.remains.box m.values t.new.values t.result l.ensures.problem l.ensures.number
-    (record { tuple = t.ensures.tuple; kept = t.ensures.kept; placed = t.ensures.placed; game = t.ensures.game; each = t.ensures.each; numbers = t.ensures.numbers })
+    read_there (game_of m) l.result.now.problem.now m.number l.result.now.number m.remains m.values t.new.values m.reads t.new.reads t.result l.ensures.problem l.ensures.number
+    (record {
+      on = record { kept = t.ensures.kept; game = t.ensures.game; each = t.ensures.each; numbers = t.ensures.numbers; places = t.ensures.places; here = t.ensures.read; branches = t.ensures.branches };
+      tuple = t.ensures.tuple;
+      placed = t.ensures.placed;
+    })
 
 says : (c : After-says) → c.says.result ≡ goes_on (game_of c.args.self.now) c.args.self.now.number c.args.self.now.remains.box
 says c =
@@ -36,12 +40,12 @@ pub returns-clause-tells : goal.returns-clause-tells
 returns-clause-tells c =
     let m = c.args.self.now in
     let t = c.tuple_allowed-found in
-    next_tells m t.new.values t.result c.requires.within (read (goal.at.returns-clause-tells c).After-tuple_allowed-found) c.push.new.self c.push.ensures
+    next_tells m t.new.values t.new.reads t.result c.requires.within (read (goal.at.returns-clause-tells c).After-tuple_allowed-found) c.push.new.self c.push.ensures
     (sym (says (goal.at.returns-clause-tells c).After-says) ∙ c.if-not-says.false) (sym c.has_room.ensures ∙ c.if-not-has_room.false)
 
 pub returns-clause-ready : goal.returns-clause-ready
 returns-clause-ready c =
     let m = c.args.self.now in
     let t = c.tuple_allowed-found in
-    next_ready m t.new.values t.result c.requires.within (read (goal.at.returns-clause-ready c).After-tuple_allowed-found) c.push.new.self c.push.ensures
+    next_ready m t.new.values t.new.reads t.result c.requires.within (read (goal.at.returns-clause-ready c).After-tuple_allowed-found) c.push.new.self c.push.ensures
     (sym (says (goal.at.returns-clause-ready c).After-says) ∙ c.if-not-says.false)

@@ -1,4 +1,4 @@
-use Rattle.std.proofs.Common.{◌≡◌, ◌≤◌, ◌+◌, ℕ, List, ◌++◌, length}
+use Rattle.std.proofs.Common.{◌≡◌, ◌≤◌, ◌+◌, ℕ, List, ◌++◌, length, None}
 use Rattle.line_check.specs.Machine.{game_of, IsReady}
 use Rattle.qc_check.specs.Checking.{IsChecking}
 use Rattle.qc_check.proofs.progress.Checker.read_each.Given as goal
@@ -7,6 +7,7 @@ use Rattle.qc_check.proofs.progress.Checker.read_each.Given as goal
 abbrev pub invariant-loop-rest : goal.invariant-loop-rest
 invariant-loop-rest l = record {
   ready : IsReady l.self.machine;
+  going : l.self.stop ≡ None;
   same : game_of l.self.machine ≡ game_of l.fn.self.machine;
   front : List ℕ;
   whole : l.bytes ≡ front ++ l.rest;
