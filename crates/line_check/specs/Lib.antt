@@ -14,3 +14,4 @@ pub mod Found
 pub mod Known
 pub mod Machine
 pub mod Telling
+pub mod Shown

@@ -1,4 +1,5 @@
-//! Checks certificates line by line, with memory that doesn't grow with their number.
+//! Checks certificates line by line, with memory that doesn't grow with their number. What a machine answers is held
+//! against what a certificate states by `shows`.
 //!
 //! What the machine keeps of a box, and what it asks of it, is there for others who walk a tree too: `Remains`,
 //! `case_ends`, `read_values`, `goal_holds`.
@@ -22,6 +23,7 @@ mod nodes;
 mod open;
 mod reads;
 mod remains;
+mod shown;
 mod tuple;
 mod turn;
 
@@ -33,4 +35,5 @@ pub use ledgers::{ledgers_are_right, ledgers_keep_sizes};
 pub use machine::Machine;
 pub use qc_levels::Found;
 pub use remains::Remains;
+pub use shown::shows;
 pub use tuple::{goal_holds, read_values};

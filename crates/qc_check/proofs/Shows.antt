@@ -17,7 +17,8 @@ use Rattle.proof_tree.specs.Counts.{turns_of}
 use Rattle.proof_tree.specs.Text.{outcome_fits}
 use Rattle.line_check.specs.declared.answer.Answer.{Answer}
 use Rattle.line_check.specs.Found.{IsAnswer}
-use Rattle.qc_check.specs.Shown.{answer_shows, found_shows}
+use Rattle.line_check.specs.Shown.{answer_shows}
+use Rattle.qc_check.specs.Shown.{found_shows}
 
 -- the vector is of no matter
 bare_exact : (f : Found) (w : List ℤ) → is_exact (verdict_of f w) ≡ is_exact (verdict_of f [])

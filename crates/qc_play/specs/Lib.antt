@@ -6,7 +6,6 @@ pub mod Playing
 pub mod Ends
 pub mod Stuck
 pub mod Made
-pub mod Judged
 pub mod Shown
 pub mod EntryOrder
 pub mod Entries

@@ -4,9 +4,10 @@ ghost use Rattle.proof_tree.specs.Shape.{tree_of};
 ghost use Rattle.qc_play.specs.Made.{MakesPlan, MakesCounter};
 
 use crate::counter::Counter;
-use crate::judged::{judged, shows_lost, shows_won};
+use crate::judged::judged;
 use crate::plan::Plan;
 use crate::root::{counter_of_root, plan_of_root};
+use line_check::shows;
 use proof_tree::{Certificate, Outcome};
 use qc_meaning::{outcomes_are_true, trees_answer_all_tuples};
 use qc_model::Problem;
@@ -27,7 +28,7 @@ fn won_plan(
     let Some(answer) = judged(alloc, problem, &cert.root)? else {
         return Ok(None);
     };
-    if !shows_won(problem, answer, cert.optimum) {
+    if !shows(problem, answer, Outcome::True, cert.optimum) {
         return Ok(None);
     }
     let plan = plan_of_root(alloc, problem, &cert.root)?;
@@ -49,7 +50,7 @@ fn lost_counter(
     let Some(answer) = judged(alloc, problem, &cert.root)? else {
         return Ok(None);
     };
-    if !shows_lost(answer, cert.optimum) {
+    if !shows(problem, answer, Outcome::False, cert.optimum) {
         return Ok(None);
     }
     let counter = counter_of_root(alloc, problem, &cert.root)?;

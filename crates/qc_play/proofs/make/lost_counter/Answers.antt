@@ -5,19 +5,19 @@ use Rattle.proof_tree.specs.Shape.{tree_of}
 use Rattle.proof_tree.specs.declared.tree.Outcome.TheVariants.{False}
 use Rattle.qc_play.proofs.Making.{not_lost, does_lose, lost_lost, counter_made}
 use Rattle.qc_play.proofs.make.lost_counter.Goals as goal
-use Rattle.qc_play.proofs.make.lost_counter.Goals.{Else-not-shows_lost}
+use Rattle.qc_play.proofs.make.lost_counter.Goals.{Else-not-shows}
 
-pub returns-then-not-shows_lost : goal.returns-then-not-shows_lost
-returns-then-not-shows_lost c = λ e q.
+pub returns-then-not-shows : goal.returns-then-not-shows
+returns-then-not-shows c = λ e q.
     let f = c.in-Some.answer in
     let cert = c.args.cert.now in
-    not_lost c.args.problem.now cert.optimum (tree_of cert.root) cert.outcome f (c.in_ok-answer.ensures.right f c.in-Some.is) q (sym c.shows_lost.ensures ∙ c.if-not-shows_lost.true) e
+    not_lost c.args.problem.now cert.optimum (tree_of cert.root) cert.outcome f (c.in_ok-answer.ensures.right f c.in-Some.is) q (sym c.shows.ensures ∙ c.if-not-shows.true) e
 
-shown : (c : Else-not-shows_lost) → IsTrue (proves c.args.problem.now False c.args.cert.now.optimum (tree_of c.args.cert.now.root))
+shown : (c : Else-not-shows) → IsTrue (proves c.args.problem.now False c.args.cert.now.optimum (tree_of c.args.cert.now.root))
 shown c =
     let f = c.in-Some.answer in
     let cert = c.args.cert.now in
-    does_lose c.args.problem.now cert.optimum (tree_of cert.root) cert.outcome f (c.in_ok-answer.ensures.right f c.in-Some.is) (sym c.shows_lost.ensures ∙ c.if-not-shows_lost.false)
+    does_lose c.args.problem.now cert.optimum (tree_of cert.root) cert.outcome f (c.in_ok-answer.ensures.right f c.in-Some.is) (sym c.shows.ensures ∙ c.if-not-shows.false)
 
 pub counter_of_root-requires-clause-placed : goal.counter_of_root-requires-clause-placed
 counter_of_root-requires-clause-placed c = (c.in_ok-answer.ensures.right c.in-Some.answer c.in-Some.is).in_place
@@ -34,5 +34,5 @@ counter_of_root-requires-clause-lost c = lost_lost c.args.problem.now c.args.cer
 pub returns : goal.returns
 returns c =
     let cert = c.args.cert.now in
-    let e = shown (goal.at.returns c).Else-not-shows_lost in
+    let e = shown (goal.at.returns c).Else-not-shows in
     counter_made c.args.problem.now cert.optimum (tree_of cert.root) cert.outcome c.in_ok-counter.counter c.requires e (c.outcomes_are_true.ensures c.args.problem.now False cert.optimum (tree_of cert.root) c.known.ensures e) c.in_ok-counter.ensures
