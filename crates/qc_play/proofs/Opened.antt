@@ -15,7 +15,8 @@ use Rattle.proof_tree.specs.Proves.{proves, shows}
 use Rattle.proof_tree.specs.Counts.{turns_of}
 use Rattle.line_check.specs.declared.answer.Answer.{Answer}
 use Rattle.line_check.specs.Found.{IsAnswer}
-use Rattle.qc_play.specs.Evidence.{answer_opens, IsLeftOpen}
+use Rattle.line_check.specs.Shown.{answer_shows}
+use Rattle.qc_play.specs.Evidence.{IsLeftOpen}
 
 -- the vector is of no matter
 bare_unknown : (f : Found) (w : List ℤ) → is_unknown (verdict_of f w) ≡ is_unknown (verdict_of f [])
@@ -35,19 +36,19 @@ differ : true ≡ false → ⊥
 differ e = cc
 
 module _ (g : Game) (t : Tree) (f : Answer) (a : IsAnswer g t f) (n : ℕ) (few : n < 2 ^ 64 - 1) where
-  shows_open : (p : Option ℤ) → shows g t (root_finding g t) (Open n) p ≡ answer_opens f n p
+  shows_open : (p : Option ℤ) → shows g t (root_finding g t) (Open n) p ≡ answer_shows g.scopes f (Open n) p
   shows_open None =
       three _ _ _ _ _ _ (ap is_unknown a.verdict ∙ bare_unknown f.found a.vector)
       (same_count (turns_of t) n few ∙ ap (λ k. k == n) (sym a.turns)) (sym a.has_open)
   shows_open (Some v) = refl
 
-  proves_open : (p : Option ℤ) → proves g (Open n) p t ≡ answer_opens f n p
+  proves_open : (p : Option ℤ) → proves g (Open n) p t ≡ answer_shows g.scopes f (Open n) p
   proves_open p = ap (λ b. b && shows g t (root_finding g t) (Open n) p) a.in_place ∙ shows_open p
 
-  pub not_open : (o : Outcome) (p : Option ℤ) → o ≡ Open n → answer_opens f n p ≡ false → IsTrue (proves g o p t) → ⊥
+  pub not_open : (o : Outcome) (p : Option ℤ) → o ≡ Open n → answer_shows g.scopes f (Open n) p ≡ false → IsTrue (proves g o p t) → ⊥
   not_open o p q no_answer e = differ (sym (subst (λ x. IsTrue (proves g x p t)) q e) ∙ (proves_open p ∙ no_answer))
 
-  pub left_open : (o : Outcome) (p : Option ℤ) → o ≡ Open n → answer_opens f n p ≡ true → IsLeftOpen g o p t n
+  pub left_open : (o : Outcome) (p : Option ℤ) → o ≡ Open n → answer_shows g.scopes f (Open n) p ≡ true → IsLeftOpen g o p t n
   left_open o p q shown = record {
     proves = subst (λ x. IsTrue (proves g x p t)) (sym q) (proves_open p ∙ shown);
     outcome_is = q;

@@ -1,23 +1,15 @@
 -- What a certificate shows, whatever it states.
-use Rattle.std.specs.Prelude.{◌≡◌, ◌==◌, ℕ, Bool, false, ◌&&◌, [], Option, Some, None, IsTrue, ℤ}
+use Rattle.std.specs.Prelude.{◌≡◌, ℕ, Option, IsTrue, ℤ}
 use Rattle.qc_model.specs.Content.{Game}
-use Rattle.qc_model.specs.Verdict.{is_unknown}
-use Rattle.qc_levels.specs.Seen.{verdict_of}
 use Rattle.proof_tree.specs.declared.tree.Outcome.{Outcome}
 use Rattle.proof_tree.specs.declared.tree.Outcome.TheVariants.{Open as OpenOutcome}
 use Rattle.proof_tree.specs.Tree.{Tree}
 use Rattle.proof_tree.specs.Proves.{proves}
-use Rattle.line_check.specs.declared.answer.Answer.{Answer}
 use Rattle.qc_play.specs.Made.{IsPlanOf, IsCounterOf}
 use Rattle.qc_play.specs.declared.evidence.Evidence.{Evidence}
 use Rattle.qc_play.specs.declared.evidence.Evidence.TheVariants.{Plan, Counter, Open, NotProved}
 
--- what a tree's lines come to shows that the game was left open after n turns
-abbrev pub answer_opens : Answer → ℕ → Option ℤ → Bool
-answer_opens f n None = is_unknown (verdict_of f.found []) && (f.turns == n) && f.has_open
-answer_opens f n (Some v) = false
-
--- a certificate that proves that
+-- a certificate that proves that the game was left open after n turns
 pub record IsLeftOpen (g : Game) (outcome : Outcome) (optimum : Option ℤ) (t : Tree) (n : ℕ) : Type 0 where
   pub proves : IsTrue (proves g outcome optimum t)
   pub outcome_is : outcome ≡ OpenOutcome n

@@ -1,15 +1,13 @@
 //! What a certificate shows, whatever it states.
-ghost use Rattle.std.specs.Prelude.{◌≡◌, ◌<◌, ◌^◌, ◌-◌, [], IfOk};
-ghost use Rattle.qc_model.specs.Verdict.{is_unknown as is_unknown_verdict};
-ghost use Rattle.qc_levels.specs.Seen.{verdict_of};
+ghost use Rattle.std.specs.Prelude.{◌≡◌, ◌<◌, ◌^◌, ◌-◌, IfOk};
 ghost use Rattle.proof_tree.specs.Shape.{tree_of};
-ghost use Rattle.qc_play.specs.Evidence.{answer_opens, IsEvidence};
+ghost use Rattle.qc_play.specs.Evidence.{IsEvidence};
 
 use crate::counter::Counter;
 use crate::judged::judged;
 use crate::make::{make_counter, make_plan};
 use crate::plan::Plan;
-use line_check::{Answer, Found};
+use line_check::shows;
 use proof_tree::{Certificate, Outcome};
 use qc_model::Problem;
 use std::alloc::{AllocError, Global};
@@ -25,27 +23,6 @@ pub enum Evidence {
     Open(u64),
     /// Nothing: the certificate doesn't prove what it states.
     NotProved,
-}
-
-fn is_unknown(found: Found) -> bool
-    ensures { result ≡ is_unknown_verdict (verdict_of found []) }
-{
-    match found {
-        Found::Unknown => true,
-        Found::Exact => false,
-        Found::Lost => false,
-        Found::AtMost(_) => false,
-    }
-}
-
-/// Whether the answer shows that the game was left open after so many turns. An optimum never stands beside that.
-fn shows_open(answer: Answer, turns: u64, optimum: Option<i64>) -> bool
-    ensures { result ≡ answer_opens answer turns optimum }
-{
-    match optimum {
-        None => is_unknown(answer.found) && answer.turns == turns && answer.has_open,
-        Some(_) => false,
-    }
 }
 
 fn won_answer(alloc: Global, problem: &Problem, cert: &Certificate) -> Result<Evidence, AllocError>
@@ -84,7 +61,7 @@ fn open_answer(
     let Some(answer) = judged(alloc, problem, &cert.root)? else {
         return Ok(Evidence::NotProved);
     };
-    if shows_open(answer, turns, cert.optimum) {
+    if shows(problem, answer, Outcome::Open(turns), cert.optimum) {
         Ok(Evidence::Open(turns))
     } else {
         Ok(Evidence::NotProved)
