@@ -27,3 +27,4 @@ pub mod AtNodes
 pub mod Forks
 pub mod Turning
 pub mod Answering
+pub mod Showing

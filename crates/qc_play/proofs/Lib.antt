@@ -5,7 +5,6 @@ pub mod Ranges
 pub mod Shapes
 pub mod Replies
 pub mod Turns
-pub mod Showing
 pub mod Making
 pub mod Starts
 mod Opened

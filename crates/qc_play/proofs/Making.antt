@@ -14,12 +14,12 @@ use Rattle.proof_tree.specs.Meaning.{OutcomeMeans, TrueMeans}
 use Rattle.line_check.specs.declared.answer.Answer.{Answer}
 use Rattle.line_check.specs.Found.{IsAnswer}
 use Rattle.line_check.specs.Shown.{answer_shows}
+use Rattle.line_check.proofs.Showing.{proves_answer}
 use Rattle.qc_play.specs.declared.plan.Plan.{Plan}
 use Rattle.qc_play.specs.declared.counter.Counter.{Counter}
 use Rattle.qc_play.specs.Shape.{plan_of, tree_of_counter}
 use Rattle.qc_play.specs.Ends.{IsWinning}
 use Rattle.qc_play.specs.Made.{IsPlanOf, IsCounterOf}
-use Rattle.qc_play.proofs.Showing.{proves_true, proves_false}
 
 both : (a b : Bool) → (a && b) ≡ true → (a ≡ true) × (b ≡ true)
 both true b e = (refl, e)
@@ -31,16 +31,16 @@ differ e = cc
 module _ (g : Game) (p : Option ℤ) (t : Tree) (o : Outcome) where
   module _ (f : Answer) (a : IsAnswer g t f) where
     pub not_won : o ≡ True → answer_shows g.scopes f True p ≡ false → IsTrue (proves g o p t) → ⊥
-    not_won q n e = differ (sym (subst (λ x. IsTrue (proves g x p t)) q e) ∙ (proves_true g t f a p ∙ n))
+    not_won q n e = differ (sym (subst (λ x. IsTrue (proves g x p t)) q e) ∙ (proves_answer g t f a True p tt ∙ n))
 
     pub not_lost : o ≡ False → answer_shows g.scopes f False p ≡ false → IsTrue (proves g o p t) → ⊥
-    not_lost q n e = differ (sym (subst (λ x. IsTrue (proves g x p t)) q e) ∙ (proves_false g t f a p ∙ n))
+    not_lost q n e = differ (sym (subst (λ x. IsTrue (proves g x p t)) q e) ∙ (proves_answer g t f a False p tt ∙ n))
 
     pub does_win : answer_shows g.scopes f True p ≡ true → IsTrue (proves g True p t)
-    does_win y = proves_true g t f a p ∙ y
+    does_win y = proves_answer g t f a True p tt ∙ y
 
     pub does_lose : answer_shows g.scopes f False p ≡ true → IsTrue (proves g False p t)
-    does_lose y = proves_false g t f a p ∙ y
+    does_lose y = proves_answer g t f a False p tt ∙ y
 
   exact_true : (q : Option ℤ) → shows g t (root_finding g t) True q ≡ true → is_exact (root_finding g t).verdict ≡ true
   exact_true None e = (both (is_exact (root_finding g t).verdict) _ e).0
