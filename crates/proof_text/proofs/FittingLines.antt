@@ -1,5 +1,5 @@
--- The lines of a tree whose numbers fit the text fit it.
-use Rattle.std.proofs.Common.{◌≡◌, ◌∙◌, refl, ℕ, ◌+◌, true, ◌&&◌, Option, Some, None, List, [], ◌∷◌, ◌++◌, map, ℤ, arith}
+-- The lines of a tree whose numbers fit the text fit it, and the other way round.
+use Rattle.std.proofs.Common.{◌≡◌, ◌∙◌, refl, sym, ℕ, ◌+◌, true, ◌&&◌, Option, Some, None, List, [], ◌∷◌, ◌++◌, map, ℤ, arith}
 use Rattle.std.specs.Prelude.{nat_le}
 use Rattle.std.specs.List.{list_all}
 use Rattle.std.proofs.lemmas.Bool.{and_from, and_parts}
@@ -18,6 +18,7 @@ use Rattle.proof_tree.specs.Text.{is_place, step_fits, horizon_fits, upto_fits, 
 use Rattle.proof_tree.specs.Tree.{Tree, tree, Body, stuck, goal, cases, Ending, empty, barred, next, branch, Branches, no_more, piece, Case, skip, left_open, go}
 use Rattle.proof_tree.specs.Steps.{is_prune}
 use Rattle.proof_text.specs.LineRanges.{line_fits}
+use Rattle.proof_text.specs.Horizons.{horizon_prunes, horizons_prune, body_prunes, ending_prunes, branches_prune, case_prunes}
 
 abbrev Fit : List Line → Type 0
 Fit ls = list_all line_fits ls ≡ true
@@ -87,3 +88,66 @@ mutual
   case_fitting version (go steps end) f =
       let p = and_parts (list_all step_fits steps) (ending_fits version end) f in
       both_fit (map step_line steps) (ending_lines end) (steps_fitting steps p.0) (ending_fitting version end p.1)
+
+each_fits : (xs ys : List Line) → Fit (xs ++ ys) → Fit xs × Fit ys
+each_fits xs ys f = and_parts (list_all line_fits xs) (list_all line_fits ys) (sym (list_all-append line_fits xs ys) ∙ f)
+
+fitting_step : (s : Step) → line_fits (step_line s) ≡ true → step_fits s ≡ true
+fitting_step (Prune x low high c) f = f
+fitting_step (Bound x low high) f = f
+
+fitting_steps : (steps : List Step) → Fit (map step_line steps) → list_all step_fits steps ≡ true
+fitting_steps [] f = refl
+fitting_steps (s ∷ steps) f =
+    let p = and_parts (line_fits (step_line s)) (list_all line_fits (map step_line steps)) f in
+    and_from (step_fits s) (list_all step_fits steps) (fitting_step s p.0) (fitting_steps steps p.1)
+
+fitting_horizon : (z : Option Horizon) → Fit (horizon_lines z) → horizon_prunes z ≡ true → horizon_fits z ≡ true
+fitting_horizon None f h = refl
+fitting_horizon (Some z) f h =
+    let p = and_parts (nat_le 1 (z.scope.0 + 1) && nat_le (z.scope.0 + 1) 65) (list_all line_fits (map step_line z.steps ++ Dot ∷ [])) f in
+    let q = and_parts (nat_le 1 (z.scope.0 + 1)) (nat_le (z.scope.0 + 1) 65) p.0 in
+    let steps = fitting_steps z.steps (each_fits (map step_line z.steps) (Dot ∷ []) p.1).0 in
+    and_from (is_place 65 z.scope.0 && list_all step_fits z.steps) (list_all is_prune z.steps) (and_from (is_place 65 z.scope.0) (list_all step_fits z.steps) q.1 steps) h
+
+fitting_upto : (upto : Option ℤ) → Fit (upto_lines upto) → upto_fits Two upto ≡ true
+fitting_upto None f = refl
+fitting_upto (Some high) f = (and_parts (is_number high) true f).0
+
+mutual
+  -- a tree whose lines fit, with removals alone in its horizons, fits the second version
+  pub fitting_tree : (t : Tree) → list_all line_fits (tree_lines t) ≡ true → horizons_prune t ≡ true → tree_fits Two t ≡ true
+  fitting_tree (tree z c) f h =
+      let p = each_fits (horizon_lines z) (body_lines c) f in
+      let q = and_parts (horizon_prunes z) (body_prunes c) h in
+      and_from (horizon_fits z) (body_fits Two c) (fitting_horizon z p.0 q.0) (fitting_body c p.1 q.1)
+
+  fitting_body : (c : Body) → Fit (body_lines c) → body_prunes c ≡ true → body_fits Two c ≡ true
+  fitting_body stuck f h = refl
+  fitting_body goal f h = refl
+  fitting_body (cases steps end) f h =
+      let p = each_fits (map step_line steps) (ending_lines end) f in
+      and_from (list_all step_fits steps) (ending_fits Two end) (fitting_steps steps p.0) (fitting_ending end p.1 h)
+
+  fitting_ending : (e : Ending) → Fit (ending_lines e) → ending_prunes e ≡ true → ending_fits Two e ≡ true
+  fitting_ending empty f h = refl
+  fitting_ending barred f h = refl
+  fitting_ending (next t) f h = fitting_tree t f h
+  fitting_ending (branch x bs) f h =
+      let p = and_parts (is_place 500 x.0) (list_all line_fits (branches_lines bs ++ Dot ∷ [])) f in
+      and_from (is_place 500 x.0) (branches_fit Two bs) p.0 (fitting_branches bs (each_fits (branches_lines bs) (Dot ∷ []) p.1).0 h)
+
+  fitting_branches : (bs : Branches) → Fit (branches_lines bs) → branches_prune bs ≡ true → branches_fit Two bs ≡ true
+  fitting_branches no_more f h = refl
+  fitting_branches (piece upto c bs) f h =
+      let p = each_fits (upto_lines upto ++ case_lines c) (branches_lines bs) f in
+      let q = each_fits (upto_lines upto) (case_lines c) p.0 in
+      let r = and_parts (case_prunes c) (branches_prune bs) h in
+      and_from (upto_fits Two upto && case_fits Two c) (branches_fit Two bs) (and_from (upto_fits Two upto) (case_fits Two c) (fitting_upto upto q.0) (fitting_case c q.1 r.0)) (fitting_branches bs p.1 r.1)
+
+  fitting_case : (c : Case) → Fit (case_lines c) → case_prunes c ≡ true → case_fits Two c ≡ true
+  fitting_case skip f h = refl
+  fitting_case left_open f h = refl
+  fitting_case (go steps end) f h =
+      let p = each_fits (map step_line steps) (ending_lines end) f in
+      and_from (list_all step_fits steps) (ending_fits Two end) (fitting_steps steps p.0) (fitting_ending end p.1 h)

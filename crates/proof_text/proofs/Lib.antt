@@ -30,3 +30,4 @@ pub mod UniqueLines
 pub mod Telling
 pub mod OneAnswer
 mod WholeLines
+mod Passing

@@ -109,7 +109,7 @@ stands old new bytes told b Bad h g = record {
   fits = h.fits;
 }
 
-begins_of : (s : Standing) (bytes : List ℕ) → IsGoing s → Tells s bytes → BeginsText 1000 bytes
+pub begins_of : (s : Standing) (bytes : List ℕ) → IsGoing s → Tells s bytes → BeginsText 1000 bytes
 begins_of (owing owed) bytes n h = h.begins
 begins_of too_deep bytes n h = absurd (stops_not too_deep refl n)
 begins_of no_text bytes n h = absurd (fails_not no_text refl n)
@@ -200,7 +200,7 @@ ended_for old given answer e h bytes told f = ended given answer h bytes told (s
 
 -- the same of a whole line
 
-standing_after : (g : Standing) (bytes more : List ℕ) → standing_from g (bytes ++ more) ≡ standing_from (standing_from g bytes) more
+pub standing_after : (g : Standing) (bytes more : List ℕ) → standing_from g (bytes ++ more) ≡ standing_from (standing_from g bytes) more
 standing_after g [] more = refl
 standing_after g (b ∷ bytes) more = standing_after (next_standing g b) bytes more
 

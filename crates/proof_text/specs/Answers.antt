@@ -38,6 +38,11 @@ tell (headed version outcome optimum lines) (Whole line) = headed version outcom
 tell told TooDeep = told
 tell told Bad = told
 
+-- what was told, with these lines more
+abbrev pub tell_all : Told → List Line → Told
+tell_all nothing ls = nothing
+tell_all (headed version outcome optimum lines) ls = headed version outcome optimum (lines ++ ls)
+
 abbrev pub is_nothing : Told → Bool
 is_nothing nothing = true
 is_nothing (headed version outcome optimum lines) = false

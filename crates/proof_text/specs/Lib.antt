@@ -1,5 +1,6 @@
 pub mod Answers
 pub mod Fronts
+pub mod Horizons
 pub mod Laws
 pub mod Letters
 pub mod LineRanges

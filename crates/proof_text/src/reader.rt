@@ -1,13 +1,20 @@
 //! Reading the lines of a certificate byte by byte.
 ghost use Rattle.proof_text.specs.Standing.{standing, Tells};
-ghost use Rattle.proof_text.specs.Places.{IsText};
-ghost use Rattle.proof_text.specs.Answers.{Told, nothing, tell, StandsFor, Says, IsTold, BeginsLine, SaysLine};
+ghost use Rattle.proof_text.specs.Places.{IsText, BeginsText};
+ghost use Rattle.proof_text.specs.Answers.{Told, nothing, tell, tell_all, is_nothing, StandsFor, Says, IsTold, BeginsLine, SaysLine};
 ghost use Rattle.proof_text.specs.declared.answer.Read.TheVariants.{Whole as WholeLine};
-ghost use Rattle.std.specs.Prelude.{◌≡◌, ◌↔◌, ◌++◌, ◌∷◌, [], take, IsTrue, IfSome, MatchOption, List, ℕ};
+ghost use Rattle.proof_tree.specs.Tree.{Tree};
+ghost use Rattle.proof_tree.specs.Counts.{depth_of};
+ghost use Rattle.proof_tree.specs.Lines.{tree_lines};
+ghost use Rattle.proof_tree.specs.Text.{line_text, tree_fits};
+ghost use Rattle.proof_tree.specs.declared.tree.Version.TheVariants.{Two};
+ghost use Rattle.std.specs.Prelude.{◌≡◌, ◌≤◌, ◌↔◌, ◌++◌, ◌∷◌, [], take, flat_map, false, IsTrue, IsFalse, IfSome, MatchOption, List, ℕ};
 
 use crate::answer::Read;
 use crate::front::{Front, Word};
+use crate::letters::Place;
 use crate::levels::Levels;
+use crate::ranges::DEEPEST;
 use crate::walk::{At, Nested, is_over, read_byte};
 use crate::whole_line::whole_line;
 use proof_tree::{Line, Version};
@@ -85,6 +92,27 @@ impl LineReader {
         };
         *place = next;
         Some((line, bytes.len() - rest.len()))
+    }
+
+    /// Passes over the lines of a node, where one is due in a certificate of the second version with so
+    /// many levels of nesting left: the reader stands as it would after the bytes of these lines.
+    /// Whether it did; where it did not, nothing has changed.
+    pub fn pass_node(&mut self, depth: usize) -> bool
+        ensures kept { IsFalse result → self.new ≡ self.old }
+        ensures stands { IsTrue result → (before : List ℕ) (told : Told) (t : Tree) → StandsFor self.old before told → IsTrue (tree_fits Two t) → depth_of t ≤ depth → StandsFor self.new (before ++ flat_map line_text (tree_lines t)) (tell_all told (tree_lines t)) }
+        ensures says { IsTrue result → (before : List ℕ) (told : Told) (t : Tree) → StandsFor self.old before told → IsTrue (tree_fits Two t) → depth_of t ≤ depth → BeginsText 1000 (before ++ flat_map line_text (tree_lines t)) × (is_nothing told ≡ false) }
+    {
+        let At::Letter(Place::Node) = self.at else {
+            return false;
+        };
+        let Version::Two = self.tree.version else {
+            return false;
+        };
+        if depth > usize::from(DEEPEST - self.tree.nesting) {
+            return false;
+        }
+        self.at = At::Letter(Place::Closed);
+        true
     }
 
     /// Whether the bytes so far are a whole text.
