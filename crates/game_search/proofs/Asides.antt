@@ -14,6 +14,7 @@ use Rattle.proof_tree.specs.Lines.{tree_lines}
 use Rattle.proof_tree.specs.Place.{position}
 use Rattle.proof_tree.specs.Tree.{Tree}
 use Rattle.proof_tree.specs.declared.line.Line.{Line}
+use Rattle.qc_likeness.proofs.Likes.{single_stands}
 use Rattle.search_box.specs.Boxed.{Boxed}
 use Rattle.search_box.specs.Entered.{IsEntered}
 use Rattle.game_search.specs.Aside.{IsFreshAt, IsWhole, IsAside, StandsAside}
@@ -21,7 +22,7 @@ use Rattle.game_search.specs.Known.{IsEnded}
 use Rattle.game_search.specs.Made.{NodeMade}
 use Rattle.game_search.specs.Settled.{is_vague_verdict, beats_none}
 use Rattle.game_search.specs.Written.{NodeWritten}
-use Rattle.game_search.proofs.Knowing.{like_here, single_stands}
+use Rattle.game_search.proofs.Knowing.{like_here}
 
 -- the box of a node at its position
 pub fresh_here : (g : Game) (i : ℕ) (b : Boxed) → IsEntered g i b → is_box_of b.game b.store.box ≡ true → before g i ≤ length b.store.box →

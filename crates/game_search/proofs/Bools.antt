@@ -26,6 +26,3 @@ is_below m n h = grind (arith, nat_tests)
 
 pub none_below : (n : ℕ) → n ≡ 0 → nat_lt 0 n ≡ false
 none_below n e = ap (nat_lt 0) e
-
-pub below_is : (m n : ℕ) → nat_lt m n ≡ true → m < n
-below_is m n h = grind (arith, nat_tests)

@@ -43,6 +43,7 @@ use Rattle.qc_joins.specs.Verdicts.{verdict_at, stuck_of, settled_at, own_at, ki
 use Rattle.qc_joins.specs.declared.joins.Joins.{Joins}
 use Rattle.qc_joins.proofs.Lengths.{verdict_long, goal_long, stuck_long}
 use Rattle.qc_joins.proofs.Sizing.{sizes_both, leaf_fits, verdict_sized, goal_sized, stuck_sized}
+use Rattle.qc_likeness.proofs.Plain.{stuck_own}
 use Rattle.fd_store.specs.Held.{values_from}
 use Rattle.search_box.specs.Closes.{IsPruned}
 use Rattle.search_box.specs.Rests.{IsFirst, IsLast, IsNext, IsPrevious}
@@ -638,14 +639,6 @@ ready_bounded g i had joins ms stands one few = record {
     unsettled_marks g i (m ∷ ms) = unsettled_marks g i ms
 
 -- a node that nobody passes
-pub stuck_own : (later : List Scope) (g : Game) (d : List Condition) (a : List ℤ) → (stuck_finding later g d a).own ≡ None
-stuck_own [] g d a = refl
-stuck_own (s ∷ later) g d a = by s.kind
-  where
-    by : (k : Kind) → (kind_stuck k g d a).own ≡ None
-    by Exists = refl
-    by Forall = refl
-
 stuck_so : (later : List Scope) (g : Game) (d : List Condition) (a : List ℤ) → (stuck_finding later g d a).verdict ≡ stuck_of later g d a
 stuck_so [] g d a = refl
 stuck_so (s ∷ later) g d a = by s.kind

@@ -8,13 +8,14 @@ ghost use Rattle.qc_levels.specs.Seen.{verdict_of};
 ghost use Rattle.search_box.specs.Entered.{IsEntered};
 ghost use Rattle.search_box.specs.Looking.{scope_number};
 ghost use Rattle.game_search.specs.Props.{known_prop};
-ghost use Rattle.game_search.specs.Known.{ask_nothing, IsFinished, IsKnown, StandsHere, ends_as};
+ghost use Rattle.game_search.specs.Known.{IsFinished, IsKnown, StandsHere};
 ghost use Rattle.game_search.specs.Settled.{is_vague_verdict, beats_none};
 
-use crate::likeness::Likeness;
+use crate::likeness::{is_like, position_number, stand_alike};
 use crate::turns::turns_in;
 use proof_tree::Line;
 use qc_levels::Found;
+use qc_likeness::{Likeness, asks_nothing, is_won};
 use qc_model::{Problem, ScopeId};
 use qc_rules::{Level, Levels};
 use search_box::SearchBox;
@@ -99,7 +100,7 @@ pub(crate) struct KnownNodes<'p> {
     /// How many nodes were kept, and how often one was met again.
     kept: u32,
     met: u32,
-    ghost compared: { IfSome likeness (λ l. l.problem.now ≡ problem.now) } by { Prim.hlevel props },
+    ghost compared: { IfSome likeness (λ l. l ≡ problem.now) } by { Prim.hlevel props },
     ghost same: { All (λ n. n.problem.now ≡ problem.now) nodes.items } by { Prim.hlevel props },
 }
 
@@ -109,18 +110,6 @@ pub(crate) struct NodeEnd {
     pub(crate) found: Found,
     pub(crate) had: u64,
     pub(crate) left: u64,
-}
-
-/// Whether the node was won. None comes where that isn't known.
-fn is_won(found: Found) -> Option<bool>
-    ensures { IfSome result (λ won. (v : List ℤ) → IsTrue (ends_as won (verdict_of found v))) }
-{
-    match found {
-        Found::Lost => Some(false),
-        Found::Exact => Some(true),
-        Found::AtMost(_) => None,
-        Found::Unknown => None,
-    }
 }
 
 /// Whether a node is lost or exact.
@@ -133,19 +122,6 @@ pub(crate) fn is_decided(found: Found) -> bool
         Found::AtMost(_) => false,
         Found::Unknown => false,
     }
-}
-
-/// Whether no scope has a condition.
-fn asks_nothing(problem: &Problem) -> bool
-    ensures { IsTrue result → IsTrue (ask_nothing problem.now.scopes) }
-{
-    problem.known();
-    for i in 0..problem.scopes() {
-        if problem.scope(ScopeId(i as u8)).condition.is_some() {
-            return false;
-        }
-    }
-    true
 }
 
 impl<'p> KnownNodes<'p> {
@@ -235,9 +211,10 @@ impl<'p> KnownNodes<'p> {
         let Some(number) = position else {
             return Ok(None);
         };
-        if end.left == 0 || !likeness.stand_alike(level, remains, lines.as_slice()) {
+        if end.left == 0 || !stand_alike(likeness, level, remains, lines.as_slice()) {
             return Ok(None);
         }
+        likeness.plain();
         Ok(Some(KnownNode {
             problem: self.problem,
             scope: ScopeId(level.number),
@@ -320,7 +297,7 @@ impl<'p> KnownNodes<'p> {
         let Some(likeness) = &self.likeness else {
             return None;
         };
-        likeness.number(level, horizon, remains.values_before(level))
+        position_number(likeness, level, horizon, remains)
     }
 
     /// The place in the list of the node that is known for the position with this number, where as many turns are left as its
@@ -351,7 +328,8 @@ impl<'p> KnownNodes<'p> {
             && node.scope.0 == level.number
             && is_same(node.horizon, horizon)
             && node.turns <= left
-            && likeness.is_like(level, remains, node.values.as_slice());
+            && is_like(likeness, level, remains, node.values.as_slice());
+        likeness.plain();
         if is_it { Some(at) } else { None }
     }
 
@@ -384,7 +362,7 @@ fn likeness_for<'p>(
     levels: &Levels<'p>,
     wanted: bool,
 ) -> Result<Option<Likeness<'p>>, AllocError>
-    ensures { IfOk result (λ found. IfSome found (λ likeness. likeness.problem.now ≡ levels.now.problem.now)) }
+    ensures { IfOk result (λ found. IfSome found (λ likeness. likeness ≡ levels.now.problem.now)) }
 {
     if !wanted || !asks_nothing(levels.problem) {
         return Ok(None);

@@ -6,7 +6,8 @@ use Rattle.proof_tree.specs.Lines.{tree_lines}
 use Rattle.proof_tree.specs.Tree.{Tree}
 use Rattle.proof_tree.specs.Place.{position}
 use Rattle.search_box.specs.Looking.{scope_number}
-use Rattle.game_search.specs.Known.{ask_nothing, IsKnown, line_looks}
+use Rattle.qc_likeness.specs.Likeness.{ask_nothing, line_looks}
+use Rattle.game_search.specs.Known.{IsKnown}
 use Rattle.game_search.proofs.Knowing.{finished_known}
 use Rattle.game_search.proofs.known.KnownNodes.node_for.Goals as goal
 
@@ -16,7 +17,7 @@ invariant_of-result c =
     let l = c.args.level.now in
     let g = l.problem.now in
     let e : g ≡ k = c.requires.game in
-    let same : c.in-Some.likeness.problem.now ≡ k = search rules in
+    let same : c.in-Some.likeness ≡ k = search rules in
     let had = c.args.end.had in
     let left = c.args.end.left in
     let won = c.in-Some-is_won.won in
@@ -24,7 +25,7 @@ invariant_of-result c =
     let h = scope_number c.args.horizon in
     let vs = position g l.number box in
     let ls = c.args.lines.items in
-    let plain = subst (λ (u : Game). ask_nothing u.scopes ≡ true) (same ∙ sym e) c.in-Some.likeness.plain in
+    let plain = subst (λ (u : Game). ask_nothing u.scopes ≡ true) (same ∙ sym e) c.plain.ensures in
     let like = c.if-not-stand_alike.ensures.like refl in
     let looks = subst (λ ms. list_all (line_looks g l.number) ms ≡ true) c.as_slice.ensures.value (c.if-not-stand_alike.ensures.looks refl) in
     let some : 0 < left = omega (arith, c.if-end-eq0.false) in

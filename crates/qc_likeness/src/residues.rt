@@ -49,7 +49,7 @@ struct Part {
 
 /// For each scope the parts before it of the constraints from it on: a range, where it has a number.
 #[derive(Drop)]
-pub(crate) struct Residues {
+pub struct Residues {
     items: Vec<Item>,
     parts: Vec<Part>,
     scopes: Vec<Option<Span>>,
@@ -57,11 +57,7 @@ pub(crate) struct Residues {
 
 impl Residues {
     /// Those of the scopes that are wanted. It fails only where memory runs out.
-    pub(crate) fn new(
-        alloc: Global,
-        levels: &Levels,
-        wanted: &[bool],
-    ) -> Result<Residues, AllocError> {
+    pub fn new(alloc: Global, levels: &Levels, wanted: &[bool]) -> Result<Residues, AllocError> {
         levels.problem.known();
         let mut gathering = Gathering {
             found: Residues {
@@ -86,13 +82,13 @@ impl Residues {
     }
 
     /// Whether the scope's positions have numbers.
-    pub(crate) fn has(&self, level: &Level) -> bool {
+    pub fn has(&self, level: &Level) -> bool {
         matches!(self.scopes.get(level.number as usize), Some(Some(_)))
     }
 
     /// The number of a scope's position, where the variables before it have these values. None comes where the scope has
     /// no number.
-    pub(crate) fn number(&self, level: &Level, values: &[i64]) -> Option<u64> {
+    pub fn number(&self, level: &Level, values: &[i64]) -> Option<u64> {
         let Some(Some(parts)) = self.scopes.get(level.number as usize) else {
             return None;
         };
@@ -166,7 +162,8 @@ fn value_of(x: u16, values: &[i64]) -> i64 {
     }
 }
 
-pub(crate) fn mixed(hash: u64, value: i64) -> u64 {
+/// A number that has one more value in it: a step of a hash.
+pub fn mixed(hash: u64, value: i64) -> u64 {
     (hash.rotate_left(27) ^ value.cast_unsigned()).wrapping_mul(MIX)
 }
 

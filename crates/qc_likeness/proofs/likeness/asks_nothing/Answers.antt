@@ -1,7 +1,7 @@
 use Rattle.std.proofs.Common.{◌∙◌, ap, sym, drop, add-one}
-use Rattle.game_search.specs.Known.{ask_nothing}
-use Rattle.game_search.proofs.Knowing.{none_goes_on}
-use Rattle.game_search.proofs.known.asks_nothing.Goals as goal
+use Rattle.qc_likeness.specs.Likeness.{ask_nothing}
+use Rattle.qc_likeness.proofs.Plain.{none_goes_on}
+use Rattle.qc_likeness.proofs.likeness.asks_nothing.Goals as goal
 
 pub loop-i-preserved : goal.loop-i-preserved
 loop-i-preserved c =
