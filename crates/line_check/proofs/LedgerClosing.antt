@@ -57,7 +57,7 @@ module _ (g : Game) (n : Tally) (d : Ledger) (tally : Counts n d) where
     pub node_leads : (above : Above) (f : Finding) (fs : List Entry) (i : ℕ) (z : Option ℕ) (v : Verdict) → AboveIs g above fs i → v ≡ f.verdict → f.own ≡ None → Tells g (after_node g n above f) (node_closed g d fs i z v)
     node_leads at_root f fs i z v h e alone =
         subst (λ gs. Tells g (after_node g n at_root f) (node_closed g d gs i z v)) (sym h)
-        (refl, record { tally = record { in_place = tally.in_place; turns = tally.turns; opens = tally.opens }; verdict = e; own = sym alone })
+        (refl, record { tally = record { in_place = tally.in_place; turns = tally.turns; opens = tally.opens }; entries = refl; verdict = e; own = sym alone })
     node_leads (below o w around) f fs i z v h e alone =
         let xs = h.0 in
         let a = h.1 in
@@ -81,7 +81,7 @@ module _ (g : Game) (n : Tally) (d : Ledger) (tally : Counts n d) where
     tree_leads : (above : Above) (o : Own) (fs : List Entry) (i : ℕ) (z : Option ℕ) (xs : List Seen) (a : List ℤ) → AboveIs g above fs i → IsOwnOf g i z o xs a → Tells g (after_node g n above (finding_of g o)) (part_closed g d fs i z xs a)
     tree_leads at_root o fs i z xs a h k =
         subst (λ gs. Tells g (after_node g n at_root (finding_of g o)) (part_closed g d gs i z xs a)) (sym h)
-        (refl, record { tally = record { in_place = tally.in_place; turns = tally.turns; opens = tally.opens }; verdict = own_verdict g i z o xs a k; own = own_value g i z o xs a k })
+        (refl, record { tally = record { in_place = tally.in_place; turns = tally.turns; opens = tally.opens }; entries = refl; verdict = own_verdict g i z o xs a k; own = own_value g i z o xs a k })
     tree_leads (below p w around) o fs i z xs a h k =
         let ys = h.0 in
         let b = h.1 in

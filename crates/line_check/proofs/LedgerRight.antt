@@ -19,11 +19,12 @@ use Rattle.line_check.proofs.Offs.{stays_off}
 use Rattle.line_check.proofs.Shallow.{IsShallow, shallow_lines}
 use Rattle.line_check.proofs.LedgerTurns.{goes_leads}
 
-abbrev Follows : Game → State → Option Ledger → Type 0
+abbrev pub Follows : Game → State → Option Ledger → Type 0
 Follows g s None = Unit {0}
 Follows g s (Some d) = Tells g s d
 
-abbrev Keeps : Game → State → Option Ledger → Type 0
+-- there is a ledger that tells s, unless a line is out of place
+abbrev pub Keeps : Game → State → Option Ledger → Type 0
 Keeps g s None = all_in_place s ≡ false
 Keeps g s (Some d) = Tells g s d
 
@@ -31,7 +32,7 @@ first_tells : (g : Game) → Tells g (start g) (first_ledger g)
 first_tells g = (refl, refl, record { tally = record { in_place = refl; turns = refl; opens = refl }; frames = refl; place = refl })
 
 module _ (g : Game) where
-  follows_one : (s : State) (p : Option Ledger) (l : Line) → Follows g s p → Follows g (step g s l) (goes g p l)
+  pub follows_one : (s : State) (p : Option Ledger) (l : Line) → Follows g s p → Follows g (step g s l) (goes g p l)
   follows_one s None l h = tt
   follows_one s (Some d) l h = by (goes g (Some d) l) (goes_leads g s d l h)
     where
@@ -39,7 +40,7 @@ module _ (g : Game) where
       by None k = tt
       by (Some e) k = k
 
-  follows : (ls : List Line) (s : State) (p : Option Ledger) → Follows g s p → Follows g (run g s ls) (goes_through g p ls)
+  pub follows : (ls : List Line) (s : State) (p : Option Ledger) → Follows g s p → Follows g (run g s ls) (goes_through g p ls)
   follows [] s p h = h
   follows (l ∷ ls) s p h = follows ls (step g s l) (goes g p l) (follows_one s p l h)
 
@@ -52,7 +53,8 @@ module _ (g : Game) where
       by None (inr k) = absurd (omega (arith, q, k))
       by (Some e) k = k
 
-  keeps : (ls : List Line) (s : State) (p : Option Ledger) → IsShallow g s ls → Keeps g s p → Keeps g (run g s ls) (goes_through g p ls)
+  -- lines that don't nest too deep
+  pub keeps : (ls : List Line) (s : State) (p : Option Ledger) → IsShallow g s ls → Keeps g s p → Keeps g (run g s ls) (goes_through g p ls)
   keeps [] s p q h = h
   keeps (l ∷ ls) s p q h = keeps ls (step g s l) (goes g p l) q.1 (keeps_one s p l q.0 h)
 

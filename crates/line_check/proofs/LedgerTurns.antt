@@ -68,12 +68,13 @@ pub map_both : (ms : List ℤ) → map seen_bound ms ≡ map seen_of (map leaf_b
 map_both [] = refl
 map_both (m ∷ ms) = ap (λ us. seen_bound m ∷ us) (map_both ms)
 
+-- an entry for each node and branch that is open
 mutual
-  above_count : (g : Game) (above : Above) (fs : List Entry) (i : ℕ) → AboveIs g above fs i → nests_above above ≡ length fs
+  pub above_count : (g : Game) (above : Above) (fs : List Entry) (i : ℕ) → AboveIs g above fs i → nests_above above ≡ length fs
   above_count g at_root fs i h = sym (ap length h)
   above_count g (below o w around) fs i h = ap suc (within_count g around h.3 h.4 h.8) ∙ sym (ap length h.5)
 
-  within_count : (g : Game) (around : Within) (fs : List Entry) (i : ℕ) → WithinIs g around fs i → nests_within around ≡ length fs
+  pub within_count : (g : Game) (around : Within) (fs : List Entry) (i : ℕ) → WithinIs g around fs i → nests_within around ≡ length fs
   within_count g (whole_tree above) fs i h = above_count g above fs i h
   within_count g (in_case b around) fs i h = ap suc (within_count g around h.0 i h.2) ∙ sym (ap length h.1)
 

@@ -16,6 +16,10 @@ pub mod Frames
 pub mod LedgerClosing
 pub mod LedgerTurns
 pub mod LedgerRight
+pub mod Deep
+pub mod Heights
+pub mod Onto
+pub mod Under
 pub mod LedgerSizes
 pub mod Closes
 pub mod Placing
@@ -28,3 +32,9 @@ pub mod Forks
 pub mod Turning
 pub mod Answering
 pub mod Showing
+pub mod Depths
+pub mod OneLedger
+pub mod Passes
+pub mod SameTold
+pub mod Fresh
+pub mod Passed

@@ -29,7 +29,7 @@ module _ (g : Game) where
     nests_node at_root n f = omega arith
     nests_node (below o w around) n f = let h = nests_part around n (with_leaf o (leaf_node w f)) in omega (arith, h)
 
-    nests_part : (around : Within) (n : Tally) (o : Own) → nests (after_part g n around o) ≤ nests_within around
+    pub nests_part : (around : Within) (n : Tally) (o : Own) → nests (after_part g n around o) ≤ nests_within around
     nests_part (whole_tree above) n o = nests_node above n (finding_of g o)
     nests_part (in_case b around) n o = omega arith
 
@@ -66,7 +66,7 @@ module _ (g : Game) where
   to_body [] (next t) n above s box rest h = h (n & test (not (is_horizon s.horizon s.number) && not (is_goal s.later))) (own_at g s box) box
   to_body [] (branch x bs) n above s box rest h = h (n & test (not (is_horizon s.horizon s.number) && not (is_goal s.later))) (own_at g s box) box
 
-  abbrev case_state : Option ℤ → Tally → Within → Own → Fork → State
+  abbrev pub case_state : Option ℤ → Tally → Within → Own → Fork → State
   case_state None n around o b = case_due n around o b
   case_state (Some high) n around o b = ranged_due n around o b high
 
@@ -97,7 +97,8 @@ module _ (g : Game) where
   shallow_prunes (Bound x low high ∷ steps) n above s k box left rest q h = (q, shallow_prunes steps _ above s k box _ rest q h)
 
   mutual
-    shallow_tree : (t : Tree) (n : Tally) (above : Above) (s : Spot) (box : Box) (rest : List Line) → nests_above above + depth_of t ≤ 1000 → NodeGoes above rest → IsShallow g (node_due n above s box) (tree_lines t ++ rest)
+    -- from any node, whatever follows it
+    pub shallow_tree : (t : Tree) (n : Tally) (above : Above) (s : Spot) (box : Box) (rest : List Line) → nests_above above + depth_of t ≤ 1000 → NodeGoes above rest → IsShallow g (node_due n above s box) (tree_lines t ++ rest)
     shallow_tree (tree None c) n above s box rest q h = to_node c n above s box rest (shallow_body c n above s box rest q h)
     shallow_tree (tree (Some z) c) n above s box rest q h = subst (λ ls. IsShallow g (node_due n above s box) (ls ++ rest)) (sym (seen_lines z c)) (
       omega (arith, q),

@@ -1,5 +1,5 @@
 -- Places as a list that begins with the last one filled.
-use Rattle.std.proofs.Common.{◌≡◌, ℕ, zero, suc, ◌<◌, ◌≤◌, ◌+◌, ◌-◌, None, List, [], ◌∷◌, length, set, refl, sym, ap, ◌∙◌, arith, add-one}
+use Rattle.std.proofs.Common.{◌≡◌, ℕ, zero, suc, ◌<◌, ◌≤◌, ◌+◌, ◌-◌, None, List, [], ◌∷◌, length, set, refl, sym, ap, ◌∙◌, subst, arith, add-one}
 use Rattle.std.specs.Prelude.{slice_index_or}
 use Rattle.line_check.specs.declared.open.Open.{Open}
 use Rattle.line_check.specs.declared.open.Open.TheVariants.{Next}
@@ -52,3 +52,11 @@ top_set xs zero f h k = absurd (omega arith)
 top_set xs (suc m) f h k =
     let back : m ≡ suc m - 1 = omega arith in
     ap (λ j. last_first (set xs j f) (suc m)) (sym back) ∙ (ap (last_first (set xs m f)) (sym (add-one m)) ∙ pushed xs m f (omega arith))
+
+-- the last two places are the first two of the list
+pub top_two : (xs : List Open) (n : ℕ) (f e : Open) → 2 ≤ n → n ≤ length xs → f ≡ slice_index_or xs (n - 1) f → e ≡ slice_index_or xs (n - 2) e → last_first xs n ≡ f ∷ e ∷ rest (rest (last_first xs n))
+top_two xs n f e two k p q =
+    let less : n - 2 ≡ n - 1 - 1 = omega (arith, two) in
+    let below : rest (last_first xs n) ≡ e ∷ rest (rest (last_first xs n)) =
+    subst (λ fs. fs ≡ e ∷ rest fs) (popped xs n (n - 1) refl) (top_is xs (n - 1) e (λ z. absurd (omega (arith, two, z))) (omega (arith, two, k)) (q ∙ ap (λ j. slice_index_or xs j e) less)) in
+    top_is xs n f (λ z. absurd (omega (arith, two, z))) k p ∙ ap (λ fs. f ∷ fs) below

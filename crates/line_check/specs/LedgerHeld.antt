@@ -56,6 +56,7 @@ pub record CaseIs (g : Game) (n : Tally) (around : Within) (o : Own) (b : Fork) 
 
 pub record EndIs (n : Tally) (f : Finding) (d : Ledger) : Type 0 where
   pub tally : Counts n d
+  pub entries : d.entries ≡ []
   pub verdict : d.verdict ≡ f.verdict
   pub own : d.own ≡ f.own
 

@@ -8,6 +8,7 @@ pub mod Tuples
 pub mod Room
 pub mod Ledger
 pub mod LedgerHeld
+pub mod Under
 pub mod LedgerSizes
 pub mod Tracking
 pub mod Found
@@ -15,3 +16,5 @@ pub mod Known
 pub mod Machine
 pub mod Telling
 pub mod Shown
+pub mod Passing
+pub mod Passed

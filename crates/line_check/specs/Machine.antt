@@ -1,5 +1,5 @@
 -- What a machine keeps, whatever lines it takes.
-use Rattle.std.specs.Prelude.{◌≡◌, ◌<◌, ◌≤◌, ◌-◌, ℕ, true, false, List, [], ◌∷◌, length, map, take, ℤ}
+use Rattle.std.specs.Prelude.{◌≡◌, ◌<◌, ◌≤◌, ◌-◌, ℕ, suc, true, false, List, [], ◌∷◌, length, map, take, ℤ}
 use Rattle.std.specs.List.{list_all}
 use Rattle.qc_model.specs.declared.problem.VarId.{VarId}
 use Rattle.qc_model.specs.Content.{Game}
@@ -114,8 +114,21 @@ IsReadyAt m due.Body = IsAtNode m
 IsReadyAt m due.Part = IsWithin m
 IsReadyAt m due.Case = IsAtFork m
 IsReadyAt m (due.Ranged high) = IsAtFork m
+IsReadyAt m due.Closed = IsSound m
 IsReadyAt m due.Ended = Unit {0}
 IsReadyAt m due.Wrong = Unit {0}
 
 abbrev pub IsReady : Machine → Type 0
 IsReady m = IsReadyAt m m.due
+
+-- how often a node can be left before the next line, at most
+abbrev pub left_at_most : Due → ℕ → ℕ
+left_at_most due.Node n = 0
+left_at_most (due.Prune k mark) n = 0
+left_at_most due.Body n = 0
+left_at_most due.Part n = 0
+left_at_most due.Case n = 0
+left_at_most (due.Ranged high) n = 0
+left_at_most due.Closed n = suc n
+left_at_most due.Ended n = 0
+left_at_most due.Wrong n = 0

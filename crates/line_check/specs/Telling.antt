@@ -22,6 +22,7 @@ use Rattle.line_check.specs.Awaited.{Awaited, node_awaited, prune_awaited, body_
 use Rattle.line_check.specs.Ledger.{Ledger, Entry, next_entry, branch_entry, ends_with, part_closed, only_ledger, passed_over, gone_into, ledger_end, node_close}
 use Rattle.line_check.specs.Machine.{game_of, fork_at, values_to, before_of}
 use Rattle.line_check.specs.LedgerSizes.{EntriesKeep, PartKeeps, ClosesKeep, NodeFits, KeepsSizesAt}
+use Rattle.line_check.specs.Passing.{IsSame}
 
 -- what is open around scope i
 abbrev pub AreEntries : Game → Held → List ℤ → Joins → ℕ → List Open → List Entry → Type 0
@@ -115,6 +116,10 @@ TellsPart m u p = (d : Ledger) × (es : List Entry) × (xs : List Seen) × IsPar
 abbrev pub TellsEnd : Machine → Option Ledger → Type 0
 TellsEnd m p = (d : Ledger) × IsEnd m d × (p ≡ Some d)
 
+-- a node has ended that isn't left yet; what no line reads any more may differ
+abbrev pub TellsClosed : Machine → Option Ledger → Type 0
+TellsClosed m p = (n : ℕ) × (d : Ledger) × (es : List Entry) × (v : Verdict) × (e : Ledger) × IsNodeEnd n m d es v × IsSame (node_ended m d es v) e × (p ≡ Some e)
+
 abbrev pub TellsAt : Machine → Due → Option Ledger → Type 0
 TellsAt m due.Node p = TellsNode m node_awaited p
 TellsAt m (due.Prune k mark) p = TellsNode m (prune_awaited k (past_box m.remains mark.at)) p
@@ -122,6 +127,7 @@ TellsAt m due.Body p = TellsNode m body_awaited p
 TellsAt m due.Part p = TellsPart m part_awaited p
 TellsAt m due.Case p = TellsPart m case_awaited p
 TellsAt m (due.Ranged high) p = TellsPart m (ranged_awaited high) p
+TellsAt m due.Closed p = TellsClosed m p
 TellsAt m due.Ended p = TellsEnd m p
 TellsAt m due.Wrong p = p ≡ None
 

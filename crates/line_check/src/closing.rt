@@ -1,5 +1,5 @@
 //! What the machine does where a part of a tree ends.
-ghost use Rattle.std.specs.Prelude.{◌≡◌, ◌≤◌, ◌∷◌, ℕ, List, Some, length};
+ghost use Rattle.std.specs.Prelude.{◌≡◌, ◌↔◌, ◌≤◌, ◌<◌, ◌∷◌, ℕ, List, Some, length, IsTrue, Option as Maybe};
 ghost use Rattle.qc_model.specs.Game.{before};
 ghost use Rattle.qc_model.specs.Verdict.{Verdict, Seen};
 ghost use Rattle.line_check.specs.Places.{rest};
@@ -7,6 +7,7 @@ ghost use Rattle.line_check.specs.Ledger.{Ledger as Kept, Entry};
 ghost use Rattle.line_check.specs.Machine.{game_of, IsSound, IsWithin, IsReady};
 ghost use Rattle.line_check.specs.Telling.{IsPartEnd, IsNodeEnd, IsLeft, part_ended, node_ended, scope_ended, Tells};
 ghost use Rattle.line_check.specs.declared.open.Open.TheVariants as open_as;
+ghost use Rattle.line_check.specs.declared.open.Due.TheVariants as due_of;
 
 use crate::machine::Machine;
 use crate::open::{Due, Open};
@@ -35,6 +36,7 @@ impl<'p> Machine<'p> {
         ensures tells { (n : ℕ) (d : Kept) (es : List Entry) (xs : List Seen) → IsPartEnd n self.old d es xs → Tells self.new (Some (part_ended self.old d es xs)) }
         ensures ready { IsReady self.new }
         ensures same { game_of self.new ≡ game_of self.old }
+        ensures nesting { self.new.nesting ≡ self.old.nesting }
     {
         let _ = x;
         let _ = from;
@@ -43,13 +45,13 @@ impl<'p> Machine<'p> {
         self.due = Due::Case;
     }
 
-    /// The scope's own tree has ended: goes on in the scope before, or the lines are a node.
-    #[cycle(close)]
+    /// The scope's own tree has ended, and with it the node.
     fn close_scope(&mut self)
         requires within { IsWithin self.old }
         ensures tells { (n : ℕ) (d : Kept) (es : List Entry) (xs : List Seen) → IsPartEnd n self.old d es xs → Tells self.new (Some (scope_ended self.old d es xs)) }
         ensures ready { IsReady self.new }
         ensures same { game_of self.new ≡ game_of self.old }
+        ensures nesting { self.new.nesting ≡ self.old.nesting }
     {
         let count = self.count_before();
         self.found = self
@@ -59,13 +61,13 @@ impl<'p> Machine<'p> {
         self.close_node();
     }
 
-    /// A part of the scope's own tree has ended: goes on at the last branch, or further up.
-    #[cycle(close)]
+    /// A part of the scope's own tree has ended: goes on at the last branch, or the node has ended.
     pub(crate) fn close_part(&mut self)
         requires within { IsWithin self.old }
         ensures tells { (n : ℕ) (d : Kept) (es : List Entry) (xs : List Seen) → IsPartEnd n self.old d es xs → Tells self.new (Some (part_ended self.old d es xs)) }
         ensures ready { IsReady self.new }
         ensures same { game_of self.new ≡ game_of self.old }
+        ensures nesting { self.new.nesting ≡ self.old.nesting }
     {
         match self.nesting.top() {
             Some(Open::Branch { x, mark, from }) => self.back_to(x, mark, from),
@@ -90,13 +92,27 @@ impl<'p> Machine<'p> {
         self.joins.add_node(ScopeId(self.number), self.found);
     }
 
-    /// A node has come to what was found.
-    #[cycle(close)]
+    /// A node has come to what was found. It isn't left yet.
+    #[inline(always)]
     pub(crate) fn close_node(&mut self)
         requires sound { IsSound self.old }
         ensures tells { (n : ℕ) (d : Kept) (es : List Entry) (v : Verdict) → IsNodeEnd n self.old d es v → Tells self.new (Some (node_ended self.old d es v)) }
         ensures ready { IsReady self.new }
         ensures same { game_of self.new ≡ game_of self.old }
+        ensures nesting { self.new.nesting ≡ self.old.nesting }
+        ensures closed { self.new.due ≡ due_of.Closed }
+    {
+        self.due = Due::Closed;
+    }
+
+    /// Leaves a node that has ended: goes on in the scope before, where a part has ended with it, and perhaps another node;
+    /// or the lines are a node.
+    fn go_up(&mut self)
+        requires sound { IsSound self.old }
+        ensures tells { (n : ℕ) (d : Kept) (es : List Entry) (v : Verdict) → IsNodeEnd n self.old d es v → Tells self.new (Some (node_ended self.old d es v)) }
+        ensures ready { IsReady self.new }
+        ensures same { game_of self.new ≡ game_of self.old }
+        ensures fewer { self.new.due ≡ due_of.Closed → length self.new.nesting < length self.old.nesting }
     {
         match self.nesting.top() {
             Some(Open::Next { horizon }) => {
@@ -111,6 +127,44 @@ impl<'p> Machine<'p> {
                 },
             ) => self.due = Due::Ended,
             None => self.due = Due::Ended,
+        }
+    }
+
+    /// Whether a node has ended that isn't left yet.
+    #[inline(always)]
+    pub fn is_closed(&self) -> bool
+        ensures { IsTrue result ↔ (self.now.due ≡ due_of.Closed) }
+    {
+        match self.due {
+            Due::Closed => true,
+            _ => false,
+        }
+    }
+
+    /// Leaves a node that has ended, up to where the next line goes on or to one more node that ended with it.
+    #[inline(always)]
+    pub fn leave_node(&mut self)
+        requires ready { IsReady self.old }
+        requires closed { self.old.due ≡ due_of.Closed }
+        ensures tells { (p : Maybe Kept) → Tells self.old p → Tells self.new p }
+        ensures ready { IsReady self.new }
+        ensures same { game_of self.new ≡ game_of self.old }
+        ensures fewer { self.new.due ≡ due_of.Closed → length self.new.nesting < length self.old.nesting }
+    {
+        self.go_up();
+    }
+
+    /// Leaves all nodes that have ended.
+    #[inline(never)]
+    pub fn settle(&mut self)
+        requires ready { IsReady self.old }
+        ensures tells { (p : Maybe Kept) → Tells self.old p → Tells self.new p }
+        ensures ready { IsReady self.new }
+        ensures same { game_of self.new ≡ game_of self.old }
+        ensures open { self.new.due ≡ due_of.Closed → ⊥ }
+    {
+        while self.is_closed() {
+            self.leave_node();
         }
     }
 }

@@ -1,6 +1,10 @@
 //! What is open, in places that are made once.
-ghost use Rattle.std.specs.Prelude.{◌≡◌, ◌<◌, nat_lt, [], ◌∷◌, length, IfOk, IfNone, IfSome};
+ghost use Rattle.std.specs.Prelude.{◌≡◌, ◌≤◌, ◌<◌, nat_lt, [], ◌∷◌, length, IfOk, IfNone, IfSome};
+ghost use Rattle.std.specs.Prelude.{ℕ, List, Option as Maybe};
+ghost use Rattle.line_check.specs.Passed.{is_in_case};
 ghost use Rattle.line_check.specs.Places.{rest};
+ghost use Rattle.line_check.specs.declared.open.Open.{Open as Opened};
+ghost use Rattle.line_check.specs.declared.open.Open.TheVariants as open_as;
 
 use crate::open::Open;
 use std::alloc::{AllocError, Global};
@@ -28,6 +32,33 @@ impl Model for Nesting {
     ghost invariant = { λ n. (length n.places.items ≡ 1000) × (n.depth ≤ 1000) };
 }
 
+fn is_branch(frame: Open) -> bool
+    ensures { (h : Maybe ℕ) (fs : List Opened) → result ≡ is_in_case (open_as.Next h ∷ frame ∷ fs) }
+{
+    match frame {
+        Open::Next { horizon: _ } => false,
+        Open::Branch {
+            x: _,
+            mark: _,
+            from: _,
+        } => true,
+    }
+}
+
+/// Whether the first is a node that was reached in a case of the second.
+fn is_case(last: Open, around: Open) -> bool
+    ensures { (fs : List Opened) → result ≡ is_in_case (last ∷ around ∷ fs) }
+{
+    match last {
+        Open::Next { horizon: _ } => is_branch(around),
+        Open::Branch {
+            x: _,
+            mark: _,
+            from: _,
+        } => false,
+    }
+}
+
 impl Nesting {
     /// Nothing is open. It fails only where memory runs out.
     pub(crate) fn new(alloc: Global) -> Result<Nesting, AllocError>
@@ -41,6 +72,24 @@ impl Nesting {
         ensures { result ≡ nat_lt (length self.now) 1000 }
     {
         self.depth < MOST
+    }
+
+    /// How many nodes and branches are open.
+    pub(crate) fn len(&self) -> usize
+        ensures size { result ≡ length self.now }
+        ensures few { result ≤ 1000 }
+    {
+        self.depth
+    }
+
+    /// Whether the node that was opened last was reached in a case of a branch.
+    pub(crate) fn is_in_case(&self) -> bool
+        ensures { result ≡ is_in_case self.now }
+    {
+        if self.depth < 2 {
+            return false;
+        }
+        is_case(self.places[self.depth - 1], self.places[self.depth - 2])
     }
 
     /// What was opened last; None where nothing is open.

@@ -12,8 +12,8 @@ pub(crate) enum Open {
 }
 
 /// What the next line may be: a node; a step of a horizon at scope `k`, or its dot, with a mark at the node's box; a node
-/// after its horizon; a part of a scope's own tree; a case, or the one that goes up to `high`; none, since the lines are a
-/// node, or since one was out of place.
+/// after its horizon; a part of a scope's own tree; a case, or the one that goes up to `high`; what comes after a node that
+/// has ended and isn't left yet; none, since the lines are a node, or since one was out of place.
 #[derive(Clone, Copy)]
 pub(crate) enum Due {
     Node,
@@ -22,6 +22,7 @@ pub(crate) enum Due {
     Part,
     Case,
     Ranged { high: i64 },
+    Closed,
     Ended,
     Wrong,
 }

@@ -42,10 +42,10 @@ impl<'p> Machine<'p> {
         }
     }
 
-    /// The next line, whatever it is.
-    #[inline(never)]
-    fn any_line(&mut self, line: Line)
+    /// The next line, whatever it is, where no node waits to be left.
+    fn open_line(&mut self, line: Line)
         requires ready { IsReady self.old }
+        requires open { self.old.due ≡ due_of.Closed → ⊥ }
         ensures tells { (n : ℕ) (p : Maybe Kept) → n < 4294967296 → TellsAfter n self.old p → TellsAfter (suc n) self.new (goes (game_of self.old) p line) }
         ensures ready { IsReady self.new }
         ensures same { game_of self.new ≡ game_of self.old }
@@ -57,9 +57,22 @@ impl<'p> Machine<'p> {
             Due::Part => self.at_end(line),
             Due::Case => self.at_top(line),
             Due::Ranged { high } => self.ranged_line(high, line),
+            Due::Closed => {}
             Due::Ended => self.due = Due::Wrong,
             Due::Wrong => {}
         }
+    }
+
+    /// The next line, whatever it is.
+    #[inline(never)]
+    fn any_line(&mut self, line: Line)
+        requires ready { IsReady self.old }
+        ensures tells { (n : ℕ) (p : Maybe Kept) → n < 4294967296 → TellsAfter n self.old p → TellsAfter (suc n) self.new (goes (game_of self.old) p line) }
+        ensures ready { IsReady self.new }
+        ensures same { game_of self.new ≡ game_of self.old }
+    {
+        self.settle();
+        self.open_line(line);
     }
 
     /// The next line, where it is one of those that come seldom. Its copy is made here, so that `line` needs no place for one.
@@ -128,11 +141,11 @@ impl<'p> Machine<'p> {
         }
     }
 
-    /// Takes the next line. Once one was out of place all others are passed over.
+    /// Takes the next line. Once one was out of place all others are passed over. A node that ends with it isn't left.
     ///
     /// The lines that come most often are told apart here, in the reader's own loop, and go on with their numbers alone.
     #[inline(always)]
-    pub fn line(&mut self, line: Line)
+    pub fn take(&mut self, line: Line)
         requires ready { IsReady self.old }
         ensures tells { (n : ℕ) (p : Maybe Kept) → n < 4294967296 → TellsAfter n self.old p → TellsAfter (suc n) self.new (goes (game_of self.old) p line) }
         ensures ready { IsReady self.new }
@@ -146,10 +159,28 @@ impl<'p> Machine<'p> {
         }
     }
 
-    /// What the lines so far come to; None where they aren't a whole node with each line in place.
-    pub fn finish(&self) -> Option<Answer>
-        ensures { (p : Maybe Kept) → Tells self.now p → Answers result p }
+    /// Takes the next line, and leaves each node that ends with it.
+    #[inline(always)]
+    pub fn line(&mut self, line: Line)
+        requires ready { IsReady self.old }
+        ensures tells { (n : ℕ) (p : Maybe Kept) → n < 4294967296 → TellsAfter n self.old p → TellsAfter (suc n) self.new (goes (game_of self.old) p line) }
+        ensures ready { IsReady self.new }
+        ensures same { game_of self.new ≡ game_of self.old }
     {
+        self.take(line);
+        if self.is_closed() {
+            self.settle();
+        }
+    }
+
+    /// What the lines so far come to; None where they aren't a whole node with each line in place.
+    pub fn finish(&mut self) -> Option<Answer>
+        requires ready { IsReady self.old }
+        ensures answers { (p : Maybe Kept) → Tells self.old p → Answers result p }
+        ensures ready { IsReady self.new }
+        ensures same { game_of self.new ≡ game_of self.old }
+    {
+        self.settle();
         match self.due {
             Due::Ended => Some(Answer {
                 found: self.found,
@@ -163,6 +194,7 @@ impl<'p> Machine<'p> {
             Due::Part => None,
             Due::Case => None,
             Due::Ranged { .. } => None,
+            Due::Closed => None,
             Due::Wrong => None,
         }
     }

@@ -142,9 +142,10 @@ impl<'p> Checker<'p> {
     }
 
     // What the bytes come to, where none was a fault.
-    fn judged(&self) -> Checked
-        requires going { self.now.stop ≡ None }
-        ensures { (bytes : List ℕ) → IsChecking self.now bytes → Comes (game_of self.now.machine) bytes result }
+    fn judged(&mut self) -> Checked
+        requires ready { IsReady self.old.machine }
+        requires going { self.old.stop ≡ None }
+        ensures { (bytes : List ℕ) → IsChecking self.old bytes → Comes (game_of self.old.machine) bytes result }
     {
         self.problem.known();
         bytes_are_one_text_or_have_one_fault();
@@ -167,8 +168,9 @@ impl<'p> Checker<'p> {
     }
 
     /// What all bytes that were read come to.
-    pub fn finish(&self) -> Checked
-        ensures { (bytes : List ℕ) → IsChecking self.now bytes → Comes (game_of self.now.machine) bytes result }
+    pub fn finish(&mut self) -> Checked
+        requires ready { IsReady self.old.machine }
+        ensures { (bytes : List ℕ) → IsChecking self.old bytes → Comes (game_of self.old.machine) bytes result }
     {
         match self.stop {
             Some(stop) => stopped(stop, self.read),

@@ -8,7 +8,7 @@ answered : (c : After-finish) → Answers c.finish.result (goes_through c.args.p
 answered c =
     let g = c.args.problem.now in
     let few : 0 + length c.args.lines.now ≤ 4294967296 = omega (arith, c.requires.few) in
-    subst (λ u. Answers c.finish.result (goes_through u (Some (first_ledger g)) c.args.lines.now)) c.in_ok-machine.ensures.same (c.finish.ensures _ (c.lines.ensures.tells 0 (Some (first_ledger g)) few c.in_ok-machine.ensures.tells).tells)
+    subst (λ u. Answers c.finish.result (goes_through u (Some (first_ledger g)) c.args.lines.now)) c.in_ok-machine.ensures.same (c.finish.ensures.answers _ (c.lines.ensures.tells 0 (Some (first_ledger g)) few c.in_ok-machine.ensures.tells).tells)
 
 pub returns-clause-right : goal.returns-clause-right
 returns-clause-right c = λ f e.

@@ -13,7 +13,7 @@ answered c =
     let few : 0 + length c.deref.result.now ≤ 4294967296 = omega (arith, c.if-len.false, c.len.ensures, c.deref.ensures.len) in
     subst (λ ls. Answers c.finish.result (goes_through g (Some (first_ledger g)) ls)) (c.deref.ensures.value ∙ c.in_ok-lines.ensures)
     (subst (λ u. Answers c.finish.result (goes_through u (Some (first_ledger g)) c.deref.result.now)) c.in_ok-machine.ensures.same
-    (c.finish.ensures _ (c.lines.ensures.tells 0 (Some (first_ledger g)) few c.in_ok-machine.ensures.tells).tells))
+    (c.finish.ensures.answers _ (c.lines.ensures.tells 0 (Some (first_ledger g)) few c.in_ok-machine.ensures.tells).tells))
 
 pub returns-clause-right : goal.returns-clause-right
 returns-clause-right c = λ f e.

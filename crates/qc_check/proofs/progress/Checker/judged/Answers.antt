@@ -25,7 +25,7 @@ returns-then-is_shown c = λ bytes h.
     ap (λ (u : Game). found_shows u.scopes c.finish.result c.in-Some.stated.outcome c.in-Some.stated.optimum) c.args.self.now.of_problem ∙ sym c.is_shown.ensures in
     proof g bytes c.in-Some.stated c.finish.result
     (λ t q. c.outcomes_are_true.ensures g c.in-Some.stated.outcome c.in-Some.stated.optimum t (subst IsValid (sym c.args.self.now.of_problem) c.known.ensures) q)
-    (judged _ _ _ c.in-Some.stated _ bytes k c.in-Some.is c.finish.result c.finish.ensures
+    (judged _ _ _ c.in-Some.stated _ bytes k c.in-Some.is c.finish.result c.finish.ensures.answers
     (λ t o a deep placed. c.answers_are_right.ensures.trees g t o a deep placed) (λ t f a. c.answers_are_right.ensures.own g t f a)
     (c.is_ended.ensures.told bytes k.told k.stands c.if-not-is_ended.false))
     (there ∙ c.if-is_shown.true)
@@ -37,7 +37,7 @@ returns-else-is_shown c = λ bytes h.
     let there : found_shows g.scopes c.finish.result c.in-Some.stated.outcome c.in-Some.stated.optimum ≡ c.is_shown.result =
     ap (λ (u : Game). found_shows u.scopes c.finish.result c.in-Some.stated.outcome c.in-Some.stated.optimum) c.args.self.now.of_problem ∙ sym c.is_shown.ensures in
     no_proof g bytes c.in-Some.stated c.finish.result
-    (judged _ _ _ c.in-Some.stated _ bytes k c.in-Some.is c.finish.result c.finish.ensures
+    (judged _ _ _ c.in-Some.stated _ bytes k c.in-Some.is c.finish.result c.finish.ensures.answers
     (λ t o a deep placed. c.answers_are_right.ensures.trees g t o a deep placed) (λ t f a. c.answers_are_right.ensures.own g t f a)
     (c.is_ended.ensures.told bytes k.told k.stands c.if-not-is_ended.false))
     (there ∙ c.if-is_shown.false)

@@ -7,7 +7,7 @@ use Rattle.line_check.specs.Ledger.{at_entry, ledger_case}
 use Rattle.line_check.specs.Machine.{game_of, IsReadyAt}
 use Rattle.line_check.specs.Telling.{TellsAt, PartTells}
 use Rattle.line_check.proofs.Turning.{node_after, prune_after, body_after, part_after, case_after, ranged_after}
-use Rattle.line_check.proofs.machine.Machine.any_line.Goals as goal
+use Rattle.line_check.proofs.machine.Machine.open_line.Goals as goal
 
 pub returns-in-Node-clause-tells : goal.returns-in-Node-clause-tells
 returns-in-Node-clause-tells c = λ n p few t.
