@@ -1,3 +1,9 @@
 mod Shows
 mod Steps
 mod Ends
+mod Places
+mod Horizons
+mod Ending
+mod Beginning
+mod Passing
+mod Kept

@@ -24,18 +24,18 @@ use Rattle.qc_check.specs.Checking.{lines_told, HeadIs, IsReading, IsStopped}
 one_more : (n : ℕ) (bytes : List ℕ) (b : ℕ) → n ≡ length bytes → n + 1 ≡ length (bytes ++ b ∷ [])
 one_more n bytes b e = rw length-append (ap (λ k. k + 1) e)
 
-goes_more : (g : Game) (p : Option Ledger) (ls : List Line) (l : Line) → goes_through g p (ls ++ l ∷ []) ≡ goes g (goes_through g p ls) l
+pub goes_more : (g : Game) (p : Option Ledger) (ls : List Line) (l : Line) → goes_through g p (ls ++ l ∷ []) ≡ goes g (goes_through g p ls) l
 goes_more g p [] l = refl
 goes_more g p (k ∷ ls) l = goes_more g (goes g p k) ls l
 
-line_more : (ls : List Line) (l : Line) → length (ls ++ l ∷ []) ≡ suc (length ls)
+pub line_more : (ls : List Line) (l : Line) → length (ls ++ l ∷ []) ≡ suc (length ls)
 line_more ls l = rw length-append (omega arith)
 
 abbrev grown : Told → Line → Told
 grown nothing l = nothing
 grown (headed v o p ls) l = headed v o p (ls ++ l ∷ [])
 
-head_more : (h : Option Stated) (v : Version) (o : Outcome) (p : Option _) (ls : List Line) (l : Line) → HeadIs h (headed v o p ls) → HeadIs h (headed v o p (ls ++ l ∷ []))
+pub head_more : (h : Option Stated) (v : Version) (o : Outcome) (p : Option _) (ls : List Line) (l : Line) → HeadIs h (headed v o p ls) → HeadIs h (headed v o p (ls ++ l ∷ []))
 head_more None v o p ls l e = cc
 head_more (Some s) v o p ls l (w, ks, e) = (w, ks ++ l ∷ [], ap (λ t. grown t l) e)
 

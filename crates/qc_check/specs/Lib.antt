@@ -1,2 +1,4 @@
+pub mod Places
 pub mod Checking
+pub mod Keeping
 pub mod Shown

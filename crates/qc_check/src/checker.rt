@@ -3,12 +3,15 @@ ghost use Rattle.std.specs.Prelude.{◌≡◌, ◌≤◌, ◌<◌, ◌+◌, ◌^
 ghost use Rattle.line_check.specs.Machine.{game_of, IsReady};
 ghost use Rattle.qc_model.specs.Content.{Game};
 ghost use Rattle.qc_check.specs.Checking.{Comes, IsChecking, IsStopped};
+ghost use Rattle.qc_check.specs.Keeping.{WasGiven};
 
 use crate::finding::Checked;
 use crate::progress::Checker;
 use crate::shown::is_shown;
+use crate::starts::Starts;
 use crate::stated::{Stated, Stop};
 use line_check::{Machine, answers_are_right};
+use node_memory::NodeMemory;
 use proof_text::{LineReader, Read, bytes_are_one_text_or_have_one_fault, each_standing_is_right};
 use qc_meaning::outcomes_are_true;
 use qc_model::Problem;
@@ -27,17 +30,21 @@ fn stopped(stop: Stop, at: u64) -> Checked
 impl<'p> Checker<'p> {
     /// A checker before the first byte. All memory is taken here.
     pub fn new(alloc: Global, problem: &'p Problem) -> Result<Checker<'p>, AllocError>
-        ensures ready { IfOk result (λ c. IsReady c.machine) }
+        ensures given { IfOk result (λ c. WasGiven c) }
         ensures same { IfOk result (λ c. game_of c.machine ≡ problem.now) }
         ensures checking { IfOk result (λ c. IsChecking c []) }
         ensures read { IfOk result (λ c. c.read ≡ 0) }
     {
         each_standing_is_right();
         let machine = Machine::new(alloc, problem)?;
+        let memory = NodeMemory::new(alloc, machine.levels())?;
+        let starts = Starts::new(alloc, problem.scopes(), problem.variables())?;
         Ok(Checker {
             problem,
             reader: LineReader::new(),
             machine,
+            memory,
+            starts,
             head: None,
             stop: None,
             read: 0,
@@ -45,13 +52,14 @@ impl<'p> Checker<'p> {
     }
 
     // Reads the next byte, where none was a fault.
-    fn next(&mut self, byte: u8)
+    pub(crate) fn next(&mut self, byte: u8)
         requires ready { IsReady self.old.machine }
         requires room { self.old.read + 1 ≤ 2 ^ 32 }
         requires going { self.old.stop ≡ None }
         ensures ready { IsReady self.new.machine }
         ensures same { game_of self.new.machine ≡ game_of self.old.machine }
         ensures read { self.new.read ≤ self.old.read + 1 }
+        ensures starts { self.new.starts ≡ self.old.starts }
         ensures checking { (bytes : List ℕ) → IsChecking self.old bytes → IsChecking self.new (bytes ++ byte ∷ []) }
     {
         match self.reader.byte(byte) {
@@ -128,16 +136,22 @@ impl<'p> Checker<'p> {
 
     /// Reads the next bytes, up to 2^32 in all. After a fault they are passed over.
     pub fn feed(&mut self, bytes: &[u8])
-        requires ready { IsReady self.old.machine }
+        requires given { WasGiven self.old }
         requires room { self.old.read + length bytes.now ≤ 2 ^ 32 }
-        ensures ready { IsReady self.new.machine }
+        ensures given { WasGiven self.new }
         ensures same { game_of self.new.machine ≡ game_of self.old.machine }
         ensures read { self.new.read ≤ self.old.read + length bytes.now }
         ensures checking { (before : List ℕ) → IsChecking self.old before → IsChecking self.new (before ++ bytes.now) }
     {
         match self.stop {
             Some(_) => {}
-            None => self.read_each(bytes),
+            None => {
+                if self.memory.serves() {
+                    self.read_keeping(bytes);
+                } else {
+                    self.read_each(bytes);
+                }
+            }
         }
     }
 
@@ -169,7 +183,7 @@ impl<'p> Checker<'p> {
 
     /// What all bytes that were read come to.
     pub fn finish(&mut self) -> Checked
-        requires ready { IsReady self.old.machine }
+        requires given { WasGiven self.old }
         ensures { (bytes : List ℕ) → IsChecking self.old bytes → Comes (game_of self.old.machine) bytes result }
     {
         match self.stop {

@@ -9,8 +9,10 @@
 
 mod checker;
 mod finding;
+mod keeping;
 mod progress;
 mod shown;
+mod starts;
 mod stated;
 
 pub use finding::Checked;

@@ -2,8 +2,9 @@
 ghost use Rattle.std.specs.Prelude.{◌≡◌, ◌≢◌, ◌+◌, ◌<◌, ◌≤◌, ◌-◌, [], length, IfOk, IfErr, IfSome, OnOk, IsErrOf};
 ghost use Rattle.qc_io.specs.Counts.{HasCause, Rose, RoseBy};
 ghost use Rattle.qc_io.specs.Shelf.{EndsBy, given_after};
-ghost use Rattle.line_check.specs.Machine.{game_of, IsReady};
+ghost use Rattle.line_check.specs.Machine.{game_of};
 ghost use Rattle.qc_check.specs.Checking.{IsChecking};
+ghost use Rattle.qc_check.specs.Keeping.{WasGiven};
 ghost use Rattle.qc_commands.specs.Fed.{FedTo, IsFed};
 
 use qc_check::Checker;
@@ -30,11 +31,11 @@ pub(crate) fn feed_file<S: Shelf>(
     checker: &mut Checker,
 ) -> Result<(), Unread>
     requires piece { 0 < length piece.old }
-    requires ready { IsReady checker.old.machine }
+    requires was_given { WasGiven checker.old }
     requires fresh { IsChecking checker.old [] }
     requires none { checker.old.read ≡ 0 }
     ensures fed { OnOk result (IsFed (S.told shelf.old name.now) checker.new) }
-    ensures ready { IsReady checker.new.machine }
+    ensures was_given { WasGiven checker.new }
     ensures same { game_of checker.new.machine ≡ game_of checker.old.machine }
     ensures fault { IsErrOf result Unread.Fault → Rose (S.faults shelf.old) (S.faults shelf.new) }
     ensures no_other { (IsErrOf result Unread.Fault → ⊥) → S.faults shelf.new ≡ S.faults shelf.old }
@@ -63,13 +64,13 @@ fn feed_piece<S: Shelf>(
 ) -> Result<u64, Unread>
     requires at { at ≤ 1073741824 }
     requires piece { 0 < length piece.old }
-    requires ready { IsReady checker.old.machine }
+    requires was_given { WasGiven checker.old }
     requires read { checker.old.read ≤ at }
     ensures count { IfOk result (λ n. at + n ≤ 1073741825) }
     ensures fed { IfOk result (λ n. FedTo (S.told shelf.old name.now) at checker.old → FedTo (S.told shelf.old name.now) (at + n) checker.new) }
     ensures end { IfOk result (λ n. n ≡ 0 → EndsBy (S.told shelf.old name.now) at) }
     ensures length { length piece.new ≡ length piece.old }
-    ensures ready { IsReady checker.new.machine }
+    ensures was_given { WasGiven checker.new }
     ensures same { game_of checker.new.machine ≡ game_of checker.old.machine }
     ensures read { IfOk result (λ n. checker.new.read ≤ at + n) }
     ensures cause { HasCause (S.faults shelf.old) (S.faults shelf.new) result }

@@ -3,8 +3,9 @@ ghost use Rattle.std.specs.Prelude.{◌≡◌, ◌≢◌, ◌≤◌, ◌<◌, �
 ghost use Rattle.qc_io.specs.Counts.{Rose, RoseBy};
 ghost use Rattle.proof_tree.specs.Text.{outcome_text};
 ghost use Rattle.qc_model.specs.Content.{Game};
-ghost use Rattle.line_check.specs.Machine.{game_of, IsReady};
+ghost use Rattle.line_check.specs.Machine.{game_of};
 ghost use Rattle.qc_check.specs.Checking.{Comes, IsChecking};
+ghost use Rattle.qc_check.specs.Keeping.{WasGiven};
 ghost use Rattle.qc_commands.specs.Answers.{ChecksBytes, ChecksFile, AnswersProblem};
 ghost use Rattle.qc_commands.specs.Files.{Wrote};
 
@@ -77,7 +78,7 @@ fn check_file<S: Shelf, K: Sink>(
     out: &mut K,
 ) -> Status
     requires piece { 0 < length piece.old }
-    requires ready { IsReady checker.old.machine }
+    requires was_given { WasGiven checker.old }
     requires fresh { IsChecking checker.old [] }
     requires none { checker.old.read ≡ 0 }
     ensures wrote { Wrote (K.written out.old) (K.written out.new) (K.faults out.old) (K.faults out.new) result

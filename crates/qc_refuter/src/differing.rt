@@ -16,6 +16,9 @@ use crate::view::{greatest, least};
 use qc_arguments::width;
 use qc_model::{Arg, Argument};
 
+/// Up to so many items have buffers of their own, since all places of a buffer are filled before it is used.
+const FEW_ITEMS: usize = 32;
+
 /// The least number that there is.
 const LEAST: i64 = -1_000_000_000;
 
@@ -61,21 +64,63 @@ fn sort_lows(lows: &mut [u32])
     lows.sort_unstable();
 }
 
-// In the order of n log n for n items. Inlined, its buffers would be paid for at each question to the table.
+// In the order of n log n for n items, with a place for each in both buffers.
+fn are_crowded(items: &[Arg], view: &View, ends: &mut [Ends], lows: &mut [u32]) -> bool
+    requires items { IsTrue (list_all (is_open (seen view.now)) items.now) }
+    requires few { length items.now ≤ 1000 }
+    requires ends { length ends.old ≡ length items.now }
+    requires lows { length lows.old ≡ length items.now }
+    ensures { result ≡ has_crowd_in (map (left_to (seen view.now)) items.now) }
+{
+    read_ends(items, view, ends, lows);
+    sort_ends(ends);
+    sort_lows(lows);
+    are_too_many(ends, lows)
+}
+
+// Both are not inlined: their buffers would be paid for at each question to the table.
 #[inline(never)]
-fn has_crowd(items: &[Arg], view: &View) -> bool
+fn are_few_crowded(items: &[Arg], view: &View) -> bool
+    requires items { IsTrue (list_all (is_open (seen view.now)) items.now) }
+    requires few { length items.now ≤ 32 }
+    ensures { result ≡ has_crowd_in (map (left_to (seen view.now)) items.now) }
+{
+    let mut buffer = [Ends { low: 0, high: 0 }; FEW_ITEMS];
+    let mut starts = [0u32; FEW_ITEMS];
+    are_crowded(
+        items,
+        view,
+        &mut buffer[..items.len()],
+        &mut starts[..items.len()],
+    )
+}
+
+#[inline(never)]
+fn are_many_crowded(items: &[Arg], view: &View) -> bool
     requires items { IsTrue (list_all (is_open (seen view.now)) items.now) }
     requires few { length items.now ≤ 1000 }
     ensures { result ≡ has_crowd_in (map (left_to (seen view.now)) items.now) }
 {
     let mut buffer = [Ends { low: 0, high: 0 }; MOST_ITEMS];
     let mut starts = [0u32; MOST_ITEMS];
-    let ends = &mut buffer[..items.len()];
-    let lows = &mut starts[..items.len()];
-    read_ends(items, view, ends, lows);
-    sort_ends(ends);
-    sort_lows(lows);
-    are_too_many(ends, lows)
+    are_crowded(
+        items,
+        view,
+        &mut buffer[..items.len()],
+        &mut starts[..items.len()],
+    )
+}
+
+fn has_crowd(items: &[Arg], view: &View) -> bool
+    requires items { IsTrue (list_all (is_open (seen view.now)) items.now) }
+    requires few { length items.now ≤ 1000 }
+    ensures { result ≡ has_crowd_in (map (left_to (seen view.now)) items.now) }
+{
+    if items.len() <= FEW_ITEMS {
+        are_few_crowded(items, view)
+    } else {
+        are_many_crowded(items, view)
+    }
 }
 
 // Whether the first number of the view is all that is left to the item.

@@ -1,5 +1,6 @@
 use Rattle.std.proofs.Common.{◌≡◌, ◌<◌, ◌≤◌, ◌-◌, length}
-use Rattle.line_check.specs.Machine.{game_of, IsReady}
+use Rattle.line_check.specs.Machine.{game_of}
+use Rattle.qc_check.specs.Keeping.{WasGiven}
 use Rattle.qc_io.specs.Counts.{RoseBy}
 use Rattle.qc_commands.specs.Fed.{FedTo}
 use Rattle.qc_commands.proofs.certificate.feed_file.Given as goal
@@ -7,7 +8,7 @@ use Rattle.qc_commands.proofs.certificate.feed_file.Given as goal
 abbrev pub invariant-loop-at : goal.invariant-loop-at
 invariant-loop-at g l = record {
   fed : FedTo (g.S.Shelf.told l.fn.shelf l.name) l.at l.checker;
-  ready : IsReady l.checker.machine;
+  was_given : WasGiven l.checker;
   same : game_of l.checker.machine ≡ game_of l.fn.checker.machine;
   read : l.checker.read ≤ l.at;
   piece : 0 < length l.piece;

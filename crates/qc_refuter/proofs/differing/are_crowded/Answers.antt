@@ -1,6 +1,6 @@
 use Rattle.qc_refuter.specs.Met.{seen}
 use Rattle.qc_refuter.proofs.EndsRead.{placed_all, told}
-use Rattle.qc_refuter.proofs.differing.has_crowd.Goals as goal
+use Rattle.qc_refuter.proofs.differing.are_crowded.Goals as goal
 
 pub are_too_many-requires-clause-placed : goal.are_too_many-requires-clause-placed
 are_too_many-requires-clause-placed c =
