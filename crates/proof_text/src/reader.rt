@@ -79,6 +79,8 @@ impl LineReader {
     /// Reads a whole line of the tree at once, where the reader stands before one and the bytes begin
     /// with all of it: the line, and how many bytes it has. `byte` answers `Within` to each of these
     /// but the last, and to that one `Whole`. Where it is `None`, nothing has changed.
+    // Its answer is of several words, which would go through memory at a call.
+    #[inline(always)]
     pub fn line(&mut self, bytes: &[u8]) -> Option<(Line, usize)>
         ensures line { MatchOption result (self.new ≡ self.old) (λ r. BeginsLine bytes.now r.0 r.1) }
         ensures stands { IfSome result (λ r. (before : List ℕ) (told : Told) → StandsFor self.old before told → StandsFor self.new (before ++ take r.1 bytes.now) (tell told (WholeLine r.0))) }

@@ -35,6 +35,7 @@ fn horizon(text: &[u8]) -> Option<(Line, &[u8])>
     Some((Line::Horizon { k: k as u8 }, rest))
 }
 
+#[inline(always)]
 fn branch(text: &[u8]) -> Option<(Line, &[u8])>
     ensures { IfSome result (λ r. ReadsPart (LetterPart BranchKind) text.now r.0 r.1.now) }
 {
@@ -63,6 +64,7 @@ fn range(text: &[u8]) -> Option<(Line, &[u8])>
     Some((Line::Range { hi }, rest))
 }
 
+#[inline(always)]
 fn prune(text: &[u8]) -> Option<(Line, &[u8])>
     ensures { IfSome result (λ r. ReadsPart (LetterPart PruneKind) text.now r.0 r.1.now) }
 {
@@ -89,6 +91,7 @@ fn bound(text: &[u8]) -> Option<(Line, &[u8])>
     Some((Line::Bound { x, lo, hi }, rest))
 }
 
+#[inline(always)]
 fn with_numbers(kind: Kind, text: &[u8]) -> Option<(Line, &[u8])>
     ensures { IfSome result (λ r. ReadsPart (LetterPart kind) text.now r.0 r.1.now) }
 {
@@ -101,6 +104,7 @@ fn with_numbers(kind: Kind, text: &[u8]) -> Option<(Line, &[u8])>
     }
 }
 
+#[inline(always)]
 fn short(letter: u8, line: Line, text: &[u8]) -> Option<(Line, &[u8])>
     requires { FitsPart (ShortPart letter line) }
     ensures { IfSome result (λ r. ReadsPart (ShortPart letter line) text.now r.0 r.1.now) }
@@ -112,6 +116,7 @@ fn short(letter: u8, line: Line, text: &[u8]) -> Option<(Line, &[u8])>
     }
 }
 
+#[inline(always)]
 fn rest_of(part: PartLine, text: &[u8]) -> Option<(Line, &[u8])>
     requires { FitsPart part }
     ensures { IfSome result (λ r. ReadsPart part text.now r.0 r.1.now) }
@@ -126,6 +131,7 @@ fn rest_of(part: PartLine, text: &[u8]) -> Option<(Line, &[u8])>
 
 // The line with this letter: itself, where the tree stands after it, and the bytes after it. Where
 // there is none, the nesting may have changed, and nothing else.
+#[inline(always)]
 fn line_of<'a>(
     tree: &mut Nested,
     place: Place,
@@ -165,6 +171,7 @@ fn line_of<'a>(
 
 // The line that the bytes begin with: itself, where the tree stands after it, and the bytes after
 // it. Where they don't begin with a whole line that may stand here, nothing has changed.
+#[inline(always)]
 pub(crate) fn whole_line<'a>(
     tree: &mut Nested,
     place: Place,

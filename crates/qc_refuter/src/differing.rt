@@ -64,18 +64,27 @@ fn sort_lows(lows: &mut [u32])
     lows.sort_unstable();
 }
 
-// In the order of n log n for n items, with a place for each in both buffers.
-fn are_crowded(items: &[Arg], view: &View, ends: &mut [Ends], lows: &mut [u32]) -> bool
+// In the order of n log n for n items, with a place for each in all buffers.
+fn are_crowded(
+    items: &[Arg],
+    view: &View,
+    ends: &mut [Ends],
+    lows: &mut [u32],
+    free: &mut [u32],
+    skips: &mut [u16],
+) -> bool
     requires items { IsTrue (list_all (is_open (seen view.now)) items.now) }
     requires few { length items.now ≤ 1000 }
     requires ends { length ends.old ≡ length items.now }
     requires lows { length lows.old ≡ length items.now }
+    requires free { length free.old ≡ length items.now }
+    requires skips { length skips.old ≡ length items.now }
     ensures { result ≡ has_crowd_in (map (left_to (seen view.now)) items.now) }
 {
     read_ends(items, view, ends, lows);
     sort_ends(ends);
     sort_lows(lows);
-    are_too_many(ends, lows)
+    are_too_many(ends, lows, free, skips)
 }
 
 // Both are not inlined: their buffers would be paid for at each question to the table.
@@ -87,11 +96,16 @@ fn are_few_crowded(items: &[Arg], view: &View) -> bool
 {
     let mut buffer = [Ends { low: 0, high: 0 }; FEW_ITEMS];
     let mut starts = [0u32; FEW_ITEMS];
+    let mut numbers = [0u32; FEW_ITEMS];
+    let mut links = [0u16; FEW_ITEMS];
+    let count = items.len();
     are_crowded(
         items,
         view,
-        &mut buffer[..items.len()],
-        &mut starts[..items.len()],
+        &mut buffer[..count],
+        &mut starts[..count],
+        &mut numbers[..count],
+        &mut links[..count],
     )
 }
 
@@ -103,11 +117,16 @@ fn are_many_crowded(items: &[Arg], view: &View) -> bool
 {
     let mut buffer = [Ends { low: 0, high: 0 }; MOST_ITEMS];
     let mut starts = [0u32; MOST_ITEMS];
+    let mut numbers = [0u32; MOST_ITEMS];
+    let mut links = [0u16; MOST_ITEMS];
+    let count = items.len();
     are_crowded(
         items,
         view,
-        &mut buffer[..items.len()],
-        &mut starts[..items.len()],
+        &mut buffer[..count],
+        &mut starts[..count],
+        &mut numbers[..count],
+        &mut links[..count],
     )
 }
 

@@ -144,19 +144,22 @@ fn last_low(lows: &[u32]) -> u32
 }
 
 /// Whether some range holds more items than numbers, of items in the order of where they end, whose least values are
-/// given in order.
-pub(crate) fn are_too_many(items: &[Ends], lows: &[u32]) -> bool
+/// given in order. What stands in `free` and `skips`, a place for each least value, is written over.
+pub(crate) fn are_too_many(
+    items: &[Ends],
+    lows: &[u32],
+    free: &mut [u32],
+    skips: &mut [u16],
+) -> bool
     requires few { length lows.now ≤ 1000 }
     requires up { IsNonDecreasingBy (λ (low : ℕ). low) lows.now }
     requires items { IsNonDecreasingBy (λ (e : Ends). e.high) items.now }
     requires placed { All (IsPlaced lows.now) items.now }
+    requires free { length free.old ≡ length lows.now }
+    requires skips { length skips.old ≡ length lows.now }
     ensures crowd { result ≡ true → (l : ℕ) × (h : ℕ) × (l ≤ h) × (h + 1 < l + count_by (lies l h) items.now) }
     ensures none { result ≡ false → (k h : ℕ) → k < length lows.now → get_or lows.now k 0 ≤ h → get_or lows.now k 0 + count_by (lies (get_or lows.now k 0) h) items.now ≤ h + 1 }
 {
-    let mut numbers = [0u32; MOST_ITEMS];
-    let mut links = [0u16; MOST_ITEMS];
-    let free = &mut numbers[..lows.len()];
-    let skips = &mut links[..lows.len()];
     open_stretches(lows, free);
     link_stretches(skips);
     let mut top = last_low(lows);
