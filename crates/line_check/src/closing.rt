@@ -107,6 +107,7 @@ impl<'p> Machine<'p> {
 
     /// Leaves a node that has ended: goes on in the scope before, where a part has ended with it, and perhaps another node;
     /// or the lines are a node.
+    #[inline(always)]
     fn go_up(&mut self)
         requires sound { IsSound self.old }
         ensures tells { (n : ℕ) (d : Kept) (es : List Entry) (v : Verdict) → IsNodeEnd n self.old d es v → Tells self.new (Some (node_ended self.old d es v)) }

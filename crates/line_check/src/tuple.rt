@@ -57,6 +57,7 @@ pub fn read_values(store: &Store, from: usize, stop: usize, values: &mut [i64])
 /// Whether the tuple of the scope is allowed; None where a variable has no value, or one of the scope has several. The
 /// values of the variables before the scope stand in the first places; where there is an answer, those of the scope
 /// stand after them. Only what isn't known to stand is read.
+#[inline(always)]
 pub(crate) fn tuple_allowed(
     level: &Level,
     remains: &Remains,
