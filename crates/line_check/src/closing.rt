@@ -77,6 +77,7 @@ impl<'p> Machine<'p> {
     }
 
     /// The node has come to what was found: goes back to the scope's own tree from which it was reached.
+    #[inline(always)]
     fn leave(&mut self, horizon: Option<u8>)
         requires sound { IsSound self.old }
         requires top { self.old.nesting ≡ open_as.Next horizon ∷ rest self.old.nesting }

@@ -6,11 +6,13 @@ ghost use Rattle.line_check.specs.Machine.{game_of, IsReady, IsAtFork};
 ghost use Rattle.line_check.specs.Telling.{PartTells, Tells, TellsAfter};
 ghost use Rattle.line_check.specs.Ledger.{at_entry, ledger_fork, ledger_case};
 ghost use Rattle.line_check.specs.declared.open.Due.TheVariants as due_of;
+ghost use Rattle.proof_tree.specs.declared.line.Line.TheVariants as line_of;
 
 use crate::answer::Answer;
 use crate::machine::Machine;
 use crate::open::{Due, Open};
 use proof_tree::Line;
+use qc_model::{ConId, VarId};
 
 impl<'p> Machine<'p> {
     /// A line where a case is due, at the branch that was opened last.
@@ -86,64 +88,127 @@ impl<'p> Machine<'p> {
         self.any_line(line);
     }
 
-    /// The next line, where a case is due.
+    /// A dot, most of which end a branch.
     #[inline(always)]
-    fn fork_line(&mut self, line: Line)
+    fn take_dot(&mut self)
         requires ready { IsReady self.old }
-        requires due { self.old.due ≡ due_of.Case }
-        ensures tells { (n : ℕ) (p : Maybe Kept) → n < 4294967296 → TellsAfter n self.old p → TellsAfter (suc n) self.new (goes (game_of self.old) p line) }
+        ensures tells { (n : ℕ) (p : Maybe Kept) → n < 4294967296 → TellsAfter n self.old p → TellsAfter (suc n) self.new (goes (game_of self.old) p line_of.Dot) }
         ensures ready { IsReady self.new }
         ensures same { game_of self.new ≡ game_of self.old }
     {
-        match line {
-            Line::Dot => self.fork_dot(),
-            Line::Skip => self.fork_skip(),
-            Line::Next => self.fork_next(),
-            Line::Branch { x } => self.fork_branch(x),
-            Line::Prune { x, lo, hi, c } => self.fork_prune(x, lo, hi, c),
-            _ => self.seldom(line),
+        match self.due {
+            Due::Case => self.fork_dot(),
+            _ => self.seldom(Line::Dot),
         }
     }
 
-    /// The next line, where a node is due.
+    /// A case that is passed over.
     #[inline(always)]
-    fn node_line(&mut self, line: Line)
+    fn take_skip(&mut self)
         requires ready { IsReady self.old }
-        requires due { self.old.due ≡ due_of.Node }
-        ensures tells { (n : ℕ) (p : Maybe Kept) → n < 4294967296 → TellsAfter n self.old p → TellsAfter (suc n) self.new (goes (game_of self.old) p line) }
+        ensures tells { (n : ℕ) (p : Maybe Kept) → n < 4294967296 → TellsAfter n self.old p → TellsAfter (suc n) self.new (goes (game_of self.old) p line_of.Skip) }
         ensures ready { IsReady self.new }
         ensures same { game_of self.new ≡ game_of self.old }
     {
-        match line {
-            Line::Goal => self.goal_line(),
-            Line::Branch { x } => self.node_branch(x),
-            Line::Prune { x, lo, hi, c } => self.node_prune(x, lo, hi, c),
-            _ => self.seldom(line),
+        match self.due {
+            Due::Case => self.fork_skip(),
+            _ => self.seldom(Line::Skip),
         }
     }
 
-    /// The next line, where a part of a scope's own tree is due.
+    /// A line that goes on to a node.
     #[inline(always)]
-    fn part_line(&mut self, line: Line)
+    fn take_next(&mut self)
         requires ready { IsReady self.old }
-        requires due { self.old.due ≡ due_of.Part }
-        ensures tells { (n : ℕ) (p : Maybe Kept) → n < 4294967296 → TellsAfter n self.old p → TellsAfter (suc n) self.new (goes (game_of self.old) p line) }
+        ensures tells { (n : ℕ) (p : Maybe Kept) → n < 4294967296 → TellsAfter n self.old p → TellsAfter (suc n) self.new (goes (game_of self.old) p line_of.Next) }
         ensures ready { IsReady self.new }
         ensures same { game_of self.new ≡ game_of self.old }
     {
-        match line {
-            Line::Next => self.part_next(),
-            Line::Branch { x } => self.part_branch(x),
-            Line::Prune { x, lo, hi, c } => self.part_prune(x, lo, hi, c),
-            Line::Empty => self.empty_line(),
-            Line::Barred => self.barred_line(),
-            _ => self.seldom(line),
+        match self.due {
+            Due::Case => self.fork_next(),
+            Due::Part => self.part_next(),
+            _ => self.seldom(Line::Next),
+        }
+    }
+
+    /// The goal's line.
+    #[inline(always)]
+    fn take_goal(&mut self)
+        requires ready { IsReady self.old }
+        ensures tells { (n : ℕ) (p : Maybe Kept) → n < 4294967296 → TellsAfter n self.old p → TellsAfter (suc n) self.new (goes (game_of self.old) p line_of.Goal) }
+        ensures ready { IsReady self.new }
+        ensures same { game_of self.new ≡ game_of self.old }
+    {
+        match self.due {
+            Due::Node => self.goal_line(),
+            _ => self.seldom(Line::Goal),
+        }
+    }
+
+    /// A part whose box is empty.
+    #[inline(always)]
+    fn take_empty(&mut self)
+        requires ready { IsReady self.old }
+        ensures tells { (n : ℕ) (p : Maybe Kept) → n < 4294967296 → TellsAfter n self.old p → TellsAfter (suc n) self.new (goes (game_of self.old) p line_of.Empty) }
+        ensures ready { IsReady self.new }
+        ensures same { game_of self.new ≡ game_of self.old }
+    {
+        match self.due {
+            Due::Part => self.empty_line(),
+            _ => self.seldom(Line::Empty),
+        }
+    }
+
+    /// A part whose tuple isn't allowed.
+    #[inline(always)]
+    fn take_barred(&mut self)
+        requires ready { IsReady self.old }
+        ensures tells { (n : ℕ) (p : Maybe Kept) → n < 4294967296 → TellsAfter n self.old p → TellsAfter (suc n) self.new (goes (game_of self.old) p line_of.Barred) }
+        ensures ready { IsReady self.new }
+        ensures same { game_of self.new ≡ game_of self.old }
+    {
+        match self.due {
+            Due::Part => self.barred_line(),
+            _ => self.seldom(Line::Barred),
+        }
+    }
+
+    /// A branch.
+    #[inline(always)]
+    fn take_branch(&mut self, x: VarId)
+        requires ready { IsReady self.old }
+        ensures tells { (n : ℕ) (p : Maybe Kept) → n < 4294967296 → TellsAfter n self.old p → TellsAfter (suc n) self.new (goes (game_of self.old) p (line_of.Branch x)) }
+        ensures ready { IsReady self.new }
+        ensures same { game_of self.new ≡ game_of self.old }
+    {
+        match self.due {
+            Due::Case => self.fork_branch(x),
+            Due::Part => self.part_branch(x),
+            Due::Node => self.node_branch(x),
+            _ => self.seldom(Line::Branch { x }),
+        }
+    }
+
+    /// A removal by a constraint.
+    #[inline(always)]
+    fn take_prune(&mut self, x: VarId, lo: i64, hi: i64, c: ConId)
+        requires ready { IsReady self.old }
+        ensures tells { (n : ℕ) (p : Maybe Kept) → n < 4294967296 → TellsAfter n self.old p → TellsAfter (suc n) self.new (goes (game_of self.old) p (line_of.Prune x lo hi c)) }
+        ensures ready { IsReady self.new }
+        ensures same { game_of self.new ≡ game_of self.old }
+    {
+        match self.due {
+            Due::Part => self.part_prune(x, lo, hi, c),
+            Due::Case => self.fork_prune(x, lo, hi, c),
+            Due::Node => self.node_prune(x, lo, hi, c),
+            _ => self.seldom(Line::Prune { x, lo, hi, c }),
         }
     }
 
     /// Takes the next line. Once one was out of place all others are passed over. A node that ends with it isn't left.
     ///
-    /// The lines that come most often are told apart here, in the reader's own loop, and go on with their numbers alone.
+    /// The lines that come most often are told apart here, in the reader's own loop, which knows already which line it read, and
+    /// go on with their numbers alone.
     #[inline(always)]
     pub fn take(&mut self, line: Line)
         requires ready { IsReady self.old }
@@ -151,10 +216,15 @@ impl<'p> Machine<'p> {
         ensures ready { IsReady self.new }
         ensures same { game_of self.new ≡ game_of self.old }
     {
-        match self.due {
-            Due::Node => self.node_line(line),
-            Due::Part => self.part_line(line),
-            Due::Case => self.fork_line(line),
+        match line {
+            Line::Dot => self.take_dot(),
+            Line::Skip => self.take_skip(),
+            Line::Next => self.take_next(),
+            Line::Goal => self.take_goal(),
+            Line::Empty => self.take_empty(),
+            Line::Barred => self.take_barred(),
+            Line::Branch { x } => self.take_branch(x),
+            Line::Prune { x, lo, hi, c } => self.take_prune(x, lo, hi, c),
             _ => self.seldom(line),
         }
     }
