@@ -40,6 +40,7 @@ fn is_some_known(sight: &Sight, i: ScopeId, items: &[Arg], values: &[i64], wante
 }
 
 /// Whether a literal is true that isn't looked at.
+#[inline(always)]
 fn is_satisfied(sight: &Sight, i: ScopeId, rule: &Constraint, values: &[i64]) -> bool
     ensures { result ≡ is_satisfied_by (λ x. not (is_looked_at sight.now i.0 x)) values.now rule.now }
 {
