@@ -1,20 +1,22 @@
 #!/usr/bin/env python3
 """Measures the program on large inputs and on constraints: time and the most memory, one line each.
 
-    python3 bench/speed.py [--against FILE] [--write FILE]
+    python3 bench/speed.py [--against FILE] [--write FILE] [--yardsticks FOLDER] [--program PATH]
 
 Run it at the top of a checkout, after ./qecode has built the program. Nothing here is part of the gate. With --against
 each line ends with what it was in the results of that file; with --write the results go into the file. A problem that
 the program doesn't take yet has status 4. Less memory than this script's own, some 45 MB, can't be told.
 
-Of each game whose certificate is long it is told how fast it is checked, by the least processor time of some runs. The
-yardsticks: 50 MB a second where a certificate has no steps, as all but that of `elements` here, and half the time that it
-took to find and write.
+Of each game whose certificate is long it is told how fast it is checked: it is solved and checked in turns, some times, and
+the medians of the processor times stand. The yardsticks: 50 MB a second where a certificate has no steps, as all but that of
+`elements` here, and half the time that it took to find and write. With --yardsticks these two alone are told, of the games
+here and of each problem text in the folder (`bench/ladder.py --texts FOLDER` makes some).
 """
 import argparse
 import json
 import os
 import random
+import statistics
 import subprocess
 import sys
 import tempfile
@@ -25,7 +27,9 @@ LIMIT = 4_194_304
 USAGE = 3
 # A shorter certificate is found and checked in a time that the program's start takes up.
 LONG = 100_000
-RUNS = 7
+RUNS = 15
+# Of what takes longer there are fewer runs: so many seconds of them, and three at least.
+ENOUGH = 20
 
 
 def measured(words, output):
@@ -36,15 +40,12 @@ def measured(words, output):
     return time.monotonic() - begin, usage.ru_maxrss / 1024, os.waitstatus_to_exitcode(status)
 
 
-def least(words, output):
-    """The least processor seconds of some runs of the program on these words, which write to a file of this name."""
-    seconds = []
-    for _ in range(RUNS):
-        with open(output, "wb") as file:
-            child = subprocess.Popen([PROGRAM, *words], stdout=file)
-            _, _, usage = os.wait4(child.pid, 0)
-        seconds.append(usage.ru_utime + usage.ru_stime)
-    return min(seconds)
+def processor_seconds(words, output):
+    """The processor seconds of the program on these words, which write to a file of this name."""
+    with open(output, "wb") as file:
+        child = subprocess.Popen([PROGRAM, *words], stdout=file)
+        _, _, usage = os.wait4(child.pid, 0)
+    return usage.ru_utime + usage.ru_stime
 
 
 def texts():
@@ -153,14 +154,41 @@ def solved(text, certificate):
     return result
 
 
-def tell_yardsticks(text, certificate):
+def in_turns(text, certificate):
+    """Processor seconds to find and write the certificate, and to check it, pair by pair."""
+    pairs = []
+    while len(pairs) < 3 or len(pairs) < RUNS and sum(map(sum, pairs)) < ENOUGH:
+        solve = processor_seconds(["solve", text, "--turns", "10000000"], certificate)
+        pairs.append((solve, processor_seconds(["check", text, certificate], os.devnull)))
+    return pairs
+
+
+def tell_yardsticks(name, text, certificate):
     """How fast a long certificate is checked, and how long that takes beside finding and writing it."""
     size = os.path.getsize(certificate)
     if size < LONG:
         return
-    solve = least(["solve", text, "--turns", "10000000"], certificate)
-    check = least(["check", text, certificate], os.devnull)
-    print(f"{'':30} {size / check / 1e6:6.0f} MB a second, {check / solve:.2f} of the time to solve", flush=True)
+    pairs = in_turns(text, certificate)
+    solve, check = (statistics.median(times) for times in zip(*pairs))
+    shares = sorted(check / solve for solve, check in pairs)
+    print(
+        f"{name:30} {size / check / 1e6:6.0f} MB a second, {check / solve:.2f} of the time to solve"
+        f" (pairs {shares[0]:.2f} to {shares[-1]:.2f}, {len(pairs)} of them)",
+        flush=True,
+    )
+
+
+def measure_yardsticks(texts, folder):
+    """The yardsticks alone, of the games and of the problem texts in a folder."""
+    text, certificate = os.path.join(folder, "text"), os.path.join(folder, "certificate")
+    for name, content in games():
+        written(text, content)
+        solved(text, certificate)
+        tell_yardsticks(name, text, certificate)
+    for name in sorted(os.listdir(texts)):
+        path = os.path.join(texts, name)
+        solved(path, certificate)
+        tell_yardsticks(name, path, certificate)
 
 
 def measure(results, folder):
@@ -178,16 +206,24 @@ def measure(results, folder):
         results.add(f"print: {name}", measured(["print", text], subprocess.DEVNULL))
         results.add(f"solve: {name}", solved(text, certificate))
         results.add(f"check: {name}", measured(["check", text, certificate], subprocess.DEVNULL))
-        tell_yardsticks(text, certificate)
+        tell_yardsticks("", text, certificate)
 
 
 def main():
     parser = argparse.ArgumentParser(description="Measures the program.")
     parser.add_argument("--against", metavar="FILE")
     parser.add_argument("--write", metavar="FILE")
+    parser.add_argument("--yardsticks", metavar="FOLDER")
+    parser.add_argument("--program", metavar="PATH")
     options = parser.parse_args()
+    global PROGRAM
+    PROGRAM = options.program or PROGRAM
     if not os.access(PROGRAM, os.X_OK):
         sys.exit("build the program first: ./qecode print examples/price.qc")
+    if options.yardsticks:
+        with tempfile.TemporaryDirectory() as folder:
+            measure_yardsticks(options.yardsticks, folder)
+        return
     earlier = {}
     if options.against:
         with open(options.against, encoding="utf-8") as file:
