@@ -5,6 +5,7 @@
 //! is full, every node is forgotten.
 #![tactic(auto)]
 
+mod cost;
 mod look;
 mod memory;
 mod node;

@@ -1,31 +1,30 @@
 //! Whether it serves to look positions up.
 
-/// How often positions of a scope are looked up before it is asked whether that serves.
-const FIRST_LOOKS: u64 = 256;
+/// So many bytes may be lost on a scope whose positions are never met again.
+const FREE: u64 = 6_144;
 
-/// So many bytes have to be passed over for each look, else no more positions of the scope are looked up: it takes as long as
-/// to check these.
-const LEAST_GAIN: u64 = 24;
-
-/// How often positions of a scope were looked up, and how many bytes were passed over for it.
+/// How often positions of a scope were looked up, how many bytes were passed over for it, and as many bytes as are checked
+/// in the time of a look.
 #[derive(Clone, Copy)]
 pub(crate) struct Look {
     asked: u64,
     passed: u64,
+    cost: u64,
 }
 
 impl Look {
     /// None so far.
-    pub(crate) fn new() -> Look {
+    pub(crate) fn new(cost: u64) -> Look {
         Look {
             asked: 0,
             passed: 0,
+            cost,
         }
     }
 
-    /// Whether it serves to look up one more.
+    /// Whether it serves to look up one more: what was passed over, and what may be lost, makes up for all looks.
     pub(crate) fn serves(&self) -> bool {
-        self.asked < FIRST_LOOKS || self.passed >= self.asked.saturating_mul(LEAST_GAIN)
+        self.asked.saturating_mul(self.cost) <= self.passed.saturating_add(FREE)
     }
 
     pub(crate) fn tell_asked(&mut self) {

@@ -4,6 +4,7 @@ ghost use Rattle.qc_alike.specs.Alike.{is_looked_at};
 ghost use Rattle.qc_likeness.specs.Likeness.{ask_nothing};
 ghost use Rattle.node_memory.specs.Known.{IsKnown, IsMet};
 
+use crate::cost::bytes_for_a_look;
 use crate::look::Look;
 use crate::node::{Met, Node};
 use qc_likeness::{Likeness, asks_nothing};
@@ -68,7 +69,8 @@ impl<'p> NodeMemory<'p> {
         let nodes = Vec::with_capacity(alloc, share(is_used, PLACES))?;
         let values = Vec::with_capacity(alloc, share(is_used, MOST_VALUES))?;
         let texts = Vec::with_capacity(alloc, share(is_used, MOST_TEXT))?;
-        let looks = vec![in alloc; Look::new(); levels.problem.scopes()]?;
+        let look = Look::new(bytes_for_a_look(levels.problem));
+        let looks = vec![in alloc; look; levels.problem.scopes()]?;
         Ok(NodeMemory {
             problem: levels.problem,
             likeness,
