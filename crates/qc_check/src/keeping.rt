@@ -193,14 +193,11 @@ impl<'p> Checker<'p> {
         if !self.memory.is_wanted(due.scope) {
             return at;
         }
+        self.memory.tell_asked(due.scope);
         match self.look_up(due, &bytes[at..]) {
             None => at,
-            Some((_, Some(met))) => {
-                self.memory.tell_asked(due.scope);
-                self.pass_over(due, met, bytes, at)
-            }
+            Some((_, Some(met))) => self.pass_over(due, met, bytes, at),
             Some((number, None)) => {
-                self.memory.tell_asked(due.scope);
                 self.open_node(due, number, at);
                 at
             }
