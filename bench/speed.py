@@ -7,10 +7,11 @@ Run it at the top of a checkout, after ./qecode has built the program. Nothing h
 each line ends with what it was in the results of that file; with --write the results go into the file. A problem that
 the program doesn't take yet has status 4. Less memory than this script's own, some 45 MB, can't be told.
 
-Of each game whose certificate is long it is told how fast it is checked: it is solved and checked in turns, some times, and
-the medians of the processor times stand. The yardsticks: 50 MB a second where a certificate has no steps, as all but that of
-`elements` here, and half the time that it took to find and write. With --yardsticks these two alone are told, of the games
-here and of each problem text in the folder (`bench/ladder.py --texts FOLDER` makes some).
+Of each game whose certificate is long it is told how fast it is checked: it is solved and checked in turns, some times, on
+one processor, and the median of the shares stands, each of a processor time to check by that to solve just before. The
+yardsticks: 50 MB a second where a certificate has no steps, as all but that of `elements` here, and half the time that it
+took to find and write. With --yardsticks these two alone are told, of the games here and of each problem text in the folder
+(`bench/ladder.py --texts FOLDER` makes some).
 """
 import argparse
 import json
@@ -156,6 +157,8 @@ def solved(text, certificate):
 
 def in_turns(text, certificate):
     """Processor seconds to find and write the certificate, and to check it, pair by pair."""
+    # all on one processor: those of a busy machine differ in speed by more than is measured
+    os.sched_setaffinity(0, {max(os.sched_getaffinity(0))})
     pairs = []
     while len(pairs) < 3 or len(pairs) < RUNS and sum(map(sum, pairs)) < ENOUGH:
         solve = processor_seconds(["solve", text, "--turns", "10000000"], certificate)
@@ -171,9 +174,11 @@ def tell_yardsticks(name, text, certificate):
     pairs = in_turns(text, certificate)
     solve, check = (statistics.median(times) for times in zip(*pairs))
     shares = sorted(check / solve for solve, check in pairs)
+    best = min(check for _, check in pairs)
     print(
-        f"{name:30} {size / check / 1e6:6.0f} MB a second, {check / solve:.2f} of the time to solve"
-        f" (pairs {shares[0]:.2f} to {shares[-1]:.2f}, {len(pairs)} of them)",
+        f"{name:30} {size / check / 1e6:6.0f} MB a second, at best {size / best / 1e6:.0f};"
+        f" {statistics.median(shares):.2f} of the time to solve"
+        f" (by medians {check / solve:.2f}; from {shares[0]:.2f} to {shares[-1]:.2f}, {len(pairs)} pairs)",
         flush=True,
     )
 
