@@ -18,6 +18,7 @@ mod Listing
 mod ListSpan
 mod Ranged
 mod Building
+pub mod FullDomains
 mod Nexts
 mod Within
 mod Examples

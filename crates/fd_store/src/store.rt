@@ -1,6 +1,6 @@
 //! The store as its callers see it.
-ghost use Rattle.std.specs.Prelude.{◌≡◌, ◌<◌, ◌≤◌, ◌+◌, ℕ, ℤ, false, true, [], length, IfOk, OnOk};
-ghost use Rattle.qc_model.specs.Domains.{declared_box, values_left, is_none_left, least_value, greatest_value, has_value, is_single, is_ascending, box_without, values_within, values_outside};
+ghost use Rattle.std.specs.Prelude.{◌≡◌, ◌<◌, ◌≤◌, ◌+◌, ℕ, ℤ, false, true, [], length, IfOk, OnOk, IsFalse};
+ghost use Rattle.qc_model.specs.Domains.{declared_box, has_empty, values_left, is_none_left, least_value, greatest_value, has_value, is_single, is_ascending, box_without, values_within, values_outside};
 ghost use Rattle.std.specs.List.{list_all};
 ghost use Rattle.qc_model.specs.Valid.{is_number};
 ghost use Rattle.fd_store.specs.Held.{trail_len, past_box, removal, removal_need, count_left, Follows, IsUndone, values_from, values_up_to, least_of, greatest_of};
@@ -40,9 +40,9 @@ impl Model for Store {
 }
 
 impl Store {
-    /// The declared domains of a problem's variables, with an empty trail that has no room yet.
+    /// The declared domains of a problem's variables, none of which is empty, with an empty trail that has no room yet.
     pub fn new(alloc: Global, problem: &Problem) -> Result<Store, AllocError>
-        ensures { IfOk result (λ s. (s.box ≡ declared_box problem.now) × (s.past ≡ []) × (s.spare ≡ 0)) }
+        ensures { IfOk result (λ s. (s.box ≡ declared_box problem.now) × (s.past ≡ []) × (s.spare ≡ 0) × IsFalse (has_empty s.box)) }
     {
         problem.known();
         let table = declared(alloc, problem.all_variables())?;

@@ -14,7 +14,7 @@ use Rattle.proof_tree.specs.declared.tree.Step.{Step}
 use Rattle.fd_store.specs.Held.{Held}
 use Rattle.prop_base.specs.Pruning.{IsPruning, is_just}
 use Rattle.prop_engine.specs.Closing.{EachRule, is_between, has_constraint}
-use Rattle.prop_engine.specs.Watching.{Waiting, Watches, is_marked, is_watched, IsWatchOf, MarkedWait, KeepsUnmarked, names, changed_by, WasKept}
+use Rattle.prop_engine.specs.Watching.{Waiting, Watches, is_marked, is_watched, IsWatchOf, MarkedWait, KeepsUnmarked, names, changed_by, WasKept, IsSpared}
 use Rattle.prop_engine.proofs.Own.{keeps_same, after_length, after_others}
 use Rattle.prop_engine.proofs.Watched.{all_weaker}
 
@@ -104,24 +104,61 @@ none_of false f = refl
 less_marked : (v w : Waiting) (k : ℕ) → ((k : ℕ) → is_marked v k ≡ true → is_marked w k ≡ true) → is_marked w k ≡ false → is_marked v k ≡ false
 less_marked v w k f u = none_of (is_marked v k) (λ m. not_both (is_marked w k) (f k m) u)
 
--- after the constraints that the steps concern are woken
+-- a constraint that waits or keeps its ends, while marks stay
+pub spared_more : (g : Game) (v w : Waiting) (box : Box) (k : ℕ) → ((k : ℕ) → is_marked v k ≡ true → is_marked w k ≡ true) → IsSpared g v box k → IsSpared g w box k
+spared_more g v w box k f h u = h (less_marked v w k f u)
+
+same_number : (k : ℕ) → (k == k) ≡ true
+same_number k = grind (arith, nat_tests)
+
+pub spared_keeps : (g : Game) (w : Waiting) (box : Box) (k : ℕ) (r : Rule) → IsSpared g w box k → slice_get g.constraints k ≡ Some r → is_marked w k ≡ false → keeps_ends box r ≡ true
+spared_keeps g w box k r h e u = h u k r (same_number k) e
+
+-- one of the variables passes, or none does
+some_passes : (p : ℕ → Bool) (xs : List ℕ) (P : Type 0) → ((x : ℕ) → list_any (λ y. y == x) xs ≡ true → p x ≡ true → P) → (((x : ℕ) → list_any (λ y. y == x) xs ≡ true → p x ≡ false) → P) → P
+some_passes p [] P f g = g (λ x a. absurd (not_both false a refl))
+some_passes p (y ∷ xs) P f g = by (p y) refl (some_passes p xs P)
+  where
+    also : (b : Bool) (x : ℕ) → list_any (λ z. z == x) xs ≡ true → (b || list_any (λ z. z == x) xs) ≡ true
+    also true x h = refl
+    also false x h = h
+
+    here : (b : Bool) → b ≡ true → (b || list_any (λ z. z == y) xs) ≡ true
+    here true h = refl
+    here false h = cc
+
+    which : (x : ℕ) (b : Bool) → (y == x) ≡ b → p y ≡ false → ((x : ℕ) → list_any (λ z. z == x) xs ≡ true → p x ≡ false) → (b || list_any (λ z. z == x) xs) ≡ true → p x ≡ false
+    which x true e q n h = subst (λ z. p z ≡ false) (is_same y x e) q
+    which x false e q n h = n x h
+
+    by : (b : Bool) → p y ≡ b → (((x : ℕ) → list_any (λ z. z == x) xs ≡ true → p x ≡ true → P) → (((x : ℕ) → list_any (λ z. z == x) xs ≡ true → p x ≡ false) → P) → P) → P
+    by true q h = f y (here (y == y) (same_number y)) q
+    by false q h = h (λ x a. f x (also (y == x) x a)) (λ n. g (λ x. which x (y == x) refl q n))
+
+-- after the constraints that the steps concern are woken, but for those that keep their ends anyway
 pub kept_woken : (ok : ℕ → Bool) (g : Game) (ws : Watches) (c : ConId) (v w : Waiting) (box : Box) (fresh : List Step) → IsWatchOf g ws →
     ((k : ℕ) (r : Rule) → ok k ≡ true → slice_get g.constraints k ≡ Some r → is_marked v k ≡ false →
     ((c.0 == k) ≡ false → (x : ℕ) → list_any (λ y. y == x) (variables_of r.args) ≡ true → names (changed_by fresh) x ≡ false) → keeps_ends box r ≡ true) →
     ((k : ℕ) → is_marked v k ≡ true → is_marked w k ≡ true) →
-    ((k x : ℕ) → ok k ≡ true → (c.0 == k) ≡ false → names (changed_by fresh) x ≡ true → is_watched ws k x ≡ true → is_marked w k ≡ true) →
+    ((k x : ℕ) → ok k ≡ true → (c.0 == k) ≡ false → names (changed_by fresh) x ≡ true → is_watched ws k x ≡ true → IsSpared g w box k) →
     KeepsUnmarked ok g w box
 kept_woken ok g ws c v w box fresh i h m n k r o e u =
-    h k r o e (less_marked v w k m u)
-    (λ z x a. none_of (names (changed_by fresh) x) (λ q. not_both (is_marked w k) (n k x o z q (watched_one (is_watched ws k) (variables_of r.args) x (i.watched k r e) a)) u))
+    either c.0 k (keeps_ends box r ≡ true) (λ z. h k r o e (less_marked v w k m u) (λ f. absurd (not_both (c.0 == k) z f)))
+    (λ z. some_passes (names (changed_by fresh)) (variables_of r.args) (keeps_ends box r ≡ true)
+    (λ x a q. spared_keeps g w box k r (n k x o z q (watched_one (is_watched ws k) (variables_of r.args) x (i.watched k r e) a)) e u)
+    (λ f. h k r o e (less_marked v w k m u) (λ y. f)))
 
--- the constraints that mention what changed are woken
+-- the constraints that mention what changed are woken, but for those that keep their ends anyway
 pub kept_since : (ok : ℕ → Bool) (g : Game) (ws : Watches) (w : Waiting) (box : Box) (changed : List VarId) → IsWatchOf g ws → WasKept ok g changed box →
-    ((k x : ℕ) → ok k ≡ true → names changed x ≡ true → is_watched ws k x ≡ true → is_marked w k ≡ true) → KeepsUnmarked ok g w box
+    ((k x : ℕ) → ok k ≡ true → names changed x ≡ true → is_watched ws k x ≡ true → IsSpared g w box k) → KeepsUnmarked ok g w box
 kept_since ok g ws w box changed i b n k r o e u =
-    keeps_same r box b.earlier b.count
-    (λ x a. b.others x (none_of (names changed x) (λ q. not_both (is_marked w k) (n k x o q (watched_one (is_watched ws k) (variables_of r.args) x (i.watched k r e) a)) u)))
-    ∙ b.kept k r o e
+    some_passes (names changed) (variables_of r.args) (keeps_ends box r ≡ true)
+    (λ x a q. spared_keeps g w box k r (n k x o q (watched_one (is_watched ws k) (variables_of r.args) x (i.watched k r e) a)) e u)
+    (λ f. keeps_same r box b.earlier b.count (λ x a. b.others x (f x a)) ∙ b.kept k r o e)
+
+-- all are woken, but for those that keep their ends anyway
+pub kept_span : (ok : ℕ → Bool) (g : Game) (w : Waiting) (box : Box) → ((k : ℕ) → ok k ≡ true → IsSpared g w box k) → KeepsUnmarked ok g w box
+kept_span ok g w box n k r o e u = spared_keeps g w box k r (n k o) e u
 
 -- the rest of a list, as a slice takes it
 take_length : {X : Type 0} (ys : List X) → take (length ys) ys ≡ ys

@@ -1,6 +1,8 @@
 mod Rules
 pub mod Own
 mod Watched
+mod Open
 mod Kept
+mod Spared
 pub mod Means
 pub mod Room

@@ -97,10 +97,10 @@ ran Changed g k c s t a b e p h =
     (h.0, longer a p.more b p.appended h.1, λ j d i l. subst (λ r. keeps_ends t.box r ≡ true) (same_Some c d (sym e ∙ (ap (slice_get g.constraints) (sym (equal_numbers j k i)) ∙ l))) h.2)
 
 -- one more of the list
-one_more : (i : ℕ) → suc i ≡ i + 1
+pub one_more : (i : ℕ) → suc i ≡ i + 1
 one_more i = omega arith
 
-has_more : (cs : List ConId) (i k : ℕ) (d : ConId) → i < length cs → has_constraint (take (suc i) cs) k ≡ true → (has_constraint (take i cs) k ≡ true) ⊎ ((k == (get_or cs i d).0) ≡ true)
+pub has_more : (cs : List ConId) (i k : ℕ) (d : ConId) → i < length cs → has_constraint (take (suc i) cs) k ≡ true → (has_constraint (take i cs) k ≡ true) ⊎ ((k == (get_or cs i d).0) ≡ true)
 has_more [] i k d l h = absurd (omega arith)
 has_more (c ∷ cs) zero k d l h = inr (flip (c.0) k (only (c.0 == k) h))
   where

@@ -1,16 +1,24 @@
 -- The lists of constraints by variables, as they grow.
-use Rattle.std.proofs.Common.{◌≡◌, ℕ, zero, suc, ◌<◌, ◌+◌, Bool, true, ◌&&◌, List, [], ◌∷◌, length, take, get_or, refl, sym, ap, ◌∙◌, subst, arith, ◌⊎◌, inl, inr}
-use Rattle.std.specs.Prelude.{flat_map, slice_get, Some, Result, Ok, Err, OnOk}
+use Rattle.std.proofs.Common.{◌≡◌, ℕ, zero, suc, ◌<◌, ◌+◌, Bool, true, ◌&&◌, ◌||◌, List, [], ◌∷◌, ◌++◌, length, take, set, get_or, refl, sym, ap, ◌∙◌, subst, arith, ◌⊎◌, inl, inr}
+use Rattle.std.specs.Prelude.{flat_map, slice_get, ◌==◌, false, Some, Result, Ok, Err, OnOk, OnErr}
 use Rattle.std.specs.List.{list_all}
+use Rattle.std.proofs.lemmas.Bool.Decides.{nat_tests}
 use Rattle.std.proofs.lemmas.Option.{same_Some}
-use Rattle.std.proofs.lemmas.List.Folds.{list_all-append}
-use Rattle.qc_model.specs.Arguments.{argument_variables, variables_of}
+use Rattle.qc_model.specs.declared.problem.Arg.{Arg}
+use Rattle.qc_model.specs.declared.problem.Argument.{Argument}
+use Rattle.qc_model.specs.declared.problem.Argument.TheVariants.{Many}
+use Rattle.std.proofs.lemmas.List.Folds.{list_all-append, list_any-append}
+use Rattle.qc_model.specs.Arguments.{arg_variables, argument_variables, variables_of}
 use Rattle.qc_model.specs.Content.{Rule, Game}
 use Rattle.qc_model.specs.Valid.{IsValid, is_constraint, argument_sees, are_of_sorts, have_lengths}
 use Rattle.qc_model.specs.Meaning.{meaning_of}
 use Rattle.qc_model.specs.Signature.{arg_kinds_of}
 use Rattle.qc_model.proofs.Readable.{first, second, together}
-use Rattle.prop_engine.specs.Watching.{Watches, is_watched, HasGrown}
+use Rattle.qc_arguments.specs.Written.{args_at, items_of}
+use Rattle.qc_arguments.proofs.Bools.{or_left, or_right}
+use Rattle.prop_engine.specs.declared.watching.HeldBy.{HeldBy}
+use Rattle.prop_engine.specs.declared.watching.Watch.{Watch}
+use Rattle.prop_engine.specs.Watching.{Watches, watchers, is_watched, has_number, HasGrown, IsHeld, IsRight, AreRight}
 use Rattle.prop_engine.proofs.Rules.{of_all}
 
 pub grown_more : (a b c : Watches) → HasGrown a b → HasGrown b c → HasGrown a c
@@ -81,3 +89,81 @@ pub below_all : (cs : List Rule) (k : ℕ) (c : Rule) → slice_get cs k ≡ Som
 below_all [] k c h = cc
 below_all (r ∷ cs) zero c h = omega arith
 below_all (r ∷ cs) (suc k) c h = omega (arith, below_all cs k c h)
+
+-- a watch more of x, in the list of x
+get_last : {X : Type 0} (xs : List X) (i : ℕ) (w v : X) → slice_get (xs ++ w ∷ []) i ≡ Some v → (slice_get xs i ≡ Some v) ⊎ (w ≡ v)
+get_last [] zero w v h = inr (same_Some w v h)
+get_last [] (suc i) w v h = cc
+get_last (x ∷ xs) zero w v h = inl h
+get_last (x ∷ xs) (suc i) w v h = get_last xs i w v h
+
+watchers_set : (ws : Watches) (x y : ℕ) (l : List Watch) → (watchers (set ws x l) y ≡ watchers ws y) ⊎ ((x ≡ y) × (watchers (set ws x l) y ≡ l))
+watchers_set [] x y l = inl refl
+watchers_set (v ∷ ws) zero zero l = inr (refl, refl)
+watchers_set (v ∷ ws) zero (suc y) l = inl refl
+watchers_set (v ∷ ws) (suc x) zero l = inl refl
+watchers_set (v ∷ ws) (suc x) (suc y) l = elim (watchers_set ws x y l) [ inl e ↦ inl e | inr e ↦ inr (ap suc e.0, e.1) ]
+
+pub right_pushed : (g : Game) (ws : Watches) (x : ℕ) (w : Watch) → IsRight g x w → AreRight g ws → AreRight g (set ws x (watchers ws x ++ w ∷ []))
+right_pushed g ws x w r a y i v h =
+    elim (watchers_set ws x y (watchers ws x ++ w ∷ [])) [
+      | inl e ↦ a y i v (ap (λ l. slice_get l i) (sym e) ∙ h)
+      | inr e ↦
+          elim (get_last (watchers ws x) i w v (ap (λ l. slice_get l i) (sym e.1) ∙ h)) [
+            | inl s ↦ subst (λ z. IsRight g z v) e.0 (a x i v s)
+            | inr s ↦ subst (λ z. IsRight g z v) e.0 (subst (IsRight g x) s r)
+          ]
+    ]
+
+right_same : (g : Game) (ws : Watches) (x : ℕ) → AreRight g ws → AreRight g (set ws x (watchers ws x))
+right_same g ws x a y i v h =
+    elim (watchers_set ws x y (watchers ws x)) [
+      | inl e ↦ a y i v (ap (λ l. slice_get l i) (sym e) ∙ h)
+      | inr e ↦ subst (λ z. IsRight g z v) e.0 (a x i v (ap (λ l. slice_get l i) (sym e.1) ∙ h))
+    ]
+
+-- the list of x, whatever stands for none
+pub list_of : (ws : Watches) (x : ℕ) (l d : List Watch) → x < length ws → l ≡ get_or ws x d → l ≡ watchers ws x
+list_of ws x l d b e = e ∙ same ws x b
+  where
+    same : (ws : Watches) (x : ℕ) → x < length ws → get_or ws x d ≡ watchers ws x
+    same [] x b = absurd (omega arith)
+    same (v ∷ ws) zero b = refl
+    same (v ∷ ws) (suc x) b = same ws x (omega (arith, b))
+
+pub right_after : {T E : Type 0} (r : Result T E) (g : Game) (ws : Watches) (x : ℕ) (w : Watch) (old new : List Watch) → OnOk r (new ≡ old ++ w ∷ []) → OnErr r (new ≡ old) → old ≡ watchers ws x → IsRight g x w → AreRight g ws →
+    AreRight g (set ws x new)
+right_after (Ok t) g ws x w old new o e s i a = subst (λ l. AreRight g (set ws x l)) (ap (λ l. l ++ w ∷ []) (sym s) ∙ sym o) (right_pushed g ws x w i a)
+right_after (Err z) g ws x w old new o e s i a = subst (λ l. AreRight g (set ws x l)) (sym s ∙ sym e) (right_same g ws x a)
+
+pub right_one : (g : Game) (k : ℕ) (c : Rule) (h : HeldBy) (x : ℕ) → slice_get g.constraints k ≡ Some c → IsHeld h c x → (r : Rule) → slice_get g.constraints k ≡ Some r → IsHeld h r x
+right_one g k c h x e i r s = subst (λ z. IsHeld h z x) (same_Some c r (sym e ∙ s)) i
+
+pub none_right : (g : Game) (ws : Watches) → ((x : ℕ) → watchers ws x ≡ []) → AreRight g ws
+none_right g ws n x i w h = let e = ap (λ l. slice_get l i) (sym (n x)) ∙ h in cc
+
+pub none_more : (ws : Watches) → ((x : ℕ) → watchers ws x ≡ []) → (x : ℕ) → watchers (ws ++ [] ∷ []) x ≡ []
+none_more [] n zero = refl
+none_more [] n (suc x) = refl
+none_more (v ∷ ws) n zero = n zero
+none_more (v ∷ ws) n (suc x) = none_more ws (λ y. n (suc y)) x
+
+-- a variable of an item is one of all
+has_append : (xs ys : List ℕ) (x : ℕ) → has_number (xs ++ ys) x ≡ (has_number xs x || has_number ys x)
+has_append xs ys x = list_any-append (λ y. y == x) xs ys
+
+pub flat_has : (xs : List Arg) (i : ℕ) (d : Arg) (x : ℕ) → i < length xs → has_number (arg_variables (get_or xs i d)) x ≡ true → has_number (flat_map arg_variables xs) x ≡ true
+flat_has [] i d x l h = absurd (omega arith)
+flat_has (a ∷ xs) zero d x l h = has_append (arg_variables a) (flat_map arg_variables xs) x ∙ or_left (has_number (arg_variables a) x) (has_number (flat_map arg_variables xs) x) h
+flat_has (a ∷ xs) (suc i) d x l h =
+    has_append (arg_variables a) (flat_map arg_variables xs) x ∙ or_right (has_number (arg_variables a) x) (has_number (flat_map arg_variables xs) x) (flat_has xs i d x (omega (arith, l)) h)
+
+pub own_number : (x : ℕ) → has_number (x ∷ []) x ≡ true
+own_number x = or_left (x == x) false (same_number x)
+  where
+    same_number : (k : ℕ) → (k == k) ≡ true
+    same_number k = grind (arith, nat_tests)
+
+-- an array of a clause
+pub array_at : (args : List Argument) (k : ℕ) (xs : List Arg) (x : ℕ) → slice_get args k ≡ Some (Many xs) → has_number (flat_map arg_variables xs) x ≡ true → has_number (flat_map arg_variables (args_at args k)) x ≡ true
+array_at args k xs x e h = ap (λ o. has_number (flat_map arg_variables (items_of o)) x) e ∙ h

@@ -1,16 +1,24 @@
 -- Which constraints a change wakes, and which of them wait.
-use Rattle.std.specs.Prelude.{◌≡◌, ◌<◌, ◌≤◌, ◌+◌, ◌==◌, ℕ, Bool, true, false, Option, Some, None, List, [], ◌∷◌, map, drop, length, slice_get, slice_index_or, IsTrue, IsFalse}
+use Rattle.std.specs.Prelude.{⊤, pos, flat_map, ◌≡◌, ◌<◌, ◌≤◌, ◌+◌, ◌==◌, ℕ, Bool, true, false, Option, Some, None, List, [], ◌∷◌, map, drop, length, slice_get, slice_index_or, IsTrue, IsFalse}
 use Rattle.std.specs.List.{list_any, list_all}
 use Rattle.qc_model.specs.declared.problem.ConId.{ConId}
 use Rattle.qc_model.specs.declared.problem.VarId.{VarId}
-use Rattle.qc_model.specs.Arguments.{variables_of}
+use Rattle.qc_model.specs.declared.problem.Pred.TheVariants.{BoolClause}
+use Rattle.qc_model.specs.Arguments.{arg_variables, variables_of}
 use Rattle.qc_model.specs.Content.{Game, Rule}
 use Rattle.qc_model.specs.Closed.{keeps_ends}
-use Rattle.qc_model.specs.Domains.{Box, values_left, has_empty}
+use Rattle.qc_model.specs.Domains.{Box, values_left, is_single, least_value, has_empty}
 use Rattle.proof_tree.specs.declared.tree.Step.{Step}
 use Rattle.proof_tree.specs.declared.tree.Step.TheVariants.{Prune, Bound}
+use Rattle.prop_base.specs.Pruning.{is_just}
+use Rattle.qc_arguments.specs.Written.{args_at}
+use Rattle.prop_engine.specs.declared.watching.HeldBy.{HeldBy}
+use Rattle.prop_engine.specs.declared.watching.HeldBy.TheVariants.{Neither, One, Zero}
+use Rattle.prop_engine.specs.declared.watching.Watch.{Watch}
 use Rattle.prop_engine.specs.declared.found.Found.{Found}
 use Rattle.prop_engine.specs.declared.found.Found.TheVariants.{Settled, Emptied, Changed}
+use Rattle.prop_engine.specs.declared.hints.Hint.{Hint}
+use Rattle.prop_engine.specs.Literals.{IsLiteralOf}
 use Rattle.prop_engine.specs.Closing.{has_constraint, EachRule, IsClosedFor}
 
 -- the constraints that wait, in order, and a mark for each constraint
@@ -42,19 +50,45 @@ all_waiting ok w = list_all (λ c. ok c.0) w.queue
 
 -- the constraints that mention each variable
 abbrev pub Watches : Type 0
-Watches = List (List ConId)
+Watches = List (List Watch)
 
-abbrev pub watchers : Watches → ℕ → List ConId
+abbrev pub watchers : Watches → ℕ → List Watch
 watchers ws x = slice_index_or ws x []
 
 -- the constraint k watches x
-abbrev pub is_watched : Watches → ℕ → ℕ → Bool
-is_watched ws k x = has_constraint (watchers ws x) k
+abbrev pub has_watch : List Watch → ℕ → Bool
+has_watch ws k = list_any (λ w. w.c.0 == k) ws
 
--- the lists are of these variables, and each constraint watches its own
+abbrev pub is_watched : Watches → ℕ → ℕ → Bool
+is_watched ws k x = has_watch (watchers ws x) k
+
+abbrev pub has_number : List ℕ → ℕ → Bool
+has_number xs x = list_any (λ y. y == x) xs
+
+-- the constraint is a clause, in which x is a literal that holds by this value
+abbrev pub IsHeld : HeldBy → Rule → ℕ → Type 0
+IsHeld Neither c x = ⊤
+IsHeld One c x = (c.pred ≡ BoolClause) × IsTrue (has_number (flat_map arg_variables (args_at c.args 0)) x)
+IsHeld Zero c x = (c.pred ≡ BoolClause) × IsTrue (has_number (flat_map arg_variables (args_at c.args 1)) x)
+
+-- what a watch of x says by which value its constraint holds
+abbrev pub IsRight : Game → ℕ → Watch → Type 0
+IsRight g x w = (c : Rule) → slice_get g.constraints w.c.0 ≡ Some c → IsHeld w.held_by c x
+
+abbrev pub AreRight : Game → Watches → Type 0
+AreRight g ws = (x i : ℕ) (w : Watch) → slice_get (watchers ws x) i ≡ Some w → IsRight g x w
+
+-- the one value left to x by which clauses hold
+abbrev pub IsNow : HeldBy → Box → ℕ → Type 0
+IsNow Neither box x = ⊤
+IsNow One box x = IsTrue (is_single (values_left box x)) × (least_value (values_left box x) ≡ pos 1)
+IsNow Zero box x = IsTrue (is_single (values_left box x)) × (least_value (values_left box x) ≡ pos 0)
+
+-- the lists are of these variables, each constraint watches its own, and what is said of clauses is right
 pub record IsWatchOf (g : Game) (ws : Watches) : Type 0 where
   pub count : length ws ≡ length g.variables
   pub watched : (k : ℕ) (c : Rule) → slice_get g.constraints k ≡ Some c → IsTrue (list_all (is_watched ws k) (variables_of c.args))
+  pub right : AreRight g ws
 
 -- each list has what it had
 pub record HasGrown (ws vs : Watches) : Type 0 where
@@ -82,6 +116,10 @@ abbrev pub KeepsUnmarked : (ℕ → Bool) → Game → Waiting → Box → Type 
 KeepsUnmarked ok g w box =
     (k : ℕ) (c : Rule) → IsTrue (ok k) → slice_get g.constraints k ≡ Some c → IsFalse (is_marked w k) → IsTrue (keeps_ends box c)
 
+-- the constraint of this number waits, or keeps its ends
+abbrev pub IsSpared : Game → Waiting → Box → ℕ → Type 0
+IsSpared g w box k = IsFalse (is_marked w k) → EachRule (is_just k) g (keeps_ends box)
+
 -- what a run of the queue finds: nothing left to do, an empty domain, or steps of one constraint,
 -- after which it and each constraint that none of the steps concerns keep their ends
 abbrev pub IsFound : Found → (ℕ → Bool) → Game → Waiting → Box → List Step → List Step → Type 0
@@ -100,14 +138,25 @@ pub record WasKept (ok : ℕ → Bool) (g : Game) (changed : List VarId) (box : 
   pub kept : EachRule ok g (keeps_ends earlier)
   pub others : (x : ℕ) → IsFalse (names changed x) → values_left box x ≡ values_left earlier x
 
--- what an engine knows: the constraints that mention each variable, and those that wait
+-- the literals that are kept of a clause are its own
+abbrev pub IsHintOf : Rule → Hint → Type 0
+IsHintOf c h =
+    (c.pred ≡ BoolClause) × (IsLiteralOf (args_at c.args 0) (args_at c.args 1) h.one × IsLiteralOf (args_at c.args 0) (args_at c.args 1) h.other)
+
+pub record IsHintsOf (g : Game) (hs : List Hint) : Type 0 where
+  pub count : length hs ≡ length g.constraints
+  pub own : (k : ℕ) (h : Hint) (c : Rule) → slice_get hs k ≡ Some h → IsTrue h.known → slice_get g.constraints k ≡ Some c → IsHintOf c h
+
+-- what an engine knows: the constraints that mention each variable, the literals that it keeps, and those that wait
 pub record Knowing : Type 0 where
-  pub watches : List (List ConId)
+  pub watches : List (List Watch)
+  pub hints : List Hint
   pub waiting : Waiting
 
 -- an engine of this problem between its calls: none waits
 pub record IsReady (g : Game) (e : Knowing) : Type 0 where
   pub watches : IsWatchOf g e.watches
+  pub hints : IsHintsOf g e.hints
   pub count : length e.waiting.marks ≡ length g.constraints
   pub marked : MarkedWait e.waiting
   pub empty : e.waiting.queue ≡ []

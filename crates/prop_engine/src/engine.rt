@@ -4,11 +4,12 @@ ghost use Rattle.qc_model.specs.Domains.{has_empty};
 ghost use Rattle.qc_arguments.specs.Asked.{is_box_of};
 ghost use Rattle.prop_base.specs.Pruning.{IsPruning};
 ghost use Rattle.prop_engine.specs.Closing.{EachRule, IsClosing, is_between};
-ghost use Rattle.prop_engine.specs.Watching.{MarkedWait, all_waiting, IsWatchOf, KeepsUnmarked, IsFound, IsReady, WasKept};
+ghost use Rattle.prop_engine.specs.Watching.{MarkedWait, all_waiting, IsWatchOf, IsHintsOf, KeepsUnmarked, IsFound, IsReady, WasKept};
 
 use crate::answer::Closed;
 use crate::filtering::Filter;
 use crate::found::Found;
+use crate::hints::Hints;
 use crate::running::run_filter;
 use crate::waiting::WorkList;
 use crate::waking::{wake_changed, wake_span, wake_variables};
@@ -62,6 +63,7 @@ fn settle<F: Filter>(
     problem: &Problem,
     watches: &Watches,
     span: Span,
+    hints: &mut Hints,
     list: &mut WorkList,
     store: &mut Store,
     steps: &mut StepList,
@@ -71,11 +73,13 @@ fn settle<F: Filter>(
     requires watches { IsWatchOf problem.now watches.now }
     requires declared { IsTrue (is_box_of problem.now store.old.box) }
     requires full { IsFalse (has_empty store.old.box) }
+    requires hints { IsHintsOf problem.now hints.old }
     requires count { length list.old.marks ≡ length problem.now.constraints }
     requires waiting { MarkedWait list.old }
     requires inside { IsTrue (all_waiting (is_between span.first span.end) list.old) }
     requires kept { KeepsUnmarked (is_between span.first span.end) problem.now list.old store.old.box }
     ensures pruning { IsPruning (is_between span.first span.end) problem.now store.old store.new steps.old steps.new }
+    ensures hints { IsHintsOf problem.now hints.new }
     ensures count { length list.new.marks ≡ length problem.now.constraints }
     ensures waiting { MarkedWait list.new }
     ensures inside { IsTrue (all_waiting (is_between span.first span.end) list.new) }
@@ -88,7 +92,7 @@ fn settle<F: Filter>(
             Found::Emptied => return Ok(Closed::Empty),
             Found::Changed(own) => {
                 let fresh = &steps.items()[before..];
-                wake_changed(watches, span, own, fresh, list);
+                wake_changed(problem, watches, span, own, fresh, store, hints, list);
             }
         }
     }
@@ -102,6 +106,7 @@ fn close_woken<F: Filter>(
     watches: &Watches,
     span: Span,
     changed: &[VarId],
+    hints: &mut Hints,
     list: &mut WorkList,
     store: &mut Store,
     steps: &mut StepList,
@@ -111,18 +116,22 @@ fn close_woken<F: Filter>(
     requires watches { IsWatchOf problem.now watches.now }
     requires declared { IsTrue (is_box_of problem.now store.old.box) }
     requires full { IsFalse (has_empty store.old.box) }
+    requires hints { IsHintsOf problem.now hints.old }
     requires count { length list.old.marks ≡ length problem.now.constraints }
     requires waiting { MarkedWait list.old }
     requires inside { IsTrue (all_waiting (is_between span.first span.end) list.old) }
     requires earlier { WasKept (is_between span.first span.end) problem.now changed.now store.old.box }
     ensures pruning { IsPruning (is_between span.first span.end) problem.now store.old store.new steps.old steps.new }
+    ensures hints { IsHintsOf problem.now hints.new }
     ensures count { length list.new.marks ≡ length problem.now.constraints }
     ensures waiting { MarkedWait list.new }
     ensures inside { IsTrue (all_waiting (is_between span.first span.end) list.new) }
     ensures answer { IfOk result (λ a. IsClosing a (is_between span.first span.end) problem.now store.new.box) }
 {
-    wake_variables(watches, span, changed, list);
-    settle(filter, alloc, problem, watches, span, list, store, steps)
+    wake_variables(problem, watches, span, changed, store, hints, list);
+    settle(
+        filter, alloc, problem, watches, span, hints, list, store, steps,
+    )
 }
 
 // Lets all constraints of the span wait, and settles them.
@@ -132,6 +141,7 @@ fn close_all<F: Filter>(
     problem: &Problem,
     watches: &Watches,
     span: Span,
+    hints: &mut Hints,
     list: &mut WorkList,
     store: &mut Store,
     steps: &mut StepList,
@@ -141,17 +151,21 @@ fn close_all<F: Filter>(
     requires watches { IsWatchOf problem.now watches.now }
     requires declared { IsTrue (is_box_of problem.now store.old.box) }
     requires full { IsFalse (has_empty store.old.box) }
+    requires hints { IsHintsOf problem.now hints.old }
     requires count { length list.old.marks ≡ length problem.now.constraints }
     requires waiting { MarkedWait list.old }
     requires inside { IsTrue (all_waiting (is_between span.first span.end) list.old) }
     ensures pruning { IsPruning (is_between span.first span.end) problem.now store.old store.new steps.old steps.new }
+    ensures hints { IsHintsOf problem.now hints.new }
     ensures count { length list.new.marks ≡ length problem.now.constraints }
     ensures waiting { MarkedWait list.new }
     ensures inside { IsTrue (all_waiting (is_between span.first span.end) list.new) }
     ensures answer { IfOk result (λ a. IsClosing a (is_between span.first span.end) problem.now store.new.box) }
 {
-    wake_span(span, problem, list);
-    settle(filter, alloc, problem, watches, span, list, store, steps)
+    wake_span(problem, span, store, hints, list);
+    settle(
+        filter, alloc, problem, watches, span, hints, list, store, steps,
+    )
 }
 
 // Takes out all that wait.
@@ -167,12 +181,13 @@ fn clear(list: &mut WorkList)
     }
 }
 
-/// What closing needs besides a problem and a store, made once for a problem: which constraints mention each variable, and
-/// a queue with room for all of them, which asks for no memory from then on: a refusal is always one of a filter. Between
-/// its calls the queue is empty.
+/// What closing needs besides a problem and a store, made once for a problem: which constraints mention each variable, two
+/// literals of each clause to look at first, and a queue with room for all of them, which asks for no memory from then on: a
+/// refusal is always one of a filter. Between its calls the queue is empty.
 #[derive(Drop)]
 pub struct Engine {
     watches: Watches,
+    hints: Hints,
     list: WorkList,
 }
 
@@ -181,7 +196,7 @@ impl Model for Engine {
 
     ghost Value = { Knowing };
 
-    ghost view = { λ a. record { watches = a.watches; waiting = a.list } };
+    ghost view = { λ a. record { watches = a.watches; hints = a.hints; waiting = a.list } };
 }
 
 impl Engine {
@@ -190,8 +205,13 @@ impl Engine {
         ensures { IfOk result (λ e. IsReady problem.now e) }
     {
         let watches = Watches::of_problem(alloc, problem)?;
+        let hints = Hints::of_problem(alloc, problem)?;
         let list = WorkList::new(alloc, problem.constraints())?;
-        Ok(Engine { watches, list })
+        Ok(Engine {
+            watches,
+            hints,
+            list,
+        })
     }
 
     /// Runs the filters of the constraints of the span that mention a changed variable, and those that removals wake,
@@ -225,6 +245,7 @@ impl Engine {
             &self.watches,
             span,
             changed,
+            &mut self.hints,
             &mut self.list,
             store,
             steps,
@@ -259,6 +280,7 @@ impl Engine {
             problem,
             &self.watches,
             span,
+            &mut self.hints,
             &mut self.list,
             store,
             steps,

@@ -9,6 +9,8 @@ mod answer;
 mod engine;
 mod filtering;
 mod found;
+mod hints;
+mod literals;
 mod rounds;
 mod running;
 mod waiting;

@@ -1,10 +1,13 @@
 //! Waking the constraints that a change concerns.
 ghost use Rattle.std.specs.Prelude.{◌≡◌, ◌==◌, ◌≤◌, ℕ, length, IsTrue, IsFalse};
-ghost use Rattle.prop_engine.specs.Closing.{has_constraint, is_between};
-ghost use Rattle.prop_engine.specs.Watching.{is_marked, MarkedWait, all_waiting, is_own, is_watched, names, changed_by, step_variable};
+ghost use Rattle.prop_engine.specs.Closing.{is_between};
+ghost use Rattle.prop_engine.specs.Watching.{is_marked, MarkedWait, all_waiting, is_own, is_watched, names, changed_by, step_variable, IsSpared, IsWatchOf, IsHintsOf, IsNow, IsRight};
+ghost use Rattle.qc_arguments.specs.Asked.{is_box_of};
 
+use crate::hints::Hints;
 use crate::waiting::WorkList;
-use crate::watching::Watches;
+use crate::watching::{HeldBy, Watch, Watches};
+use fd_store::Store;
 use proof_tree::Step;
 use qc_arguments::Span;
 use qc_model::{ConId, Problem, VarId};
@@ -37,14 +40,53 @@ fn is_same(own: Option<ConId>, c: ConId) -> bool
     }
 }
 
+// Lets c wait where it is in the span, unless it is `own` or keeps its ends anyway.
+#[inline(always)]
+fn wake_one(
+    problem: &Problem,
+    span: Span,
+    own: Option<ConId>,
+    c: ConId,
+    store: &Store,
+    hints: &mut Hints,
+    list: &mut WorkList,
+)
+    requires span { span.end ≤ length problem.now.constraints }
+    requires declared { IsTrue (is_box_of problem.now store.now.box) }
+    requires hints { IsHintsOf problem.now hints.old }
+    requires count { length list.old.marks ≡ length problem.now.constraints }
+    requires waiting { MarkedWait list.old }
+    requires inside { IsTrue (all_waiting (is_between span.first span.end) list.old) }
+    ensures hints { IsHintsOf problem.now hints.new }
+    ensures count { length list.new.marks ≡ length problem.now.constraints }
+    ensures waiting { MarkedWait list.new }
+    ensures inside { IsTrue (all_waiting (is_between span.first span.end) list.new) }
+    ensures kept { (k : ℕ) → IsTrue (is_marked list.old k) → IsTrue (is_marked list.new k) }
+    ensures spared { IsTrue (is_between span.first span.end c.0) → IsFalse (is_own own c.0) → IsSpared problem.now list.new store.now.box c.0 }
+{
+    if is_same(own, c) {
+        return;
+    }
+    if is_in(span, c) {
+        if list.has(c) {
+            return;
+        }
+        if hints.is_idle(problem, c, store) {
+            return;
+        }
+        list.add(c);
+    }
+}
+
 // Lets c wait where it is in the span, unless it is `own`.
-fn wake_one(span: Span, own: Option<ConId>, c: ConId, list: &mut WorkList)
+#[inline(always)]
+fn wake_any(span: Span, own: Option<ConId>, c: ConId, list: &mut WorkList)
     requires span { span.end ≤ length list.old.marks }
     requires waiting { MarkedWait list.old }
     requires inside { IsTrue (all_waiting (is_between span.first span.end) list.old) }
+    ensures count { length list.new.marks ≡ length list.old.marks }
     ensures waiting { MarkedWait list.new }
     ensures inside { IsTrue (all_waiting (is_between span.first span.end) list.new) }
-    ensures count { length list.new.marks ≡ length list.old.marks }
     ensures kept { (k : ℕ) → IsTrue (is_marked list.old k) → IsTrue (is_marked list.new k) }
     ensures marked { IsTrue (is_between span.first span.end c.0) → IsFalse (is_own own c.0) → IsTrue (is_marked list.new c.0) }
 {
@@ -56,78 +98,190 @@ fn wake_one(span: Span, own: Option<ConId>, c: ConId, list: &mut WorkList)
     }
 }
 
-// Lets those of the constraints that are in the span wait, but for `own`.
-fn wake_all(span: Span, own: Option<ConId>, cons: &[ConId], list: &mut WorkList)
-    requires span { span.end ≤ length list.old.marks }
+// By which value, the only one that is left to x, clauses hold.
+fn held_now(x: VarId, store: &Store) -> HeldBy
+    ensures { IsNow result store.now.box x.0 }
+{
+    if x.0 as usize >= store.count() {
+        return HeldBy::Neither;
+    }
+    if !store.is_fixed(x) {
+        return HeldBy::Neither;
+    }
+    let value = store.min(x);
+    if value == 1 {
+        return HeldBy::One;
+    }
+    if value == 0 {
+        return HeldBy::Zero;
+    }
+    HeldBy::Neither
+}
+
+// Lets a constraint that mentions x wait where it is in the span, unless it is `own`. A clause needn't where x makes it hold;
+// otherwise its literals tell.
+#[inline(always)]
+fn wake_watch(
+    problem: &Problem,
+    span: Span,
+    own: Option<ConId>,
+    x: VarId,
+    now: HeldBy,
+    watch: Watch,
+    store: &Store,
+    hints: &mut Hints,
+    list: &mut WorkList,
+)
+    requires span { span.end ≤ length problem.now.constraints }
+    requires declared { IsTrue (is_box_of problem.now store.now.box) }
+    requires hints { IsHintsOf problem.now hints.old }
+    requires count { length list.old.marks ≡ length problem.now.constraints }
     requires waiting { MarkedWait list.old }
     requires inside { IsTrue (all_waiting (is_between span.first span.end) list.old) }
+    requires now { IsNow now store.now.box x.0 }
+    requires right { IsRight problem.now x.0 watch }
+    ensures hints { IsHintsOf problem.now hints.new }
+    ensures count { length list.new.marks ≡ length problem.now.constraints }
     ensures waiting { MarkedWait list.new }
     ensures inside { IsTrue (all_waiting (is_between span.first span.end) list.new) }
-    ensures count { length list.new.marks ≡ length list.old.marks }
     ensures kept { (k : ℕ) → IsTrue (is_marked list.old k) → IsTrue (is_marked list.new k) }
-    ensures marked { (k : ℕ) → IsTrue (is_between span.first span.end k) → IsFalse (is_own own k) → IsTrue (has_constraint cons.now k) → IsTrue (is_marked list.new k) }
+    ensures spared { IsTrue (is_between span.first span.end watch.c.0) → IsFalse (is_own own watch.c.0) → IsSpared problem.now list.new store.now.box watch.c.0 }
 {
-    for c in cons {
-        wake_one(span, own, *c, list);
+    match watch.held_by {
+        HeldBy::Neither => wake_any(span, own, watch.c, list),
+        HeldBy::One => match now {
+            HeldBy::One => {}
+            _ => wake_one(problem, span, own, watch.c, store, hints, list),
+        },
+        HeldBy::Zero => match now {
+            HeldBy::Zero => {}
+            _ => wake_one(problem, span, own, watch.c, store, hints, list),
+        },
     }
 }
 
-/// Lets the constraints of the span that mention one of the variables wait.
+// Lets those of the constraints that mention x and are in the span wait, but for `own` and those that keep their ends anyway.
+fn wake_all(
+    problem: &Problem,
+    watches: &Watches,
+    span: Span,
+    own: Option<ConId>,
+    x: VarId,
+    store: &Store,
+    hints: &mut Hints,
+    list: &mut WorkList,
+)
+    requires watches { IsWatchOf problem.now watches.now }
+    requires span { span.end ≤ length problem.now.constraints }
+    requires declared { IsTrue (is_box_of problem.now store.now.box) }
+    requires hints { IsHintsOf problem.now hints.old }
+    requires count { length list.old.marks ≡ length problem.now.constraints }
+    requires waiting { MarkedWait list.old }
+    requires inside { IsTrue (all_waiting (is_between span.first span.end) list.old) }
+    ensures hints { IsHintsOf problem.now hints.new }
+    ensures count { length list.new.marks ≡ length problem.now.constraints }
+    ensures waiting { MarkedWait list.new }
+    ensures inside { IsTrue (all_waiting (is_between span.first span.end) list.new) }
+    ensures kept { (k : ℕ) → IsTrue (is_marked list.old k) → IsTrue (is_marked list.new k) }
+    ensures spared { (k : ℕ) → IsTrue (is_between span.first span.end k) → IsFalse (is_own own k) → IsTrue (is_watched watches.now k x.0) → IsSpared problem.now list.new store.now.box k }
+{
+    let now = held_now(x, store);
+    for watch in watches.of(x) {
+        wake_watch(problem, span, own, x, now, *watch, store, hints, list);
+    }
+}
+
+/// Lets the constraints of the span that mention one of the variables wait, but for those that keep their ends anyway.
 pub(crate) fn wake_variables(
+    problem: &Problem,
     watches: &Watches,
     span: Span,
     variables: &[VarId],
+    store: &Store,
+    hints: &mut Hints,
     list: &mut WorkList,
 )
-    requires span { span.end ≤ length list.old.marks }
+    requires watches { IsWatchOf problem.now watches.now }
+    requires span { span.end ≤ length problem.now.constraints }
+    requires declared { IsTrue (is_box_of problem.now store.now.box) }
+    requires hints { IsHintsOf problem.now hints.old }
+    requires count { length list.old.marks ≡ length problem.now.constraints }
     requires waiting { MarkedWait list.old }
     requires inside { IsTrue (all_waiting (is_between span.first span.end) list.old) }
+    ensures hints { IsHintsOf problem.now hints.new }
+    ensures count { length list.new.marks ≡ length problem.now.constraints }
     ensures waiting { MarkedWait list.new }
     ensures inside { IsTrue (all_waiting (is_between span.first span.end) list.new) }
-    ensures count { length list.new.marks ≡ length list.old.marks }
     ensures kept { (k : ℕ) → IsTrue (is_marked list.old k) → IsTrue (is_marked list.new k) }
-    ensures marked { (k x : ℕ) → IsTrue (is_between span.first span.end k) → IsTrue (names variables.now x) → IsTrue (is_watched watches.now k x) → IsTrue (is_marked list.new k) }
+    ensures spared { (k x : ℕ) → IsTrue (is_between span.first span.end k) → IsTrue (names variables.now x) → IsTrue (is_watched watches.now k x) → IsSpared problem.now list.new store.now.box k }
 {
     for x in variables {
-        wake_all(span, None, watches.of(*x), list);
+        wake_all(problem, watches, span, None, *x, store, hints, list);
     }
 }
 
-/// Lets the constraints of the span that mention a variable of the steps wait, but for `own`.
+/// Lets the constraints of the span that mention a variable of the steps wait, but for `own` and those that keep their ends
+/// anyway.
 pub(crate) fn wake_changed(
+    problem: &Problem,
     watches: &Watches,
     span: Span,
     own: ConId,
     steps: &[Step],
+    store: &Store,
+    hints: &mut Hints,
     list: &mut WorkList,
 )
-    requires span { span.end ≤ length list.old.marks }
+    requires watches { IsWatchOf problem.now watches.now }
+    requires span { span.end ≤ length problem.now.constraints }
+    requires declared { IsTrue (is_box_of problem.now store.now.box) }
+    requires hints { IsHintsOf problem.now hints.old }
+    requires count { length list.old.marks ≡ length problem.now.constraints }
     requires waiting { MarkedWait list.old }
     requires inside { IsTrue (all_waiting (is_between span.first span.end) list.old) }
+    ensures hints { IsHintsOf problem.now hints.new }
+    ensures count { length list.new.marks ≡ length problem.now.constraints }
     ensures waiting { MarkedWait list.new }
     ensures inside { IsTrue (all_waiting (is_between span.first span.end) list.new) }
-    ensures count { length list.new.marks ≡ length list.old.marks }
     ensures kept { (k : ℕ) → IsTrue (is_marked list.old k) → IsTrue (is_marked list.new k) }
-    ensures marked { (k x : ℕ) → IsTrue (is_between span.first span.end k) → IsFalse (own.0 == k) → IsTrue (names (changed_by steps.now) x) → IsTrue (is_watched watches.now k x) → IsTrue (is_marked list.new k) }
+    ensures spared { (k x : ℕ) → IsTrue (is_between span.first span.end k) → IsFalse (own.0 == k) → IsTrue (names (changed_by steps.now) x) → IsTrue (is_watched watches.now k x) → IsSpared problem.now list.new store.now.box k }
 {
     for step in steps {
-        wake_all(span, Some(own), watches.of(variable_of(step)), list);
+        wake_all(
+            problem,
+            watches,
+            span,
+            Some(own),
+            variable_of(step),
+            store,
+            hints,
+            list,
+        );
     }
 }
 
-/// Lets all constraints of the span wait.
-pub(crate) fn wake_span(span: Span, problem: &Problem, list: &mut WorkList)
+/// Lets all constraints of the span wait, but for those that keep their ends anyway.
+pub(crate) fn wake_span(
+    problem: &Problem,
+    span: Span,
+    store: &Store,
+    hints: &mut Hints,
+    list: &mut WorkList,
+)
     requires span { span.end ≤ length problem.now.constraints }
-    requires length { length list.old.marks ≡ length problem.now.constraints }
+    requires declared { IsTrue (is_box_of problem.now store.now.box) }
+    requires hints { IsHintsOf problem.now hints.old }
+    requires count { length list.old.marks ≡ length problem.now.constraints }
     requires waiting { MarkedWait list.old }
     requires inside { IsTrue (all_waiting (is_between span.first span.end) list.old) }
+    ensures hints { IsHintsOf problem.now hints.new }
+    ensures count { length list.new.marks ≡ length problem.now.constraints }
     ensures waiting { MarkedWait list.new }
     ensures inside { IsTrue (all_waiting (is_between span.first span.end) list.new) }
-    ensures count { length list.new.marks ≡ length list.old.marks }
-    ensures marked { (k : ℕ) → IsTrue (is_between span.first span.end k) → IsTrue (is_marked list.new k) }
+    ensures spared { (k : ℕ) → IsTrue (is_between span.first span.end k) → IsSpared problem.now list.new store.now.box k }
 {
     problem.known();
     for k in span.first..span.end {
-        wake_one(span, None, ConId(k as u16), list);
+        wake_one(problem, span, None, ConId(k as u16), store, hints, list);
     }
 }

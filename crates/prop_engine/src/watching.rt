@@ -1,26 +1,43 @@
 //! The constraints that mention each variable.
-ghost use Rattle.std.specs.Prelude.{◌≡◌, ◌<◌, [], ◌∷◌, ◌++◌, length, IsTrue, OnOk, OnErr, IfOk, slice_get, Some};
+ghost use Rattle.std.specs.Prelude.{◌≡◌, ◌<◌, ℕ, List, [], ◌∷◌, ◌++◌, length, IsTrue, OnOk, OnErr, IfOk, slice_get, Some, flat_map};
 ghost use Rattle.std.specs.List.{list_all};
+ghost use Rattle.qc_model.specs.declared.problem.Arg.{Arg};
+ghost use Rattle.qc_model.specs.declared.problem.Argument.TheVariants.{Many};
 ghost use Rattle.qc_model.specs.Arguments.{arg_variables, argument_variables, variables_of};
 ghost use Rattle.qc_model.specs.Valid.{arg_sees, argument_sees};
-ghost use Rattle.prop_engine.specs.Watching.{watchers, is_watched, HasGrown, IsWatchOf};
+ghost use Rattle.prop_engine.specs.Watching.{watchers, is_watched, HasGrown, IsWatchOf, has_number, IsHeld, AreRight};
 
 use qc_arguments::arguments;
-use qc_model::{Arg, Argument, ConId, Constraint, Problem, VarId};
+use qc_model::{Arg, Argument, ConId, Constraint, Pred, Problem, VarId};
 use std::alloc::{AllocError, Global};
 use std::marker::Model;
+
+/// By which value of its variable, the last one left, a clause holds.
+#[derive(Clone, Copy)]
+pub(crate) enum HeldBy {
+    Neither,
+    One,
+    Zero,
+}
+
+/// A constraint that mentions a variable.
+#[derive(Clone, Copy)]
+pub(crate) struct Watch {
+    pub(crate) c: ConId,
+    pub(crate) held_by: HeldBy,
+}
 
 /// The constraints that mention one variable.
 #[derive(Drop)]
 pub(crate) struct Watchers {
-    items: Vec<ConId>,
+    items: Vec<Watch>,
 }
 
 impl Model for Watchers {
     ghost use Rattle.std.specs.Prelude.{List};
-    ghost use Rattle.qc_model.specs.declared.problem.ConId.{ConId};
+    ghost use Rattle.prop_engine.specs.declared.watching.Watch.{Watch};
 
-    ghost Value = { List ConId };
+    ghost Value = { List Watch };
 
     ghost view = { λ a. a.items.items };
 }
@@ -34,15 +51,15 @@ impl Watchers {
         }
     }
 
-    fn push(&mut self, c: ConId) -> Result<(), AllocError>
-        ensures ok { OnOk result (self.new ≡ self.old ++ c ∷ []) }
+    fn push(&mut self, watch: Watch) -> Result<(), AllocError>
+        ensures ok { OnOk result (self.new ≡ self.old ++ watch ∷ []) }
         ensures err { OnErr result (self.new ≡ self.old) }
     {
-        self.items.push(c)?;
+        self.items.push(watch)?;
         Ok(())
     }
 
-    fn items(&self) -> &[ConId]
+    fn items(&self) -> &[Watch]
         ensures { result.now ≡ self.now }
     {
         self.items.as_slice()
@@ -63,10 +80,27 @@ impl Model for Watches {
     ghost view = { λ a. a.lists.items };
 }
 
+/// By which value of a variable of the array at this place a constraint holds: the second array of a clause has its negated
+/// literals.
+fn held_at(rule: &Constraint, place: usize) -> HeldBy
+    ensures { (xs : List Arg) → slice_get rule.now.args place ≡ Some (Many xs) → (x : ℕ) → IsTrue (has_number (flat_map arg_variables xs) x) → IsHeld result rule.now x }
+{
+    if let Pred::BoolClause = rule.pred {
+        if place == 0 {
+            return HeldBy::One;
+        }
+        if place == 1 {
+            return HeldBy::Zero;
+        }
+    }
+    HeldBy::Neither
+}
+
 impl Watches {
     // No constraint yet, for so many variables.
     fn new(alloc: Global, count: usize) -> Result<Watches, AllocError>
-        ensures { IfOk result (λ w. length w ≡ count) }
+        ensures count { IfOk result (λ w. length w ≡ count) }
+        ensures empty { IfOk result (λ w. (x : ℕ) → watchers w x ≡ []) }
     {
         let mut lists = Vec::with_capacity(alloc, count)?;
         for _ in 0..count {
@@ -76,7 +110,7 @@ impl Watches {
     }
 
     /// The constraints that mention x, in order.
-    pub(crate) fn of(&self, x: VarId) -> &[ConId]
+    pub(crate) fn of(&self, x: VarId) -> &[Watch]
         ensures { result.now ≡ watchers self.now x.0 }
     {
         match self.lists.get(x.0 as usize) {
@@ -85,12 +119,23 @@ impl Watches {
         }
     }
 
-    fn watch(&mut self, x: VarId, c: ConId) -> Result<(), AllocError>
-        requires { x.0 < length self.old }
+    fn watch(
+        &mut self,
+        problem: &Problem,
+        rule: &Constraint,
+        c: ConId,
+        held_by: HeldBy,
+        x: VarId,
+    ) -> Result<(), AllocError>
+        requires x { x.0 < length self.old }
+        requires rule { slice_get problem.now.constraints c.0 ≡ Some rule.now }
+        requires held { IsHeld held_by rule.now x.0 }
         ensures grown { HasGrown self.old self.new }
         ensures watched { OnOk result (IsTrue (is_watched self.new c.0 x.0)) }
+        ensures right { AreRight problem.now self.old → AreRight problem.now self.new }
     {
-        self.lists[x.0 as usize].push(c)
+        let _ = (problem.variables(), rule.owner);
+        self.lists[x.0 as usize].push(Watch { c, held_by })
     }
 
     fn watch_arg(
@@ -98,16 +143,20 @@ impl Watches {
         problem: &Problem,
         rule: &Constraint,
         c: ConId,
+        held_by: HeldBy,
         arg: Arg,
     ) -> Result<(), AllocError>
         requires count { length self.old ≡ length problem.now.variables }
         requires sees { IsTrue (arg_sees problem.now.variables rule.now.owner.0 arg) }
+        requires rule { slice_get problem.now.constraints c.0 ≡ Some rule.now }
+        requires held { (x : ℕ) → IsTrue (has_number (arg_variables arg) x) → IsHeld held_by rule.now x }
         ensures grown { HasGrown self.old self.new }
         ensures watched { OnOk result (IsTrue (list_all (is_watched self.new c.0) (arg_variables arg))) }
+        ensures right { AreRight problem.now self.old → AreRight problem.now self.new }
     {
         let _ = (problem.variables(), rule.owner);
         match arg {
-            Arg::Var(x) => self.watch(x, c),
+            Arg::Var(x) => self.watch(problem, rule, c, held_by, x),
             Arg::Num(_) => Ok(()),
         }
     }
@@ -117,15 +166,19 @@ impl Watches {
         problem: &Problem,
         rule: &Constraint,
         c: ConId,
+        held_by: HeldBy,
         items: &[Arg],
     ) -> Result<(), AllocError>
         requires count { length self.old ≡ length problem.now.variables }
         requires sees { IsTrue (list_all (arg_sees problem.now.variables rule.now.owner.0) items.now) }
+        requires rule { slice_get problem.now.constraints c.0 ≡ Some rule.now }
+        requires held { (x : ℕ) → IsTrue (has_number (flat_map arg_variables items.now) x) → IsHeld held_by rule.now x }
         ensures grown { HasGrown self.old self.new }
         ensures watched { OnOk result (IsTrue (list_all (λ a. list_all (is_watched self.new c.0) (arg_variables a)) items.now)) }
+        ensures right { AreRight problem.now self.old → AreRight problem.now self.new }
     {
         for item in items {
-            self.watch_arg(problem, rule, c, *item)?;
+            self.watch_arg(problem, rule, c, held_by, *item)?;
         }
         Ok(())
     }
@@ -135,16 +188,20 @@ impl Watches {
         problem: &Problem,
         rule: &Constraint,
         c: ConId,
+        held_by: HeldBy,
         argument: &Argument,
     ) -> Result<(), AllocError>
         requires count { length self.old ≡ length problem.now.variables }
         requires sees { IsTrue (argument_sees problem.now.variables rule.now.owner.0 argument.now) }
+        requires rule { slice_get problem.now.constraints c.0 ≡ Some rule.now }
+        requires held { (xs : List Arg) → argument.now ≡ Many xs → (x : ℕ) → IsTrue (has_number (flat_map arg_variables xs) x) → IsHeld held_by rule.now x }
         ensures grown { HasGrown self.old self.new }
         ensures watched { OnOk result (IsTrue (list_all (is_watched self.new c.0) (argument_variables argument.now))) }
+        ensures right { AreRight problem.now self.old → AreRight problem.now self.new }
     {
         match argument {
-            Argument::One(arg) => self.watch_arg(problem, rule, c, *arg),
-            Argument::Many(items) => self.watch_items(problem, rule, c, items.items()),
+            Argument::One(arg) => self.watch_arg(problem, rule, c, HeldBy::Neither, *arg),
+            Argument::Many(items) => self.watch_items(problem, rule, c, held_by, items.items()),
             Argument::Numbers(_) => Ok(()),
             Argument::Members(_) => Ok(()),
         }
@@ -159,11 +216,14 @@ impl Watches {
     ) -> Result<(), AllocError>
         requires count { length self.old ≡ length problem.now.variables }
         requires sees { IsTrue (list_all (argument_sees problem.now.variables rule.now.owner.0) rule.now.args) }
+        requires rule { slice_get problem.now.constraints c.0 ≡ Some rule.now }
         ensures grown { HasGrown self.old self.new }
         ensures watched { OnOk result (IsTrue (list_all (λ a. list_all (is_watched self.new c.0) (argument_variables a)) rule.now.args)) }
+        ensures right { AreRight problem.now self.old → AreRight problem.now self.new }
     {
-        for argument in arguments(rule) {
-            self.watch_argument(problem, rule, c, argument)?;
+        let args = arguments(rule);
+        for place in 0..args.len() {
+            self.watch_argument(problem, rule, c, held_at(rule, place), &args[place])?;
         }
         Ok(())
     }

@@ -1,5 +1,5 @@
 //! What closing leaves, by the fast filters and end by end. The boxes were found by a plain filter that is written apart
-//! (`bench/filters.py`).
+//! (`bench/compare/filters.py`).
 use crate::words::Work;
 use crate::worked;
 use qc_model::VarId;

@@ -4,9 +4,8 @@ use Rattle.std.specs.List.{list_all}
 use Rattle.std.specs.Ordering.{int_eq}
 use Rattle.qc_model.specs.declared.problem.Variable.{Variable}
 use Rattle.qc_model.specs.Content.{Game}
-use Rattle.qc_model.specs.Domains.{Values, Box, domain_values, declared_box, has_empty, has_value, is_ascending, is_sub_box}
+use Rattle.qc_model.specs.Domains.{Values, Box, domain_values, declared_box, has_value, is_ascending, is_sub_box}
 use Rattle.qc_model.specs.Valid.{IsValid, is_domain}
-use Rattle.qc_model.proofs.DomainValues.{domain_full}
 use Rattle.qc_model.proofs.Readable.{first, second, together}
 use Rattle.qc_arguments.specs.Asked.{is_box_of}
 use Rattle.qc_arguments.proofs.Values.{has_first}
@@ -35,14 +34,5 @@ all_ascend (x ∷ xs) h =
     (domain_ascends x.domain (first (is_domain x.domain) (list_all (λ x. is_domain x.domain) xs) h))
     (all_ascend xs (second (is_domain x.domain) (list_all (λ x. is_domain x.domain) xs) h))
 
-none_empty : (xs : List Variable) → list_all (λ x. is_domain x.domain) xs ≡ true → has_empty (map (λ x. domain_values x.domain) xs) ≡ false
-none_empty [] h = refl
-none_empty (x ∷ xs) h =
-    ap (λ b. b || has_empty (map (λ x. domain_values x.domain) xs)) (domain_full x.domain (first (is_domain x.domain) (list_all (λ x. is_domain x.domain) xs) h))
-    ∙ none_empty xs (second (is_domain x.domain) (list_all (λ x. is_domain x.domain) xs) h)
-
 pub declared_is_box : (g : Game) (box : Box) → IsValid g → box ≡ declared_box g → is_box_of g box ≡ true
 declared_is_box g box v e = ap (is_box_of g) e ∙ within_itself (declared_box g) (all_ascend g.variables v.domains)
-
-pub declared_is_full : (g : Game) (box : Box) → IsValid g → box ≡ declared_box g → has_empty box ≡ false
-declared_is_full g box v e = ap has_empty e ∙ none_empty g.variables v.domains

@@ -28,7 +28,7 @@ fn game(alloc: Global, rules: &[(u8, Arg, Arg)]) -> Result<Option<Problem>, Allo
 }
 
 /// What is found at scope i with the declared domains.
-#[tactic(auto, using(qc_cascade::proofs::Declared::declared_is_box, qc_cascade::proofs::Declared::declared_is_full))]
+#[tactic(auto, using(qc_cascade::proofs::Declared::declared_is_box))]
 fn ahead(alloc: Global, problem: &Problem, i: ScopeId) -> Result<Entered, AllocError>
     requires { i.0 < length problem.now.scopes }
 {
@@ -40,7 +40,7 @@ fn ahead(alloc: Global, problem: &Problem, i: ScopeId) -> Result<Entered, AllocE
 }
 
 /// The same, where nobody passes the horizon.
-#[tactic(auto, using(qc_cascade::proofs::Declared::declared_is_box, qc_cascade::proofs::Declared::declared_is_full))]
+#[tactic(auto, using(qc_cascade::proofs::Declared::declared_is_box))]
 fn nearer(
     alloc: Global,
     problem: &Problem,

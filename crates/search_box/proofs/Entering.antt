@@ -7,14 +7,13 @@ use Rattle.std.specs.List.{list_all}
 use Rattle.std.specs.declared.alloc.AllocError.{AllocError}
 use Rattle.std.proofs.lemmas.Bool.Decides.{nat_tests, Decides-int_eq}
 use Rattle.qc_model.specs.Content.{Game}
-use Rattle.qc_model.specs.Domains.{Values, Box, declared_box, box_values, is_none_left, is_single, has_empty, has_value, is_ascending, is_sub_box}
+use Rattle.qc_model.specs.Domains.{Values, Box, box_values, is_none_left, is_single, has_empty, has_value, is_ascending, is_sub_box}
 use Rattle.qc_model.specs.Game.{before, is_of_scope}
 use Rattle.qc_model.proofs.Before.{before_up, before-zero}
 use Rattle.qc_model.proofs.Readable.{first, second}
 use Rattle.qc_model.specs.Valid.{IsValid}
 use Rattle.qc_arguments.specs.Asked.{is_box_of}
 use Rattle.qc_rules.proofs.SpanLaws.{variables_all}
-use Rattle.qc_cascade.proofs.Declared.{declared_is_full}
 use Rattle.proof_tree.specs.Place.{position, is_fixed}
 use Rattle.fd_store.specs.Held.{Follows, past_box}
 use Rattle.prop_base.proofs.Steps.{follows_more}
@@ -136,10 +135,10 @@ marked_on n b c m e f =
     }
 
 -- the first node
-pub entered_first : (g : Game) (b : Boxed) → IsValid g → b.game ≡ g → b.store.box ≡ declared_box g → IsEntered g 0 b
-entered_first g b v e f = record {
+pub entered_first : (g : Game) (b : Boxed) → b.game ≡ g → has_empty b.store.box ≡ false → IsEntered g 0 b
+entered_first g b e f = record {
   game = e;
-  full = declared_is_full g b.store.box v f;
+  full = f;
   fixed = ap (λ n. list_all is_single (take n b.store.box)) (before-zero g);
   stand = ap (λ n. take n b.values) (before-zero g) ∙ sym (ap (λ n. box_values (take n b.store.box)) (before-zero g));
 }

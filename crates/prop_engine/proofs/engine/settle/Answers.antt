@@ -24,6 +24,10 @@ loop-own-smaller g c =
     let a = subst (λ f. IsFound f ok c.args.problem.now c.next_change.new.list c.next_change.new.store.box c.loop-own.steps c.next_change.new.steps) c.in-Changed.is c.in_ok-next_change.ensures.answer in
     omega (arith, a.1, pruning_total ok c.args.problem.now _ _ _ _ c.next_change.ensures.pruning)
 
+pub wake_changed-requires-clause-declared : goal.wake_changed-requires-clause-declared
+wake_changed-requires-clause-declared g c =
+    pruning_sub (is_between c.args.span.first c.args.span.end) c.args.problem.now _ _ _ _ (declared_box c.args.problem.now) c.next_change.ensures.pruning c.loop-own.invariant.declared
+
 pub loop-own-preserved : goal.loop-own-preserved
 loop-own-preserved g c =
     let ok = is_between c.args.span.first c.args.span.end in
@@ -37,10 +41,11 @@ loop-own-preserved g c =
       pruning = pruning_more ok game _ _ _ _ _ _ c.loop-own.invariant.pruning c.next_change.ensures.pruning;
       declared = pruning_sub ok game _ _ _ _ (declared_box game) c.next_change.ensures.pruning c.loop-own.invariant.declared;
       full = a.0;
-      count = w.count ∙ c.next_change.ensures.count;
+      hints = w.hints;
+      count = w.count;
       waiting = w.waiting;
       inside = w.inside;
       kept = kept_woken ok game c.args.watches.now c.in-Changed.own c.next_change.new.list c.wake_changed.new.list c.next_change.new.store.box fresh c.requires.watches
           (λ k r o e u f. a.2 k r o e u (λ z x m. ap (λ l. names (changed_by l) x) (sym same) ∙ f z x m)) w.kept
-          (λ k x o z n m. w.marked k x o z (ap (λ l. names (changed_by l) x) slice ∙ n) m);
+          (λ k x o z n m. w.spared k x o z (ap (λ l. names (changed_by l) x) slice ∙ n) m);
     }

@@ -1,12 +1,13 @@
 use Rattle.std.proofs.Common.{◌≡◌, ℕ, ◌≤◌, ◌<◌, length, true}
 use Rattle.prop_engine.specs.Closing.{is_between}
-use Rattle.prop_engine.specs.Watching.{is_marked, MarkedWait, all_waiting}
+use Rattle.prop_engine.specs.Watching.{IsHintsOf, MarkedWait, all_waiting, IsSpared}
 use Rattle.prop_engine.proofs.waking.wake_span.Given as goal
 
 abbrev pub invariant-loop-k : goal.invariant-loop-k
 invariant-loop-k l = record {
   waiting : MarkedWait l.list;
   inside : all_waiting (is_between l.fn.span.first l.fn.span.end) l.list ≡ true;
-  count : length l.list.marks ≡ length l.initial.list.marks;
-  marked : (k : ℕ) → l.fn.span.first ≤ k → k < l.k → is_marked l.list k ≡ true;
+  hints : IsHintsOf l.problem l.hints;
+  count : length l.list.marks ≡ length l.problem.constraints;
+  spared : (k : ℕ) → l.fn.span.first ≤ k → k < l.k → IsSpared l.problem l.list l.store.box k;
 }

@@ -13,6 +13,7 @@ loop-c-preserved c =
       count = e.grown.count ∙ i.count;
       below = omega (arith, c.loop-c-test.true, c.constraints.ensures);
       watched = rules_more c.args.problem.now.constraints c.loop-c.c c.constraint.result.now c.loop-c.watches c.watch_rule.new.self e.grown c.constraint.ensures e.watched i.watched;
+      right = e.right i.right;
     }
 
 pub returns : goal.returns
@@ -21,4 +22,5 @@ returns c =
     record {
       count = i.count;
       watched = λ k r s. i.watched k r (omega (arith, below_all c.args.problem.now.constraints k r s, c.loop-c-test.false, c.constraints.ensures)) s;
+      right = i.right;
     }

@@ -1,11 +1,12 @@
 use Rattle.std.proofs.Common.{◌≡◌, take, true}
 use Rattle.std.specs.List.{list_all}
 use Rattle.qc_model.specs.Arguments.{arg_variables}
-use Rattle.prop_engine.specs.Watching.{HasGrown, is_watched}
+use Rattle.prop_engine.specs.Watching.{HasGrown, is_watched, AreRight}
 use Rattle.prop_engine.proofs.watching.Watches.watch_items.Given as goal
 
 abbrev pub invariant-loop-item : goal.invariant-loop-item
 invariant-loop-item l = record {
   grown : HasGrown l.initial.self l.self;
   watched : list_all (λ a. list_all (is_watched l.self l.c.0) (arg_variables a)) (take l.item-index l.items) ≡ true;
+  right : AreRight l.problem l.initial.self → AreRight l.problem l.self;
 }

@@ -1,15 +1,21 @@
-use Rattle.std.proofs.Common.{◌≡◌, true, subst}
+use Rattle.std.proofs.Common.{◌≡◌, ◌<◌, true, subst, length, get_or}
 use Rattle.std.specs.List.{list_all}
 use Rattle.qc_model.specs.Arguments.{argument_variables}
 use Rattle.prop_engine.specs.Watching.{is_watched}
 use Rattle.prop_engine.proofs.Watched.{grown_more, watched_more}
 use Rattle.prop_engine.proofs.watching.Watches.watch_rule.Goals as goal
 
-pub loop-argument-preserved : goal.loop-argument-preserved
-loop-argument-preserved c =
-    let i = c.loop-argument.invariant in
+pub loop-place-preserved : goal.loop-place-preserved
+loop-place-preserved c =
+    let i = c.loop-place.invariant in
     let e = c.in_ok-watch_argument.ensures in
+    let n = c.loop-place.place in
+    let d = c.index-args-place.result in
+    let item = subst (λ l. d ≡ get_or l n d) c.arguments-args.ensures c.index-args-place.is in
+    let below = subst (λ l. n < length l) c.arguments-args.ensures c.loop-place-test.true in
     record {
-      grown = grown_more c.args.self.now c.loop-argument.self c.watch_argument.new.self i.grown e.grown;
-      watched = watched_more argument_variables c.arguments-argument-items.result.now c.loop-argument.argument-index _ c.args.c.0 c.loop-argument.self c.watch_argument.new.self c.loop-argument-test.true e.grown i.watched (subst (λ a. list_all (is_watched c.watch_argument.new.self c.args.c.0) (argument_variables a) ≡ true) c.argument-item.is e.watched);
+      grown = grown_more c.args.self.now c.loop-place.self c.watch_argument.new.self i.grown e.grown;
+      watched = watched_more argument_variables c.args.rule.now.args n d c.args.c.0 c.loop-place.self c.watch_argument.new.self below e.grown i.watched
+          (subst (λ a. list_all (is_watched c.watch_argument.new.self c.args.c.0) (argument_variables a) ≡ true) item e.watched);
+      right = λ r. e.right (i.right r);
     }

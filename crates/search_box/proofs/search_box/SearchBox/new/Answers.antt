@@ -13,4 +13,4 @@ invariant_of-result c = record {
 }
 
 pub returns-clause-here : goal.returns-clause-here
-returns-clause-here c = entered_first c.args.problem.now _ c.known.ensures refl c.in_ok-store.ensures.0
+returns-clause-here c = entered_first c.args.problem.now _ refl c.in_ok-store.ensures.3
