@@ -62,20 +62,15 @@ one_fails text a b c held middle xs x rest all p q e =
     ∙ ap (λ (l : List ℕ). held ++ l) (sym (flat_map-append text xs (x ∷ rest)) ∙ ap (λ l. flat_map text l) e) in
     subst (AppendsPrefix a c) whole more
 
--- a head, lines, and the bytes that are held at the end, where none were held before
-pub all_written : (a b c d : Option (List ℕ)) (none held last head lines : List ℕ) → none ≡ [] → Moves a b held (none ++ head) → Moves b c last (held ++ lines) → Appends c d last → Appends a d (head ++ lines)
-all_written a b c d none held last head lines e p q r =
-    held_written a c d last (head ++ lines) (moves_then a b c head held lines last (subst (λ (l : List ℕ). Moves a b held (l ++ head)) e p) q) r
+-- a whole text, where none was held before
+pub all_written : (a b c : Option (List ℕ)) (none held all : List ℕ) → none ≡ [] → Moves a b held (none ++ all) → Appends b c held → Appends a c all
+all_written a b c none held all e p q = held_written a b c held all (subst (λ (l : List ℕ). Moves a b held (l ++ all)) e p) q
 
-pub head_fails : (a b : Option (List ℕ)) (none head lines : List ℕ) → none ≡ [] → AppendsPrefix a b (none ++ head) → AppendsPrefix a b (head ++ lines)
-head_fails a b none head lines e p = prefix_of a b head lines (subst (λ (l : List ℕ). AppendsPrefix a b (l ++ head)) e p)
+pub all_fails : (a b : Option (List ℕ)) (none all : List ℕ) → none ≡ [] → AppendsPrefix a b (none ++ all) → AppendsPrefix a b all
+all_fails a b none all e p = subst (λ (l : List ℕ). AppendsPrefix a b (l ++ all)) e p
 
-pub lines_fail : (a b c : Option (List ℕ)) (none held head lines : List ℕ) → none ≡ [] → Moves a b held (none ++ head) → AppendsPrefix b c (held ++ lines) → AppendsPrefix a c (head ++ lines)
-lines_fail a b c none held head lines e p q = prefix_then a b c head held lines (subst (λ (l : List ℕ). Moves a b held (l ++ head)) e p) q
-
-pub end_fails : (a b c d : Option (List ℕ)) (none held last head lines : List ℕ) → none ≡ [] → Moves a b held (none ++ head) → Moves b c last (held ++ lines) → AppendsPrefix c d last → AppendsPrefix a d (head ++ lines)
-end_fails a b c d none held last head lines e p q r =
-    held_fails a c d last (head ++ lines) (moves_then a b c head held lines last (subst (λ (l : List ℕ). Moves a b held (l ++ head)) e p) q) r
+pub end_fails : (a b c : Option (List ℕ)) (none held all : List ℕ) → none ≡ [] → Moves a b held (none ++ all) → AppendsPrefix b c held → AppendsPrefix a c all
+end_fails a b c none held all e p q = held_fails a b c held all (subst (λ (l : List ℕ). Moves a b held (l ++ all)) e p) q
 
 -- the same text said in another way
 pub moves_as : (a b : Option (List ℕ)) (held last x y : List ℕ) → x ≡ y → Moves a b last (held ++ x) → Moves a b last (held ++ y)

@@ -58,6 +58,10 @@ pub(crate) fn keep(wide: &mut Vec<Line>, line: &Line) -> Result<Short, AllocErro
 }
 
 /// The short line of the last wide one, which it appends.
+///
+/// There are places for 2^32 of them, and one more is refused as a page too large to be asked for would be. That is out of
+/// reach: they alone would fill some hundred milliards of bytes, and no line that speaks of a problem is wide, since its
+/// values lie between -10^9 and 10^9.
 #[inline(never)]
 fn widen(wide: &mut Vec<Line>, line: &Line) -> Result<Short, AllocError>
     ensures kept { IfOk result (λ s. (line_of wide.new.items s ≡ line.now) × (reach s ≤ length wide.new.items)) }

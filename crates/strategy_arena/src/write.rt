@@ -34,9 +34,26 @@ impl Arena {
         ensures cause { HasCause (K.faults sink.old) (K.faults sink.new) result }
     {
         let mut pieces = Pieces::new();
-        put_head(&mut pieces, sink, outcome, optimum)?;
-        self.put_lines(&mut pieces, sink)?;
+        self.put_text(outcome, optimum, &mut pieces, sink)?;
         pieces.finish(sink)
+    }
+
+    /// Puts that text behind the bytes that are held, for a text of which it is a part.
+    pub fn put_text<K: Sink>(
+        &self,
+        outcome: Outcome,
+        optimum: Option<i64>,
+        pieces: &mut Pieces,
+        sink: &mut K,
+    ) -> Result<(), WriteFault>
+        requires head { IsTrue (outcome_fits outcome optimum) }
+        requires lines { IsTrue (list_all line_fits self.now) }
+        ensures ok { OnOk result (Moves (K.written sink.old) (K.written sink.new) pieces.new (pieces.old ++ text_of_lines outcome optimum self.now)) }
+        ensures err { OnErr result (AppendsPrefix (K.written sink.old) (K.written sink.new) (pieces.old ++ text_of_lines outcome optimum self.now)) }
+        ensures cause { HasCause (K.faults sink.old) (K.faults sink.new) result }
+    {
+        put_head(pieces, sink, outcome, optimum)?;
+        self.put_lines(pieces, sink)
     }
 
     // Puts the lines behind the bytes that are held.
