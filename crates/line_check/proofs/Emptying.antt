@@ -1,25 +1,17 @@
 -- When a box has a variable with no value, and values in a range.
-use Rattle.std.proofs.Common.{◌≡◌, ℕ, zero, suc, ◌<◌, Bool, true, false, not, ◌&&◌, ◌||◌, cond, List, [], ◌∷◌, length, map, refl, sym, ap, ◌∙◌, arith, ℤ, Some, None}
+use Rattle.std.proofs.Common.{◌≡◌, ℕ, zero, suc, ◌<◌, Bool, true, false, not, ◌&&◌, ◌||◌, cond, List, [], ◌∷◌, length, refl, sym, ap, ◌∙◌, arith, ℤ, Some, None}
 use Rattle.std.specs.Prelude.{filter, int_le, int_lt, ◌≤ℤ◌, ◌<ℤ◌}
 use Rattle.std.specs.Ordering.{int_eq}
 use Rattle.std.specs.List.{list_all}
 use Rattle.std.proofs.lemmas.Int.{ints}
 use Rattle.std.proofs.lemmas.Bool.Decides.{Decides-int_eq}
-use Rattle.qc_model.specs.declared.problem.Variable.{Variable}
 use Rattle.qc_model.specs.Content.{Game}
-use Rattle.qc_model.specs.Domains.{Values, Box, domain_values, declared_box, values_left, values_within, values_outside, is_within, is_none_left, has_empty, box_without, least_from, least_value, greatest_value, has_value}
+use Rattle.qc_model.specs.Domains.{Values, Box, declared_box, values_left, values_within, values_outside, is_within, is_none_left, has_empty, box_without, least_from, least_value, greatest_value, has_value}
 use Rattle.qc_model.specs.Valid.{is_domain}
-use Rattle.qc_model.proofs.DomainValues.{domain_full}
-use Rattle.qc_model.proofs.Readable.{first, second}
 use Rattle.qc_arguments.proofs.Kept.{low_end, high_end}
 use Rattle.fd_store.specs.declared.answer.Removed.TheVariants.{Emptied}
 use Rattle.fd_store.specs.Held.{removal, values_from, least_of}
-
-none_empty : (xs : List Variable) → list_all (λ x. is_domain x.domain) xs ≡ true → has_empty (map (λ x. domain_values x.domain) xs) ≡ false
-none_empty [] e = refl
-none_empty (x ∷ xs) e =
-    ap (λ b. b || has_empty (map (λ y. domain_values y.domain) xs)) (domain_full x.domain (first (is_domain x.domain) (list_all (λ y. is_domain y.domain) xs) e))
-    ∙ none_empty xs (second (is_domain x.domain) (list_all (λ y. is_domain y.domain) xs) e)
+use Rattle.fd_store.proofs.FullDomains.{none_empty}
 
 pub declared_full : (g : Game) → list_all (λ x. is_domain x.domain) g.variables ≡ true → has_empty (declared_box g) ≡ false
 declared_full g e = none_empty g.variables e

@@ -21,6 +21,7 @@ pub mod Heights
 pub mod Onto
 pub mod Under
 pub mod LedgerSizes
+pub mod EndSizes
 pub mod Closes
 pub mod Placing
 pub mod Known
@@ -38,3 +39,4 @@ pub mod Passes
 pub mod SameTold
 pub mod Fresh
 pub mod Passed
+pub mod Bases

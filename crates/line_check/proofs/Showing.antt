@@ -30,7 +30,7 @@ bare_lost Exact w = refl
 bare_lost (AtMost n) w = refl
 bare_lost Unknown w = refl
 
-bare_unknown : (f : Found) (w : List ℤ) → is_unknown (verdict_of f w) ≡ is_unknown (verdict_of f [])
+pub bare_unknown : (f : Found) (w : List ℤ) → is_unknown (verdict_of f w) ≡ is_unknown (verdict_of f [])
 bare_unknown Lost w = refl
 bare_unknown Exact w = refl
 bare_unknown (AtMost n) w = refl
@@ -40,7 +40,7 @@ bare_unknown Unknown w = refl
 same_count : (a n : ℕ) → n < 2 ^ 64 - 1 → (a == n) ≡ (min a (2 ^ 64 - 1) == n)
 same_count a n h = grind (arith, nat_tests)
 
-three : (a a' b b' c c' : Bool) → a ≡ a' → b ≡ b' → c ≡ c' → (a && b && c) ≡ (a' && b' && c')
+pub three : (a a' b b' c c' : Bool) → a ≡ a' → b ≡ b' → c ≡ c' → (a && b && c) ≡ (a' && b' && c')
 three a a' b b' c c' e f k = rw (e, f, k) refl
 
 -- so few turns were taken that they can be counted

@@ -10,6 +10,7 @@ pub mod Ledger
 pub mod LedgerHeld
 pub mod Under
 pub mod LedgerSizes
+pub mod EndSizes
 pub mod Tracking
 pub mod Found
 pub mod Known

@@ -3,7 +3,7 @@ use Rattle.std.specs.Prelude.{◌≡◌, ◌<◌, ◌≤◌, ◌-◌, ℕ, suc, 
 use Rattle.std.specs.List.{list_all}
 use Rattle.qc_model.specs.declared.problem.VarId.{VarId}
 use Rattle.qc_model.specs.Content.{Game}
-use Rattle.qc_model.specs.Domains.{Box, Values, values_left, has_empty}
+use Rattle.qc_model.specs.Domains.{Box, Values, values_left, has_empty, declared_box}
 use Rattle.qc_model.specs.Game.{before}
 use Rattle.qc_model.specs.Valid.{is_number}
 use Rattle.qc_arguments.specs.Asked.{is_box_of}
@@ -14,6 +14,7 @@ use Rattle.line_check.specs.declared.open.Open.{Open}
 use Rattle.line_check.specs.declared.open.Open.TheVariants.{Next, Branch}
 use Rattle.line_check.specs.declared.open.Due.{Due}
 use Rattle.line_check.specs.declared.open.Due.TheVariants as due
+use Rattle.line_check.specs.declared.bounds.Bounds.{Bounds}
 use Rattle.line_check.specs.declared.machine.Machine.{Machine}
 use Rattle.line_check.specs.State.{Fork}
 use Rattle.line_check.specs.LedgerSizes.{VerdictLaws}
@@ -22,6 +23,29 @@ use Rattle.line_check.specs.Known.{mark_of, ReadBy, HasReads}
 
 abbrev pub game_of : Machine → Game
 game_of m = m.levels.problem.now
+
+-- what no line changes: the box at the beginning of the trail, and what else was made of the problem once
+pub record Base : Type 0 where
+  pub first : Box
+  pub bounds : Bounds
+  pub joined : Game
+  pub valued : Game
+  pub marks : ℕ
+
+abbrev pub base_of : Machine → Base
+base_of m = record { first = past_box m.remains 0; bounds = m.bounds; joined = game_joined m.joins; valued = m.values.game; marks = length m.reads.marks.items }
+
+-- it is that of the problem
+pub record IsBaseOf (g : Game) (b : Base) : Type 0 where
+  pub first : b.first ≡ declared_box g
+  pub tracks : TracksAll g b.bounds
+  pub joined : b.joined ≡ g
+  pub valued : b.valued ≡ g
+  pub marks : b.marks ≡ length g.variables
+
+-- the machine can begin again, whatever lines it took
+abbrev pub CanBegin : Machine → Type 0
+CanBegin m = IsBaseOf (game_of m) (base_of m)
 
 -- a branch: the box is the one to which undoing down to the mark leads, and the values from a number on are left
 abbrev pub fork_at : Held → VarId → Mark → ℤ → Fork

@@ -2,7 +2,7 @@
 ghost use Rattle.std.specs.Prelude.{◌≡◌, ◌+◌, ◌≤◌, ℕ, Some, IfOk, length, Option as Maybe};
 ghost use Rattle.line_check.specs.Ledger.{Ledger as Kept};
 ghost use Rattle.line_check.specs.LedgerHeld.{first_ledger, goes_through};
-ghost use Rattle.line_check.specs.Machine.{game_of, IsReady};
+ghost use Rattle.line_check.specs.Machine.{game_of, base_of, CanBegin, IsReady};
 ghost use Rattle.line_check.specs.Telling.{TellsAfter};
 
 use crate::bounds::Bounds;
@@ -25,6 +25,7 @@ impl<'p> Machine<'p> {
         ensures tells { IfOk result (λ m. TellsAfter 0 m (Some (first_ledger problem.now))) }
         ensures ready { IfOk result (λ m. IsReady m) }
         ensures same { IfOk result (λ m. game_of m ≡ problem.now) }
+        ensures begins { IfOk result (λ m. CanBegin m) }
     {
         problem.known();
         let levels = Levels::new(alloc, problem)?;
@@ -52,12 +53,35 @@ impl<'p> Machine<'p> {
         })
     }
 
+    /// Begins again, before the first line, whatever lines were taken. It takes no memory.
+    pub fn restart(&mut self)
+        requires begins { CanBegin self.old }
+        ensures tells { TellsAfter 0 self.new (Some (first_ledger (game_of self.old))) }
+        ensures ready { IsReady self.new }
+        ensures same { game_of self.new ≡ game_of self.old }
+        ensures base { base_of self.new ≡ base_of self.old }
+    {
+        self.levels.problem.known();
+        self.values.known();
+        self.nesting.clear();
+        self.remains.restart();
+        self.reads.clear();
+        self.due = Due::Node;
+        self.number = 0;
+        self.horizon = None;
+        self.found = Found::Unknown;
+        self.own = None;
+        self.turns = 0;
+        self.has_open = false;
+    }
+
     /// Takes the lines one after the other.
     pub fn lines(&mut self, lines: &[Line])
         requires ready { IsReady self.old }
         ensures tells { (n : ℕ) (p : Maybe Kept) → n + length lines.now ≤ 4294967296 → TellsAfter n self.old p → TellsAfter (n + length lines.now) self.new (goes_through (game_of self.old) p lines.now) }
         ensures ready { IsReady self.new }
         ensures same { game_of self.new ≡ game_of self.old }
+        ensures base { base_of self.new ≡ base_of self.old }
     {
         for line in lines {
             self.line(*line);

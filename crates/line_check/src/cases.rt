@@ -3,7 +3,7 @@ ghost use Rattle.std.specs.Prelude.{◌≡◌, ◌∷◌, ◌||◌, true};
 ghost use Rattle.line_check.specs.State.{may_take};
 ghost use Rattle.line_check.specs.Places.{rest};
 ghost use Rattle.line_check.specs.Ledger.{at_entry, ledger_case, ledger_fork};
-ghost use Rattle.line_check.specs.Machine.{game_of, fork_at, IsWithin, IsAtFork, IsReady};
+ghost use Rattle.line_check.specs.Machine.{game_of, base_of, fork_at, IsWithin, IsAtFork, IsReady};
 ghost use Rattle.line_check.specs.Telling.{PartTells, GoesInto, skips, takes};
 ghost use Rattle.line_check.specs.declared.open.Open.TheVariants as open_as;
 ghost use Rattle.proof_tree.specs.declared.line.Line.TheVariants as line_of;
@@ -31,6 +31,7 @@ impl<'p> Machine<'p> {
         ensures tells { PartTells self.old self.new (λ d. at_entry d.entries (λ b fs. skips d b fs upto is_open)) }
         ensures ready { IsReady self.new }
         ensures same { game_of self.new ≡ game_of self.old }
+        ensures base { base_of self.new ≡ base_of self.old }
     {
         match case_ends(self.remains.store(), x, from, upto) {
             None => self.due = Due::Wrong,
@@ -56,6 +57,7 @@ impl<'p> Machine<'p> {
         ensures into { result ≡ true → GoesInto self.old self.new (fork_at self.old.remains x mark from) upto }
         ensures within { result ≡ true → IsWithin self.new }
         ensures same { game_of self.new ≡ game_of self.old }
+        ensures base { base_of self.new ≡ base_of self.old }
     {
         let Some(ends) = case_ends(self.remains.store(), x, from, upto) else {
             return false;
@@ -83,6 +85,7 @@ impl<'p> Machine<'p> {
         ensures tells { PartTells self.old self.new (λ d. at_entry d.entries (λ b fs. takes (game_of self.old) d b fs upto line)) }
         ensures ready { IsReady self.new }
         ensures same { game_of self.new ≡ game_of self.old }
+        ensures base { base_of self.new ≡ base_of self.old }
     {
         if self.take_case(x, mark, from, upto) {
             self.at_end(line);
@@ -99,6 +102,7 @@ impl<'p> Machine<'p> {
         ensures tells { PartTells self.old self.new (λ d. at_entry d.entries (λ b fs. ledger_case (game_of self.old) d b fs upto line)) }
         ensures ready { IsReady self.new }
         ensures same { game_of self.new ≡ game_of self.old }
+        ensures base { base_of self.new ≡ base_of self.old }
     {
         match line {
             Line::Skip => self.skip_line(x, mark, from, upto, false),
@@ -124,6 +128,7 @@ impl<'p> Machine<'p> {
         ensures tells { PartTells self.old self.new (λ d. at_entry d.entries (λ b fs. ledger_fork (game_of self.old) d b fs line_of.Dot)) }
         ensures ready { IsReady self.new }
         ensures same { game_of self.new ≡ game_of self.old }
+        ensures base { base_of self.new ≡ base_of self.old }
     {
         let _ = mark;
         if self.remains.store().next(x, from).is_some() {
@@ -142,6 +147,7 @@ impl<'p> Machine<'p> {
         ensures tells { PartTells self.old self.new (λ d. at_entry d.entries (λ b fs. ledger_fork (game_of self.old) d b fs line)) }
         ensures ready { IsReady self.new }
         ensures same { game_of self.new ≡ game_of self.old }
+        ensures base { base_of self.new ≡ base_of self.old }
     {
         match line {
             Line::Dot => self.dot_line(x, mark, from),

@@ -4,7 +4,7 @@ ghost use Rattle.qc_model.specs.Game.{before};
 ghost use Rattle.qc_model.specs.Verdict.{Verdict, Seen};
 ghost use Rattle.line_check.specs.Places.{rest};
 ghost use Rattle.line_check.specs.Ledger.{Ledger as Kept, Entry};
-ghost use Rattle.line_check.specs.Machine.{game_of, IsSound, IsWithin, IsReady};
+ghost use Rattle.line_check.specs.Machine.{game_of, base_of, IsSound, IsWithin, IsReady};
 ghost use Rattle.line_check.specs.Telling.{IsPartEnd, IsNodeEnd, IsLeft, part_ended, node_ended, scope_ended, Tells};
 ghost use Rattle.line_check.specs.declared.open.Open.TheVariants as open_as;
 ghost use Rattle.line_check.specs.declared.open.Due.TheVariants as due_of;
@@ -36,6 +36,7 @@ impl<'p> Machine<'p> {
         ensures tells { (n : ℕ) (d : Kept) (es : List Entry) (xs : List Seen) → IsPartEnd n self.old d es xs → Tells self.new (Some (part_ended self.old d es xs)) }
         ensures ready { IsReady self.new }
         ensures same { game_of self.new ≡ game_of self.old }
+        ensures base { base_of self.new ≡ base_of self.old }
         ensures nesting { self.new.nesting ≡ self.old.nesting }
     {
         let _ = x;
@@ -51,6 +52,7 @@ impl<'p> Machine<'p> {
         ensures tells { (n : ℕ) (d : Kept) (es : List Entry) (xs : List Seen) → IsPartEnd n self.old d es xs → Tells self.new (Some (scope_ended self.old d es xs)) }
         ensures ready { IsReady self.new }
         ensures same { game_of self.new ≡ game_of self.old }
+        ensures base { base_of self.new ≡ base_of self.old }
         ensures nesting { self.new.nesting ≡ self.old.nesting }
     {
         let count = self.count_before();
@@ -67,6 +69,7 @@ impl<'p> Machine<'p> {
         ensures tells { (n : ℕ) (d : Kept) (es : List Entry) (xs : List Seen) → IsPartEnd n self.old d es xs → Tells self.new (Some (part_ended self.old d es xs)) }
         ensures ready { IsReady self.new }
         ensures same { game_of self.new ≡ game_of self.old }
+        ensures base { base_of self.new ≡ base_of self.old }
         ensures nesting { self.new.nesting ≡ self.old.nesting }
     {
         match self.nesting.top() {
@@ -85,6 +88,7 @@ impl<'p> Machine<'p> {
         ensures nesting { self.new.nesting ≡ rest self.old.nesting }
         ensures within { IsWithin self.new }
         ensures same { game_of self.new ≡ game_of self.old }
+        ensures base { base_of self.new ≡ base_of self.old }
     {
         leaves_fit();
         self.nesting.pop();
@@ -100,6 +104,7 @@ impl<'p> Machine<'p> {
         ensures tells { (n : ℕ) (d : Kept) (es : List Entry) (v : Verdict) → IsNodeEnd n self.old d es v → Tells self.new (Some (node_ended self.old d es v)) }
         ensures ready { IsReady self.new }
         ensures same { game_of self.new ≡ game_of self.old }
+        ensures base { base_of self.new ≡ base_of self.old }
         ensures nesting { self.new.nesting ≡ self.old.nesting }
         ensures closed { self.new.due ≡ due_of.Closed }
     {
@@ -114,6 +119,7 @@ impl<'p> Machine<'p> {
         ensures tells { (n : ℕ) (d : Kept) (es : List Entry) (v : Verdict) → IsNodeEnd n self.old d es v → Tells self.new (Some (node_ended self.old d es v)) }
         ensures ready { IsReady self.new }
         ensures same { game_of self.new ≡ game_of self.old }
+        ensures base { base_of self.new ≡ base_of self.old }
         ensures fewer { self.new.due ≡ due_of.Closed → length self.new.nesting < length self.old.nesting }
     {
         match self.nesting.top() {
@@ -151,6 +157,7 @@ impl<'p> Machine<'p> {
         ensures tells { (p : Maybe Kept) → Tells self.old p → Tells self.new p }
         ensures ready { IsReady self.new }
         ensures same { game_of self.new ≡ game_of self.old }
+        ensures base { base_of self.new ≡ base_of self.old }
         ensures fewer { self.new.due ≡ due_of.Closed → length self.new.nesting < length self.old.nesting }
     {
         self.go_up();
@@ -163,6 +170,7 @@ impl<'p> Machine<'p> {
         ensures tells { (p : Maybe Kept) → Tells self.old p → Tells self.new p }
         ensures ready { IsReady self.new }
         ensures same { game_of self.new ≡ game_of self.old }
+        ensures base { base_of self.new ≡ base_of self.old }
         ensures open { self.new.due ≡ due_of.Closed → ⊥ }
     {
         while self.is_closed() {

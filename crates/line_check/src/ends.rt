@@ -2,7 +2,7 @@
 ghost use Rattle.std.specs.Prelude.{◌≡◌};
 ghost use Rattle.line_check.specs.Ledger.{ledger_end};
 ghost use Rattle.line_check.specs.State.{may_branch};
-ghost use Rattle.line_check.specs.Machine.{game_of, IsWithin, IsReady};
+ghost use Rattle.line_check.specs.Machine.{game_of, base_of, IsWithin, IsReady};
 ghost use Rattle.line_check.specs.Telling.{PartTells};
 ghost use Rattle.proof_tree.specs.declared.line.Line.TheVariants as line_of;
 
@@ -23,6 +23,7 @@ impl<'p> Machine<'p> {
         ensures tells { PartTells self.old self.new (λ d. ledger_end (game_of self.old) d line_of.Empty) }
         ensures ready { IsReady self.new }
         ensures same { game_of self.new ≡ game_of self.old }
+        ensures base { base_of self.new ≡ base_of self.old }
     {
         if !self.remains.is_empty() {
             self.due = Due::Wrong;
@@ -37,6 +38,7 @@ impl<'p> Machine<'p> {
         ensures tells { PartTells self.old self.new (λ d. ledger_end (game_of self.old) d line_of.Barred) }
         ensures ready { IsReady self.new }
         ensures same { game_of self.new ≡ game_of self.old }
+        ensures base { base_of self.new ≡ base_of self.old }
     {
         let level = self.levels.level(ScopeId(self.number));
         let found = tuple_allowed(level, &self.remains, &mut self.values, &mut self.reads);
@@ -54,6 +56,7 @@ impl<'p> Machine<'p> {
         ensures tells { PartTells self.old self.new (λ d. ledger_end (game_of self.old) d line_of.Next) }
         ensures ready { IsReady self.new }
         ensures same { game_of self.new ≡ game_of self.old }
+        ensures base { base_of self.new ≡ base_of self.old }
     {
         self.levels.problem.known();
         let level = self.levels.level(ScopeId(self.number));
@@ -98,6 +101,7 @@ impl<'p> Machine<'p> {
         ensures tells { PartTells self.old self.new (λ d. ledger_end (game_of self.old) d (line_of.Branch x)) }
         ensures ready { IsReady self.new }
         ensures same { game_of self.new ≡ game_of self.old }
+        ensures base { base_of self.new ≡ base_of self.old }
     {
         self.levels.problem.known();
         if !self.may_branch_on(x) {
@@ -127,6 +131,7 @@ impl<'p> Machine<'p> {
         ensures tells { PartTells self.old self.new (λ d. ledger_end (game_of self.old) d (line_of.Prune x lo hi c)) }
         ensures ready { IsReady self.new }
         ensures same { game_of self.new ≡ game_of self.old }
+        ensures base { base_of self.new ≡ base_of self.old }
     {
         let span = self.levels.level(ScopeId(self.number)).in_force;
         if prune(self.levels.problem, &mut self.remains, span, x, lo, hi, c) {
@@ -142,6 +147,7 @@ impl<'p> Machine<'p> {
         ensures tells { PartTells self.old self.new (λ d. ledger_end (game_of self.old) d (line_of.Bound x lo hi)) }
         ensures ready { IsReady self.new }
         ensures same { game_of self.new ≡ game_of self.old }
+        ensures base { base_of self.new ≡ base_of self.old }
     {
         match self
             .bounds
@@ -162,6 +168,7 @@ impl<'p> Machine<'p> {
         ensures tells { PartTells self.old self.new (λ d. ledger_end (game_of self.old) d line) }
         ensures ready { IsReady self.new }
         ensures same { game_of self.new ≡ game_of self.old }
+        ensures base { base_of self.new ≡ base_of self.old }
     {
         match line {
             Line::Prune { x, lo, hi, c } => self.prune_line(x, lo, hi, c),

@@ -4,7 +4,7 @@
 //! what is done in each is laid out for its one kind.
 ghost use Rattle.std.specs.Prelude.{◌≡◌};
 ghost use Rattle.line_check.specs.Ledger.{at_entry, ledger_end, ledger_fork, ledger_node};
-ghost use Rattle.line_check.specs.Machine.{game_of, IsAtFork, IsAtNode, IsReady, IsWithin};
+ghost use Rattle.line_check.specs.Machine.{game_of, base_of, IsAtFork, IsAtNode, IsReady, IsWithin};
 ghost use Rattle.line_check.specs.Telling.{NodeTells, PartTells};
 ghost use Rattle.proof_tree.specs.declared.line.Line.TheVariants as line_of;
 
@@ -20,6 +20,7 @@ impl<'p> Machine<'p> {
         ensures tells { PartTells self.old self.new (λ d. at_entry d.entries (λ b fs. ledger_fork (game_of self.old) d b fs line_of.Dot)) }
         ensures ready { IsReady self.new }
         ensures same { game_of self.new ≡ game_of self.old }
+        ensures base { base_of self.new ≡ base_of self.old }
     {
         self.at_top(Line::Dot);
     }
@@ -31,6 +32,7 @@ impl<'p> Machine<'p> {
         ensures tells { PartTells self.old self.new (λ d. at_entry d.entries (λ b fs. ledger_fork (game_of self.old) d b fs line_of.Skip)) }
         ensures ready { IsReady self.new }
         ensures same { game_of self.new ≡ game_of self.old }
+        ensures base { base_of self.new ≡ base_of self.old }
     {
         self.at_top(Line::Skip);
     }
@@ -42,6 +44,7 @@ impl<'p> Machine<'p> {
         ensures tells { PartTells self.old self.new (λ d. at_entry d.entries (λ b fs. ledger_fork (game_of self.old) d b fs line_of.Next)) }
         ensures ready { IsReady self.new }
         ensures same { game_of self.new ≡ game_of self.old }
+        ensures base { base_of self.new ≡ base_of self.old }
     {
         self.at_top(Line::Next);
     }
@@ -53,6 +56,7 @@ impl<'p> Machine<'p> {
         ensures tells { PartTells self.old self.new (λ d. at_entry d.entries (λ b fs. ledger_fork (game_of self.old) d b fs (line_of.Branch x))) }
         ensures ready { IsReady self.new }
         ensures same { game_of self.new ≡ game_of self.old }
+        ensures base { base_of self.new ≡ base_of self.old }
     {
         self.at_top(Line::Branch { x });
     }
@@ -64,6 +68,7 @@ impl<'p> Machine<'p> {
         ensures tells { PartTells self.old self.new (λ d. at_entry d.entries (λ b fs. ledger_fork (game_of self.old) d b fs (line_of.Prune x lo hi c))) }
         ensures ready { IsReady self.new }
         ensures same { game_of self.new ≡ game_of self.old }
+        ensures base { base_of self.new ≡ base_of self.old }
     {
         self.at_top(Line::Prune { x, lo, hi, c });
     }
@@ -75,6 +80,7 @@ impl<'p> Machine<'p> {
         ensures tells { NodeTells self.old self.new (λ d. ledger_node (game_of self.old) d (line_of.Branch x)) }
         ensures ready { IsReady self.new }
         ensures same { game_of self.new ≡ game_of self.old }
+        ensures base { base_of self.new ≡ base_of self.old }
     {
         self.at_node(Line::Branch { x });
     }
@@ -86,6 +92,7 @@ impl<'p> Machine<'p> {
         ensures tells { NodeTells self.old self.new (λ d. ledger_node (game_of self.old) d (line_of.Prune x lo hi c)) }
         ensures ready { IsReady self.new }
         ensures same { game_of self.new ≡ game_of self.old }
+        ensures base { base_of self.new ≡ base_of self.old }
     {
         self.at_node(Line::Prune { x, lo, hi, c });
     }
@@ -97,6 +104,7 @@ impl<'p> Machine<'p> {
         ensures tells { PartTells self.old self.new (λ d. ledger_end (game_of self.old) d line_of.Next) }
         ensures ready { IsReady self.new }
         ensures same { game_of self.new ≡ game_of self.old }
+        ensures base { base_of self.new ≡ base_of self.old }
     {
         self.at_end(Line::Next);
     }
@@ -108,6 +116,7 @@ impl<'p> Machine<'p> {
         ensures tells { PartTells self.old self.new (λ d. ledger_end (game_of self.old) d (line_of.Branch x)) }
         ensures ready { IsReady self.new }
         ensures same { game_of self.new ≡ game_of self.old }
+        ensures base { base_of self.new ≡ base_of self.old }
     {
         self.at_end(Line::Branch { x });
     }
@@ -119,6 +128,7 @@ impl<'p> Machine<'p> {
         ensures tells { PartTells self.old self.new (λ d. ledger_end (game_of self.old) d (line_of.Prune x lo hi c)) }
         ensures ready { IsReady self.new }
         ensures same { game_of self.new ≡ game_of self.old }
+        ensures base { base_of self.new ≡ base_of self.old }
     {
         self.at_end(Line::Prune { x, lo, hi, c });
     }

@@ -1,5 +1,5 @@
 //! Of every game: a ledger that keeps all that was seen says what the definitions say of the tree.
-ghost use Rattle.std.specs.Prelude.{◌≡◌, ◌≤◌, ℕ, suc, true, List, Some};
+ghost use Rattle.std.specs.Prelude.{◌≡◌, ◌≤◌, ◌+◌, ℕ, suc, true, List, length, Some, Option as Maybe};
 ghost use Rattle.qc_model.specs.Content.{Game};
 ghost use Rattle.qc_model.specs.Valid.{IsValid};
 ghost use Rattle.proof_tree.specs.Tree.{Tree};
@@ -11,6 +11,7 @@ ghost use Rattle.line_check.specs.Awaited.{none_awaited};
 ghost use Rattle.line_check.specs.Ledger.{Ledger as Kept, goes};
 ghost use Rattle.line_check.specs.LedgerHeld.{first_ledger, goes_through, TellsTree};
 ghost use Rattle.line_check.specs.LedgerSizes.{KeepsSizes, KeepsSizesAt};
+ghost use Rattle.line_check.specs.EndSizes.{ends_after, EndsSoFar, EndsAt};
 
 /// In every game, with conditions and aggregates too: the lines of a tree that has each in place and nests at most 1,000
 /// deep lead to a ledger that tells the tree's verdict, and the value of the first scope's own condition; and only such
@@ -25,4 +26,12 @@ pub fn ledgers_are_right()
 pub fn ledgers_keep_sizes()
     ensures first { (g : Game) → IsValid g → KeepsSizes g 0 (first_ledger g) }
     ensures lines { (g : Game) → IsValid g → (n : ℕ) (d : Kept) (l : OneLine) → KeepsSizes g n d → KeepsSizesAt g (suc n) (goes g (Some d) l) }
+{}
+
+/// By the ends so far, and not by all lines: in a valid game each brings a value of a variable at most. So what a ledger keeps
+/// is as small as that many values make it, and one more for each open scope.
+pub fn ledgers_keep_ends()
+    ensures first { (g : Game) → EndsSoFar g 0 (first_ledger g) }
+    ensures lines { (g : Game) → IsValid g → (n e : ℕ) (p : Maybe Kept) (l : OneLine) → KeepsSizesAt g n p → EndsAt g e p → EndsAt g (ends_after e l) (goes g p l) }
+    ensures sizes { (g : Game) (n e m : ℕ) (p : Maybe Kept) → e + length g.scopes ≤ m → KeepsSizesAt g n p → EndsAt g e p → KeepsSizesAt g m p }
 {}

@@ -32,7 +32,7 @@ pub use answer::Answer;
 pub use cover::{Ends, case_ends};
 pub use judge::judge_lines;
 pub use laws::answers_are_right;
-pub use ledgers::{ledgers_are_right, ledgers_keep_sizes};
+pub use ledgers::{ledgers_are_right, ledgers_keep_ends, ledgers_keep_sizes};
 pub use machine::Machine;
 pub use passing::{NodeDue, NodeEnded};
 pub use qc_levels::Found;

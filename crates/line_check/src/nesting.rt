@@ -68,6 +68,13 @@ impl Nesting {
         Ok(Nesting { places, depth: 0 })
     }
 
+    /// Closes all that is open.
+    pub(crate) fn clear(&mut self)
+        ensures { self.new ≡ [] }
+    {
+        self.depth = 0;
+    }
+
     pub(crate) fn has_room(&self) -> bool
         ensures { result ≡ nat_lt (length self.now) 1000 }
     {

@@ -4,7 +4,7 @@ ghost use Rattle.fd_store.specs.Held.{past_box};
 ghost use Rattle.proof_tree.specs.InPlace.{is_horizon};
 ghost use Rattle.line_check.specs.State.{may_see};
 ghost use Rattle.line_check.specs.Ledger.{place_at, begins, ledger_body, ledger_node, ledger_prune};
-ghost use Rattle.line_check.specs.Machine.{game_of, IsAtNode, IsSeeing, IsReady};
+ghost use Rattle.line_check.specs.Machine.{game_of, base_of, IsAtNode, IsSeeing, IsReady};
 ghost use Rattle.line_check.specs.Telling.{NodeTells, stuck_ended};
 ghost use Rattle.proof_tree.specs.declared.line.Line.TheVariants as line_of;
 
@@ -42,6 +42,7 @@ impl<'p> Machine<'p> {
         ensures tells { NodeTells self.old self.new (λ d. Some (stuck_ended (game_of self.old) d)) }
         ensures ready { IsReady self.new }
         ensures same { game_of self.new ≡ game_of self.old }
+        ensures base { base_of self.new ≡ base_of self.old }
     {
         let count = self.count_before();
         self.found = self
@@ -58,6 +59,7 @@ impl<'p> Machine<'p> {
         ensures tells { NodeTells self.old self.new (λ d. Some (stuck_ended (game_of self.old) d)) }
         ensures ready { IsReady self.new }
         ensures same { game_of self.new ≡ game_of self.old }
+        ensures base { base_of self.new ≡ base_of self.old }
     {
         self.found = Found::Lost;
         self.own = None;
@@ -69,6 +71,7 @@ impl<'p> Machine<'p> {
         ensures tells { NodeTells self.old self.new (λ d. ledger_body (game_of self.old) d line_of.Stuck) }
         ensures ready { IsReady self.new }
         ensures same { game_of self.new ≡ game_of self.old }
+        ensures base { base_of self.new ≡ base_of self.old }
     {
         if !self.is_at_horizon() {
             self.due = Due::Wrong;
@@ -87,6 +90,7 @@ impl<'p> Machine<'p> {
         ensures tells { NodeTells self.old self.new (λ d. ledger_body (game_of self.old) d line_of.Goal) }
         ensures ready { IsReady self.new }
         ensures same { game_of self.new ≡ game_of self.old }
+        ensures base { base_of self.new ≡ base_of self.old }
     {
         if self.is_at_horizon() {
             self.due = Due::Wrong;
@@ -109,6 +113,7 @@ impl<'p> Machine<'p> {
         ensures tells { NodeTells self.old self.new (λ d. begins (game_of self.old) d line) }
         ensures ready { IsReady self.new }
         ensures same { game_of self.new ≡ game_of self.old }
+        ensures base { base_of self.new ≡ base_of self.old }
     {
         if self.is_at_horizon() {
             self.due = Due::Wrong;
@@ -129,6 +134,7 @@ impl<'p> Machine<'p> {
         ensures tells { NodeTells self.old self.new (λ d. ledger_body (game_of self.old) d line) }
         ensures ready { IsReady self.new }
         ensures same { game_of self.new ≡ game_of self.old }
+        ensures base { base_of self.new ≡ base_of self.old }
     {
         match line {
             Line::Stuck => self.stuck_line(),
@@ -172,6 +178,7 @@ impl<'p> Machine<'p> {
         ensures tells { NodeTells self.old self.new (λ d. ledger_node (game_of self.old) d (line_of.Horizon k)) }
         ensures ready { IsReady self.new }
         ensures same { game_of self.new ≡ game_of self.old }
+        ensures base { base_of self.new ≡ base_of self.old }
     {
         if k == 0 {
             self.due = Due::Wrong;
@@ -192,6 +199,7 @@ impl<'p> Machine<'p> {
         ensures tells { NodeTells self.old self.new (λ d. ledger_node (game_of self.old) d line) }
         ensures ready { IsReady self.new }
         ensures same { game_of self.new ≡ game_of self.old }
+        ensures base { base_of self.new ≡ base_of self.old }
     {
         match line {
             Line::Horizon { k } => self.horizon_line(k),
@@ -216,6 +224,7 @@ impl<'p> Machine<'p> {
         ensures tells { NodeTells self.old self.new (λ d. ledger_prune (game_of self.old) d k (past_box self.old.remains mark.at) (line_of.Prune x lo hi c)) }
         ensures ready { IsReady self.new }
         ensures same { game_of self.new ≡ game_of self.old }
+        ensures base { base_of self.new ≡ base_of self.old }
     {
         let span = self
             .levels
@@ -233,6 +242,7 @@ impl<'p> Machine<'p> {
         ensures tells { NodeTells self.old self.new (λ d. ledger_prune (game_of self.old) d k (past_box self.old.remains mark.at) line_of.Dot) }
         ensures ready { IsReady self.new }
         ensures same { game_of self.new ≡ game_of self.old }
+        ensures base { base_of self.new ≡ base_of self.old }
     {
         if !self.remains.is_empty() {
             self.due = Due::Wrong;
@@ -250,6 +260,7 @@ impl<'p> Machine<'p> {
         ensures tells { NodeTells self.old self.new (λ d. ledger_prune (game_of self.old) d k (past_box self.old.remains mark.at) line) }
         ensures ready { IsReady self.new }
         ensures same { game_of self.new ≡ game_of self.old }
+        ensures base { base_of self.new ≡ base_of self.old }
     {
         match line {
             Line::Prune { x, lo, hi, c } => self.seen_line(k, mark, x, lo, hi, c),

@@ -7,7 +7,7 @@ ghost use Rattle.proof_tree.specs.Lines.{tree_lines};
 ghost use Rattle.proof_tree.specs.Tree.{Tree};
 ghost use Rattle.line_check.specs.Ledger.{Ledger as Kept};
 ghost use Rattle.line_check.specs.LedgerHeld.{goes_through};
-ghost use Rattle.line_check.specs.Machine.{game_of, IsReady};
+ghost use Rattle.line_check.specs.Machine.{game_of, base_of, IsReady};
 ghost use Rattle.line_check.specs.Passed.{DueTold, EndedTold, HasEndedIn, IsDueIn, IsPassed};
 ghost use Rattle.line_check.specs.Telling.{Tells, TellsAfter};
 ghost use Rattle.line_check.specs.declared.open.Due.TheVariants as due_of;
@@ -151,6 +151,7 @@ impl<'p> Machine<'p> {
         ensures tells { (n : ℕ) (p : Maybe Kept) (d : Kept) (t : Tree) → n < 4294967296 → TellsAfter n self.old p → p ≡ Some d → IsPassed (game_of self.old) d t won turns → TellsAfter (n + length (tree_lines t)) self.new (goes_through (game_of self.old) p (tree_lines t)) }
         ensures ready { IsReady self.new }
         ensures same { game_of self.new ≡ game_of self.old }
+        ensures base { base_of self.new ≡ base_of self.old }
         ensures closed { self.new.due ≡ due_of.Closed }
     {
         self.turns = self.turns.saturating_add(turns);

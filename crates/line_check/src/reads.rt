@@ -30,6 +30,14 @@ impl Reads {
         Ok(Reads { marks, count: 0 })
     }
 
+    /// Gives up all that was read.
+    pub(crate) fn clear(&mut self)
+        ensures none { self.new.count ≡ 0 }
+        ensures marks { self.new.marks ≡ self.old.marks }
+    {
+        self.count = 0;
+    }
+
     /// The trail has been undone down to the mark: gives up what was read since.
     #[inline(always)]
     pub(crate) fn back_to(&mut self, mark: Mark)

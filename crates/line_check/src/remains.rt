@@ -209,4 +209,13 @@ impl Remains {
         self.store.undo_to(mark);
         self.empty = false;
     }
+
+    /// Goes back to the box before the first removal, in which each variable had a value.
+    pub fn restart(&mut self)
+        requires full { has_empty (past_box self.old 0) ≡ false }
+        ensures past { IsUndone 0 self.old self.new }
+        ensures content { self.new.box ≡ past_box self.old 0 }
+    {
+        self.undo_to(Mark { at: 0 });
+    }
 }

@@ -2,7 +2,7 @@
 ghost use Rattle.std.specs.Prelude.{◌≡◌, ◌<◌, ℕ, suc, Option as Maybe};
 ghost use Rattle.line_check.specs.Ledger.{Ledger as Kept, goes};
 ghost use Rattle.line_check.specs.Found.{Answers};
-ghost use Rattle.line_check.specs.Machine.{game_of, IsReady, IsAtFork};
+ghost use Rattle.line_check.specs.Machine.{game_of, base_of, IsReady, IsAtFork};
 ghost use Rattle.line_check.specs.Telling.{PartTells, Tells, TellsAfter};
 ghost use Rattle.line_check.specs.Ledger.{at_entry, ledger_fork, ledger_case};
 ghost use Rattle.line_check.specs.declared.open.Due.TheVariants as due_of;
@@ -22,6 +22,7 @@ impl<'p> Machine<'p> {
         ensures tells { PartTells self.old self.new (λ d. at_entry d.entries (λ b fs. ledger_fork (game_of self.old) d b fs line)) }
         ensures ready { IsReady self.new }
         ensures same { game_of self.new ≡ game_of self.old }
+        ensures base { base_of self.new ≡ base_of self.old }
     {
         match self.nesting.top() {
             Some(Open::Branch { x, mark, from }) => self.at_fork(x, mark, from, line),
@@ -36,6 +37,7 @@ impl<'p> Machine<'p> {
         ensures tells { PartTells self.old self.new (λ d. at_entry d.entries (λ b fs. ledger_case (game_of self.old) d b fs (Some high) line)) }
         ensures ready { IsReady self.new }
         ensures same { game_of self.new ≡ game_of self.old }
+        ensures base { base_of self.new ≡ base_of self.old }
     {
         match self.nesting.top() {
             Some(Open::Branch { x, mark, from }) => self.at_case(x, mark, from, Some(high), line),
@@ -51,6 +53,7 @@ impl<'p> Machine<'p> {
         ensures tells { (n : ℕ) (p : Maybe Kept) → n < 4294967296 → TellsAfter n self.old p → TellsAfter (suc n) self.new (goes (game_of self.old) p line) }
         ensures ready { IsReady self.new }
         ensures same { game_of self.new ≡ game_of self.old }
+        ensures base { base_of self.new ≡ base_of self.old }
     {
         match self.due {
             Due::Node => self.at_node(line),
@@ -72,6 +75,7 @@ impl<'p> Machine<'p> {
         ensures tells { (n : ℕ) (p : Maybe Kept) → n < 4294967296 → TellsAfter n self.old p → TellsAfter (suc n) self.new (goes (game_of self.old) p line) }
         ensures ready { IsReady self.new }
         ensures same { game_of self.new ≡ game_of self.old }
+        ensures base { base_of self.new ≡ base_of self.old }
     {
         self.settle();
         self.open_line(line);
@@ -84,6 +88,7 @@ impl<'p> Machine<'p> {
         ensures tells { (n : ℕ) (p : Maybe Kept) → n < 4294967296 → TellsAfter n self.old p → TellsAfter (suc n) self.new (goes (game_of self.old) p line) }
         ensures ready { IsReady self.new }
         ensures same { game_of self.new ≡ game_of self.old }
+        ensures base { base_of self.new ≡ base_of self.old }
     {
         self.any_line(line);
     }
@@ -95,6 +100,7 @@ impl<'p> Machine<'p> {
         ensures tells { (n : ℕ) (p : Maybe Kept) → n < 4294967296 → TellsAfter n self.old p → TellsAfter (suc n) self.new (goes (game_of self.old) p line_of.Dot) }
         ensures ready { IsReady self.new }
         ensures same { game_of self.new ≡ game_of self.old }
+        ensures base { base_of self.new ≡ base_of self.old }
     {
         match self.due {
             Due::Case => self.fork_dot(),
@@ -109,6 +115,7 @@ impl<'p> Machine<'p> {
         ensures tells { (n : ℕ) (p : Maybe Kept) → n < 4294967296 → TellsAfter n self.old p → TellsAfter (suc n) self.new (goes (game_of self.old) p line_of.Skip) }
         ensures ready { IsReady self.new }
         ensures same { game_of self.new ≡ game_of self.old }
+        ensures base { base_of self.new ≡ base_of self.old }
     {
         match self.due {
             Due::Case => self.fork_skip(),
@@ -123,6 +130,7 @@ impl<'p> Machine<'p> {
         ensures tells { (n : ℕ) (p : Maybe Kept) → n < 4294967296 → TellsAfter n self.old p → TellsAfter (suc n) self.new (goes (game_of self.old) p line_of.Next) }
         ensures ready { IsReady self.new }
         ensures same { game_of self.new ≡ game_of self.old }
+        ensures base { base_of self.new ≡ base_of self.old }
     {
         match self.due {
             Due::Case => self.fork_next(),
@@ -138,6 +146,7 @@ impl<'p> Machine<'p> {
         ensures tells { (n : ℕ) (p : Maybe Kept) → n < 4294967296 → TellsAfter n self.old p → TellsAfter (suc n) self.new (goes (game_of self.old) p line_of.Goal) }
         ensures ready { IsReady self.new }
         ensures same { game_of self.new ≡ game_of self.old }
+        ensures base { base_of self.new ≡ base_of self.old }
     {
         match self.due {
             Due::Node => self.goal_line(),
@@ -152,6 +161,7 @@ impl<'p> Machine<'p> {
         ensures tells { (n : ℕ) (p : Maybe Kept) → n < 4294967296 → TellsAfter n self.old p → TellsAfter (suc n) self.new (goes (game_of self.old) p line_of.Empty) }
         ensures ready { IsReady self.new }
         ensures same { game_of self.new ≡ game_of self.old }
+        ensures base { base_of self.new ≡ base_of self.old }
     {
         match self.due {
             Due::Part => self.empty_line(),
@@ -166,6 +176,7 @@ impl<'p> Machine<'p> {
         ensures tells { (n : ℕ) (p : Maybe Kept) → n < 4294967296 → TellsAfter n self.old p → TellsAfter (suc n) self.new (goes (game_of self.old) p line_of.Barred) }
         ensures ready { IsReady self.new }
         ensures same { game_of self.new ≡ game_of self.old }
+        ensures base { base_of self.new ≡ base_of self.old }
     {
         match self.due {
             Due::Part => self.barred_line(),
@@ -180,6 +191,7 @@ impl<'p> Machine<'p> {
         ensures tells { (n : ℕ) (p : Maybe Kept) → n < 4294967296 → TellsAfter n self.old p → TellsAfter (suc n) self.new (goes (game_of self.old) p (line_of.Branch x)) }
         ensures ready { IsReady self.new }
         ensures same { game_of self.new ≡ game_of self.old }
+        ensures base { base_of self.new ≡ base_of self.old }
     {
         match self.due {
             Due::Case => self.fork_branch(x),
@@ -196,6 +208,7 @@ impl<'p> Machine<'p> {
         ensures tells { (n : ℕ) (p : Maybe Kept) → n < 4294967296 → TellsAfter n self.old p → TellsAfter (suc n) self.new (goes (game_of self.old) p (line_of.Prune x lo hi c)) }
         ensures ready { IsReady self.new }
         ensures same { game_of self.new ≡ game_of self.old }
+        ensures base { base_of self.new ≡ base_of self.old }
     {
         match self.due {
             Due::Part => self.part_prune(x, lo, hi, c),
@@ -215,6 +228,7 @@ impl<'p> Machine<'p> {
         ensures tells { (n : ℕ) (p : Maybe Kept) → n < 4294967296 → TellsAfter n self.old p → TellsAfter (suc n) self.new (goes (game_of self.old) p line) }
         ensures ready { IsReady self.new }
         ensures same { game_of self.new ≡ game_of self.old }
+        ensures base { base_of self.new ≡ base_of self.old }
     {
         match line {
             Line::Dot => self.take_dot(),
@@ -236,6 +250,7 @@ impl<'p> Machine<'p> {
         ensures tells { (n : ℕ) (p : Maybe Kept) → n < 4294967296 → TellsAfter n self.old p → TellsAfter (suc n) self.new (goes (game_of self.old) p line) }
         ensures ready { IsReady self.new }
         ensures same { game_of self.new ≡ game_of self.old }
+        ensures base { base_of self.new ≡ base_of self.old }
     {
         self.take(line);
         if self.is_closed() {
@@ -249,6 +264,7 @@ impl<'p> Machine<'p> {
         ensures answers { (p : Maybe Kept) → Tells self.old p → Answers result p }
         ensures ready { IsReady self.new }
         ensures same { game_of self.new ≡ game_of self.old }
+        ensures base { base_of self.new ≡ base_of self.old }
     {
         self.settle();
         match self.due {

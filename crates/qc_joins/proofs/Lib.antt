@@ -3,3 +3,4 @@ pub mod Placed
 pub mod AtScope
 pub mod Lengths
 pub mod Sizing
+pub mod Ends

@@ -1,6 +1,6 @@
 -- Numbers of verdicts are no larger than those of the leaves together, or than a value of a variable.
 use Rattle.std.proofs.Common.{◌≡◌, ℕ, zero, suc, ◌+◌, ◌*◌, ◌≤◌, Bool, true, false, ◌&&◌, cond, Option, Some, None, List, [], ◌∷◌, ◌++◌, drop, map, refl, sym, ap, ◌∙◌, arith}
-use Rattle.std.specs.Prelude.{slice_get, slice_index_or, ℤ, pos, ◌+ℤ◌, unsigned_abs, ◌==◌, int_lt, is_none}
+use Rattle.std.specs.Prelude.{max, ⊤, slice_get, slice_index_or, ℤ, pos, ◌+ℤ◌, unsigned_abs, ◌==◌, int_lt, is_none}
 use Rattle.std.specs.List.{list_all}
 use Rattle.std.proofs.lemmas.Int.{ints}
 use Rattle.std.proofs.lemmas.Bool.Decides.{nat_tests}
@@ -27,19 +27,32 @@ use Rattle.qc_model.specs.ForallVerdict.{entry_value, entry_values, numbers_for,
 use Rattle.qc_levels.specs.Columns.{number_at, size_at, IsSmall}
 use Rattle.qc_joins.specs.Verdicts.{kind_verdict, scope_verdict, verdict_at, stuck_of}
 use Rattle.qc_joins.specs.Joins.{IsLong, LeafFits}
-use Rattle.qc_joins.specs.Sizes.{IsWithin, IsSized, total_at, HasSizes, AreNumbers}
+use Rattle.qc_joins.specs.Sizes.{IsWithin, IsSized, nodes_at, marks_at, total_at, HasSizes, AreNumbers}
 use Rattle.qc_joins.proofs.Lengths.{plain_cases, bounded_cases, forall_cases}
 
 -- ---- totals
-pub total_join : (k : ℕ) (xs ys : List Seen) → total_at k (xs ++ ys) ≡ total_at k xs + total_at k ys
-total_join k [] ys = omega arith
-total_join k (seen_barred ∷ xs) ys = total_join k xs ys
-total_join k (seen_skipped ∷ xs) ys = total_join k xs ys
-total_join k (seen_bound m ∷ xs) ys = let i = total_join k xs ys in omega (arith, i)
-total_join k (seen_node lost ∷ xs) ys = total_join k xs ys
-total_join k (seen_node (exact w) ∷ xs) ys = let i = total_join k xs ys in omega (arith, i)
-total_join k (seen_node (at_most p) ∷ xs) ys = let i = total_join k xs ys in omega (arith, i)
-total_join k (seen_node unknown ∷ xs) ys = total_join k xs ys
+pub nodes_join : (k : ℕ) (xs ys : List Seen) → nodes_at k (xs ++ ys) ≡ nodes_at k xs + nodes_at k ys
+nodes_join k [] ys = omega arith
+nodes_join k (seen_barred ∷ xs) ys = nodes_join k xs ys
+nodes_join k (seen_skipped ∷ xs) ys = nodes_join k xs ys
+nodes_join k (seen_bound m ∷ xs) ys = nodes_join k xs ys
+nodes_join k (seen_node lost ∷ xs) ys = nodes_join k xs ys
+nodes_join k (seen_node (exact w) ∷ xs) ys = let i = nodes_join k xs ys in omega (arith, i)
+nodes_join k (seen_node (at_most p) ∷ xs) ys = let i = nodes_join k xs ys in omega (arith, i)
+nodes_join k (seen_node unknown ∷ xs) ys = nodes_join k xs ys
+
+pub marks_join : (xs ys : List Seen) → marks_at (xs ++ ys) ≡ max (marks_at xs) (marks_at ys)
+marks_join [] ys = omega arith
+marks_join (seen_barred ∷ xs) ys = marks_join xs ys
+marks_join (seen_skipped ∷ xs) ys = marks_join xs ys
+marks_join (seen_bound m ∷ xs) ys = let i = marks_join xs ys in omega (arith, i)
+marks_join (seen_node v ∷ xs) ys = marks_join xs ys
+
+pub total_join : (k : ℕ) (xs ys : List Seen) → total_at k (xs ++ ys) ≤ total_at k xs + total_at k ys
+total_join k xs ys =
+    let n = nodes_join k xs ys in
+    let m = marks_join xs ys in
+    omega (arith, n, m)
 
 pub sizes_both : (m n : ℕ) (xs ys : List Seen) → HasSizes m xs → HasSizes n ys → HasSizes (m + n) (xs ++ ys)
 sizes_both m n xs ys h l k =
@@ -61,36 +74,36 @@ sizes_bound n xs m h b k =
     let a = h k in
     omega (arith, e, a, b)
 
-node_total : (b k : ℕ) (v : Verdict) → IsWithin b v → total_at k (seen_node v ∷ []) ≤ b
-node_total b k lost h = omega arith
-node_total b k (exact w) h = let a = h k in omega (arith, a)
-node_total b k (at_most p) h = omega (arith, h)
-node_total b k unknown h = omega arith
+pub node_nodes : (b k : ℕ) (v : Verdict) → IsWithin b v → nodes_at k (seen_node v ∷ []) ≤ b
+node_nodes b k lost h = omega arith
+node_nodes b k (exact w) h = let a = h k in omega (arith, a)
+node_nodes b k (at_most p) h = omega (arith, h)
+node_nodes b k unknown h = omega arith
 
 pub sizes_node : (m n : ℕ) (xs : List Seen) (v : Verdict) → HasSizes m xs → IsSized n v → HasSizes (m + n) (xs ++ seen_node v ∷ [])
-sizes_node m n xs v h s = sizes_both m n xs (seen_node v ∷ []) h (λ k. node_total (n * 1000000000) k v s)
+sizes_node m n xs v h s = sizes_both m n xs (seen_node v ∷ []) h (λ k. let a = node_nodes (n * 1000000000) k v s in omega (arith, a))
 
 first_abs : (b : Bool) (n : ℕ) → cond b n 0 ≤ n
 first_abs true n = omega arith
 first_abs false n = omega arith
 
-size_total : (k : ℕ) (xs : List Seen) → size_at k xs ≤ total_at k xs
-size_total k [] = omega arith
-size_total k (seen_barred ∷ xs) = size_total k xs
-size_total k (seen_skipped ∷ xs) = size_total k xs
-size_total k (seen_bound m ∷ xs) = let i = size_total k xs in omega (arith, i)
-size_total k (seen_node lost ∷ xs) = size_total k xs
-size_total k (seen_node (exact w) ∷ xs) = let i = size_total k xs in omega (arith, i)
-size_total k (seen_node (at_most p) ∷ xs) =
-    let i = size_total k xs in
+size_nodes : (k : ℕ) (xs : List Seen) → size_at k xs ≤ nodes_at k xs
+size_nodes k [] = omega arith
+size_nodes k (seen_barred ∷ xs) = size_nodes k xs
+size_nodes k (seen_skipped ∷ xs) = size_nodes k xs
+size_nodes k (seen_bound m ∷ xs) = size_nodes k xs
+size_nodes k (seen_node lost ∷ xs) = size_nodes k xs
+size_nodes k (seen_node (exact w) ∷ xs) = let i = size_nodes k xs in omega (arith, i)
+size_nodes k (seen_node (at_most p) ∷ xs) =
+    let i = size_nodes k xs in
     let f = first_abs (k == 0) (unsigned_abs p) in
     omega (arith, i, f)
-size_total k (seen_node unknown ∷ xs) = size_total k xs
+size_nodes k (seen_node unknown ∷ xs) = size_nodes k xs
 
 pub sizes_small : (n : ℕ) (xs : List Seen) → HasSizes n xs → n ≤ 4294967296 → IsSmall xs
 sizes_small n xs h l k =
     let a = h k in
-    let s = size_total k xs in
+    let s = size_nodes k xs in
     omega (arith, a, s, l)
 
 pub leaf_fits : (g : Game) (i m n : ℕ) (xs : List Seen) (v : Verdict) → IsLong g (suc i) v → HasSizes m xs → IsSized n v → m + n ≤ 4294967296 → LeafFits g i xs v
@@ -100,10 +113,6 @@ leaf_fits g i m n xs v l h s b = record { long = l; small = sizes_small (m + n) 
 abbrev abs_sum : List ℤ → ℕ
 abs_sum [] = 0
 abs_sum (n ∷ ns) = unsigned_abs n + abs_sum ns
-
-abs_join : (ns ms : List ℤ) → abs_sum (ns ++ ms) ≡ abs_sum ns + abs_sum ms
-abs_join [] ms = omega arith
-abs_join (n ∷ ns) ms = let i = abs_join ns ms in omega (arith, i)
 
 abs_plus : (a b : ℤ) → unsigned_abs (a +ℤ b) ≤ unsigned_abs a + unsigned_abs b
 abs_plus a b = grind (arith, ints)
@@ -183,45 +192,61 @@ entries_within : (g : Game) (d : List Condition) (a : List ℤ) (ns : ℕ → Li
 entries_within g d a ns b v e l s k = map_within (λ c. entry_value g a ns c.target) d b k (λ c. entry_within g a ns b c.target v e l s)
 
 -- ---- the numbers of leaves
-column_total : (k : ℕ) (xs : List Seen) → abs_sum (map (λ w. slice_index_or w k (pos 0)) (exact_vectors xs)) ≤ total_at k xs
-column_total k [] = omega arith
-column_total k (seen_barred ∷ xs) = column_total k xs
-column_total k (seen_skipped ∷ xs) = column_total k xs
-column_total k (seen_bound m ∷ xs) = let i = column_total k xs in omega (arith, i)
-column_total k (seen_node lost ∷ xs) = column_total k xs
-column_total k (seen_node (exact w) ∷ xs) = let i = column_total k xs in omega (arith, i)
-column_total k (seen_node (at_most p) ∷ xs) = let i = column_total k xs in omega (arith, i)
-column_total k (seen_node unknown ∷ xs) = column_total k xs
+column_nodes : (k : ℕ) (xs : List Seen) → abs_sum (map (λ w. slice_index_or w k (pos 0)) (exact_vectors xs)) ≤ nodes_at k xs
+column_nodes k [] = omega arith
+column_nodes k (seen_barred ∷ xs) = column_nodes k xs
+column_nodes k (seen_skipped ∷ xs) = column_nodes k xs
+column_nodes k (seen_bound m ∷ xs) = column_nodes k xs
+column_nodes k (seen_node lost ∷ xs) = column_nodes k xs
+column_nodes k (seen_node (exact w) ∷ xs) = let i = column_nodes k xs in omega (arith, i)
+column_nodes k (seen_node (at_most p) ∷ xs) = let i = column_nodes k xs in omega (arith, i)
+column_nodes k (seen_node unknown ∷ xs) = column_nodes k xs
 
 first_is : (w : List ℤ) → unsigned_abs (first_value w) ≡ unsigned_abs (number_at 0 w)
 first_is [] = refl
 first_is (x ∷ w) = refl
 
-known_total : (xs : List Seen) → abs_sum (known_numbers xs) ≤ total_at 0 xs
-known_total [] = omega arith
-known_total (seen_barred ∷ xs) = known_total xs
-known_total (seen_skipped ∷ xs) = known_total xs
-known_total (seen_bound m ∷ xs) = let i = known_total xs in omega (arith, i)
-known_total (seen_node lost ∷ xs) = known_total xs
-known_total (seen_node (exact w) ∷ xs) =
-    let i = known_total xs in
+known_nodes : (xs : List Seen) → abs_sum (known_numbers xs) ≤ nodes_at 0 xs
+known_nodes [] = omega arith
+known_nodes (seen_barred ∷ xs) = known_nodes xs
+known_nodes (seen_skipped ∷ xs) = known_nodes xs
+known_nodes (seen_bound m ∷ xs) = known_nodes xs
+known_nodes (seen_node lost ∷ xs) = known_nodes xs
+known_nodes (seen_node (exact w) ∷ xs) =
+    let i = known_nodes xs in
     let f = first_is w in
     omega (arith, i, f)
-known_total (seen_node (at_most p) ∷ xs) = let i = known_total xs in omega (arith, i)
-known_total (seen_node unknown ∷ xs) = known_total xs
+known_nodes (seen_node (at_most p) ∷ xs) = let i = known_nodes xs in omega (arith, i)
+known_nodes (seen_node unknown ∷ xs) = known_nodes xs
 
-firsts_total : (xs : List Seen) → abs_sum (map first_value (exact_vectors xs)) + abs_sum (bounds xs) ≤ total_at 0 xs
-firsts_total [] = omega arith
-firsts_total (seen_barred ∷ xs) = firsts_total xs
-firsts_total (seen_skipped ∷ xs) = firsts_total xs
-firsts_total (seen_bound m ∷ xs) = let i = firsts_total xs in omega (arith, i)
-firsts_total (seen_node lost ∷ xs) = firsts_total xs
-firsts_total (seen_node (exact w) ∷ xs) =
-    let i = firsts_total xs in
-    let f = first_is w in
-    omega (arith, i, f)
-firsts_total (seen_node (at_most p) ∷ xs) = let i = firsts_total xs in omega (arith, i)
-firsts_total (seen_node unknown ∷ xs) = firsts_total xs
+-- each number is at most b by absolute value
+abbrev AreWithin : ℕ → List ℤ → Type 0
+AreWithin b [] = ⊤
+AreWithin b (n ∷ ns) = (unsigned_abs n ≤ b) × AreWithin b ns
+
+within_join : (b : ℕ) (ns ms : List ℤ) → AreWithin b ns → AreWithin b ms → AreWithin b (ns ++ ms)
+within_join b [] ms h k = k
+within_join b (n ∷ ns) ms h k = (h.0, within_join b ns ms h.1 k)
+
+firsts_within : (b : ℕ) (xs : List Seen) → nodes_at 0 xs ≤ b → AreWithin b (map first_value (exact_vectors xs))
+firsts_within b [] h = tt
+firsts_within b (seen_barred ∷ xs) h = firsts_within b xs h
+firsts_within b (seen_skipped ∷ xs) h = firsts_within b xs h
+firsts_within b (seen_bound m ∷ xs) h = firsts_within b xs h
+firsts_within b (seen_node lost ∷ xs) h = firsts_within b xs h
+firsts_within b (seen_node (exact w) ∷ xs) h = let f = first_is w in (omega (arith, h, f), firsts_within b xs (omega (arith, h)))
+firsts_within b (seen_node (at_most p) ∷ xs) h = firsts_within b xs (omega (arith, h))
+firsts_within b (seen_node unknown ∷ xs) h = firsts_within b xs h
+
+bounds_within : (b : ℕ) (xs : List Seen) → marks_at xs ≤ b → nodes_at 0 xs ≤ b → AreWithin b (bounds xs)
+bounds_within b [] h l = tt
+bounds_within b (seen_barred ∷ xs) h l = bounds_within b xs h l
+bounds_within b (seen_skipped ∷ xs) h l = bounds_within b xs h l
+bounds_within b (seen_bound m ∷ xs) h l = (omega (arith, h), bounds_within b xs (omega (arith, h)) l)
+bounds_within b (seen_node lost ∷ xs) h l = bounds_within b xs h l
+bounds_within b (seen_node (exact w) ∷ xs) h l = bounds_within b xs h (omega (arith, l))
+bounds_within b (seen_node (at_most p) ∷ xs) h l = (omega (arith, l), bounds_within b xs h (omega (arith, l)))
+bounds_within b (seen_node unknown ∷ xs) h l = bounds_within b xs h l
 
 -- ---- a universal scope
 side_within : (b : ℕ) (s : Sense) (f : Fold) (n : ℤ) (ns : List ℤ) → is_fold f ≡ true → 1000000000 ≤ b → abs_sum (n ∷ ns) ≤ b → IsWithin b (fold_bound s f n ns)
@@ -245,7 +270,7 @@ first_within : (g : Game) (b : ℕ) (s : Sense) (x : Target) (xs : List Seen) �
 first_within g b s (Var x) xs v l h = tt
 first_within g b s (Agg q) xs v l h =
     let o = slice_get g.aggregates q.0 in
-    let t = known_total xs in
+    let t = known_nodes xs in
     let small : abs_sum (known_numbers xs) ≤ b = omega (arith, t, h) in
     either_within b (each_node is_known xs) (aggregate_fold o (known_numbers xs)) (one_sided s o (known_numbers xs))
     (aggregate_within g q.0 b (known_numbers xs) v l small) (one_sided_by g q.0 o b s (known_numbers xs) v refl l small)
@@ -258,7 +283,7 @@ forall_within : (g : Game) (b : ℕ) (d : List Condition) (a : List ℤ) (xs : L
 forall_within g b d a xs v e l h =
     let ns = numbers_for d (exact_vectors xs) in
     let column = λ (q : ℕ). (
-    let t = column_total (place_of q d) xs in
+    let t = column_nodes (place_of q d) xs in
     let k = h (place_of q d) in
     let r : abs_sum (ns q) ≤ b = omega (arith, t, k) in
     r) in
@@ -301,13 +326,13 @@ chosen_within : (b : ℕ) (own : Option Condition) (d : List Condition) (xs : Li
 chosen_within b None d xs h k = best_within k b d xs (h k)
 chosen_within b (Some c) d xs h k = drop_within k b (best_vector d (exact_vectors xs)) (best_within (suc k) b d xs (h (suc k)))
 
-number_from_within : (s : Sense) (b : ℕ) (n : ℤ) (ns : List ℤ) → unsigned_abs n ≤ b → abs_sum ns ≤ b → unsigned_abs (best_number_from s n ns) ≤ b
+number_from_within : (s : Sense) (b : ℕ) (n : ℤ) (ns : List ℤ) → unsigned_abs n ≤ b → AreWithin b ns → unsigned_abs (best_number_from s n ns) ≤ b
 number_from_within s b n [] h t = h
-number_from_within s b n (m ∷ ns) h t = number_from_within s b (cond (is_better s m n) m n) ns (choice_within (is_better s m n) m n b (omega (arith, t)) h) (omega (arith, t))
+number_from_within s b n (m ∷ ns) h t = number_from_within s b (cond (is_better s m n) m n) ns (choice_within (is_better s m n) m n b t.0 h) t.1
 
-number_within : (s : Sense) (b : ℕ) (ns : List ℤ) → abs_sum ns ≤ b → unsigned_abs (best_number s ns) ≤ b
+number_within : (s : Sense) (b : ℕ) (ns : List ℤ) → AreWithin b ns → unsigned_abs (best_number s ns) ≤ b
 number_within s b [] t = omega arith
-number_within s b (n ∷ ns) t = number_from_within s b n ns (omega (arith, t)) (omega (arith, t))
+number_within s b (n ∷ ns) t = number_from_within s b n ns t.0 t.1
 
 exists_within : (b : ℕ) (own : Option Condition) (d : List Condition) (xs : List Seen) → ((k : ℕ) → total_at k xs ≤ b) → IsWithin b (exists_verdict own d xs)
 exists_within b own [] xs h = plain_cases (IsWithin b) (some_node is_exact xs) (each_node is_lost xs) tt tt (λ k. omega arith)
@@ -315,11 +340,10 @@ exists_within b own (c ∷ d) xs h =
     let vs = exact_vectors xs in
     let bs = bounds xs in
     let w = best_vector (c ∷ d) vs in
-    let f = firsts_total xs in
-    let j = abs_join (map first_value vs) bs in
     let z = h 0 in
+    let all = within_join b (map first_value vs) bs (firsts_within b xs (omega (arith, z))) (bounds_within b xs (omega (arith, z)) (omega (arith, z))) in
     bounded_cases (IsWithin b) (each_node is_lost xs && is_none_of bs) (some_open xs) (is_none_of vs) (list_all (beats c.sense (is_none_of d) (first_value w)) bs) (is_none own) (without_own own w)
-    (best_number c.sense (map first_value vs ++ bs)) tt tt (λ e. chosen_within b own (c ∷ d) xs h) (number_within c.sense b (map first_value vs ++ bs) (omega (arith, f, j, z)))
+    (best_number c.sense (map first_value vs ++ bs)) tt tt (λ e. chosen_within b own (c ∷ d) xs h) (number_within c.sense b (map first_value vs ++ bs) all)
 
 -- ---- what a scope or the goal comes to
 kind_within : (k : Kind) (own : Option Condition) (g : Game) (b : ℕ) (d : List Condition) (a : List ℤ) (xs : List Seen) → IsValid g → AreNumbers a → 1000000000 ≤ b → ((j : ℕ) → total_at j xs ≤ b) → IsWithin b (kind_verdict k own g d a xs)

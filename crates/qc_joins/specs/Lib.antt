@@ -3,3 +3,4 @@ pub mod ScopeJoins
 pub mod Props
 pub mod Joins
 pub mod Sizes
+pub mod Ends

@@ -1,5 +1,5 @@
 -- How long vectors are, and how large numbers.
-use Rattle.std.specs.Prelude.{⊤, ◌≤◌, ◌+◌, ◌*◌, ℕ, suc, List, [], ◌∷◌, ℤ, unsigned_abs, IsTrue}
+use Rattle.std.specs.Prelude.{⊤, ◌≤◌, ◌+◌, ◌*◌, ℕ, suc, max, List, [], ◌∷◌, ℤ, unsigned_abs, IsTrue}
 use Rattle.std.specs.List.{list_all}
 use Rattle.qc_model.specs.declared.problem.Condition.{Condition}
 use Rattle.qc_model.specs.Content.{Game}
@@ -31,16 +31,28 @@ IsWithin b unknown = ⊤
 abbrev pub IsSized : ℕ → Verdict → Type 0
 IsSized n v = IsWithin (n * 1000000000) v
 
--- the absolute values of the leaves' numbers at a place, summed; each number that stands alone counts at every place
+-- the absolute values of the leaves' numbers at a place, summed; a number that stands alone counts at every place
+abbrev pub nodes_at : ℕ → List Seen → ℕ
+nodes_at k [] = 0
+nodes_at k (seen_barred ∷ xs) = nodes_at k xs
+nodes_at k (seen_skipped ∷ xs) = nodes_at k xs
+nodes_at k (seen_bound m ∷ xs) = nodes_at k xs
+nodes_at k (seen_node lost ∷ xs) = nodes_at k xs
+nodes_at k (seen_node (exact w) ∷ xs) = unsigned_abs (number_at k w) + nodes_at k xs
+nodes_at k (seen_node (at_most p) ∷ xs) = unsigned_abs p + nodes_at k xs
+nodes_at k (seen_node unknown ∷ xs) = nodes_at k xs
+
+-- the greatest absolute value of a bound's mark
+abbrev pub marks_at : List Seen → ℕ
+marks_at [] = 0
+marks_at (seen_barred ∷ xs) = marks_at xs
+marks_at (seen_skipped ∷ xs) = marks_at xs
+marks_at (seen_bound m ∷ xs) = max (unsigned_abs m) (marks_at xs)
+marks_at (seen_node v ∷ xs) = marks_at xs
+
+-- leaves are summed, since an opponent's scope may; of bounds, which the player's own scope has, one is taken
 abbrev pub total_at : ℕ → List Seen → ℕ
-total_at k [] = 0
-total_at k (seen_barred ∷ xs) = total_at k xs
-total_at k (seen_skipped ∷ xs) = total_at k xs
-total_at k (seen_bound m ∷ xs) = unsigned_abs m + total_at k xs
-total_at k (seen_node lost ∷ xs) = total_at k xs
-total_at k (seen_node (exact w) ∷ xs) = unsigned_abs (number_at k w) + total_at k xs
-total_at k (seen_node (at_most p) ∷ xs) = unsigned_abs p + total_at k xs
-total_at k (seen_node unknown ∷ xs) = total_at k xs
+total_at k xs = max (marks_at xs) (nodes_at k xs)
 
 -- as large as n values of variables, at each place
 abbrev pub HasSizes : ℕ → List Seen → Type 0

@@ -15,6 +15,7 @@ ghost use Rattle.qc_levels.specs.Columns.{IsSmall};
 ghost use Rattle.qc_joins.specs.Verdicts.{verdict_at, stuck_of};
 ghost use Rattle.qc_joins.specs.Joins.{IsLong, LeafFits};
 ghost use Rattle.qc_joins.specs.Sizes.{AreLong, IsSized, HasSizes, AreNumbers};
+ghost use Rattle.qc_joins.specs.Ends.{HasEnds, IsOfEnds, HasPart};
 
 /// What a scope or the goal comes to has a value for each entry of its own list, where the leaves' have for the list
 /// after the scope.
@@ -55,4 +56,13 @@ pub fn sizes_join()
 pub fn leaves_fit()
     ensures small { (n : ℕ) (xs : List Seen) → HasSizes n xs → n ≤ 4294967296 → IsSmall xs }
     ensures fit { (g : Game) (i m n : ℕ) (xs : List Seen) (v : Verdict) → IsLong g (suc i) v → HasSizes m xs → IsSized n v → m + n ≤ 4294967296 → LeafFits g i xs v }
+{}
+
+/// What a scope of a valid game comes to is as large as the ends make it that its leaves come from, where some part of its own
+/// tree has ended.
+pub fn numbers_come_from_ends()
+    ensures verdict { (g : Game) (i : ℕ) (a : List ℤ) (xs : List Seen) (n : ℕ) → IsValid g → AreNumbers a → HasEnds n xs → HasPart n xs → IsOfEnds n (verdict_at g i a xs) }
+    ensures node { (n : ℕ) (v : Verdict) → IsOfEnds n v → HasEnds n (seen_node v ∷ []) }
+    ensures join { (m n : ℕ) (xs ys : List Seen) → HasEnds m xs → HasEnds n ys → HasEnds (m + n) (xs ++ ys) }
+    ensures sizes { (n : ℕ) (xs : List Seen) → HasEnds n xs → HasSizes (n + 1) xs }
 {}

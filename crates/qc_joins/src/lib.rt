@@ -20,4 +20,7 @@ mod reading;
 mod scope_join;
 
 pub use joins::Joins;
-pub use laws::{leaves_fit, lengths_join, sizes_join, verdicts_are_long, verdicts_are_sized};
+pub use laws::{
+    leaves_fit, lengths_join, numbers_come_from_ends, sizes_join, verdicts_are_long,
+    verdicts_are_sized,
+};

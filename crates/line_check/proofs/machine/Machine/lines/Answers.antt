@@ -10,6 +10,7 @@ loop-line-init c = record {
   tells = λ n p few t. let none : n ≡ n + 0 = omega arith in (p, subst (λ k. TellsAfter k c.args.self.now p) none t, refl);
   ready = c.requires.ready;
   same = refl;
+  base = refl;
 }
 
 pub loop-line-preserved : goal.loop-line-preserved
@@ -24,6 +25,7 @@ loop-line-preserved c = record {
       line_taken c.line.new.self g (game_of c.loop-line.self) ls i _ n r.0 p below c.loop-line.invariant.same made r.2;
   ready = c.line.ensures.ready;
   same = c.line.ensures.same ∙ c.loop-line.invariant.same;
+  base = c.line.ensures.base ∙ c.loop-line.invariant.base;
 }
 
 pub returns-clause-tells : goal.returns-clause-tells

@@ -1,7 +1,7 @@
 use Rattle.std.proofs.Common.{◌≡◌, ◌+◌, ◌≤◌, ℕ, Option, length, drop}
 use Rattle.line_check.specs.Ledger.{Ledger}
 use Rattle.line_check.specs.LedgerHeld.{goes_through}
-use Rattle.line_check.specs.Machine.{game_of, IsReady}
+use Rattle.line_check.specs.Machine.{game_of, base_of, IsReady}
 use Rattle.line_check.specs.Telling.{TellsAfter}
 use Rattle.line_check.proofs.machine.Machine.lines.Given as goal
 
@@ -11,4 +11,5 @@ invariant-loop-line l = record {
       (q : Option Ledger) × TellsAfter (n + l.line-index) l.self q × (goes_through (game_of l.fn.self) q (drop l.line-index l.lines) ≡ goes_through (game_of l.fn.self) p l.lines);
   ready : IsReady l.self;
   same : game_of l.self ≡ game_of l.fn.self;
+  base : base_of l.self ≡ base_of l.fn.self;
 }

@@ -1,6 +1,6 @@
 use Rattle.std.proofs.Common.{◌≡◌, Option, length}
 use Rattle.line_check.specs.Ledger.{Ledger}
-use Rattle.line_check.specs.Machine.{game_of, IsReady, left_at_most}
+use Rattle.line_check.specs.Machine.{game_of, base_of, IsReady, left_at_most}
 use Rattle.line_check.specs.Telling.{Tells}
 use Rattle.line_check.proofs.machine.Machine.settle.Given as goal
 
@@ -9,6 +9,7 @@ invariant-loop-self l = record {
   tells : (p : Option Ledger) → Tells l.fn.self p → Tells l.self p;
   ready : IsReady l.self;
   same : game_of l.self ≡ game_of l.fn.self;
+  base : base_of l.self ≡ base_of l.fn.self;
 }
 
 abbrev pub decreases-loop-self : goal.decreases-loop-self
