@@ -1,5 +1,6 @@
 -- What all bytes come to.
-use Rattle.std.proofs.Common.{◌≡◌, ◌≤◌, ◌<◌, ◌+◌, ℕ, List, [], ◌++◌, length, take, drop, refl, sym, ap, ◌∙◌, subst, arith, append_assoc, take-append-drop, Option, Some, None, Bool, true, false, ◌&&◌, inl, inr, IsTrue, ℤ}
+use Rattle.std.proofs.Common.{◌≡◌, ◌≤◌, ◌<◌, ◌+◌, ℕ, List, [], ◌∷◌, ◌++◌, length, take, drop, refl, sym, ap, ◌∙◌, subst, arith, append-nil, append_assoc, length-append, take-append-drop, Option, Some, None, Bool, true, false, ◌&&◌, inl, inr, IsTrue, ℤ}
+use Rattle.std.proofs.lemmas.List.{take_all}
 use Rattle.qc_model.specs.Content.{Game}
 use Rattle.proof_tree.specs.declared.tree.Version.{Version}
 use Rattle.proof_tree.specs.declared.tree.Outcome.{Outcome}
@@ -9,13 +10,13 @@ use Rattle.proof_tree.specs.InPlace.{root_in_place}
 use Rattle.proof_tree.specs.Lines.{tree_lines}
 use Rattle.proof_tree.specs.Proves.{proves}
 use Rattle.proof_tree.specs.Meaning.{OutcomeMeans}
-use Rattle.proof_tree.specs.Counts.{depth_of}
+use Rattle.proof_tree.specs.Counts.{depth_of, turns_of}
 use Rattle.proof_tree.specs.Text.{outcome_fits}
 use Rattle.proof_text.specs.declared.fault.CertFault.{CertFault}
 use Rattle.proof_text.specs.declared.fault.CertFault.TheVariants.{NotACertificate, TooDeep, Memory as Want}
 use Rattle.proof_text.specs.Answers.{nothing, headed, StandsFor, IsTold}
 use Rattle.proof_text.specs.Laws.{HasFault, IsTextOrFault}
-use Rattle.proof_text.specs.Places.{IsText, BeginsText, IsNotACertificate}
+use Rattle.proof_text.specs.Places.{IsText, BeginsText, IsNotACertificate, IsTooDeep}
 use Rattle.proof_text.specs.Readings.{Reading}
 use Rattle.line_check.specs.declared.machine.Machine.{Machine}
 use Rattle.line_check.specs.declared.answer.Answer.{Answer}
@@ -25,9 +26,12 @@ use Rattle.line_check.specs.Machine.{game_of}
 use Rattle.line_check.specs.Telling.{Tells, TellsAfter}
 use Rattle.line_check.specs.Found.{Answers, IsAnswer}
 use Rattle.qc_check.specs.declared.stated.Stated.{Stated}
-use Rattle.qc_check.specs.Shown.{found_shows}
-use Rattle.qc_check.specs.Checking.{lines_told, HeadIs, IsReading, IsCertificate, IsProof, IsNoProof}
-use Rattle.qc_check.proofs.Shows.{proves_shown}
+use Rattle.qc_check.specs.Shown.{found_shows, counts_turns, IsStatable}
+use Rattle.qc_check.specs.declared.stated.Stop.TheVariants.{Bad, Deep}
+use Rattle.qc_check.specs.declared.finding.Fed.TheVariants.{NotACertificate as FedNone, TooDeep as FedDeep}
+use Rattle.qc_check.specs.Checking.{lines_told, HeadIs, IsReading, IsCertificate, IsProof, IsNoProof, IsStopped, Feeds}
+use Rattle.line_check.proofs.Showing.{shows_answer}
+use Rattle.qc_check.proofs.Shows.{proves_shown, proves_shown_so, shows_counted, counted}
 
 front_begins : (limit n : ℕ) (bytes : List ℕ) → BeginsText limit bytes → BeginsText limit (take n bytes)
 front_begins limit n bytes (rest, is) =
@@ -97,7 +101,8 @@ judged r m h st n bytes k some found says trees own (v, o, p, t, fits, deep, tex
         let answers : Answers found (goes_through g (Some (first_ledger g)) (tree_lines t)) =
         subst (λ ks. Answers found (goes_through g (Some (first_ledger g)) (lines_told ks))) told (says (goes_through g (Some (first_ledger g)) (lines_told k.told)) k.tells.tells) in
         let whole : proves g o p t ≡ found_shows g.scopes found o p =
-        proves_shown g t found (λ q. trees t found answers deep q) (λ f q. own t f (subst (λ x. Answers x (goes_through g (Some (first_ledger g)) (tree_lines t))) q answers)) o p (first (outcome_fits o p) _ fits) in
+        proves_shown g t found (λ q. trees t found answers deep q) (λ f q. own t f (subst (λ x. Answers x (goes_through g (Some (first_ledger g)) (tree_lines t))) q answers)) o p
+        (λ f a. shows_answer g t f a o p (counted o p (first (outcome_fits o p) _ fits))) in
         record {
           version = v;
           root = t;
@@ -115,3 +120,38 @@ no_proof g bytes st found j e = record { version = j.version; outcome = st.outco
 pub opposed : (b : Bool) → b ≡ false → IsTrue b → ⊥
 opposed true e h = cc
 opposed false e h = cc
+
+lower : (a n : ℕ) → a ≤ n → (a ≡ n → ⊥) → a < n
+lower a n le differ = omega arith
+
+-- a fault that stays whatever bytes come shows before their end
+stopped_before : (at : ℕ) (bytes : List ℕ) → ((more : List ℕ) → IsNotACertificate at (bytes ++ more)) → at < length bytes
+stopped_before at bytes h = lower at (length bytes) now.within at_end
+  where
+    now : IsNotACertificate at bytes
+    now = subst (IsNotACertificate at) (append-nil bytes) (h [])
+
+    by : (rest : List ℕ) → at ≡ length bytes → IsText 1000 (bytes ++ rest) → ⊥
+    by [] e is = (h []).unfinished (e ∙ ap length (sym (append-nil bytes))) 1000 is
+    by (b ∷ rest) e is =
+        (h (b ∷ rest)).here (rw length-append (omega (arith, e))) 1000
+        (front_begins 1000 (at + 1) (bytes ++ b ∷ rest) ([], subst (IsText 1000) (sym (append-nil (bytes ++ b ∷ rest))) is))
+
+    at_end : at ≡ length bytes → ⊥
+    at_end e = let b = now.before in by b.0 e (subst (λ xs. IsText 1000 (xs ++ b.0)) (take_all at bytes (omega (arith, e))) b.1)
+
+-- what is answered of bytes with a fault
+pub bad_feeds : (at : ℕ) (bytes : List ℕ) → IsStopped Bad at bytes → Feeds bytes (FedNone at)
+bad_feeds at bytes h = (stopped_before at bytes h, subst (IsNotACertificate at) (append-nil bytes) (h []))
+
+pub deep_feeds : (at : ℕ) (bytes : List ℕ) → IsStopped Deep at bytes → Feeds bytes (FedDeep at)
+deep_feeds at bytes h = subst (IsTooDeep at) (append-nil bytes) (h [])
+
+-- what a tree proves, by what its lines come to
+pub tree_judged : (g : Game) (t : Tree) (found : Option Answer) → depth_of t ≤ 1000 → Answers found (goes_through g (Some (first_ledger g)) (tree_lines t)) →
+    ((o : Option Answer) → Answers o (goes_through g (Some (first_ledger g)) (tree_lines t)) → depth_of t ≤ 1000 → root_in_place g t ≡ true → (f : Answer) × (o ≡ Some f) × IsAnswer g t f) →
+    ((f : Answer) → Answers (Some f) (goes_through g (Some (first_ledger g)) (tree_lines t)) → IsAnswer g t f) →
+    (o : Outcome) (p : Option ℤ) → IsStatable o → proves g o p t ≡ (found_shows g.scopes found o p && counts_turns (turns_of t) o)
+tree_judged g t found deep answers trees own o p fits =
+    proves_shown_so g t found (λ placed. trees found answers deep placed) (λ f e. own f (subst (λ x. Answers x (goes_through g (Some (first_ledger g)) (tree_lines t))) e answers)) o p
+    (counts_turns (turns_of t) o) (λ f a. shows_counted g t f a o p fits)

@@ -16,7 +16,6 @@ use Rattle.proof_text.specs.declared.answer.Read.TheVariants.{Whole}
 use Rattle.proof_text.specs.LineRanges.{line_fits}
 use Rattle.qc_likeness.specs.Likeness.{line_looks}
 use Rattle.qc_likeness.proofs.Lines.{lines_look_before}
-use Rattle.line_check.specs.declared.machine.Machine.{Machine}
 use Rattle.line_check.specs.Ledger.{Ledger, goes}
 use Rattle.line_check.specs.LedgerHeld.{first_ledger, goes_through}
 use Rattle.line_check.specs.Machine.{game_of}

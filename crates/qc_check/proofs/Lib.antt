@@ -7,3 +7,5 @@ mod Ending
 mod Beginning
 mod Passing
 mod Kept
+mod TreeEnds
+mod Given

@@ -50,7 +50,7 @@ use Rattle.qc_check.specs.Places.{StartHeld}
 use Rattle.qc_check.proofs.Beginning.{IsDueAt, due_under}
 
 -- each line has a byte at least, and each tree a line
-some_text : (l : Line) → 0 < length (line_text l)
+pub some_text : (l : Line) → 0 < length (line_text l)
 some_text (HorizonLine k) = omega arith
 some_text (PruneLine x low high c) = omega arith
 some_text (BoundLine x low high) = omega arith

@@ -1,5 +1,5 @@
 -- What a checker is after some bytes, and what it says of them.
-use Rattle.std.specs.Prelude.{◌≡◌, ◌≤◌, ℕ, List, [], ◌++◌, length, Option, Some, None, ℤ, IsTrue}
+use Rattle.std.specs.Prelude.{◌≡◌, ◌≤◌, ◌<◌, ℕ, List, [], ◌++◌, length, Option, Some, None, ℤ, IsTrue}
 use Rattle.qc_model.specs.Content.{Game}
 use Rattle.proof_tree.specs.declared.tree.Version.{Version}
 use Rattle.proof_tree.specs.declared.tree.Outcome.{Outcome}
@@ -20,6 +20,8 @@ use Rattle.qc_check.specs.declared.stated.Stated.{Stated}
 use Rattle.qc_check.specs.declared.stated.Stop.{Stop}
 use Rattle.qc_check.specs.declared.stated.Stop.TheVariants.{Bad, Deep}
 use Rattle.qc_check.specs.declared.progress.Checker.{Checker}
+use Rattle.qc_check.specs.declared.finding.Fed.{Fed}
+use Rattle.qc_check.specs.declared.finding.Fed.TheVariants.{More as FedMore, NotACertificate as FedNone, TooDeep as FedDeep}
 use Rattle.qc_check.specs.declared.finding.Checked.{Checked}
 use Rattle.qc_check.specs.declared.finding.Checked.TheVariants.{Yes, NotProved, NotACertificate, TooDeep}
 
@@ -47,6 +49,22 @@ pub record IsReading (r : Reading) (m : Machine) (head : Option Stated) (count :
 abbrev pub IsStopped : Stop → ℕ → List ℕ → Type 0
 IsStopped Bad at bytes = (more : List ℕ) → IsNotACertificate at (bytes ++ more)
 IsStopped Deep at bytes = (more : List ℕ) → IsTooDeep at (bytes ++ more)
+
+-- what the bytes so far are: all of the text of a certificate, or the beginning of one; or what they are stays so whatever
+-- bytes come, and shows first at this place
+abbrev pub Feeds : List ℕ → Fed → Type 0
+Feeds bytes FedMore = BeginsText 1000 bytes
+Feeds bytes (FedNone at) = (at < length bytes) × IsNotACertificate at bytes
+Feeds bytes (FedDeep at) = IsTooDeep at bytes
+
+-- what was answered last
+abbrev pub answered_by : Option Stop → ℕ → Fed
+answered_by None at = FedMore
+answered_by (Some Bad) at = FedNone at
+answered_by (Some Deep) at = FedDeep at
+
+abbrev pub answered : Checker → Fed
+answered c = answered_by c.stop c.read
 
 abbrev pub IsCheckingBy : Option Stop → Checker → List ℕ → Type 0
 IsCheckingBy None c bytes = IsReading c.reader c.machine c.head c.read bytes

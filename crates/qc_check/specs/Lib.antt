@@ -2,3 +2,4 @@ pub mod Places
 pub mod Checking
 pub mod Keeping
 pub mod Shown
+pub mod Giving

@@ -1,11 +1,12 @@
 //! The checker, byte by byte.
-ghost use Rattle.std.specs.Prelude.{◌≡◌, ◌≤◌, ◌<◌, ◌+◌, ◌^◌, ◌++◌, ◌∷◌, [], None, length, take, IfOk, IfNone, IfSome, ℕ, List};
+ghost use Rattle.std.specs.Prelude.{◌≡◌, ◌≤◌, ◌<◌, ◌+◌, ◌^◌, ◌++◌, ◌∷◌, [], None, Some, length, take, IfOk, IfNone, IfSome, ℕ, List};
 ghost use Rattle.line_check.specs.Machine.{game_of, IsReady};
 ghost use Rattle.qc_model.specs.Content.{Game};
-ghost use Rattle.qc_check.specs.Checking.{Comes, IsChecking, IsStopped};
+ghost use Rattle.qc_check.specs.Checking.{Comes, Feeds, IsChecking, IsStopped, answered, answered_by};
 ghost use Rattle.qc_check.specs.Keeping.{WasGiven};
+ghost use Rattle.qc_check.specs.declared.finding.Fed.TheVariants as fed_as;
 
-use crate::finding::Checked;
+use crate::finding::{Checked, Fed};
 use crate::progress::Checker;
 use crate::shown::is_shown;
 use crate::starts::Starts;
@@ -27,6 +28,17 @@ fn stopped(stop: Stop, at: u64) -> Checked
     }
 }
 
+// What bytes with a fault at a place are answered with, piece by piece.
+fn faulty(stop: Stop, at: u64) -> Fed
+    ensures answer { result ≡ answered_by (Some stop) at }
+    ensures feeds { (bytes : List ℕ) → IsStopped stop at bytes → Feeds bytes result }
+{
+    match stop {
+        Stop::Bad => Fed::NotACertificate { at },
+        Stop::Deep => Fed::TooDeep { at },
+    }
+}
+
 impl<'p> Checker<'p> {
     /// A checker before the first byte. All memory is taken here.
     pub fn new(alloc: Global, problem: &'p Problem) -> Result<Checker<'p>, AllocError>
@@ -34,6 +46,7 @@ impl<'p> Checker<'p> {
         ensures same { IfOk result (λ c. game_of c.machine ≡ problem.now) }
         ensures checking { IfOk result (λ c. IsChecking c []) }
         ensures read { IfOk result (λ c. c.read ≡ 0) }
+        ensures answer { IfOk result (λ c. answered c ≡ fed_as.More) }
     {
         each_standing_is_right();
         let machine = Machine::new(alloc, problem)?;
@@ -134,13 +147,25 @@ impl<'p> Checker<'p> {
         }
     }
 
-    /// Reads the next bytes, up to 2^32 in all. After a fault they are passed over.
-    pub fn feed(&mut self, bytes: &[u8])
+    // What the bytes so far are.
+    fn fed(&self) -> Fed
+        ensures answer { result ≡ answered self.now }
+        ensures feeds { (bytes : List ℕ) → IsChecking self.now bytes → Feeds bytes result }
+    {
+        match self.stop {
+            None => Fed::More,
+            Some(stop) => faulty(stop, self.read),
+        }
+    }
+
+    // Reads the next bytes. After a fault they are passed over.
+    fn read_piece(&mut self, bytes: &[u8])
         requires given { WasGiven self.old }
         requires room { self.old.read + length bytes.now ≤ 2 ^ 32 }
         ensures given { WasGiven self.new }
         ensures same { game_of self.new.machine ≡ game_of self.old.machine }
         ensures read { self.new.read ≤ self.old.read + length bytes.now }
+        ensures stays { (answered self.old ≡ fed_as.More → ⊥) → answered self.new ≡ answered self.old }
         ensures checking { (before : List ℕ) → IsChecking self.old before → IsChecking self.new (before ++ bytes.now) }
     {
         match self.stop {
@@ -153,6 +178,23 @@ impl<'p> Checker<'p> {
                 }
             }
         }
+    }
+
+    /// Reads the next bytes, up to 2^32 in all, and says what all bytes so far are. After a fault they are passed over, and
+    /// the answer stays the same.
+    pub fn feed(&mut self, bytes: &[u8]) -> Fed
+        requires given { WasGiven self.old }
+        requires room { self.old.read + length bytes.now ≤ 2 ^ 32 }
+        ensures feeds { (before : List ℕ) → IsChecking self.old before → Feeds (before ++ bytes.now) result }
+        ensures answer { result ≡ answered self.new }
+        ensures stays { (answered self.old ≡ fed_as.More → ⊥) → result ≡ answered self.old }
+        ensures given { WasGiven self.new }
+        ensures same { game_of self.new.machine ≡ game_of self.old.machine }
+        ensures read { self.new.read ≤ self.old.read + length bytes.now }
+        ensures checking { (before : List ℕ) → IsChecking self.old before → IsChecking self.new (before ++ bytes.now) }
+    {
+        self.read_piece(bytes);
+        self.fed()
     }
 
     // What the bytes come to, where none was a fault.

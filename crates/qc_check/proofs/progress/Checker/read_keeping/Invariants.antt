@@ -1,4 +1,4 @@
-use Rattle.std.proofs.Common.{◌≡◌, ◌≤◌, ◌+◌, ◌-◌, ℕ, List, ◌++◌, length, None}
+use Rattle.std.proofs.Common.{◌≡◌, ◌≤◌, ◌+◌, ◌-◌, ℕ, List, length, None}
 use Rattle.line_check.specs.Machine.{game_of, IsReady}
 use Rattle.qc_check.specs.Checking.{IsChecking}
 use Rattle.qc_check.specs.Keeping.{IsKeeping}

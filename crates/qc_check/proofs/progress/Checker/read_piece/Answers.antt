@@ -1,7 +1,7 @@
 use Rattle.std.proofs.Common.{subst, sym, ◌++◌}
 use Rattle.qc_check.specs.Checking.{IsCheckingBy}
 use Rattle.qc_check.proofs.Steps.{still_stopped}
-use Rattle.qc_check.proofs.progress.Checker.feed.Goals as goal
+use Rattle.qc_check.proofs.progress.Checker.read_piece.Goals as goal
 
 pub returns-in-Some-clause-checking : goal.returns-in-Some-clause-checking
 returns-in-Some-clause-checking c = λ before h.
