@@ -7,7 +7,9 @@ pub mod Replies
 pub mod Turns
 pub mod Making
 pub mod Starts
-mod Opened
+pub mod TurnLines
+mod Proving
+mod Listing
 mod Plays
 pub mod LeavesMore
 pub mod BestLeaf

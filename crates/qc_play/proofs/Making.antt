@@ -1,4 +1,4 @@
--- What is made of a certificate whose tree was judged.
+-- What is made of a certificate that was judged.
 use Rattle.std.proofs.Common.{◌≡◌, Bool, true, false, ◌&&◌, [], refl, sym, ◌∙◌, subst, Option, Some, None, ℤ}
 use Rattle.std.specs.Prelude.{IsTrue}
 use Rattle.qc_model.specs.Content.{Game}
@@ -11,10 +11,6 @@ use Rattle.proof_tree.specs.InPlace.{root_in_place}
 use Rattle.proof_tree.specs.Read.{root_finding, strategy_of, counter_of}
 use Rattle.proof_tree.specs.Proves.{proves, shows}
 use Rattle.proof_tree.specs.Meaning.{OutcomeMeans, TrueMeans}
-use Rattle.line_check.specs.declared.answer.Answer.{Answer}
-use Rattle.line_check.specs.Found.{IsAnswer}
-use Rattle.line_check.specs.Shown.{answer_shows}
-use Rattle.line_check.proofs.Showing.{proves_answer}
 use Rattle.qc_play.specs.declared.plan.Plan.{Plan}
 use Rattle.qc_play.specs.declared.counter.Counter.{Counter}
 use Rattle.qc_play.specs.Shape.{plan_of, tree_of_counter}
@@ -29,18 +25,14 @@ differ : true ≡ false → ⊥
 differ e = cc
 
 module _ (g : Game) (p : Option ℤ) (t : Tree) (o : Outcome) where
-  module _ (f : Answer) (a : IsAnswer g t f) where
-    pub not_won : o ≡ True → answer_shows g.scopes f True p ≡ false → IsTrue (proves g o p t) → ⊥
-    not_won q n e = differ (sym (subst (λ x. IsTrue (proves g x p t)) q e) ∙ (proves_answer g t f a True p tt ∙ n))
+  pub not_proved : proves g o p t ≡ false → IsTrue (proves g o p t) → ⊥
+  not_proved n e = differ (sym e ∙ n)
 
-    pub not_lost : o ≡ False → answer_shows g.scopes f False p ≡ false → IsTrue (proves g o p t) → ⊥
-    not_lost q n e = differ (sym (subst (λ x. IsTrue (proves g x p t)) q e) ∙ (proves_answer g t f a False p tt ∙ n))
+  pub states : (x : Outcome) → o ≡ x → proves g o p t ≡ true → IsTrue (proves g x p t)
+  states x q e = subst (λ y. IsTrue (proves g y p t)) q e
 
-    pub does_win : answer_shows g.scopes f True p ≡ true → IsTrue (proves g True p t)
-    does_win y = proves_answer g t f a True p tt ∙ y
-
-    pub does_lose : answer_shows g.scopes f False p ≡ true → IsTrue (proves g False p t)
-    does_lose y = proves_answer g t f a False p tt ∙ y
+  pub placed : proves g o p t ≡ true → root_in_place g t ≡ true
+  placed e = (both (root_in_place g t) (shows g t (root_finding g t) o p) e).0
 
   exact_true : (q : Option ℤ) → shows g t (root_finding g t) True q ≡ true → is_exact (root_finding g t).verdict ≡ true
   exact_true None e = (both (is_exact (root_finding g t).verdict) _ e).0

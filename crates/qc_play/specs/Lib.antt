@@ -11,4 +11,6 @@ pub mod EntryOrder
 pub mod Entries
 pub mod Gathers
 pub mod Evidence
+pub mod Heads
+pub mod Listed
 pub mod Walk

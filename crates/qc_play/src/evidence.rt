@@ -1,13 +1,13 @@
 //! What a certificate shows, whatever it states.
-ghost use Rattle.std.specs.Prelude.{◌≡◌, ◌<◌, ◌^◌, ◌-◌, IfOk};
+ghost use Rattle.std.specs.Prelude.{◌≡◌, IfOk, OnErr, IsTrue};
 ghost use Rattle.proof_tree.specs.Shape.{tree_of};
 ghost use Rattle.qc_play.specs.Evidence.{IsEvidence};
+ghost use Rattle.qc_play.specs.Heads.{is_head};
 
 use crate::counter::Counter;
-use crate::judged::judged;
+use crate::judged::proves;
 use crate::make::{make_counter, make_plan};
 use crate::plan::Plan;
-use line_check::shows;
 use proof_tree::{Certificate, Outcome};
 use qc_model::Problem;
 use std::alloc::{AllocError, Global};
@@ -27,7 +27,8 @@ pub enum Evidence {
 
 fn won_answer(alloc: Global, problem: &Problem, cert: &Certificate) -> Result<Evidence, AllocError>
     requires { cert.now.outcome ≡ Outcome.True }
-    ensures { IfOk result (λ e. IsEvidence problem.now cert.now.outcome cert.now.optimum (tree_of cert.now.root) e) }
+    ensures shows { IfOk result (λ e. IsEvidence problem.now cert.now.outcome cert.now.optimum (tree_of cert.now.root) e) }
+    ensures asked { OnErr result (IsTrue (is_head problem.now.scopes cert.now.outcome cert.now.optimum)) }
 {
     match make_plan(alloc, problem, cert)? {
         Some(plan) => Ok(Evidence::Plan(plan)),
@@ -37,7 +38,8 @@ fn won_answer(alloc: Global, problem: &Problem, cert: &Certificate) -> Result<Ev
 
 fn lost_answer(alloc: Global, problem: &Problem, cert: &Certificate) -> Result<Evidence, AllocError>
     requires { cert.now.outcome ≡ Outcome.False }
-    ensures { IfOk result (λ e. IsEvidence problem.now cert.now.outcome cert.now.optimum (tree_of cert.now.root) e) }
+    ensures shows { IfOk result (λ e. IsEvidence problem.now cert.now.outcome cert.now.optimum (tree_of cert.now.root) e) }
+    ensures asked { OnErr result (IsTrue (is_head problem.now.scopes cert.now.outcome cert.now.optimum)) }
 {
     match make_counter(alloc, problem, cert)? {
         Some(counter) => Ok(Evidence::Counter(counter)),
@@ -45,7 +47,6 @@ fn lost_answer(alloc: Global, problem: &Problem, cert: &Certificate) -> Result<E
     }
 }
 
-// Turns are counted up to 2^64 - 1 alone, so that many can't be told from more.
 fn open_answer(
     alloc: Global,
     problem: &Problem,
@@ -53,15 +54,11 @@ fn open_answer(
     turns: u64,
 ) -> Result<Evidence, AllocError>
     requires { cert.now.outcome ≡ Outcome.Open turns }
-    ensures { IfOk result (λ e. IsEvidence problem.now cert.now.outcome cert.now.optimum (tree_of cert.now.root) e) }
+    ensures shows { IfOk result (λ e. IsEvidence problem.now cert.now.outcome cert.now.optimum (tree_of cert.now.root) e) }
+    ensures asked { OnErr result (IsTrue (is_head problem.now.scopes cert.now.outcome cert.now.optimum)) }
 {
-    if turns == u64::MAX {
-        return Err(AllocError);
-    }
-    let Some(answer) = judged(alloc, problem, &cert.root)? else {
-        return Ok(Evidence::NotProved);
-    };
-    if shows(problem, answer, Outcome::Open(turns), cert.optimum) {
+    let proved = proves(alloc, problem, cert)?;
+    if proved {
         Ok(Evidence::Open(turns))
     } else {
         Ok(Evidence::NotProved)
@@ -70,14 +67,14 @@ fn open_answer(
 
 /// What a certificate shows. NotProved comes exactly where it doesn't prove what it states.
 ///
-/// It fails as `make_plan` and `make_counter` do, and, as if memory had run out, where the certificate states that
-/// 2^64 - 1 turns left the game open; no certificate's text states that.
+/// It fails as `make_plan` does, and asks for no memory where the certificate states an optimum that no tree can show.
 pub fn make_evidence(
     alloc: Global,
     problem: &Problem,
     cert: &Certificate,
 ) -> Result<Evidence, AllocError>
-    ensures { IfOk result (λ e. IsEvidence problem.now cert.now.outcome cert.now.optimum (tree_of cert.now.root) e) }
+    ensures shows { IfOk result (λ e. IsEvidence problem.now cert.now.outcome cert.now.optimum (tree_of cert.now.root) e) }
+    ensures asked { OnErr result (IsTrue (is_head problem.now.scopes cert.now.outcome cert.now.optimum)) }
 {
     match cert.outcome {
         Outcome::True => won_answer(alloc, problem, cert),

@@ -1,13 +1,13 @@
 //! The strategy, or the counterstrategy, that a certificate shows.
-ghost use Rattle.std.specs.Prelude.{◌≡◌, IfOk};
+ghost use Rattle.std.specs.Prelude.{◌≡◌, IfOk, OnErr, IsTrue};
 ghost use Rattle.proof_tree.specs.Shape.{tree_of};
+ghost use Rattle.qc_play.specs.Heads.{is_head};
 ghost use Rattle.qc_play.specs.Made.{MakesPlan, MakesCounter};
 
 use crate::counter::Counter;
-use crate::judged::judged;
+use crate::judged::proves;
 use crate::plan::Plan;
 use crate::root::{counter_of_root, plan_of_root};
-use line_check::shows;
 use proof_tree::{Certificate, Outcome};
 use qc_meaning::{outcomes_are_true, trees_answer_all_tuples};
 use qc_model::Problem;
@@ -20,15 +20,14 @@ fn won_plan(
     cert: &Certificate,
 ) -> Result<Option<Plan>, AllocError>
     requires { cert.now.outcome ≡ Outcome.True }
-    ensures { IfOk result (λ plan. MakesPlan problem.now cert.now.outcome cert.now.optimum (tree_of cert.now.root) plan) }
+    ensures makes { IfOk result (λ plan. MakesPlan problem.now cert.now.outcome cert.now.optimum (tree_of cert.now.root) plan) }
+    ensures asked { OnErr result (IsTrue (is_head problem.now.scopes cert.now.outcome cert.now.optimum)) }
 {
     problem.known();
     outcomes_are_true();
     trees_answer_all_tuples();
-    let Some(answer) = judged(alloc, problem, &cert.root)? else {
-        return Ok(None);
-    };
-    if !shows(problem, answer, Outcome::True, cert.optimum) {
+    let won = proves(alloc, problem, cert)?;
+    if !won {
         return Ok(None);
     }
     let plan = plan_of_root(alloc, problem, &cert.root)?;
@@ -42,15 +41,14 @@ fn lost_counter(
     cert: &Certificate,
 ) -> Result<Option<Counter>, AllocError>
     requires { cert.now.outcome ≡ Outcome.False }
-    ensures { IfOk result (λ counter. MakesCounter problem.now cert.now.outcome cert.now.optimum (tree_of cert.now.root) counter) }
+    ensures makes { IfOk result (λ counter. MakesCounter problem.now cert.now.outcome cert.now.optimum (tree_of cert.now.root) counter) }
+    ensures asked { OnErr result (IsTrue (is_head problem.now.scopes cert.now.outcome cert.now.optimum)) }
 {
     problem.known();
     outcomes_are_true();
     trees_answer_all_tuples();
-    let Some(answer) = judged(alloc, problem, &cert.root)? else {
-        return Ok(None);
-    };
-    if !shows(problem, answer, Outcome::False, cert.optimum) {
+    let lost = proves(alloc, problem, cert)?;
+    if !lost {
         return Ok(None);
     }
     let counter = counter_of_root(alloc, problem, &cert.root)?;
@@ -60,14 +58,15 @@ fn lost_counter(
 /// The strategy that a certificate shows, which is optimal. None comes exactly where the certificate doesn't prove what
 /// it states, or doesn't state that the game is won.
 ///
-/// It fails only where memory runs out, and as if it had for a tree of more than 2^32 lines, or with a horizon at a scope
-/// that no game has.
+/// It fails only where memory is refused or the list of the tree's lines is full, which has room for 2^32. It asks for no
+/// memory where the certificate states another outcome, or an optimum that no tree can show.
 pub fn make_plan(
     alloc: Global,
     problem: &Problem,
     cert: &Certificate,
 ) -> Result<Option<Plan>, AllocError>
-    ensures { IfOk result (λ plan. MakesPlan problem.now cert.now.outcome cert.now.optimum (tree_of cert.now.root) plan) }
+    ensures makes { IfOk result (λ plan. MakesPlan problem.now cert.now.outcome cert.now.optimum (tree_of cert.now.root) plan) }
+    ensures asked { OnErr result ((cert.now.outcome ≡ Outcome.True) × IsTrue (is_head problem.now.scopes cert.now.outcome cert.now.optimum)) }
 {
     match cert.outcome {
         Outcome::True => won_plan(alloc, problem, cert),
@@ -85,7 +84,8 @@ pub fn make_counter(
     problem: &Problem,
     cert: &Certificate,
 ) -> Result<Option<Counter>, AllocError>
-    ensures { IfOk result (λ counter. MakesCounter problem.now cert.now.outcome cert.now.optimum (tree_of cert.now.root) counter) }
+    ensures makes { IfOk result (λ counter. MakesCounter problem.now cert.now.outcome cert.now.optimum (tree_of cert.now.root) counter) }
+    ensures asked { OnErr result ((cert.now.outcome ≡ Outcome.False) × IsTrue (is_head problem.now.scopes cert.now.outcome cert.now.optimum)) }
 {
     match cert.outcome {
         Outcome::True => Ok(None),

@@ -2,6 +2,7 @@ use Rattle.std.proofs.Common.{◌≡◌, ◌≤◌, ◌++◌, ◌+◌, ◌*◌, 
 use Rattle.proof_tree.specs.Shape.{tree_of, ending_of, branches_of, case_of}
 use Rattle.proof_tree.specs.Counts.{weight, ending_weight, branch_weight, case_weight}
 use Rattle.proof_tree.specs.Lines.{branches_lines}
+use Rattle.qc_play.specs.Listed.{listed}
 use Rattle.qc_play.proofs.listed.+put.Given as goal
 
 abbrev pub decreases-put_node : goal.decreases-put_node
@@ -21,6 +22,6 @@ decreases-put_case l = 2 + 2 * case_weight (case_of l.case.now)
 
 abbrev pub invariant-put_case_list-loop-piece : goal.invariant-put_case_list-loop-piece
 invariant-put_case_list-loop-piece l = record {
-  told : l.out.items ++ branches_lines (branches_of (drop l.piece-index l.cases)) ≡ l.fn.out.items ++ branches_lines (branches_of l.cases);
+  told : l.out.items ++ listed (branches_lines (branches_of (drop l.piece-index l.cases))) ≡ l.fn.out.items ++ listed (branches_lines (branches_of l.cases));
   less : branch_weight (branches_of (drop l.piece-index l.cases)) ≤ branch_weight (branches_of l.cases);
 }

@@ -1,38 +1,39 @@
-use Rattle.std.proofs.Common.{◌∙◌, sym}
-use Rattle.std.specs.Prelude.{IsTrue}
+use Rattle.std.proofs.Common.{◌≡◌, ◌∙◌, sym, true}
 use Rattle.proof_tree.specs.Proves.{proves}
 use Rattle.proof_tree.specs.Shape.{tree_of}
 use Rattle.proof_tree.specs.declared.tree.Outcome.TheVariants.{False}
-use Rattle.qc_play.proofs.Making.{not_lost, does_lose, lost_lost, counter_made}
+use Rattle.qc_play.proofs.Making.{not_proved, states, placed, lost_lost, counter_made}
 use Rattle.qc_play.proofs.make.lost_counter.Goals as goal
-use Rattle.qc_play.proofs.make.lost_counter.Goals.{Else-not-shows}
+use Rattle.qc_play.proofs.make.lost_counter.Goals.{Else-not-lost}
 
-pub returns-then-not-shows : goal.returns-then-not-shows
-returns-then-not-shows c = λ e q.
-    let f = c.in-Some.answer in
+pub returns-then-not-lost-clause-makes : goal.returns-then-not-lost-clause-makes
+returns-then-not-lost-clause-makes c = λ e q.
     let cert = c.args.cert.now in
-    not_lost c.args.problem.now cert.optimum (tree_of cert.root) cert.outcome f (c.in_ok-answer.ensures.right f c.in-Some.is) q (sym c.shows.ensures ∙ c.if-not-shows.true) e
+    not_proved c.args.problem.now cert.optimum (tree_of cert.root) cert.outcome (sym c.in_ok-lost.ensures.told ∙ c.if-not-lost.true) e
 
-shown : (c : Else-not-shows) → IsTrue (proves c.args.problem.now False c.args.cert.now.optimum (tree_of c.args.cert.now.root))
-shown c =
-    let f = c.in-Some.answer in
-    let cert = c.args.cert.now in
-    does_lose c.args.problem.now cert.optimum (tree_of cert.root) cert.outcome f (c.in_ok-answer.ensures.right f c.in-Some.is) (sym c.shows.ensures ∙ c.if-not-shows.false)
+proved : (c : Else-not-lost) → proves c.args.problem.now c.args.cert.now.outcome c.args.cert.now.optimum (tree_of c.args.cert.now.root) ≡ true
+proved c = sym c.in_ok-lost.ensures.told ∙ c.if-not-lost.false
 
 pub counter_of_root-requires-clause-placed : goal.counter_of_root-requires-clause-placed
-counter_of_root-requires-clause-placed c = (c.in_ok-answer.ensures.right c.in-Some.answer c.in-Some.is).in_place
+counter_of_root-requires-clause-placed c =
+    let cert = c.args.cert.now in
+    placed c.args.problem.now cert.optimum (tree_of cert.root) cert.outcome (proved (goal.at.counter_of_root-requires-clause-placed c).Else-not-lost)
 
 pub counter_of_root-requires-clause-answered : goal.counter_of_root-requires-clause-answered
-counter_of_root-requires-clause-answered c = c.trees_answer_all_tuples.ensures c.args.problem.now (tree_of c.args.cert.now.root) c.known.ensures (c.in_ok-answer.ensures.right c.in-Some.answer c.in-Some.is).in_place
+counter_of_root-requires-clause-answered c =
+    let cert = c.args.cert.now in
+    c.trees_answer_all_tuples.ensures c.args.problem.now (tree_of cert.root) c.known.ensures (placed c.args.problem.now cert.optimum (tree_of cert.root) cert.outcome (proved (goal.at.counter_of_root-requires-clause-answered c).Else-not-lost))
 
 pub counter_of_root-requires-clause-few : goal.counter_of_root-requires-clause-few
-counter_of_root-requires-clause-few c = c.in_ok-answer.ensures.few
+counter_of_root-requires-clause-few c = c.in_ok-lost.ensures.few c.if-not-lost.false
 
 pub counter_of_root-requires-clause-lost : goal.counter_of_root-requires-clause-lost
-counter_of_root-requires-clause-lost c = lost_lost c.args.problem.now c.args.cert.now.optimum (tree_of c.args.cert.now.root) c.args.cert.now.outcome (shown c)
-
-pub returns : goal.returns
-returns c =
+counter_of_root-requires-clause-lost c =
     let cert = c.args.cert.now in
-    let e = shown (goal.at.returns c).Else-not-shows in
+    lost_lost c.args.problem.now cert.optimum (tree_of cert.root) cert.outcome (states c.args.problem.now cert.optimum (tree_of cert.root) cert.outcome False c.requires (proved (goal.at.counter_of_root-requires-clause-lost c).Else-not-lost))
+
+pub returns-clause-makes : goal.returns-clause-makes
+returns-clause-makes c =
+    let cert = c.args.cert.now in
+    let e = states c.args.problem.now cert.optimum (tree_of cert.root) cert.outcome False c.requires (proved (goal.at.returns-clause-makes c).Else-not-lost) in
     counter_made c.args.problem.now cert.optimum (tree_of cert.root) cert.outcome c.in_ok-counter.counter c.requires e (c.outcomes_are_true.ensures c.args.problem.now False cert.optimum (tree_of cert.root) c.known.ensures e) c.in_ok-counter.ensures
