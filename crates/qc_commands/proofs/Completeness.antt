@@ -50,19 +50,19 @@ pub record Laws : Type 0 where
   pub formula : OneFile
   pub formula_never : NeverRefusedFormula
 
-same_game : ReadsOne → (told : Option (List ℕ)) (g h : Game) → TellsProblem told g → IsProblemOf told h → h ≡ g
+pub same_game : ReadsOne → (told : Option (List ℕ)) (g h : Game) → TellsProblem told g → IsProblemOf told h → h ≡ g
 same_game one told g h tells of =
     let e : of.bytes ≡ tells.bytes = told_bytes told tells.bytes of.bytes tells.told_is of.file.same in
     one tells.bytes h g (subst (λ b. Reads b h) e of.reads) tells.reads
 
 -- the file has a problem
-never_refused : NeverRefused → (told : Option (List ℕ)) (g : Game) (t : List ℕ) → TellsProblem told g → IsNoProblem told t → ⊥
+pub never_refused : NeverRefused → (told : Option (List ℕ)) (g : Game) (t : List ℕ) → TellsProblem told g → IsNoProblem told t → ⊥
 never_refused either told g t tells down =
     let e : down.bytes ≡ tells.bytes = told_bytes told tells.bytes down.bytes tells.told_is down.file.same in
     either down.bytes g down.refused.kind down.refused.at (subst (λ b. Reads b g) (sym e) tells.reads) down.refused.refuses
 
 -- so nothing tells that there is no problem
-never_turned_down : Laws → (name : List ℕ) (told : Option (List ℕ)) (gave : ℕ → Type 0) (g : Game) → TellsProblem told g →
+pub never_turned_down : Laws → (name : List ℕ) (told : Option (List ℕ)) (gave : ℕ → Type 0) (g : Game) → TellsProblem told g →
     (s : Status) (t : List ℕ) → TurnsProblemDown name told gave s t → ¬ (s ≡ Memory) → ¬ (s ≡ ReadFault) → ⊥
 never_turned_down l name told gave g tells BadProblem t d m r = never_refused l.either told g t tells d
 never_turned_down l name told gave g tells TooLong t d m r = never_long 4194304 name told gave t tells.bytes tells.told_is tells.within d
@@ -71,7 +71,7 @@ never_turned_down l name told gave g tells ReadFault t d m r = r refl
 never_turned_down l name told gave g tells s t d m r = d
 
 -- what is answered is answered for the file's problem
-for_problem : Laws → (P : Game → Status → List ℕ → Type 0) (name : List ℕ) (told : Option (List ℕ)) (gave : ℕ → Type 0) (g : Game) → TellsProblem told g →
+pub for_problem : Laws → (P : Game → Status → List ℕ → Type 0) (name : List ℕ) (told : Option (List ℕ)) (gave : ℕ → Type 0) (g : Game) → TellsProblem told g →
     (s : Status) (t : List ℕ) → AnswersProblem P name told gave s t → ¬ (s ≡ Memory) → ¬ (s ≡ ReadFault) → P g s t
 for_problem l P name told gave g tells s t h m r =
     elim h [
@@ -84,7 +84,7 @@ open_below True g turns root e m f = let k : Open ≡ Done = e in cc
 open_below False g turns root e m f = let k : Open ≡ Done = e in cc
 open_below (OpenOutcome n) g turns root e m f = let all : n ≡ turns = m.all in let below : n < full_turns_of g = m.below in omega arith
 
-solves_done : (turns : ℕ) (g : Game) (s : Status) (t : List ℕ) → SolvesProblem turns g s t → ¬ (s ≡ Memory) → full_turns_of g ≤ turns → s ≡ Done
+pub solves_done : (turns : ℕ) (g : Game) (s : Status) (t : List ℕ) → SolvesProblem turns g s t → ¬ (s ≡ Memory) → full_turns_of g ≤ turns → s ≡ Done
 solves_done turns g Done t c m f = refl
 solves_done turns g Open t c m f = absurd (open_below c.outcome g turns c.root c.ends c.spent f)
 solves_done turns g Memory t c m f = absurd (m refl)
@@ -188,7 +188,7 @@ never_unreadable told places g tells NoReading t d m = no_reason places g d.why 
 never_unreadable told places g tells Memory t d m = m refl
 never_unreadable told places g tells s t d m = d
 
-of_reading : (told : Option (List ℕ)) (places : Places) (P : Game → Status → List ℕ → Type 0) (g : Game) → TellsReading told places g →
+pub of_reading : (told : Option (List ℕ)) (places : Places) (P : Game → Status → List ℕ → Type 0) (g : Game) → TellsReading told places g →
     (s : Status) (t : List ℕ) → AnswersReading places P g s t → ¬ (s ≡ Memory) → P (worst_game places g) s t
 of_reading told places P g tells s t h m =
     elim h [
@@ -196,7 +196,7 @@ of_reading told places P g tells s t h m =
       | inr (reading, k) ↦ k
     ]
 
-for_reading : Laws → (places : Places) (P : Game → Status → List ℕ → Type 0) (name : List ℕ) (told : Option (List ℕ)) (gave : ℕ → Type 0) (g : Game) →
+pub for_reading : Laws → (places : Places) (P : Game → Status → List ℕ → Type 0) (name : List ℕ) (told : Option (List ℕ)) (gave : ℕ → Type 0) (g : Game) →
     TellsReading told places g → (s : Status) (t : List ℕ) → AnswersProblem (AnswersReading places P) name told gave s t → ¬ (s ≡ Memory) → ¬ (s ≡ ReadFault) →
     P (worst_game places g) s t
 for_reading l places P name told gave g tells s t h m r =
@@ -233,7 +233,7 @@ compares_both : (places : Places) (g : Game) (s : Status) (t : List ℕ) → Com
 compares_both places g s t c m =
     (compares_done g (worst_game places g) s t c m, λ f. compares_settled g (worst_game places g) s t c m f (subst (λ n. n ≤ usual_turns) (sym (same_turns places g)) f))
 
-asked_done : Laws → (asked : Option Asked) (told : List ℕ → Option (List ℕ)) (gave : ℕ → Type 0) (s : Status) (t : List ℕ) →
+pub asked_done : Laws → (asked : Option Asked) (told : List ℕ → Option (List ℕ)) (gave : ℕ → Type 0) (s : Status) (t : List ℕ) →
     Answers asked told gave s t → ¬ (s ≡ Memory) → ¬ (s ≡ ReadFault) → IsComplete asked told s
 asked_done l None told gave s t h m r = words s h where
   words : (s : Status) → Answers None told gave s t → s ≡ Usage
@@ -261,7 +261,7 @@ asked_done l (Some (restates name places)) told gave s t h m r =
 asked_done l (Some (compares name places)) told gave s t h m r =
     λ g tells. compares_both places g s t (for_gap l places name (told name) gave g tells s t h m r) m
 
-no_fault : (before now : ℕ) → Rose before now → NoneRose before now → ⊥
+pub no_fault : (before now : ℕ) → Rose before now → NoneRose before now → ⊥
 no_fault before now rose (same, below) = omega arith
 
 -- the answer was written, and nothing failed

@@ -1,13 +1,13 @@
 pub mod Written
 mod Certified
 mod Compared
-mod Completeness
-mod Down
+pub mod Completeness
+pub mod Down
 mod Feeding
 mod FormulaGames
 mod Numerals
 mod Parts
-mod Played
-mod PlaysDone
+pub mod Played
+pub mod PlaysDone
 mod Summarised
-mod Told
+pub mod Told

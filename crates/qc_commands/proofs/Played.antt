@@ -63,14 +63,14 @@ play_down g own tree ms (WantPlay e) s t why is = rw is.0 is.1
 
 module _ (g : Game) (outcome : Outcome) (optimum : Option ℤ) (root : Tree) where
   -- who plays by what the certificate shows
-  plan_side : (plan : Plan) → IsPlanOf g outcome optimum root plan → ShowsSide g outcome optimum root Exists
+  pub plan_side : (plan : Plan) → IsPlanOf g outcome optimum root plan → ShowsSide g outcome optimum root Exists
   plan_side plan m = record {
     proves = m.proves;
     side = ap side_of m.outcome_is;
     sound = subst (λ q. Optimal g g.scopes 0 [] q) m.reading m.optimal;
   }
 
-  counter_side : (counter : Counter) → IsCounterOf g outcome optimum root counter → ShowsSide g outcome optimum root Forall
+  pub counter_side : (counter : Counter) → IsCounterOf g outcome optimum root counter → ShowsSide g outcome optimum root Forall
   counter_side counter m = record {
     proves = m.proves;
     side = ap side_of m.outcome_is;
@@ -124,7 +124,7 @@ module _ (gave gave' : ℕ → Type 0) (f : (n : ℕ) → gave n → gave' n) wh
   plays_certificate_before o p r name told g Memory t h = h
   plays_certificate_before o p r name told g s t h = (h.0, h.1, plays_file_before g h.0 (shown_tree g r h.0) name told s t h.2)
 
-  certificate_before : (name : List ℕ) (told : Option (List ℕ)) (s : Status) (t : List ℕ) → TurnsCertificateDown name told gave s t → TurnsCertificateDown name told gave' s t
+  pub certificate_before : (name : List ℕ) (told : Option (List ℕ)) (s : Status) (t : List ℕ) → TurnsCertificateDown name told gave s t → TurnsCertificateDown name told gave' s t
   certificate_before name told BadCertificate t h = h
   certificate_before name told s t h = file_before 33554432 name told gave gave' f s t h
 

@@ -26,7 +26,7 @@ never_no_certificate never told g own root t tells down =
     never tells.bytes f (tells.version, tells.outcome, tells.optimum, root, tells.read.spellable, tells.read.shallow, tells.read.spelled)
     (subst (IsFault f) e down.refused.is, no_want f t down.refused.line)
 
-never_uncertified : NeverBoth → (name : List ℕ) (told : Option (List ℕ)) (gave : ℕ → Type 0) (g : Game) (own : Kind) (root : Tree) → TellsSide told g own root →
+pub never_uncertified : NeverBoth → (name : List ℕ) (told : Option (List ℕ)) (gave : ℕ → Type 0) (g : Game) (own : Kind) (root : Tree) → TellsSide told g own root →
     (s : Status) (t : List ℕ) → TurnsCertificateDown name told gave s t → ¬ (s ≡ Memory) → ¬ (s ≡ ReadFault) → ⊥
 never_uncertified never name told gave g own root tells BadCertificate t d m r = never_no_certificate never told g own root t tells d
 never_uncertified never name told gave g own root tells TooLong t d m r = never_long 33554432 name told gave t tells.bytes tells.told_is tells.within d
@@ -35,7 +35,7 @@ never_uncertified never name told gave g own root tells ReadFault t d m r = r re
 never_uncertified never name told gave g own root tells s t d m r = d
 
 -- and it is that one
-one_certificate : IsOneCertificate → (told : Option (List ℕ)) (g : Game) (own : Kind) (root : Tree) (o : Outcome) (p : Option ℤ) (r : Tree) →
+pub one_certificate : IsOneCertificate → (told : Option (List ℕ)) (g : Game) (own : Kind) (root : Tree) (o : Outcome) (p : Option ℤ) (r : Tree) →
     (tells : TellsSide told g own root) → IsCertificateOf told o p r → (o ≡ tells.outcome) × (p ≡ tells.optimum) × (r ≡ root)
 one_certificate one told g own root o p r tells of =
     let e : of.bytes ≡ tells.bytes = told_bytes told tells.bytes of.bytes tells.told_is of.file.same in
@@ -58,7 +58,7 @@ moves_done g own tree ms p BadMoves t h m = absurd (no_fail (play_of g own tree 
 moves_done g own tree ms p Memory t h m = absurd (m refl)
 moves_done g own tree ms p s t h m = absurd h
 
-never_bad : (bytes : List ℕ) → bad_moves_at bytes ≡ None → (s : Status) (t : List ℕ) → TurnsMovesDown bytes s t → ¬ (s ≡ Memory) → ⊥
+pub never_bad : (bytes : List ℕ) → bad_moves_at bytes ≡ None → (s : Status) (t : List ℕ) → TurnsMovesDown bytes s t → ¬ (s ≡ Memory) → ⊥
 never_bad bytes good BadMoves t d m = let e : bad_moves_at bytes ≡ Some d.at = d.is in cc
 never_bad bytes good Memory t d m = m refl
 never_bad bytes good s t d m = d
@@ -81,10 +81,10 @@ file_done name told gave g own root tells s t h m r =
           (subst (λ b. PlaysBytes g own (shown_tree g root own) b s t) (told_bytes told tells.bytes bytes tells.told_is file.same) k) m
     ]
 
-same_side : (o : Outcome) (own other : Kind) → side_of o ≡ Some own → side_of o ≡ Some other → other ≡ own
+pub same_side : (o : Outcome) (own other : Kind) → side_of o ≡ Some own → side_of o ≡ Some other → other ≡ own
 same_side o own other e f = cc
 
-not_open : (o : Outcome) (own : Kind) (n : ℕ) → side_of o ≡ Some own → o ≡ OpenOutcome n → ⊥
+pub not_open : (o : Outcome) (own : Kind) (n : ℕ) → side_of o ≡ Some own → o ≡ OpenOutcome n → ⊥
 not_open o own n e f = let k : None ≡ Some own = subst (λ q. side_of q ≡ Some own) f e in cc
 
 certificate_done : (side : Option (List ℕ)) (name : List ℕ) (told : Option (List ℕ)) (gave : ℕ → Type 0) (g : Game) (own : Kind) (root : Tree) →

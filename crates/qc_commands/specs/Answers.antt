@@ -99,6 +99,6 @@ AnswersAsked (compares name places) told gave status text = AnswersProblem (Answ
 
 -- what is answered for the words; told gives the bytes of the names that are told
 abbrev pub Answers : Option Asked → (List ℕ → Option (List ℕ)) → (ℕ → Type 0) → Status → List ℕ → Type 0
-Answers None told gave Usage text = text ≡ codes "usage: qecode solve PROBLEM [--turns N] | check PROBLEM CERTIFICATE | print PROBLEM | generate N [--text] | qbf FILE [--turns N | --text] | worst PROBLEM SCOPE [--turns N | --text | --gap] | play PROBLEM CERTIFICATE MOVES\n"
+Answers None told gave Usage text = text ≡ codes "usage: qecode solve PROBLEM [--turns N] | check PROBLEM CERTIFICATE | print PROBLEM | generate N [--text] | play PROBLEM CERTIFICATE MOVES | qbf FILE [--turns N | --text] | worst PROBLEM SCOPE [--turns N | --text | --gap]\n"
 Answers None told gave status text = ⊥
 Answers (Some asked) told gave status text = AnswersAsked asked told gave status text

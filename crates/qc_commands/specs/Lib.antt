@@ -2,6 +2,7 @@ pub mod Answers
 pub mod Certificates
 pub mod Certifies
 pub mod Complete
+pub mod Exits
 pub mod Files
 pub mod Fed
 pub mod Formulas

@@ -19,7 +19,7 @@ const TREE_LIMIT: u64 = 33_554_432;
 
 /// The certificate of a file. Where it can't be read, is too long or has none, the answer is written, and its status
 /// given.
-pub(crate) fn open_certificate<S: Shelf, K: Sink>(
+pub fn open_certificate<S: Shelf, K: Sink>(
     alloc: Global,
     name: &str,
     shelf: &mut S,

@@ -12,7 +12,7 @@ use std::alloc::Global;
 pub(crate) const TEXT_LIMIT: u64 = 4_194_304;
 
 /// The bytes of a file of at most so many. Where they can't be had, the answer is written, and its status given.
-pub(crate) fn open_file<S: Shelf, K: Sink>(
+pub fn open_file<S: Shelf, K: Sink>(
     alloc: Global,
     name: &str,
     limit: u64,

@@ -3,7 +3,7 @@ ghost use Rattle.std.specs.Prelude.{◌≡◌, ◌≢◌, ◌++◌, IsTrue, IfOk
 ghost use Rattle.std.specs.List.{list_all};
 ghost use Rattle.std.specs.Io.KnownBytes.{Appends};
 ghost use Rattle.qc_io.specs.Counts.{HasCause, Rose, RoseBy};
-ghost use Rattle.qc_io.specs.Sink.{AppendsPrefix};
+ghost use Rattle.qc_io.specs.Sink.{AppendsPrefix, Moves};
 ghost use Rattle.proof_tree.specs.Text.{outcome_fits, outcome_text};
 ghost use Rattle.strategy_arena.specs.Certificate.{text_of_lines, line_fits};
 ghost use Rattle.game_search.specs.Solution.{SolutionLines};
@@ -20,7 +20,7 @@ use crate::worst::oppose;
 use game_search::{Flat, solve_flat};
 use itoa::Buffer;
 use proof_tree::Outcome;
-use qc_io::{Shelf, Sink, WriteFault, write_all};
+use qc_io::{Pieces, Shelf, Sink, WriteFault};
 use qc_model::Problem;
 use qc_pessimist::Places;
 use std::alloc::{AllocError, Global};
@@ -96,7 +96,12 @@ fn outcome_lines(alloc: Global, best: &Flat, worst: &Flat) -> Result<String, All
     format!(in alloc; "best {best}worst {worst}")
 }
 
-fn outcome_line(alloc: Global, outcome: Outcome, optimum: Option<i64>) -> Result<String, AllocError>
+/// The words of an outcome, as a line of a certificate states it.
+pub fn outcome_line(
+    alloc: Global,
+    outcome: Outcome,
+    optimum: Option<i64>,
+) -> Result<String, AllocError>
     ensures { IfOk result (λ text. string_bytes text ≡ outcome_text outcome optimum) }
 {
     let mut buffer = Buffer::new();
@@ -144,25 +149,27 @@ fn put_both<K: Sink>(both: &Both, out: &mut K) -> Result<(), WriteFault>
         ++ text_if_open both.now.worst.outcome (text_of_lines both.now.worst.outcome both.now.worst.optimum both.now.worst.arena))) }
     ensures cause { HasCause (K.faults out.old) (K.faults out.new) result }
 {
-    write_all(out, both.lines.as_str().as_bytes())?;
-    put_if_open(&both.best, out)?;
-    put_if_open(&both.worst, out)
+    let mut pieces = Pieces::new();
+    pieces.put_all(out, both.lines.as_str().as_bytes())?;
+    put_if_open(&both.best, &mut pieces, out)?;
+    put_if_open(&both.worst, &mut pieces, out)?;
+    pieces.finish(out)
 }
 
-// The text of a certificate that leaves its outcome open; of another nothing.
-fn put_if_open<K: Sink>(flat: &Flat, out: &mut K) -> Result<(), WriteFault>
+// Puts the text of a certificate that leaves its outcome open behind the bytes that are held; of another nothing.
+fn put_if_open<K: Sink>(flat: &Flat, pieces: &mut Pieces, out: &mut K) -> Result<(), WriteFault>
     requires head { IsTrue (outcome_fits flat.now.outcome flat.now.optimum) }
     requires lines { IsTrue (list_all line_fits flat.now.arena) }
-    ensures ok { OnOk result (Appends (K.written out.old) (K.written out.new)
-        (text_if_open flat.now.outcome (text_of_lines flat.now.outcome flat.now.optimum flat.now.arena))) }
+    ensures ok { OnOk result (Moves (K.written out.old) (K.written out.new) pieces.new
+        (pieces.old ++ text_if_open flat.now.outcome (text_of_lines flat.now.outcome flat.now.optimum flat.now.arena))) }
     ensures err { OnErr result (AppendsPrefix (K.written out.old) (K.written out.new)
-        (text_if_open flat.now.outcome (text_of_lines flat.now.outcome flat.now.optimum flat.now.arena))) }
+        (pieces.old ++ text_if_open flat.now.outcome (text_of_lines flat.now.outcome flat.now.optimum flat.now.arena))) }
     ensures cause { HasCause (K.faults out.old) (K.faults out.new) result }
 {
     match flat.outcome {
         Outcome::True => Ok(()),
         Outcome::False => Ok(()),
-        Outcome::Open(_) => flat.arena.write_from(flat.outcome, flat.optimum, out),
+        Outcome::Open(_) => flat.arena.put_text(flat.outcome, flat.optimum, pieces, out),
     }
 }
 

@@ -21,7 +21,7 @@ use game_search::{Flat, solve_flat};
 use itoa::Buffer;
 use proof_tree::Outcome;
 use qc_generated::generated;
-use qc_io::{Sink, WriteFault, write_all};
+use qc_io::{Pieces, Sink, WriteFault};
 use qc_model::Problem;
 use std::alloc::{AllocError, Global};
 
@@ -139,6 +139,9 @@ fn write_with_certificate<K: Sink>(
         (summary.now ++ text_of_lines flat.now.outcome flat.now.optimum flat.now.arena)) }
     ensures cause { HasCause (K.faults out.old) (K.faults out.new) result }
 {
-    write_all(out, summary)?;
-    flat.arena.write_from(flat.outcome, flat.optimum, out)
+    let mut pieces = Pieces::new();
+    pieces.put_all(out, summary)?;
+    flat.arena
+        .put_text(flat.outcome, flat.optimum, &mut pieces, out)?;
+    pieces.finish(out)
 }

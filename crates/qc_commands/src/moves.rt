@@ -8,7 +8,7 @@ use std::alloc::{AllocError, AllocFailed, Global};
 
 /// Why a text is no moves.
 #[derive(Clone, Copy, PartialEq, Eq)]
-pub(crate) enum NoMoves {
+pub enum NoMoves {
     /// No token begins at this place, or one that is no number.
     Bad { at: u32 },
     /// Memory was refused.
@@ -32,7 +32,7 @@ impl<T: Drop> From<AllocFailed<T>> for NoMoves {
 }
 
 /// The numbers of a text, in order. Nothing but numbers may stand in it, and what stands between tokens.
-pub(crate) fn read_moves(alloc: Global, text: &[u8]) -> Result<Vec<i64>, NoMoves>
+pub fn read_moves(alloc: Global, text: &[u8]) -> Result<Vec<i64>, NoMoves>
     requires { length text.now ≤ 65536 }
     ensures moves { IfOk result (λ moves. moves.items ≡ moves_of text.now) }
     ensures good { OnOk result (bad_moves_at text.now ≡ None) }

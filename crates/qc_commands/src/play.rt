@@ -24,7 +24,7 @@ use qc_play::{Evidence, PlayFault, Side, make_evidence, play};
 use std::alloc::Global;
 
 /// The most bytes of the text of moves.
-const MOVES_LIMIT: u64 = 65_536;
+pub const MOVES_LIMIT: u64 = 65_536;
 
 /// Plays the problem of a file: one side by what the certificate of another shows, and the other side by the moves of a
 /// third.
@@ -96,8 +96,8 @@ fn play_certificate<S: Shelf, K: Sink>(
     }
 }
 
-// Tells after how many turns the game was left open.
-fn tell_open<K: Sink>(out: &mut K, turns: u64) -> Status
+/// Tells after how many turns the game was left open.
+pub fn tell_open<K: Sink>(out: &mut K, turns: u64) -> Status
     ensures wrote { Wrote (K.written out.old) (K.written out.new) (K.faults out.old) (K.faults out.new) result
         (λ s t. (s ≡ Status.Open) × (t ≡ codes "open " ++ decimal turns ++ codes "\n")) }
     ensures rows { (result ≡ Status.Open) ⊎ (result ≡ Status.WriteFault) }
@@ -170,8 +170,8 @@ fn play_moves<K: Sink>(
     }
 }
 
-// Tells why a text is no moves; nothing is written where memory was refused.
-fn turn_moves_down<K: Sink>(out: &mut K, fault: NoMoves) -> Status
+/// Tells why a text is no moves; nothing is written where memory was refused.
+pub fn turn_moves_down<K: Sink>(out: &mut K, fault: NoMoves) -> Status
     ensures wrote { Wrote (K.written out.old) (K.written out.new) (K.faults out.old) (K.faults out.new) result (TurnsMovesFaultDown fault) }
     ensures rows { (result ≢ Status.Usage) × (result ≢ Status.ReadFault) }
 {
@@ -196,8 +196,8 @@ fn tell_place<K: Sink>(out: &mut K, at: u32) -> Status
     )
 }
 
-// Tells at which scope the moves fail; nothing is written where memory was refused.
-fn turn_play_down<K: Sink>(out: &mut K, fault: PlayFault) -> Status
+/// Tells at which scope the moves fail; nothing is written where memory was refused.
+pub fn turn_play_down<K: Sink>(out: &mut K, fault: PlayFault) -> Status
     ensures wrote { Wrote (K.written out.old) (K.written out.new) (K.faults out.old) (K.faults out.new) result (TurnsPlayDown fault) }
     ensures rows { (result ≢ Status.Usage) × (result ≢ Status.ReadFault) }
 {

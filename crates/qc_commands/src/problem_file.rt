@@ -16,7 +16,7 @@ use std::alloc::Global;
 
 /// The problem of a file. Where it can't be read, is too long or has none, the answer is written, and
 /// its status given.
-pub(crate) fn open_problem<S: Shelf, K: Sink>(
+pub fn open_problem<S: Shelf, K: Sink>(
     alloc: Global,
     name: &str,
     shelf: &mut S,

@@ -17,7 +17,7 @@ use qc_model::Problem;
 use std::alloc::{AllocError, Global};
 
 /// Solves the problem of a file within so many turns.
-pub(crate) fn solve_file<S: Shelf, K: Sink>(
+pub fn solve_file<S: Shelf, K: Sink>(
     alloc: Global,
     name: &str,
     turns: u64,

@@ -1,6 +1,8 @@
 //! How a run ends.
+ghost use Rattle.std.specs.Prelude.{◌≡◌};
+ghost use Rattle.qc_commands.specs.Exits.{exit_number};
 
-/// How the program ends; the number of each is the program's exit status.
+/// How the program ends.
 #[derive(Clone, Copy, Debug, PartialEq, Eq)]
 pub enum Status {
     /// The answer was written.
@@ -26,7 +28,30 @@ pub enum Status {
     /// The text isn't moves, or they can't be made in the game.
     BadMoves,
     /// The text isn't a formula.
-    BadQdimacs = 11,
+    BadQdimacs,
     /// No reading at the worst ties is given for the scopes named.
-    NoReading = 12,
+    NoReading,
+}
+
+impl Status {
+    /// The exit status of a program that ends so.
+    pub fn number(self) -> u8
+        ensures { result ≡ exit_number self }
+    {
+        match self {
+            Status::Done => 0,
+            Status::NotProved => 1,
+            Status::Open => 2,
+            Status::Usage => 3,
+            Status::BadProblem => 4,
+            Status::BadCertificate => 5,
+            Status::TooLong => 6,
+            Status::ReadFault => 7,
+            Status::WriteFault => 8,
+            Status::Memory => 9,
+            Status::BadMoves => 10,
+            Status::BadQdimacs => 11,
+            Status::NoReading => 12,
+        }
+    }
 }

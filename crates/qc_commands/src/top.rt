@@ -25,7 +25,7 @@ use qdimacs::texts_get_one_answer;
 use std::alloc::Global;
 
 const USAGE: &[u8] =
-    b"usage: qecode solve PROBLEM [--turns N] | check PROBLEM CERTIFICATE | print PROBLEM | generate N [--text] | qbf FILE [--turns N | --text] | worst PROBLEM SCOPE [--turns N | --text | --gap] | play PROBLEM CERTIFICATE MOVES\n";
+    b"usage: qecode solve PROBLEM [--turns N] | check PROBLEM CERTIFICATE | print PROBLEM | generate N [--text] | play PROBLEM CERTIFICATE MOVES | qbf FILE [--turns N | --text] | worst PROBLEM SCOPE [--turns N | --text | --gap]\n";
 
 /// Does what the words ask for.
 ///

@@ -11,7 +11,7 @@ use qc_pessimist::Places;
 const MOST_TURNS: u64 = 10_000_000;
 
 /// The turns that a search is given where the words name none.
-pub(crate) const USUAL_TURNS: u64 = 1_000_000;
+pub const USUAL_TURNS: u64 = 1_000_000;
 
 /// The greatest number that a problem is made from.
 const MOST_MADE: u64 = 1_000_000;
@@ -252,8 +252,8 @@ fn compare_at(problem: &str, places: Option<Places>) -> Option<Command<'_>>
     }
 }
 
-// A word that names a file: it isn't empty and doesn't begin with a dash.
-fn is_name(word: &str) -> bool
+/// Whether a word names a file: it isn't empty and doesn't begin with a dash.
+pub fn is_name(word: &str) -> bool
     ensures { result ≡ is_name_of word.now }
 {
     match word.as_bytes() {
@@ -262,8 +262,8 @@ fn is_name(word: &str) -> bool
     }
 }
 
-// The turns that a word asks for.
-fn turns_in(word: &str) -> Option<u64>
+/// The turns that a word asks for.
+pub fn turns_in(word: &str) -> Option<u64>
     ensures asked { result ≡ turns_asked word.now }
     ensures budget { IfSome result (λ n. (1 ≤ n) × (n ≤ 10000000)) }
 {
@@ -284,8 +284,8 @@ fn made_from(word: &str) -> Option<u32>
     }
 }
 
-// The owners that are to meet the worst ties.
-fn places_in(word: &str) -> Option<Places>
+/// The owners that a word asks for, who are to meet the worst ties.
+pub fn places_in(word: &str) -> Option<Places>
     ensures { result ≡ places_asked_by word.now }
 {
     if word == "all" {
@@ -305,8 +305,8 @@ fn scope_in(number: Option<u64>) -> Option<Places>
     }
 }
 
-// The number from low to high that a word writes.
-fn number_within(word: &str, low: u64, high: u64) -> Option<u64>
+/// The number from low to high that a word writes: in digits, without a sign and without leading zeros.
+pub fn number_within(word: &str, low: u64, high: u64) -> Option<u64>
     ensures asked { result ≡ number_asked low high word.now }
     ensures bound { IfSome result (λ n. (low ≤ n) × (n ≤ high)) }
 {

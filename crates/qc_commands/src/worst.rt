@@ -16,7 +16,7 @@ use qc_pessimist::{NoReading, Places, pessimistic};
 use std::alloc::Global;
 
 /// Solves a file's problem within so many turns, where the owners of the places meet the worst ties.
-pub(crate) fn oppose_file<S: Shelf, K: Sink>(
+pub fn oppose_file<S: Shelf, K: Sink>(
     alloc: Global,
     name: &str,
     places: Places,

@@ -9,7 +9,7 @@ use crate::status::Status;
 use qc_io::{Pieces, Sink, WriteFault, write_all};
 
 /// Writes the text of an answer, whose status isn't WriteFault.
-pub(crate) fn finish<K: Sink>(out: &mut K, text: &[u8], status: Status) -> Status
+pub fn finish<K: Sink>(out: &mut K, text: &[u8], status: Status) -> Status
     requires { status ≢ Status.WriteFault }
     ensures wrote { Wrote (K.written out.old) (K.written out.new) (K.faults out.old) (K.faults out.new) result (λ s t. (s ≡ status) × (t ≡ text.now)) }
     ensures rows { (result ≡ status) ⊎ (result ≡ Status.WriteFault) }

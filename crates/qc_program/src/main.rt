@@ -2,7 +2,9 @@
 #![tactic(auto)]
 
 ghost use Rattle.std.specs.Prelude.{◌≡◌, IfOk, drop, map, string_bytes};
+ghost use Rattle.std.specs.Process.{exit_status};
 ghost use Rattle.std.specs.Vec.Iter.{into_iter_items};
+ghost use Rattle.qc_commands.specs.Exits.{exit_number};
 ghost use Rattle.qc_commands.specs.Words.{asked_of};
 ghost use Rattle.qc_program.specs.Edge.{EndsRight};
 
@@ -21,7 +23,7 @@ fn main(rt: HostRuntime) -> ExitCode {
     let args = match env::args(&rt) {
         Ok(args) => args,
         Err(error) if error.kind() == ErrorKind::OutOfMemory => {
-            return ExitCode::from(Status::Memory as u8);
+            return exit_of(Status::Memory);
         }
         Err(_) => return ExitCode::from(NOT_TEXT),
     };
@@ -29,7 +31,14 @@ fn main(rt: HostRuntime) -> ExitCode {
         Ok(words) => answer(&rt, words.as_slice()).unwrap_or(Status::Memory),
         Err(AllocError) => Status::Memory,
     };
-    ExitCode::from(status as u8)
+    exit_of(status)
+}
+
+// The exit status of a run that ends so.
+fn exit_of(status: Status) -> ExitCode
+    ensures { exit_status result ≡ exit_number status }
+{
+    ExitCode::from(status.number())
 }
 
 // The words without the program's name.
