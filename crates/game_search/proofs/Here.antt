@@ -49,24 +49,25 @@ use Rattle.search_box.specs.Closes.{IsPruned}
 use Rattle.search_box.specs.Rests.{IsFirst, IsLast, IsNext, IsPrevious}
 use Rattle.game_search.specs.Aims.{tracked_at}
 use Rattle.game_search.specs.Attempted.{Attempted}
-use Rattle.game_search.specs.Beaten.{firsts, seen_bounds}
-use Rattle.game_search.specs.Own.{IsOwnSized}
+use Rattle.search_parts.specs.Beaten.{firsts, seen_bounds}
+use Rattle.search_parts.specs.Own.{IsOwnSized}
 use Rattle.game_search.specs.Rivals.{above_at}
-use Rattle.game_search.specs.Settled.{is_settled, is_outdone, is_ended, is_vague_verdict, beats_none}
-use Rattle.game_search.specs.Uppers.{upto_all, upto_between, skipped_between, seen_between, without_before}
-use Rattle.game_search.specs.Made.{NodeMade, EndingMade, StepsMade}
-use Rattle.game_search.specs.Written.{NodeWritten, PartWritten}
+use Rattle.search_parts.specs.Settled.{is_settled, is_outdone, is_ended, is_vague_verdict, beats_none}
+use Rattle.search_parts.specs.Uppers.{upto_all, upto_between, skipped_between, seen_between, without_before}
+use Rattle.search_parts.specs.Made.{NodeMade, EndingMade, StepsMade}
+use Rattle.search_parts.specs.Written.{NodeWritten, PartWritten}
 use Rattle.game_search.specs.Told.{IsReady, IsTold, EndingTold, StepsTold, BoundedSteps, PartTold, BoundedTold, FirstTold, CaseTold, CasesTold, BodyTold, NodeTold}
-use Rattle.game_search.proofs.Beating.{no_worse_yet}
-use Rattle.game_search.proofs.Covers.{covers_before, rest_of}
-use Rattle.game_search.proofs.Joining.{settled_is, settled_so, own_so, own_none, settled-append, or_first, or_none, or_second, neither}
-use Rattle.game_search.proofs.Nodes.{goal_made, node_made, part_known, more_beaten, more_done, horizon_made, stuck_made, empty_made, next_made, barred_made, branch_made}
-use Rattle.game_search.proofs.Outdone.{Outdoes, ended_last}
+use Rattle.search_parts.proofs.Beating.{no_worse_yet}
+use Rattle.game_search.proofs.Covering.{covers_before, rest_of}
+use Rattle.search_parts.proofs.Joining.{settled_is, settled_so, own_so, own_none, settled-append, or_first, or_none, or_second, neither}
+use Rattle.search_parts.proofs.Nodes.{goal_made, node_made, part_known, more_beaten, more_done, horizon_made, stuck_made, empty_made, next_made, barred_made, branch_made}
+use Rattle.search_parts.specs.Bounded.{Outdoes}
+use Rattle.search_parts.proofs.Outdone.{ended_last}
 use Rattle.game_search.proofs.Places.{next_at}
-use Rattle.game_search.proofs.Progress.{Progress, start, taken_from, none, skipped, opened, cut_after, jump_after, jump_behind}
-use Rattle.game_search.proofs.Sizes.{sizes_none, sizes_skipped, own_sized, own_sized_as}
-use Rattle.game_search.proofs.Stepping.{bare_part, bounded_says, bounded_long, part_long, ending_more}
-use Rattle.game_search.proofs.Sure.{without_marks, vectors_marks, sure_anyway}
+use Rattle.search_parts.proofs.Progress.{Progress, start, taken_from, none, skipped, opened, cut_after, jump_after, jump_behind}
+use Rattle.search_parts.proofs.Sizes.{sizes_none, sizes_skipped, own_sized, own_sized_as}
+use Rattle.search_parts.proofs.Stepping.{bare_part, bounded_says, bounded_long, part_long, ending_more}
+use Rattle.search_parts.proofs.Sure.{without_marks, vectors_marks, sure_anyway}
 
 some_scope : (n : ℕ) (ss : List Scope) → n < length ss → is_goal (drop n ss) ≡ false
 some_scope n [] h = absurd (omega arith)

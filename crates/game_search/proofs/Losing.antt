@@ -32,24 +32,24 @@ use Rattle.qc_joins.specs.declared.joins.Joins.{Joins}
 use Rattle.prop_engine.specs.declared.answer.Closed.{Closed}
 use Rattle.fd_store.specs.Held.{values_from}
 use Rattle.search_box.specs.Rests.{IsFirst, IsLast}
+use Rattle.proof_tree.specs.Text.{step_fits}
 use Rattle.search_box.specs.Bounds.{tracked_as, IsBounded, IsUnbounded, BoundAnswers}
 use Rattle.search_box.specs.Closes.{IsPruned}
 use Rattle.search_box.specs.declared.bounding.Bounded.{Bounded}
-use Rattle.search_box.proofs.Goings.{steps_reach}
+use Rattle.search_box.proofs.Goings.{steps_reach, placed_both, marks_both}
 use Rattle.game_search.specs.Aims.{tracked_at, IsNoWorse, IsSpan, IsWorse, IsWorseHere, NoneWorse}
-use Rattle.game_search.specs.Beaten.{firsts, seen_bounds}
-use Rattle.game_search.specs.Made.{StepsMade}
+use Rattle.search_parts.specs.Beaten.{firsts, seen_bounds}
+use Rattle.search_parts.specs.Made.{StepsMade}
 use Rattle.game_search.specs.Narrowed.{NarrowTold, FirstNarrowed}
-use Rattle.game_search.specs.Settled.{is_settled}
+use Rattle.search_parts.specs.Settled.{is_settled}
 use Rattle.game_search.specs.Told.{IsReady, BoundedSteps}
 use Rattle.game_search.specs.declared.aim.Worse.{Worse}
-use Rattle.game_search.proofs.Beating.{no_worse_yet}
-use Rattle.game_search.proofs.Bools.{two, both}
+use Rattle.search_parts.proofs.Beating.{no_worse_yet}
+use Rattle.search_parts.proofs.Bools.{two, both}
 use Rattle.game_search.proofs.Here.{settled_here, bare_steps}
-use Rattle.game_search.proofs.Joining.{settled-append, or_none}
-use Rattle.game_search.proofs.Marks.{some_marks}
-use Rattle.game_search.proofs.Sizes.{sizes_none}
-use Rattle.game_search.proofs.Stepping.{more_steps_made}
+use Rattle.search_parts.proofs.Joining.{settled-append, or_none}
+use Rattle.search_parts.proofs.Marks.{some_marks}
+use Rattle.search_parts.proofs.Sizes.{sizes_none}
 use Rattle.qc_joins.proofs.Sizing.{sizes_both, sizes_bound}
 
 -- ---- values of a variable
@@ -238,6 +238,21 @@ module _ (g : Game) (i : ℕ) (box : Box) (joins : Joins) (before : List Seen) (
         }
 
 -- ---- closing after it
+-- more steps, of which none has a mark
+more_steps_made : (g : Game) (later : List Scope) (i : ℕ) (d : List Condition) (box : Box) (ms : List ℤ) (ss ts : List Step) → StepsMade g later i d box ms ss → steps_in_place g later i d ts (after_steps ss box) ≡ true → step_marks (tracked_variable g later i (list_after g later d)) ts (after_steps ss box) ≡ [] →
+    list_all step_fits ts ≡ true → StepsMade g later i d box ms (ss ++ ts)
+more_steps_made g later i d box ms ss ts m e q f =
+    let t = tracked_variable g later i (list_after g later d) in
+    record {
+      legal = placed_both g later i d ss ts box m.legal e;
+      marked = m.marked ∙ (sym (append-nil (step_marks t ss box)) ∙ (ap (λ ns. step_marks t ss box ++ ns) (sym q) ∙ sym (marks_both t ss ts box)));
+      fits = steps_fit ss ts m.fits f;
+    }
+  where
+    steps_fit : (ss ts : List Step) → list_all step_fits ss ≡ true → list_all step_fits ts ≡ true → list_all step_fits (ss ++ ts) ≡ true
+    steps_fit [] ts h k = k
+    steps_fit (s ∷ ss) ts h k = let r = both (step_fits s) (list_all step_fits ss) h in two (step_fits s) (list_all step_fits (ss ++ ts)) r.0 (steps_fit ss ts r.1 k)
+
 closed_steps : (g : Game) (i : ℕ) (box mid left : Box) (before : List Seen) (ms : List ℤ) (given steps : List Step) → BoundedSteps g i box mid before ms given → IsPruned g i mid left given steps → is_sub_box left mid ≡ true → BoundedSteps g i box left before ms steps
 closed_steps g i box mid left before ms given steps s p fewer =
     let later = drop i g.scopes in

@@ -28,10 +28,10 @@ use Rattle.search_box.proofs.Goings.{closed_now, closed_before, kept_fewer}
 use Rattle.search_box.proofs.Places.{fixed_none, fixed_both, fixed_more}
 use Rattle.game_search.specs.Going.{GoesOn}
 use Rattle.game_search.specs.Told.{IsBack}
-use Rattle.game_search.specs.Uppers.{upto_between, without_before}
+use Rattle.search_parts.specs.Uppers.{upto_between, without_before}
 use Rattle.game_search.specs.declared.walk.Walk.{Walk}
-use Rattle.game_search.proofs.Bools.{both}
-use Rattle.game_search.proofs.Progress.{take_front}
+use Rattle.search_parts.proofs.Bools.{both}
+use Rattle.search_parts.proofs.Progress.{take_front}
 
 is_full : (g : Game) (i : ℕ) (box : Box) → IsClosedAt g i box → has_empty box ≡ false
 is_full g i box h = by (has_empty box) (both (not (has_empty box)) (list_all (keeps_ends box) (constraints_in_force g (drop i g.scopes) i)) h).0

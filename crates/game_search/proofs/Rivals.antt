@@ -11,9 +11,9 @@ use Rattle.qc_joins.specs.Joins.{StandsAt, game_of}
 use Rattle.qc_joins.specs.Verdicts.{wishes_at, incumbent_at}
 use Rattle.qc_joins.specs.declared.joins.Joins.{Joins}
 use Rattle.qc_joins.proofs.AtScope.{stands_long}
-use Rattle.game_search.specs.Beaten.{firsts, is_beaten}
+use Rattle.search_parts.specs.Beaten.{firsts, is_beaten}
 use Rattle.game_search.specs.Rivals.{above_at, StandsAbove}
-use Rattle.game_search.proofs.Beating.{first_is_one}
+use Rattle.search_parts.proofs.Beating.{first_is_one}
 use Rattle.game_search.proofs.Ruling.{incumbent_so, some_vectors, wishes_are}
 
 -- one of the exact leaves beats what the incumbent beats

@@ -35,11 +35,11 @@ use Rattle.qc_model.proofs.InOrder.{below_within}
 use Rattle.proof_tree.specs.Place.{owner_of, tracked_target, tracked_first, tracked_variable, next_scopes, list_after}
 use Rattle.search_box.specs.Bounds.{tracked_as}
 use Rattle.game_search.specs.Aims.{tracked_at, sense_of, asks_one, IsAim, IsKept, IsKeptTo, AreRuledOut, IsRuledOut, IsSpan, IsNoWorse, IsWorse, NoneWorse, AreWorse}
-use Rattle.game_search.specs.Beaten.{firsts, is_beaten}
+use Rattle.search_parts.specs.Beaten.{firsts, is_beaten}
 use Rattle.game_search.specs.declared.aim.Aim.{Aim}
 use Rattle.game_search.specs.declared.aim.Worse.{Worse}
-use Rattle.game_search.proofs.Beating.{none_beats_first, first_is_one, no_better_through}
-use Rattle.game_search.proofs.Bools.{two, both}
+use Rattle.search_parts.proofs.Beating.{none_beats_first, first_is_one, no_better_through}
+use Rattle.search_parts.proofs.Bools.{two, both}
 use Rattle.game_search.proofs.Here.{demands_next}
 use Rattle.game_search.proofs.Places.{next_at}
 

@@ -38,12 +38,12 @@ use Rattle.qc_levels.specs.Seen.{verdict_of}
 use Rattle.qc_levels.specs.declared.leaves.Found.{Found}
 use Rattle.strategy_arena.specs.Certificate.{line_fits}
 use Rattle.game_search.specs.Attempted.{Attempted}
-use Rattle.game_search.specs.Made.{NodeMade}
-use Rattle.game_search.specs.Own.{IsOwnSized}
-use Rattle.game_search.specs.Settled.{beats_none, is_vague_verdict}
+use Rattle.search_parts.specs.Made.{NodeMade}
+use Rattle.search_parts.specs.Own.{IsOwnSized}
+use Rattle.search_parts.specs.Settled.{beats_none, is_vague_verdict}
 use Rattle.game_search.specs.Solution.{Solution, SolutionLines, OpenMeans, outcome_by}
-use Rattle.game_search.specs.Written.{NodeWritten}
-use Rattle.game_search.proofs.Bools.{two, both, is_below}
+use Rattle.search_parts.specs.Written.{NodeWritten}
+use Rattle.search_parts.proofs.Bools.{two, both, is_below}
 
 same_value : (v : ℤ) → int_eq v v ≡ true
 same_value v = (Decides-int_eq v v).1 refl

@@ -13,7 +13,7 @@ use Rattle.proof_tree.specs.Read.{root_finding}
 use Rattle.proof_tree.specs.Tree.{Tree}
 use Rattle.proof_tree.proofs.EndsByTurns.{tree_ends}
 use Rattle.game_search.specs.Solution.{Solution}
-use Rattle.game_search.proofs.Bools.{both}
+use Rattle.search_parts.proofs.Bools.{both}
 
 -- as the law of nesting has it
 abbrev IsShallow : Type 0

@@ -12,8 +12,8 @@ use Rattle.proof_tree.specs.Place.{Tracked, tracked_variable, list_after}
 use Rattle.proof_tree.specs.Steps.{after_steps, are_legal}
 use Rattle.proof_tree.specs.Text.{step_fits}
 use Rattle.step_trim.specs.Trims.{Trims}
-use Rattle.game_search.specs.Made.{StepsMade}
-use Rattle.game_search.proofs.Bools.{both}
+use Rattle.search_parts.specs.Made.{StepsMade}
+use Rattle.search_parts.proofs.Bools.{both}
 
 -- the steps that are left are made, and end with an empty domain too
 pub record NeededMade (g : Game) (later : List Scope) (i : ℕ) (d : List Condition) (box : Box) (ms : List ℤ) (less : List Step) : Type 0 where

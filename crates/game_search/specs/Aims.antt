@@ -15,7 +15,7 @@ use Rattle.qc_joins.specs.Joins.{StandsAt}
 use Rattle.qc_joins.specs.Verdicts.{wishes_at}
 use Rattle.qc_joins.specs.declared.joins.Joins.{Joins}
 use Rattle.search_box.specs.Bounds.{tracked_as}
-use Rattle.game_search.specs.Beaten.{firsts, is_beaten}
+use Rattle.search_parts.specs.Beaten.{firsts, is_beaten}
 use Rattle.game_search.specs.declared.aim.Aim.{Aim}
 use Rattle.game_search.specs.declared.aim.Worse.{Worse}
 

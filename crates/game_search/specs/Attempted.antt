@@ -6,8 +6,8 @@ use Rattle.proof_tree.specs.Read.{root_finding}
 use Rattle.proof_tree.specs.declared.line.Line.{Line}
 use Rattle.qc_levels.specs.Seen.{verdict_of}
 use Rattle.qc_levels.specs.declared.leaves.Found.{Found}
-use Rattle.game_search.specs.Settled.{beats_none}
-use Rattle.game_search.specs.Written.{NodeWritten}
+use Rattle.search_parts.specs.Settled.{beats_none}
+use Rattle.search_parts.specs.Written.{NodeWritten}
 
 -- the lines are a root that came to this within the turns, and own is the value of the first scope's condition
 pub record Attempted (cuts : Bool) (g : Game) (turns : ℕ) (found : Found) (own : Option ℤ) (lines : List Line) : Type 0 where

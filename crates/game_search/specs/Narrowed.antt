@@ -7,7 +7,7 @@ use Rattle.proof_tree.specs.Cover.{box_to}
 use Rattle.proof_tree.specs.declared.tree.Step.{Step}
 use Rattle.qc_joins.specs.Joins.{StandsAt}
 use Rattle.qc_joins.specs.declared.joins.Joins.{Joins}
-use Rattle.game_search.specs.Beaten.{seen_bounds}
+use Rattle.search_parts.specs.Beaten.{seen_bounds}
 use Rattle.game_search.specs.Told.{StepsTold, BoundedSteps}
 use Rattle.game_search.specs.declared.narrowing.GivenUp.{GivenUp}
 use Rattle.game_search.specs.declared.narrowing.GivenUp.TheVariants.{Nothing, Values as SomeValues, All}

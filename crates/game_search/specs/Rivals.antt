@@ -1,22 +1,16 @@
 -- What the scope right above has reached, and which bounds of a scope it beats.
-use Rattle.std.specs.Prelude.{◌≡◌, ⊤, ◌&&◌, ℕ, zero, suc, Bool, false, Option, Some, None, List, [], ◌∷◌, drop, slice_get, ℤ}
-use Rattle.qc_model.specs.declared.problem.Aggregate.{Aggregate}
-use Rattle.qc_model.specs.declared.problem.Condition.{Condition}
-use Rattle.qc_model.specs.declared.problem.Scope.{Scope}
-use Rattle.qc_model.specs.declared.problem.Sense.{Sense}
-use Rattle.qc_model.specs.declared.problem.Target.{Target}
-use Rattle.qc_model.specs.declared.problem.Target.TheVariants.{Var, Aggregate as Agg}
-use Rattle.qc_model.specs.Block.{of_kind}
+use Rattle.std.specs.Prelude.{◌≡◌, ⊤, ◌&&◌, ℕ, zero, suc, Bool, false, Option, Some, None, List, drop, ℤ}
 use Rattle.qc_model.specs.Content.{Game}
 use Rattle.qc_model.specs.Demands.{demands}
 use Rattle.qc_model.specs.ExistsVerdict.{beats}
 use Rattle.qc_model.specs.Verdict.{Seen}
-use Rattle.qc_levels.specs.Columns.{is_one_sided, first_sense}
+use Rattle.qc_levels.specs.Columns.{first_sense}
 use Rattle.qc_joins.specs.Joins.{StandsAt}
 use Rattle.qc_joins.specs.Verdicts.{wishes_at}
 use Rattle.qc_joins.specs.declared.joins.Joins.{Joins}
-use Rattle.game_search.specs.Beaten.{firsts, is_beaten}
-use Rattle.game_search.specs.Settled.{beats_none}
+use Rattle.search_parts.specs.Beaten.{firsts, is_beaten}
+use Rattle.search_parts.specs.Settled.{beats_none}
+use Rattle.search_parts.specs.Bounded.{is_bounded}
 use Rattle.game_search.specs.declared.rival.Rival.{Rival}
 
 -- what the scope right above beats, where up is what was seen in its own tree
@@ -27,24 +21,6 @@ above_at g (suc i) up = is_beaten (wishes_at g i) (firsts up)
 abbrev pub StandsAbove : Joins → ℕ → List Seen → Type 0
 StandsAbove joins zero up = ⊤
 StandsAbove joins (suc i) up = StandsAt joins i up
-
--- some branches alone bound the first entry's value
-abbrev pub is_fold_bounded : Sense → Option Aggregate → Bool
-is_fold_bounded s None = false
-is_fold_bounded s (Some q) = is_one_sided s q.fold
-
-abbrev pub is_target_bounded : Game → Sense → Target → Bool
-is_target_bounded g s (Var x) = false
-is_target_bounded g s (Agg q) = is_fold_bounded s (slice_get g.aggregates q.0)
-
-abbrev pub is_list_bounded : Game → List Condition → Bool
-is_list_bounded g [] = false
-is_list_bounded g (c ∷ d) = is_target_bounded g c.sense c.target
-
--- so in the first of the scopes, whose own list is d: it is the opponent's
-abbrev pub is_bounded : List Scope → Game → List Condition → Bool
-is_bounded [] g d = false
-is_bounded (s ∷ later) g d = of_kind s.kind false (is_list_bounded g d)
 
 abbrev pub beaten_by : Option Rival → ℤ → Bool
 beaten_by None n = false

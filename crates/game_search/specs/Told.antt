@@ -18,9 +18,9 @@ use Rattle.qc_joins.specs.declared.joins.Joins.{Joins}
 use Rattle.game_search.specs.declared.walk.Walk.{Walk}
 use Rattle.search_box.specs.Boxed.{KeepsValues}
 use Rattle.game_search.specs.Aims.{tracked_at}
-use Rattle.game_search.specs.Beaten.{firsts, seen_bounds, are_beaten}
-use Rattle.game_search.specs.Made.{NodeMade, StepsMade}
-use Rattle.game_search.specs.Written.{NodeWritten, EndingWritten, PartWritten, BoundedWritten, CasesWritten}
+use Rattle.search_parts.specs.Beaten.{firsts, seen_bounds, are_beaten}
+use Rattle.search_parts.specs.Made.{NodeMade, StepsMade}
+use Rattle.search_parts.specs.Written.{NodeWritten, EndingWritten, PartWritten, BoundedWritten, CasesWritten}
 
 -- before a part of scope i's own tree: its join stands for what was seen so far, which doesn't settle the scope, and no
 -- number gets large with so many more

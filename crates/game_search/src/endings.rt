@@ -10,9 +10,9 @@ ghost use Rattle.qc_joins.specs.Verdicts.{verdict_at};
 ghost use Rattle.search_box.specs.Complete.{IsClosedAtGoal};
 ghost use Rattle.search_box.specs.Entered.{IsEntered};
 ghost use Rattle.search_box.specs.Looking.{scope_number};
-ghost use Rattle.game_search.specs.Known.{IsEnded};
+ghost use Rattle.kept_nodes.specs.Known.{IsEnded};
 ghost use Rattle.game_search.specs.Rivals.{outdoes};
-ghost use Rattle.game_search.specs.Settled.{is_ended as is_ended_by};
+ghost use Rattle.search_parts.specs.Settled.{is_ended as is_ended_by};
 ghost use Rattle.game_search.specs.Told.{IsBack, BodyTold, NodeTold};
 
 use crate::rival::is_outdone;

@@ -10,33 +10,22 @@
 //! a scope.
 //!
 //! A first pass keeps of each settled node the case that settled it alone, and tries first the tuple after which no other
-//! counted at the same position before, or else at other nodes of the scope, or one that a free search found (`advice`). What
-//! stands below a tuple that was tried and ended nothing is kept aside for where the values are gone over (`aside`). Where
-//! nothing is optimised it copies the lines of a node whose position was decided before (`known`). Where this pass comes to
+//! counted at the same position before, or else at other nodes of the scope, or one that a free search found (`search_advice`). What
+//! stands below a tuple that was tried and ended nothing is kept aside for where the values are gone over. Where
+//! nothing is optimised it copies the lines of a node whose position was decided before (`kept_nodes`). Where this pass comes to
 //! nothing, a second one goes over the cases in order, so that an open certificate has exactly the turns of the budget.
 #![tactic(auto)]
 
-mod advice;
 mod aim;
-mod aside;
 mod attempts;
-mod bests;
 mod certify;
 mod endings;
 mod keeping;
-mod known;
-mod likeness;
-mod looks;
 mod narrowing;
-mod positions;
 mod rival;
 mod search;
-mod signs;
 mod stage;
-mod standing;
 mod tries;
-mod tuples;
-mod turns;
 mod walk;
 mod writing;
 

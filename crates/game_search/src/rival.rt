@@ -8,7 +8,7 @@ ghost use Rattle.qc_model.specs.ExistsVerdict.{beats as beats_bound};
 ghost use Rattle.qc_model.specs.Verdict.{Seen};
 ghost use Rattle.qc_joins.specs.Joins.{game_of, StandsAt};
 ghost use Rattle.game_search.specs.Rivals.{IsRival, StandsAbove, above_at, beaten_by, outdoes};
-ghost use Rattle.game_search.specs.Settled.{is_outdone as is_outdone_by};
+ghost use Rattle.search_parts.specs.Settled.{is_outdone as is_outdone_by};
 
 use qc_joins::Joins;
 use qc_model::{ScopeId, Sense};

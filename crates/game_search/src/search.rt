@@ -34,29 +34,31 @@ ghost use Rattle.search_box.specs.Complete.{IsClosedAtGoal};
 ghost use Rattle.search_box.specs.Entered.{IsEntered};
 ghost use Rattle.search_box.specs.Looking.{scope_number};
 ghost use Rattle.game_search.specs.Aims.{tracked_at, IsSpan};
-ghost use Rattle.game_search.specs.Beaten.{firsts, seen_bounds};
+ghost use Rattle.search_parts.specs.Beaten.{firsts, seen_bounds};
 ghost use Rattle.game_search.specs.Going.{IsGoing, GoesOn};
-ghost use Rattle.game_search.specs.Known.{IsEnded};
+ghost use Rattle.kept_nodes.specs.Known.{IsEnded};
 ghost use Rattle.game_search.specs.Rivals.{above_at, StandsAbove, outdoes};
-ghost use Rattle.game_search.specs.Settled.{is_vague_verdict, beats_none};
+ghost use Rattle.search_parts.specs.Settled.{is_vague_verdict, beats_none};
 ghost use Rattle.game_search.specs.Told.{IsReady, IsBack, EndingTold, BoundedSteps, PartTold, BoundedTold, FirstTold, CaseTold, CasesTold, BodyTold, NodeTold};
-ghost use Rattle.game_search.specs.Written.{NodeWritten};
+ghost use Rattle.search_parts.specs.Written.{NodeWritten};
 
 use crate::aim::{Worse, aim_of};
 use crate::endings::{at_goal, is_ended, is_here, stuck, verdict};
 use crate::keeping::{
     aside_at, keep_aside, keep_node, known_at, position_of, put_aside, put_known,
 };
-use crate::known::{NodeEnd, is_decided};
 use crate::narrowing::{narrow, narrow_first};
 use crate::rival::{is_outdone, rival_of};
 use crate::stage::Stage;
-use crate::tries::{first_worse, is_advised, is_worth_again, most_tries, value_to_try};
+use crate::tries::{
+    first_worse, is_advised, is_ready, is_worth_again, most_tries, sought, value_to_try,
+};
 use crate::walk::Walk;
 use crate::writing::{
     drop_before, last_to_drop, leave_out, put_horizon, put_needed, put_steps, skip_and_tell,
     skip_between,
 };
+use kept_nodes::{NodeEnd, is_decided};
 use proof_tree::Line;
 use prop_engine::Closed;
 use qc_levels::Found;
@@ -150,7 +152,7 @@ fn own_tree(stage: &Stage, walk: &mut Walk) -> Result<Found, AllocError>
 {
     let best = walk.advice.enter(
         stage.level,
-        stage.aim,
+        sought(stage.aim),
         stage.position,
         walk.remains.all_values(),
         walk.left,
@@ -332,7 +334,7 @@ fn closed_part(stage: &Stage, tries: bool, walk: &mut Walk) -> Result<bool, Allo
     let mark = walk.remains.mark();
     walk.steps.clear();
     let closed = walk.remains.close(level, &mut walk.steps)?;
-    if !walk.advice.is_ready(tries, level, &walk.remains) {
+    if !is_ready(tries, level, &walk.remains, &mut walk.advice) {
         walk.remains.undo_to(mark);
         return Ok(false);
     }

@@ -1,15 +1,18 @@
 //! When something is tried first at a node, and which value of a variable that is.
-ghost use Rattle.std.specs.Prelude.{◌≡◌, ◌<◌, IfSome, IsTrue};
+ghost use Rattle.std.specs.Prelude.{◌≡◌, ◌<◌, false, IfSome, IsTrue};
 ghost use Rattle.qc_model.specs.Domains.{has_value, values_left};
 ghost use Rattle.qc_joins.specs.Joins.{game_of};
 ghost use Rattle.game_search.specs.Aims.{IsSpan};
 ghost use Rattle.game_search.specs.Going.{IsGoing};
 
-use crate::aim::{Worse, worse_than_found};
+use crate::aim::{Aim, Worse, worse_than_found};
 use crate::rival::is_outdone;
 use crate::stage::Stage;
 use crate::walk::Walk;
 use qc_model::{ScopeId, VarId};
+use qc_rules::Level;
+use search_advice::{Advice, Sought};
+use search_box::SearchBox;
 
 /// How many turns a tree that ended outdone has to have taken, so that it is worth to try its last tuple alone.
 const LONG_TREE: u64 = 3;
@@ -22,6 +25,17 @@ pub(crate) fn is_advised(stage: &Stage, walk: &Walk) -> bool
     ensures { IsTrue result → IsTrue stage.now.cuts }
 {
     stage.cuts && walk.advice.is_asked(stage.level)
+}
+
+/// Whether the own tree is gone into: without `tries` always, and with them where a tuple is chosen.
+pub(crate) fn is_ready(tries: bool, level: &Level, remains: &SearchBox, advice: &mut Advice) -> bool
+    requires game { remains.now.game ≡ level.now.problem.now }
+    ensures tries { result ≡ false → IsTrue tries }
+{
+    if !tries {
+        return true;
+    }
+    advice.choose(level, remains)
 }
 
 /// How many tuples are tried at most.
@@ -44,14 +58,7 @@ pub(crate) fn value_to_try(stage: &Stage, x: VarId, walk: &Walk) -> Option<i64>
     if walk.left == 0 {
         return None;
     }
-    let value = walk.advice.value(x);
-    if walk.remains.has(x, value) {
-        return Some(value);
-    }
-    if walk.advice.is_loose(stage.level) {
-        return Some(walk.remains.first(x));
-    }
-    None
+    walk.advice.value(stage.level, x, &walk.remains)
 }
 
 /// Whether the own tree, which took turns since so many were left, would be shorter where the tuple that ended it is tried
@@ -76,4 +83,13 @@ pub(crate) fn first_worse(stage: &Stage, best: Option<i64>) -> Option<Worse>
         return None;
     }
     worse_than_found(stage.aim, best)
+}
+
+/// What the own tree seeks, by what it aims at.
+pub(crate) fn sought(aim: Option<Aim>) -> Option<Sought> {
+    let aim = aim?;
+    Some(Sought {
+        sense: aim.sense,
+        variable: aim.variable,
+    })
 }

@@ -2,11 +2,10 @@
 ghost use Rattle.std.specs.Prelude.{◌≡◌};
 ghost use Rattle.qc_joins.specs.Joins.{game_of};
 
-use crate::advice::Advice;
-use crate::aside::AsideNodes;
-use crate::known::KnownNodes;
+use kept_nodes::{AsideNodes, KnownNodes};
 use proof_tree::{Step, StepList};
 use qc_joins::Joins;
+use search_advice::Advice;
 use search_box::SearchBox;
 use std::alloc::Global;
 use strategy_arena::Arena;

@@ -9,7 +9,7 @@ ghost use Rattle.proof_tree.specs.Text.{horizon_fits};
 ghost use Rattle.search_box.specs.Looking.{scope_number};
 ghost use Rattle.qc_joins.specs.Joins.{game_of, StandsAt, KeepsOthers};
 ghost use Rattle.game_search.specs.Trimmed.{TrimmedPut};
-ghost use Rattle.game_search.specs.Uppers.{upto_between, skipped_between, seen_between, without_before};
+ghost use Rattle.search_parts.specs.Uppers.{upto_between, skipped_between, seen_between, without_before};
 
 use proof_tree::{Horizon, Line, Step};
 use qc_joins::Joins;

@@ -1,7 +1,7 @@
 use Rattle.std.proofs.Common.{◌≡◌, true, subst}
 use Rattle.qc_model.specs.Content.{Game}
 use Rattle.game_search.specs.Rivals.{outdoes}
-use Rattle.game_search.specs.Settled.{is_outdone}
+use Rattle.search_parts.specs.Settled.{is_outdone}
 use Rattle.game_search.proofs.Here.{asked_here, settled_ends, outdone_ends}
 use Rattle.game_search.proofs.endings.is_ended.Goals as goal
 

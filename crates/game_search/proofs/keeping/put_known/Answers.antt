@@ -7,10 +7,11 @@ use Rattle.qc_levels.specs.Seen.{verdict_of}
 use Rattle.qc_joins.specs.Joins.{out_of}
 use Rattle.proof_tree.specs.declared.line.Line.{Line}
 use Rattle.search_box.specs.Looking.{scope_number}
-use Rattle.game_search.specs.Known.{StandsHere}
-use Rattle.game_search.specs.declared.known.KnownNode.{KnownNode}
-use Rattle.game_search.specs.Settled.{beats_none}
-use Rattle.game_search.proofs.Knowing.{node_ends, stands_told}
+use Rattle.kept_nodes.specs.Known.{StandsHere}
+use Rattle.kept_nodes.specs.declared.known.KnownNode.{KnownNode}
+use Rattle.search_parts.specs.Settled.{beats_none}
+use Rattle.kept_nodes.proofs.Knowing.{node_ends}
+use Rattle.game_search.proofs.Knowing.{stands_told}
 use Rattle.game_search.proofs.keeping.put_known.Goals as goal
 
 pub returns-clause-told : goal.returns-clause-told

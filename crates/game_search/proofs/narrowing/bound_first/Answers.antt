@@ -8,7 +8,7 @@ use Rattle.qc_arguments.specs.Asked.{is_box_of}
 use Rattle.qc_arguments.proofs.Boxes.{left_small}
 use Rattle.search_box.specs.Bounds.{BoundAnswers}
 use Rattle.search_box.proofs.Keeping.{passed_number}
-use Rattle.game_search.proofs.Fitting.{number_among}
+use Rattle.search_parts.proofs.Fitting.{number_among}
 use Rattle.game_search.proofs.Losing.{first_none, first_some, span_between}
 use Rattle.game_search.proofs.narrowing.bound_first.Goals as goal
 

@@ -10,7 +10,7 @@ use Rattle.prop_base.proofs.Steps.{follows_same}
 use Rattle.search_box.proofs.Keeping.{passed_number, sub_self}
 use Rattle.game_search.specs.Aims.{AreWorse, NoneWorse, IsWorse}
 use Rattle.game_search.specs.declared.aim.Worse.{Worse}
-use Rattle.game_search.proofs.Fitting.{number_among}
+use Rattle.search_parts.proofs.Fitting.{number_among}
 use Rattle.game_search.proofs.Losing.{nothing_lost, worse_here, bound_none, bound_some}
 use Rattle.game_search.proofs.narrowing.give_up.Goals as goal
 

@@ -5,7 +5,7 @@ use Rattle.qc_model.specs.ExistsVerdict.{beats}
 use Rattle.qc_joins.specs.Joins.{game_of}
 use Rattle.game_search.specs.Rivals.{beaten_by}
 use Rattle.game_search.specs.declared.rival.Rival.{Rival}
-use Rattle.game_search.proofs.Outdone.{outdone_by}
+use Rattle.game_search.proofs.Outdoing.{outdone_by}
 use Rattle.game_search.proofs.rival.is_outdone.Goals as goal
 
 pub returns : goal.returns

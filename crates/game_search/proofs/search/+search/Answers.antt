@@ -31,32 +31,33 @@ use Rattle.search_box.proofs.Goings.{follows_on}
 use Rattle.search_box.proofs.Places.{read_numbers}
 use Rattle.game_search.specs.Going.{GoesOn}
 use Rattle.game_search.specs.Aims.{tracked_at, IsAimed}
-use Rattle.game_search.specs.Beaten.{seen_bounds}
+use Rattle.search_parts.specs.Beaten.{seen_bounds}
 use Rattle.game_search.specs.declared.aim.Worse.{Worse}
 use Rattle.game_search.specs.Narrowed.{NarrowTold}
 use Rattle.game_search.specs.Rivals.{above_at, StandsAbove, outdoes, IsRival}
-use Rattle.game_search.specs.Settled.{beats_none, is_outdone}
+use Rattle.search_parts.specs.Settled.{beats_none, is_outdone}
 use Rattle.game_search.specs.Trimmed.{TrimmedPut}
 use Rattle.game_search.specs.Told.{IsBack, IsReady, PartTold, BoundedTold, CaseTold, BodyTold, NodeTold}
-use Rattle.game_search.specs.Known.{IsEnded}
-use Rattle.game_search.specs.Written.{NodeWritten}
+use Rattle.kept_nodes.specs.Known.{IsEnded}
+use Rattle.search_parts.specs.Written.{NodeWritten}
 use Rattle.qc_model.specs.Verdict.{Verdict}
 use Rattle.proof_tree.specs.declared.line.Line.{Line}
 use Rattle.qc_joins.specs.declared.joins.Joins.{Joins}
 use Rattle.search_box.specs.Complete.{IsClosedAtGoal}
-use Rattle.game_search.specs.Uppers.{upto_between, skipped_between, seen_between, without_before}
-use Rattle.game_search.proofs.Covers.{covers_after, many_of, rest_of}
-use Rattle.game_search.proofs.Fitting.{number_among, place_fits}
+use Rattle.search_parts.specs.Uppers.{upto_between, skipped_between, seen_between, without_before}
+use Rattle.game_search.proofs.Covering.{covers_after, many_of, rest_of}
+use Rattle.search_parts.proofs.Fitting.{number_among, place_fits}
 use Rattle.qc_model.specs.Demands.{demands}
 use Rattle.proof_tree.specs.Steps.{after_steps}
 use Rattle.game_search.proofs.Trimming.{needed_made}
 use Rattle.game_search.proofs.Here.{Passing, asked_here, outdone_ends, started, ready_again, case_done, case_ready, case_tried, ready_behind, case_behind, rest_skipped, rest_ended, rest_opened, rest_none, empty_told, barred_told, few_turns, next_told, pruned_told, bounded_told, stepped_told, bare_steps, ending_kept, part_told, part_more, branch_told, ready_first, ready_bounded, node_ended, bounded_ended, body_done, body_more, whole_node}
-use Rattle.game_search.proofs.Knowing.{ended_kept, node_ends, node_finished, kept_told}
+use Rattle.kept_nodes.proofs.Knowing.{node_ends}
+use Rattle.game_search.proofs.Knowing.{ended_kept, node_finished, kept_told}
 use Rattle.game_search.proofs.Losing.{ready_after}
-use Rattle.game_search.proofs.Marks.{firsts_marks}
-use Rattle.game_search.proofs.Outdone.{rival_outdoes}
+use Rattle.search_parts.proofs.Marks.{firsts_marks}
+use Rattle.game_search.proofs.Outdoing.{rival_outdoes}
 use Rattle.game_search.proofs.Places.{goal_closed}
-use Rattle.game_search.proofs.Bools.{both}
+use Rattle.search_parts.proofs.Bools.{both}
 use Rattle.game_search.proofs.Remains.{as_many, none_back, both_back, back_after, back_below, back_more, case_back, cut_back, entered_back, line_back, lines_both, one_fewer, taken_back, told_back, tuple_back, undone_back, back_from, same_back}
 use Rattle.game_search.proofs.search.+search.Goals as goal
 

@@ -6,7 +6,7 @@ use Rattle.fd_store.specs.Held.{values_from}
 use Rattle.search_box.specs.Looking.{scope_number}
 use Rattle.game_search.specs.Rivals.{outdoes}
 use Rattle.game_search.specs.Told.{IsReady, IsBack}
-use Rattle.game_search.proofs.Covers.{ComesAfter}
+use Rattle.game_search.proofs.Covering.{ComesAfter}
 use Rattle.game_search.proofs.Here.{Passing}
 use Rattle.game_search.proofs.search.+search.Given as goal
 

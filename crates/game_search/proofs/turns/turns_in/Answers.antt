@@ -1,7 +1,0 @@
-use Rattle.std.proofs.Common.{◌∙◌, ap, arith}
-use Rattle.game_search.specs.Ends.{ends_in}
-use Rattle.game_search.proofs.Ends.{tree_ends}
-use Rattle.game_search.proofs.turns.turns_in.Goals as goal
-
-pub returns : goal.returns
-returns c = λ t e. omega (arith, c.saturating_sub.ensures, c.count_ends.ensures ∙ (ap ends_in e ∙ tree_ends t))

@@ -1,0 +1,14 @@
+pub mod Bools
+pub mod Numbers
+pub mod Sizes
+pub mod Beating
+pub mod Joining
+pub mod Marks
+pub mod Sure
+pub mod Outdone
+pub mod Covers
+pub mod Fitting
+pub mod Stepping
+pub mod Nodes
+pub mod Branching
+pub mod Progress
