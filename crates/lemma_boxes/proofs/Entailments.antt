@@ -1,0 +1,74 @@
+-- Where a box entails a constraint, all values in it that are declared satisfy it.
+use Rattle.std.proofs.Common.{◌≡◌, inl, inr, ℕ, Bool, true, false, not, ◌&&◌, List, [], ◌∷◌, length, map, refl, sym, ap, ◌∙◌, subst, slice_get, Some}
+use Rattle.std.specs.Prelude.{ℤ}
+use Rattle.std.specs.List.{list_all}
+use Rattle.qc_model.specs.Lists.{Among, LiesIn}
+use Rattle.qc_model.specs.Content.{Game, Rule}
+use Rattle.qc_model.specs.Domains.{Box, Values, InBox, declared_box, is_single}
+use Rattle.qc_model.specs.Arguments.{Filled, filled_one, filled_many, filled_numbers, filled_members}
+use Rattle.qc_model.specs.Meaning.{Meaning, meaning_of}
+use Rattle.qc_model.specs.Holds.{Given, holds_as, holds_on}
+use Rattle.qc_model.specs.Left.{Lefts}
+use Rattle.qc_model.specs.Refuted.{refuted_as}
+use Rattle.qc_model.specs.Entailed.{entailed_as}
+use Rattle.qc_model.specs.Valid.{IsValid}
+use Rattle.qc_model.specs.Visible.{ArgumentsBelow}
+use Rattle.qc_model.proofs.Visible.{FitsOne, Fits, given_fits}
+use Rattle.qc_table.proofs.Fits.{or_cases}
+use Rattle.qc_table.proofs.Typing.{Kinds}
+use Rattle.qc_table.proofs.Typed.{given_of, lefts_of}
+use Rattle.qc_table.proofs.Kinded.{kinds_of}
+use Rattle.qc_table.proofs.Ordered.{constraint_at}
+use Rattle.qc_table.proofs.Entails.{entails}
+use Rattle.qc_table.proofs.Singles.{alone, alone_in, singles}
+use Rattle.qc_table.proofs.Single.{single_exact}
+use Rattle.lemma_list.specs.Entailment.{is_settled, is_entailed, entailed_by}
+use Rattle.lemma_boxes.proofs.Lists.{differ, both}
+
+single_is : (v : ℤ) (d : Values) → is_single d ≡ true → Among v d → d ≡ alone v
+single_is v [] e m = absurd m
+single_is v (u ∷ []) e m = elim m [ inl q ↦ ap (λ x. x ∷ []) (sym q) | inr t ↦ absurd t ]
+single_is v (u ∷ z ∷ d) e m = absurd (differ e)
+
+singles_are : (vs : List ℤ) (ds : List Values) → list_all is_single ds ≡ true → LiesIn vs ds → ds ≡ map alone vs
+singles_are [] [] e h = refl
+singles_are [] (d ∷ ds) e h = absurd h
+singles_are (v ∷ vs) [] e h = absurd h
+singles_are (v ∷ vs) (d ∷ ds) e h =
+    let p = both (is_single d) (list_all is_single ds) e in
+    ap (λ x. x ∷ ds) (single_is v d p.0 h.0) ∙ ap (λ xs. alone v ∷ xs) (singles_are vs ds p.1 h.1)
+
+argument_settled : (v : Filled ℤ) (d : Filled Values) → FitsOne v d → is_settled d ≡ true → d ≡ alone_in v
+argument_settled (filled_one v) (filled_one d) h e = ap filled_one (single_is v d e h)
+argument_settled (filled_many vs) (filled_many ds) h e = ap filled_many (singles_are vs ds e h)
+argument_settled (filled_numbers ns) (filled_numbers ms) h e = ap filled_numbers (sym h)
+argument_settled (filled_members s) (filled_members t) h e = ap filled_members (sym h)
+argument_settled v d h e = absurd h
+
+settled : (vs : Given) (ds : Lefts) → Fits vs ds → list_all is_settled ds ≡ true → ds ≡ singles vs
+settled [] [] h e = refl
+settled [] (d ∷ ds) h e = absurd h
+settled (v ∷ vs) [] h e = absurd h
+settled (v ∷ vs) (d ∷ ds) h e =
+    let p = both (is_settled d) (list_all is_settled ds) e in
+    ap (λ x. x ∷ ds) (argument_settled v d h.0 p.0) ∙ ap (λ xs. alone_in v ∷ xs) (settled vs ds h.1 p.1)
+
+twice_not : (a : Bool) → not (not a) ≡ true → a ≡ true
+twice_not true e = refl
+twice_not false e = e
+
+entailed_sound : (m : Meaning) (vs : Given) (ds : Lefts) → Kinds m vs ds → Fits vs ds → is_entailed m ds ≡ true → holds_as m vs ≡ true
+entailed_sound m vs ds k f e =
+    elim (or_cases (entailed_as m ds) (list_all is_settled ds && not (refuted_as m ds)) e) [
+      | inl q ↦ entails m vs ds k f q
+      | inr q ↦ (
+          let p = both (list_all is_settled ds) (not (refuted_as m ds)) q in
+          let s : ds ≡ singles vs = settled vs ds f p.0 in
+          let r : refuted_as m ds ≡ not (holds_as m vs) = ap (refuted_as m) s ∙ single_exact m vs (subst (Kinds m vs) s k) in
+          twice_not (holds_as m vs) (sym (ap not r) ∙ p.1))
+    ]
+
+pub entailed_holds : (g : Game) → IsValid g → (k : ℕ) (c : Rule) (w : List ℤ) (box : Box) → slice_get g.constraints k ≡ Some c → ArgumentsBelow (length w) c.args → InBox w (declared_box g) → InBox w box →
+    entailed_by c box ≡ true → holds_on c w ≡ true
+entailed_holds g v k c w box e l d b r =
+    entailed_sound (meaning_of c.pred) (given_of w c.args) (lefts_of box c.args) (kinds_of g.variables w box c (constraint_at g v k c e) d l) (given_fits w box c.args b l) r

@@ -1,0 +1,6 @@
+pub mod Turns
+pub mod Plays
+pub mod Shows
+pub mod Closes
+pub mod InPlace
+pub mod Examples

@@ -1,0 +1,9 @@
+pub mod Text
+pub mod Ranges
+pub mod Items
+pub mod Numerals
+pub mod Pieces
+pub mod States
+pub mod Standing
+pub mod Places
+pub mod Accepted
