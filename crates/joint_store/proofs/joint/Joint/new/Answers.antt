@@ -1,5 +1,5 @@
 use Rattle.std.proofs.Common.{sym, subst, List}
-use Rattle.qc_cascade.proofs.Declared.{declared_is_box, declared_is_full}
+use Rattle.qc_cascade.proofs.Declared.{declared_is_box}
 use Rattle.joint_store.specs.declared.entry.Entry.{Entry}
 use Rattle.joint_store.specs.Stacked.{IsStacked}
 use Rattle.joint_store.proofs.Opens.{stacked_none}
@@ -12,5 +12,5 @@ invariant_of-result c =
     record {
       ready = c.in_ok-engine.ensures;
       stacked = subst (λ (es : List Entry). IsStacked g s es) (sym c.new-4.ensures.items)
-          (stacked_none g s c.in_ok-store.ensures.1 (declared_is_box g s.box c.known.ensures c.in_ok-store.ensures.0) (declared_is_full g s.box c.known.ensures c.in_ok-store.ensures.0));
+          (stacked_none g s c.in_ok-store.ensures.1 (declared_is_box g s.box c.known.ensures c.in_ok-store.ensures.0) c.in_ok-store.ensures.3);
     }

@@ -1,6 +1,6 @@
 use Rattle.std.proofs.Common.{sym, subst}
 use Rattle.qc_model.specs.Content.{Game}
-use Rattle.qc_cascade.proofs.Declared.{declared_is_box, declared_is_full}
+use Rattle.qc_cascade.proofs.Declared.{declared_is_box}
 use Rattle.scout.specs.Ground.{IsAtRest}
 use Rattle.scout.proofs.scouting.Scout.new.Goals as goal
 
@@ -11,5 +11,5 @@ invariant_of-result c =
     subst (λ (h : Game). IsAtRest h c.in_ok-engine.engine c.in_ok-store.store) (sym c.in_ok-levels.ensures)
     (record {
       sound = record { declared = declared_is_box g box c.known.ensures c.in_ok-store.ensures.0; ready = c.in_ok-engine.ensures };
-      full = declared_is_full g box c.known.ensures c.in_ok-store.ensures.0;
+      full = c.in_ok-store.ensures.3;
     })
