@@ -1,15 +1,14 @@
-#!/usr/bin/env python3
 """Refuses one allocation of the program after the other, and looks at what it answers.
 
-    python3 bench/memory.py [--program PATH] [--first N] [--samples N] [--on] [--kit N,N..]
+    bench/run memory [--program PATH] [--first N] [--samples N] [--on] [--kit N,N..]
 
-Run it at the top of a checkout, after ./qecode has built the program. Nothing here is part of the gate.
+Nothing here is part of the gate.
 
 The runs are `solve` of examples/tolls.qc, `check` of what that writes, `print` of a small text, and `generate 0`. Where an
 allocation is refused, the program has to end with status 9 and nothing written, or as it does when none is. An allocation is a call of
 malloc or realloc. The first 300 are refused in turn, the last 20 too, and about 300 between them.
 
-How it is run: the program takes its memory from the C library, so bench/refuse.c, which is compiled by cc, is loaded
+How it is run: the program takes its memory from the C library, so refuse.c, which is compiled by cc, is loaded
 before that library (LD_PRELOAD) and refuses the Nth call. So the built program itself is tried, in milliseconds.
 
 The kit has its own way, `rt try --fail-alloc N` in the program's crate: it builds the program anew each time, with checks
@@ -25,14 +24,15 @@ output, so `solve` gets a budget there.
 import argparse
 import os
 import subprocess
-import sys
 import tempfile
 
-PROGRAM = "crates/qc_program/out/qc_program"
+from program import TOP, Program, add_option
+
+REFUSER = os.path.join(os.path.dirname(os.path.realpath(__file__)), "refuse.c")
 REFUSED = 9
 LAST = 20
 SMALL = "exists;constraint int_le(x,3);var {2,0,1,2}: x; % c\ngoal;solve;"
-TOLLS = "examples/tolls.qc"
+TOLLS = os.path.join(TOP, "examples", "tolls.qc")
 KIT_TURNS = "2000"
 
 
@@ -45,16 +45,15 @@ class Built:
     """Runs of the built program under the refusing library."""
 
     def __init__(self, program, folder, refuses_on):
-        self.program, self.count = os.path.abspath(program), os.path.join(folder, "count")
+        self.program, self.count = program, os.path.join(folder, "count")
         library = os.path.join(folder, "refuse.so")
-        subprocess.run(["cc", "-O2", "-shared", "-fPIC", "-o", library, "bench/refuse.c"], check=True)
+        subprocess.run(["cc", "-O2", "-shared", "-fPIC", "-o", library, REFUSER], check=True)
         self.environment = {"LD_PRELOAD": library, "COUNT": self.count} | ({"REFUSE_ON": "1"} if refuses_on else {})
 
     def run(self, words, number):
         """The status and the output with this allocation refused; 0 for none."""
         environment = self.environment | {"REFUSE": str(number)}
-        done = subprocess.run([self.program, *words], env=environment, capture_output=True)
-        return done.returncode, done.stdout
+        return self.program.run(*words, env=environment, stderr=subprocess.DEVNULL)
 
     def allocations(self):
         """How many the last run asked for."""
@@ -92,7 +91,7 @@ def tried(options, built, words):
 def try_built(options, folder):
     small, certificate = os.path.join(folder, "small.qc"), os.path.join(folder, "tolls.cert")
     write(small, SMALL.encode())
-    built = Built(options.program, folder, options.on)
+    built = Built(Program(options.program), folder, options.on)
     solved, wrong = tried(options, built, ["solve", TOLLS])
     write(certificate, solved)
     for words in ["check", TOLLS, certificate], ["print", small], ["generate", "0"]:
@@ -104,7 +103,7 @@ def kit_answer(words, files, number):
     """The status and the output by the kit; number 0 refuses none."""
     data = [word for name, path in files.items() for word in ("--data", f"{name}={path}")]
     refusal = ["--fail-alloc", str(number)] if number else []
-    done = subprocess.run(["rt", "try", *refusal, *data, "--", *words], cwd="crates/qc_program", capture_output=True)
+    done = subprocess.run(["rt", "try", *refusal, *data, "--", *words], cwd=os.path.join(TOP, "crates", "qc_program"), capture_output=True)
     return done.returncode, done.stdout
 
 
@@ -113,7 +112,7 @@ def try_kit(options, folder):
     certificate, small = os.path.join(folder, "tolls.cert"), os.path.join(folder, "small.qc")
     write(small, SMALL.encode())
     write(certificate, b"")
-    files = {"tolls.qc": os.path.abspath(TOLLS), "small.qc": small, "tolls.cert": certificate}
+    files = {"tolls.qc": TOLLS, "small.qc": small, "tolls.cert": certificate}
     wrong = 0
     for words in ["solve", "tolls.qc", "--turns", KIT_TURNS], ["check", "tolls.qc", "tolls.cert"], ["print", "small.qc"]:
         usual = kit_answer(words, files, 0)
@@ -129,20 +128,14 @@ def try_kit(options, folder):
     return wrong
 
 
-def main():
-    parser = argparse.ArgumentParser(description="Refuses allocations of the program.")
-    parser.add_argument("--program", default=PROGRAM)
+def main(words):
+    parser = argparse.ArgumentParser(prog="bench/run memory", description="Refuses allocations of the program.")
+    add_option(parser)
     parser.add_argument("--first", type=int, default=300)
     parser.add_argument("--samples", type=int, default=300)
     parser.add_argument("--on", action="store_true")
     parser.add_argument("--kit", metavar="N,N..")
-    options = parser.parse_args()
-    if not options.kit and not os.access(options.program, os.X_OK):
-        sys.exit("build the program first: ./qecode print examples/price.qc")
+    options = parser.parse_args(words)
     with tempfile.TemporaryDirectory() as folder:
         wrong = try_kit(options, folder) if options.kit else try_built(options, folder)
-    sys.exit(wrong > 0)
-
-
-if __name__ == "__main__":
-    main()
+    return wrong > 0

@@ -1,17 +1,15 @@
-#!/usr/bin/env python3
 """Measures the program on large inputs and on constraints: time and the most memory, one line each.
 
-    python3 bench/speed.py [--against FILE] [--write FILE] [--yardsticks FOLDER] [--program PATH]
+    bench/run speed [--against FILE] [--write FILE] [--yardsticks FOLDER] [--program PATH]
 
-Run it at the top of a checkout, after ./qecode has built the program. Nothing here is part of the gate. With --against
-each line ends with what it was in the results of that file; with --write the results go into the file. A problem that
-the program doesn't take yet has status 4. Less memory than this script's own, some 45 MB, can't be told.
+Nothing here is part of the gate. With --against each line ends with what it was in the results of that file; with --write
+the results go into the file. A problem that the program doesn't take yet has status 4. Less memory than this script's own, some 45 MB, can't be told.
 
 Of each game whose certificate is long it is told how fast it is checked: it is solved and checked in turns, some times, on
 one processor, and the median of the shares stands, each of a processor time to check by that to solve just before. The
 yardsticks: 50 MB a second where a certificate has no steps, as all but that of `elements` here, and half the time that it
 took to find and write. With --yardsticks these two alone are told, of the games here and of each problem text in the folder
-(`bench/ladder.py --texts FOLDER` makes some).
+(`bench/run ladder --texts FOLDER` makes some).
 """
 import argparse
 import json
@@ -19,11 +17,11 @@ import os
 import random
 import statistics
 import subprocess
-import sys
 import tempfile
 import time
 
-PROGRAM = "crates/qc_program/out/qc_program"
+from program import Program, add_option
+
 LIMIT = 4_194_304
 USAGE = 3
 # A shorter certificate is found and checked in a time that the program's start takes up.
@@ -33,18 +31,18 @@ RUNS = 15
 ENOUGH = 20
 
 
-def measured(words, output):
+def measured(program, words, output):
     """Runs the program on these words, and returns seconds, megabytes at most, and the exit status."""
     begin = time.monotonic()
-    child = subprocess.Popen([PROGRAM, *words], stdout=output)
+    child = subprocess.Popen([program, *words], stdout=output)
     _, status, usage = os.wait4(child.pid, 0)
     return time.monotonic() - begin, usage.ru_maxrss / 1024, os.waitstatus_to_exitcode(status)
 
 
-def processor_seconds(words, output):
+def processor_seconds(program, words, output):
     """The processor seconds of the program on these words, which write to a file of this name."""
     with open(output, "wb") as file:
-        child = subprocess.Popen([PROGRAM, *words], stdout=file)
+        child = subprocess.Popen([program, *words], stdout=file)
         _, _, usage = os.wait4(child.pid, 0)
     return usage.ru_utime + usage.ru_stime
 
@@ -145,33 +143,33 @@ def written(path, content):
         file.write(content if isinstance(content, bytes) else content.encode())
 
 
-def solved(text, certificate):
+def solved(program, text, certificate):
     """With the greatest budget, or without one where the program doesn't know budgets."""
     for budget in ["--turns", "10000000"], []:
         with open(certificate, "wb") as file:
-            result = measured(["solve", text, *budget], file)
+            result = measured(program, ["solve", text, *budget], file)
         if result[2] != USAGE:
             break
     return result
 
 
-def in_turns(text, certificate):
+def in_turns(program, text, certificate):
     """Processor seconds to find and write the certificate, and to check it, pair by pair."""
     # all on one processor: those of a busy machine differ in speed by more than is measured
     os.sched_setaffinity(0, {max(os.sched_getaffinity(0))})
     pairs = []
     while len(pairs) < 3 or len(pairs) < RUNS and sum(map(sum, pairs)) < ENOUGH:
-        solve = processor_seconds(["solve", text, "--turns", "10000000"], certificate)
-        pairs.append((solve, processor_seconds(["check", text, certificate], os.devnull)))
+        solve = processor_seconds(program, ["solve", text, "--turns", "10000000"], certificate)
+        pairs.append((solve, processor_seconds(program, ["check", text, certificate], os.devnull)))
     return pairs
 
 
-def tell_yardsticks(name, text, certificate):
+def tell_yardsticks(program, name, text, certificate):
     """How fast a long certificate is checked, and how long that takes beside finding and writing it."""
     size = os.path.getsize(certificate)
     if size < LONG:
         return
-    pairs = in_turns(text, certificate)
+    pairs = in_turns(program, text, certificate)
     solve, check = (statistics.median(times) for times in zip(*pairs))
     shares = sorted(check / solve for solve, check in pairs)
     best = min(check for _, check in pairs)
@@ -183,62 +181,57 @@ def tell_yardsticks(name, text, certificate):
     )
 
 
-def measure_yardsticks(texts, folder):
+def measure_yardsticks(program, texts, folder):
     """The yardsticks alone, of the games and of the problem texts in a folder."""
     text, certificate = os.path.join(folder, "text"), os.path.join(folder, "certificate")
     for name, content in games():
         written(text, content)
-        solved(text, certificate)
-        tell_yardsticks(name, text, certificate)
+        solved(program, text, certificate)
+        tell_yardsticks(program, name, text, certificate)
     for name in sorted(os.listdir(texts)):
         path = os.path.join(texts, name)
-        solved(path, certificate)
-        tell_yardsticks(name, path, certificate)
+        solved(program, path, certificate)
+        tell_yardsticks(program, name, path, certificate)
 
 
-def measure(results, folder):
+def measure(program, results, folder):
     text, certificate = os.path.join(folder, "text"), os.path.join(folder, "certificate")
     for name, content in texts():
         assert len(content if isinstance(content, bytes) else content.encode()) <= LIMIT, name
         written(text, content)
-        results.add(f"print: {name}", measured(["print", text], subprocess.DEVNULL))
+        results.add(f"print: {name}", measured(program, ["print", text], subprocess.DEVNULL))
     for name, content in formulas():
         assert len(content) <= LIMIT, name
         written(text, content)
-        results.add(f"qbf --text: {name}", measured(["qbf", text, "--text"], subprocess.DEVNULL))
+        results.add(f"qbf --text: {name}", measured(program, ["qbf", text, "--text"], subprocess.DEVNULL))
     for name, content in games():
         written(text, content)
-        results.add(f"print: {name}", measured(["print", text], subprocess.DEVNULL))
-        results.add(f"solve: {name}", solved(text, certificate))
-        results.add(f"check: {name}", measured(["check", text, certificate], subprocess.DEVNULL))
-        tell_yardsticks("", text, certificate)
+        results.add(f"print: {name}", measured(program, ["print", text], subprocess.DEVNULL))
+        results.add(f"solve: {name}", solved(program, text, certificate))
+        results.add(f"check: {name}", measured(program, ["check", text, certificate], subprocess.DEVNULL))
+        tell_yardsticks(program, "", text, certificate)
 
 
-def main():
-    parser = argparse.ArgumentParser(description="Measures the program.")
+def main(words):
+    parser = argparse.ArgumentParser(prog="bench/run speed", description="Measures the program.")
     parser.add_argument("--against", metavar="FILE")
     parser.add_argument("--write", metavar="FILE")
     parser.add_argument("--yardsticks", metavar="FOLDER")
-    parser.add_argument("--program", metavar="PATH")
-    options = parser.parse_args()
-    global PROGRAM
-    PROGRAM = options.program or PROGRAM
-    if not os.access(PROGRAM, os.X_OK):
-        sys.exit("build the program first: ./qecode print examples/price.qc")
+    add_option(parser)
+    options = parser.parse_args(words)
+    program = Program(options.program).path
     if options.yardsticks:
         with tempfile.TemporaryDirectory() as folder:
-            measure_yardsticks(options.yardsticks, folder)
-        return
+            measure_yardsticks(program, options.yardsticks, folder)
+        return 0
     earlier = {}
     if options.against:
         with open(options.against, encoding="utf-8") as file:
             earlier = json.load(file)
     results = Results(earlier)
     with tempfile.TemporaryDirectory() as folder:
-        measure(results, folder)
+        measure(program, results, folder)
     if options.write:
         with open(options.write, "w", encoding="utf-8") as file:
             json.dump(results.found, file, indent=1)
-
-
-main()
+    return 0

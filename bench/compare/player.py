@@ -1,26 +1,25 @@
-#!/usr/bin/env python3
 """A plain player by brute force, to compare the program with.
 
-    python3 bench/player.py --self-test
-    python3 bench/player.py --alone [--games N] [--seed S]
-    python3 bench/player.py [--games N] [--seed S] [--program PATH] [--plain] [--turns N] [--worst] [--jobs J]
+    bench/run player --self-test
+    bench/run player --alone [--games N] [--seed S]
+    bench/run player [--games N] [--seed S] [--program PATH] [--plain] [--turns N] [--worst] [--jobs J]
 
-Run it at the top of a checkout, after ./qecode has built the program. Nothing here is part of the gate.
+Nothing here is part of the gate.
 
-It makes small problems at random, and games.py finds by going over all moves who wins and what the optimal strategies
-are worth. The program solves each problem: its outcome has to be the one found, and its certificate has to be believed
-by its own `check` and by the checker of certificates.py. Then `check` gets certificates of other makings: made at
-random from steps, horizons, bounds and ranges, damaged, and made for other games. What it answers has to be what
-certificates.py says, to the byte, with the same status. Whatever certificates.py believes has to agree with the outcome
-found; `--alone` looks at that without the program.
+It makes small problems at random, and the oracle (tools/oracle) finds by going over all moves who wins and what the optimal
+strategies are worth. The program solves each problem: its outcome has to be the one found, and its certificate has to be
+believed by its own `check` and by the oracle's checker. Then `check` gets certificates of other makings: made at random from
+steps, horizons, bounds and ranges, damaged, and made for other games. What it answers has to be what the oracle says, to the
+byte, with the same status. Whatever the oracle believes has to agree with the outcome found; `--alone` looks at that without
+the program.
 
 --plain     no conditions and aggregates
 --turns N   a budget for `solve`, which may then answer open
 --stepless  the program answers `no` to certificates with steps, horizons or taken ranges, even where they prove
---diligent  the program propagates, so that its certificates are diligent (promises.py)
+--diligent  the program propagates, so that its certificates are diligent (oracle.promises)
 --incumbents  it bounds by what it has found, so that no value is left that is worse
---worst     looks at `worst` too: one scope of each game, or all, meets the worst ties, by the definition as games.py has
-            it; the certificate has to be believed for the problem that `worst --text` writes, and the gap has to be the
+--worst     looks at `worst` too: one scope of each game, or all, meets the worst ties, by the definition as oracle.games
+            has it; the certificate has to be believed for the problem that `worst --text` writes, and the gap has to be the
             two outcomes found
 --jobs J    plays in J processes; the seed and a game's number say what is played, whichever process plays it
 
@@ -30,21 +29,20 @@ import argparse
 import multiprocessing
 import os
 import random
-import subprocess
 import sys
 import tempfile
 from collections import Counter
 from itertools import product
 from math import prod
 
-import reader
-from certificates import BadCertificate, Certificate, Line, NotProved, Proof, Rules, Text, judged, replaced
-from games import Game, Var, holds, holds_of, refutes
-from promises import Promises
-from reader import SIGNATURES
-from rows import CHECKED, PROMISED, REFUSED, SOLVED, TURNS, WORST
+from compare.rows import CHECKED, PROMISED, REFUSED, SOLVED, TURNS, WORST
+from oracle import reader
+from oracle.certificates import BadCertificate, Certificate, Line, NotProved, Proof, Rules, Text, judged, replaced
+from oracle.games import Game, Var, holds, refutes
+from oracle.predicates import SIGNATURES, holds_of
+from oracle.promises import Promises
+from program import Program, add_option
 
-PROGRAM = "crates/qc_program/out/qc_program"
 USUAL_TURNS = 1_000_000
 MOST_TUPLES = 1_500
 SAMPLES = 12
@@ -356,8 +354,8 @@ class Player:
             with open(paths[-1], "wb") as file:
                 file.write(data)
         words = ["--turns", str(self.options.turns)] if self.options.turns and command == "solve" else []
-        done = subprocess.run([self.options.program, command, *paths, *words, *more], stdout=subprocess.PIPE, check=False)
-        return done.stdout, done.returncode
+        status, written = self.options.program.run(command, *paths, *words, *more)
+        return written, status
 
     def play(self):
         kind = self.outcome.split()[0] + (" with an optimum" if " " in self.outcome else "")
@@ -403,7 +401,7 @@ class Player:
     def whole(self, steps):
         certificate = Weaver(self.random, self.game, steps, 0).certificate()
         if judged(self.game, certificate.text())[0] != f"yes {self.outcome}\n".encode():
-            self.differs("certificates.py doesn't believe a whole tree", certificate.text(), "no", self.outcome)
+            self.differs("the oracle doesn't believe a whole tree", certificate.text(), "no", self.outcome)
         return certificate.text()
 
     def solved(self):
@@ -442,7 +440,7 @@ class Player:
         wanted = judged(self.game, certificate)
         line = wanted[0].decode().strip()
         if line.startswith(("yes true", "yes false")) and line != f"yes {self.outcome}":
-            self.differs("certificates.py believes what games.py doesn't find", certificate, line, self.outcome)
+            self.differs("the oracle's checker believes what its player doesn't find", certificate, line, self.outcome)
         if self.options.stepless:
             wanted = judged(self.game, certificate, True)
         self.met["check: " + wanted[0].decode().split(" at ")[0].rstrip("-0123456789 \n")] += 1
@@ -509,10 +507,10 @@ def told(what, found, wanted):
 
 
 def options_of(words):
-    parser = argparse.ArgumentParser(description="Compares the program with a player by brute force.")
+    parser = argparse.ArgumentParser(prog="bench/run player", description="Compares the program with a player by brute force.")
     parser.add_argument("--games", type=int, default=500)
     parser.add_argument("--seed", type=int, default=1)
-    parser.add_argument("--program", default=PROGRAM)
+    add_option(parser)
     parser.add_argument("--turns", type=int)
     parser.add_argument("--jobs", type=int, default=1)
     for flag in ("--plain", "--stepless", "--diligent", "--incumbents", "--worst", "--alone", "--self-test"):
@@ -520,13 +518,12 @@ def options_of(words):
     return parser.parse_args(words)
 
 
-def main():
-    options = options_of(sys.argv[1:])
+def main(words):
+    options = options_of(words)
     sys.setrecursionlimit(50_000)
     if options.self_test:
-        sys.exit(self_test() > 0)
-    if not options.alone and not os.access(options.program, os.X_OK):
-        sys.exit("build the program first: ./qecode print examples/price.qc")
+        return self_test() > 0
+    options.program = None if options.alone else Program(options.program)
     met, differ = Counter(), 0
     with tempfile.TemporaryDirectory() as folder:
         tasks = ((options, number, folder) for number in range(options.games))
@@ -538,8 +535,4 @@ def main():
     for what, times in sorted(met.items()):
         print(f"{times:7} {what}")
     print(f"{options.games} games, {differ} differences")
-    sys.exit(differ > 0)
-
-
-if __name__ == "__main__":
-    main()
+    return differ > 0

@@ -1,20 +1,19 @@
-#!/usr/bin/env python3
-"""Compares what `qecode print` answers to texts made at random with what the reader of reader.py answers.
+"""Compares what `qecode print` answers to texts made at random with what the reader of tools/oracle answers.
 
-    python3 bench/compare.py [SEED [COUNT]]
+    bench/run compare [SEED [COUNT]] [--program PATH]
 
-Run it at the top of a checkout, after ./qecode has built the program. Nothing here is part of the gate.
+Nothing here is part of the gate.
 """
+import argparse
 import os
 import random
-import subprocess
-import sys
 import tempfile
 from collections import Counter
 
-from reader import SIGNATURES, answer
+from oracle.predicates import SIGNATURES
+from oracle.reader import answer
+from program import Program, add_option
 
-PROGRAM = "crates/qc_program/out/qc_program"
 NAMES = [f"x{k}" for k in range(8)] + ["int_le", "b1", "g"]
 PIECES = [b";", b" ", b"..", b".", b"-", b"5", b"x", b",", b"[", b"]", b"{", b"}", b"exists", b"else", b"#", b"1e5", b"%", b"(", b"goal;", b"true"]
 
@@ -139,18 +138,20 @@ class Maker:
         return self.damaged(data) if self.random.random() < 0.3 else data
 
 
-def main():
-    seed, count = (int(word) for word in (sys.argv[1:] + ["1", "5000"][len(sys.argv) - 1 :])[:2])
-    if not os.access(PROGRAM, os.X_OK):
-        sys.exit("build the program first: ./qecode print examples/price.qc")
-    maker, met, differ = Maker(seed), Counter(), 0
+def main(words):
+    parser = argparse.ArgumentParser(prog="bench/run compare", description="Compares what `qecode print` answers.")
+    parser.add_argument("seed", nargs="?", type=int, default=1)
+    parser.add_argument("count", nargs="?", type=int, default=5_000)
+    add_option(parser)
+    options = parser.parse_args(words)
+    program, maker, met, differ = Program(options.program), Maker(options.seed), Counter(), 0
     with tempfile.TemporaryDirectory() as folder:
         path = os.path.join(folder, "text")
-        for _ in range(count):
+        for _ in range(options.count):
             data = maker.text()
             with open(path, "wb") as file:
                 file.write(data)
-            written = subprocess.run([PROGRAM, "print", path], stdout=subprocess.PIPE, check=False).stdout
+            _, written = program.run("print", path)
             wanted = answer(data)
             met[wanted.decode().split(" at ")[0] if wanted.startswith(b"bad") else "printed"] += 1
             if written != wanted:
@@ -158,8 +159,5 @@ def main():
                 print(f"differs: {data}\n  written {written}\n  wanted  {wanted}")
     for what, times in met.most_common():
         print(f"{times:6} {what}")
-    print(f"{differ} of {count} differ")
-    sys.exit(differ > 0)
-
-
-main()
+    print(f"{differ} of {options.count} differ")
+    return differ > 0

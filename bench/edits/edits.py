@@ -1,7 +1,6 @@
-#!/usr/bin/env python3
 """Tries edits that must fail and aren't part of the gate.
 
-    python3 bench/edits.py [CRATE..]
+    bench/run edits [CRATE..]
 
 An edit is a wrong body that the prover has to refuse. The gate tries those in crates/CRATE/must-fail. Each costs a check,
 and the first of a crate costs one more of the whole crate; so those that tell less, and those of crates that take long,
@@ -11,10 +10,10 @@ a name all are tried, which takes an hour or more. The status is 1 where one isn
 import os
 import shutil
 import subprocess
-import sys
 
-TOP = os.path.dirname(os.path.dirname(os.path.realpath(__file__)))
-KEPT = os.path.join(TOP, "bench", "edits")
+from program import TOP
+
+KEPT = os.path.dirname(os.path.realpath(__file__))
 
 
 def put(crate):
@@ -50,16 +49,17 @@ def tried(crate):
         take_away(made)
 
 
-def main():
-    crates = sys.argv[1:] or sorted(os.listdir(KEPT))
-    unknown = [it for it in crates if not os.path.isdir(os.path.join(KEPT, it))]
+def kept():
+    """The crates that have edits here."""
+    return sorted(it.name for it in os.scandir(KEPT) if it.is_dir() and not it.name.startswith("__"))
+
+
+def main(words):
+    crates = words or kept()
+    unknown = [it for it in crates if it not in kept()]
     if unknown:
         raise SystemExit(f"bench/edits has no folder {unknown[0]}")
     failed = [it for it in crates if not tried(it)]
     if failed:
         print(f"not all edits were refused: {' '.join(failed)}")
     return 1 if failed else 0
-
-
-if __name__ == "__main__":
-    sys.exit(main())

@@ -1,11 +1,10 @@
-#!/usr/bin/env python3
 """Builds the program with a search that is advised wrongly, to see that advice costs time and nothing else.
 
-    python3 bench/advice.py PROGRAM [--checkout FOLDER]
+    bench/run advice PROGRAM [--checkout FOLDER]
 
 At each node the greatest value of each variable is tried first, whatever the search has learnt, and it is asked again however
 often that fails. Nothing is proved of such a program, though the proofs of the search ask nothing of its advice.
-`python3 bench/player.py --program PROGRAM` compares its outcomes with those of a program written apart.
+`bench/run player --program PROGRAM` compares its outcomes with those of a program written apart.
 """
 import argparse
 import os
@@ -13,26 +12,31 @@ import shutil
 import subprocess
 import tempfile
 
-from unproved import TOP, build
+from measure.unproved import build
+from program import TOP
 
-# What stands in a file of the search, once, and what is put in its place.
+# What stands once in a file of the search or of its advice, and what is put in its place.
 WRONG = [
     (
-        "advice.rt",
+        "search_advice/src/advice.rt",
         "            Some(standing) if standing.is_known => {\n"
         "                standing.last > 0 || self.kept(level).is_some()\n"
         "            }\n"
         "            Some(standing) => standing.signs > 0,\n",
         "            Some(_) => true,\n",
     ),
-    ("advice.rt", "        self.choose(level, remains)\n", "        true\n"),
-    ("tries.rt", "    let value = walk.advice.value(x);\n", "    let value = walk.remains.last(x);\n"),
+    (
+        "search_advice/src/advice.rt",
+        "        let value = value_at(self.values.as_slice(), x.0 as usize);\n",
+        "        let value = remains.last(x);\n",
+    ),
+    ("game_search/src/tries.rt", "    advice.choose(level, remains)\n", "    true\n"),
 ]
 
 
 def advise_wrongly(folder):
     for name, right, wrong in WRONG:
-        path = os.path.join(folder, "crates", "game_search", "src", name)
+        path = os.path.join(folder, "crates", name)
         with open(path, encoding="utf-8") as it:
             text = it.read()
         if text.count(right) != 1:
@@ -41,11 +45,11 @@ def advise_wrongly(folder):
             it.write(text.replace(right, wrong))
 
 
-def main():
-    words = argparse.ArgumentParser(description=__doc__, formatter_class=argparse.RawDescriptionHelpFormatter)
-    words.add_argument("program", help="where to write it")
-    words.add_argument("--checkout", default=TOP, help="the checkout to build; this one else")
-    chosen = words.parse_args()
+def main(words):
+    parser = argparse.ArgumentParser(prog="bench/run advice", description=__doc__, formatter_class=argparse.RawDescriptionHelpFormatter)
+    parser.add_argument("program", help="where to write it")
+    parser.add_argument("--checkout", default=TOP, help="the checkout to build; this one else")
+    chosen = parser.parse_args(words)
     with tempfile.TemporaryDirectory(prefix="advice-") as folder:
         files = subprocess.run(["git", "ls-files", "-z"], cwd=chosen.checkout, capture_output=True, text=True, check=True).stdout
         for name in files.split("\0")[:-1]:
@@ -54,7 +58,3 @@ def main():
             shutil.copy2(os.path.join(chosen.checkout, name), place)
         advise_wrongly(folder)
         build(folder, os.path.realpath(chosen.program))
-
-
-if __name__ == "__main__":
-    main()

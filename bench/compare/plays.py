@@ -1,14 +1,13 @@
-#!/usr/bin/env python3
 """Plays games to their ends against what certificates show, over every move.
 
-    python3 bench/plays.py [--program PATH] [FILE ..]            the problem texts FILE, or all of examples/
-    python3 bench/plays.py --games N [--seed S] [--jobs J]       small games made at random, as player.py makes them
+    bench/run plays [--program PATH] [FILE ..]            the problem texts FILE, or all of examples/
+    bench/run plays --games N [--seed S] [--jobs J]       small games made at random, as player.py makes them
 
-Run it at the top of a checkout, after ./qecode has built the program. Nothing here is part of the gate.
+Nothing here is part of the gate.
 
 The program solves each problem, and `play` is asked for the play of every sequence of moves of the other side: of its
 allowed tuples, one missing, one that isn't allowed, one too many. What is written has to be a play of the game by its
-definition, gone over by games.py: the tuples that the certificate's side chooses are allowed, and the same wherever the
+definition, gone over by oracle.games: the tuples that the certificate's side chooses are allowed, and the same wherever the
 same was played before; the lines are those of docs/play.md; and a play ends as it has to. Where the game is won that is a
 goal that holds, or an opponent who is stuck; where it isn't, a goal that doesn't hold, or a player who can't go on. Where
 a first scope optimises, what the plays come to together has to be the optimum that `solve` states.
@@ -17,13 +16,13 @@ import argparse
 import multiprocessing
 import os
 import random
-import subprocess
 import sys
 import tempfile
 from collections import Counter
 
-from games import FOLDS, Agg, Game, Var, holds
-from player import PROGRAM, Maker
+from compare.player import Maker
+from oracle.games import FOLDS, Agg, Game, Var, holds
+from program import TOP, Program, add_option
 
 DONE, BAD_MOVES = 0, 10
 # The most plays of one problem.
@@ -41,7 +40,7 @@ class Plays:
         self.program, self.folder, self.game = program, folder, Game(text)
         self.problem = self.write("problem", text)
         self.moves_file = self.write("moves", b"")
-        certificate = self.run("solve", self.problem)[0]
+        _, certificate = self.program.run("solve", self.problem)
         self.certificate = self.write("certificate", certificate)
         self.outcome = certificate.split(b"\n")[1].decode()
         self.side = "forall" if self.outcome == "false" else "exists"
@@ -53,14 +52,10 @@ class Plays:
             file.write(data)
         return path
 
-    def run(self, *words):
-        done = subprocess.run([self.program, *words], stdout=subprocess.PIPE, check=False)
-        return done.stdout, done.returncode
-
     def answer(self, moves):
         with open(self.moves_file, "w", encoding="ascii") as file:
             file.write(" ".join(map(str, moves)) + "\n")
-        written, status = self.run("play", self.problem, self.certificate, self.moves_file)
+        status, written = self.program.run("play", self.problem, self.certificate, self.moves_file)
         return written.decode(), status
 
     def all(self):
@@ -239,24 +234,24 @@ def texts(options):
         for number in range(options.games):
             yield f"game {number}", Maker(random.Random(f"{options.seed} {number}"), False).game().text
         return
-    names = options.files or sorted(os.path.join("examples", it) for it in os.listdir("examples") if it.endswith(".qc"))
-    for name in names:
+    folder = os.path.join(TOP, "examples")
+    for name in options.files or sorted(os.path.join(folder, it) for it in os.listdir(folder) if it.endswith(".qc")):
         with open(name, "rb") as file:
             yield name, file.read()
 
 
-def main():
-    parser = argparse.ArgumentParser(description="Plays every move against what certificates show.")
+def main(words):
+    parser = argparse.ArgumentParser(prog="bench/run plays", description="Plays every move against what certificates show.")
     parser.add_argument("files", nargs="*")
-    parser.add_argument("--program", default=PROGRAM)
+    add_option(parser)
     parser.add_argument("--games", type=int)
     parser.add_argument("--seed", type=int, default=1)
     parser.add_argument("--jobs", type=int, default=1)
-    options = parser.parse_args()
-    met, wrong = Counter(), 0
+    options = parser.parse_args(words)
+    program, met, wrong = Program(options.program), Counter(), 0
     with tempfile.TemporaryDirectory() as folder, multiprocessing.Pool(options.jobs) as pool:
         named = list(texts(options))
-        for (name, _), (counts, fault) in zip(named, pool.imap(played, ((options.program, text, folder) for _, text in named))):
+        for (name, _), (counts, fault) in zip(named, pool.imap(played, ((program, text, folder) for _, text in named))):
             met += counts
             if not options.games:
                 print(f"{name}: {sum(counts.values())} plays")
@@ -266,8 +261,4 @@ def main():
     for what, times in sorted(met.items()):
         print(f"{times:7} {what}")
     print(f"{len(named)} problems, {wrong} with a wrong play")
-    sys.exit(wrong > 0)
-
-
-if __name__ == "__main__":
-    main()
+    return wrong > 0

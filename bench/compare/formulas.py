@@ -1,20 +1,21 @@
-#!/usr/bin/env python3
-"""Compares what `qecode qbf` answers to formulas made at random, many of them damaged, with a reader and a decision by brute
-force that are written apart from it; and that `check` believes each certificate against the text of the formula's game.
+"""Compares what `qecode qbf` answers to formulas made at random with a reader and a decision by brute force.
 
-    python3 bench/formulas.py [SEED [COUNT]]
+Many formulas are damaged; reader and decision are written apart from the program. Each certificate has to be believed by `check`
+against the text of the formula's game.
 
-Run it at the top of a checkout, after ./qecode has built the program. Nothing here is part of the gate.
+    bench/run formulas [SEED [COUNT]] [--program PATH]
+
+Nothing here is part of the gate.
 """
+import argparse
 import os
 import random
 import re
-import subprocess
-import sys
 import tempfile
 from collections import Counter
 
-PROGRAM = "crates/qc_program/out/qc_program"
+from program import Program, add_option
+
 BAD = 11
 BLANKS = b" \t\r"
 PIECES = [b" ", b"\n", b"0", b"-", b"-0", b"01", b"1", b"a", b"e", b"p", b"cnf", b"c", b"c x\n", b"999999999", b"1000000000", b"+1", b"\x00", b"%"]
@@ -195,26 +196,21 @@ def large():
     yield "p cnf 501 0\n"
 
 
-def run(*words):
-    done = subprocess.run([PROGRAM, *words], stdout=subprocess.PIPE, check=False)
-    return done.returncode, done.stdout
-
-
-def differs(folder, text):
+def differs(program, folder, text):
     """What the program answers otherwise, if anything; and what kind of answer it gave."""
     file, cert, problem = (os.path.join(folder, it) for it in ("formula", "cert", "game"))
     with open(file, "wb") as out:
         out.write(text)
     expected, truth = answer(text)
-    status, written = run("qbf", file, "--text")
+    status, written = program.run("qbf", file, "--text")
     if written != expected or status != (BAD if expected.startswith(b"bad") else 0):
         return f"--text: {status} {written!r}, not {expected!r}", None
     if status == BAD:
-        refused = run("qbf", file)
+        refused = program.run("qbf", file)
         return (None if refused == (BAD, expected) else f"qbf: {refused}"), expected.split()[3].decode()
     if truth is None:
         return None, "large"
-    status, written = run("qbf", file)
+    status, written = program.run("qbf", file)
     wanted = b"qcert 2\n" + (b"true\n" if truth else b"false\n")
     if status != 0 or not written.startswith(wanted):
         return f"qbf: {status} {written[:40]!r}, not {wanted!r}", None
@@ -222,24 +218,25 @@ def differs(folder, text):
         out.write(written)
     with open(problem, "wb") as out:
         out.write(expected)
-    said = run("check", problem, cert)
+    said = program.run("check", problem, cert)
     return (None if said == (0, b"yes " + wanted[8:]) else f"check: {said}"), str(truth)
 
 
-def main(seed=1, count=10_000):
-    maker = Maker(seed)
-    texts = [it.encode() for it in large()] + [maker.text() for _ in range(count)]
+def main(words):
+    parser = argparse.ArgumentParser(prog="bench/run formulas", description="Compares what `qecode qbf` answers.")
+    parser.add_argument("seed", nargs="?", type=int, default=1)
+    parser.add_argument("count", nargs="?", type=int, default=10_000)
+    add_option(parser)
+    options = parser.parse_args(words)
+    program, maker = Program(options.program), Maker(options.seed)
+    texts = [it.encode() for it in large()] + [maker.text() for _ in range(options.count)]
     kinds, bad = Counter(), 0
     with tempfile.TemporaryDirectory() as folder:
         for text in texts:
-            difference, kind = differs(folder, text)
+            difference, kind = differs(program, folder, text)
             kinds[kind] += 1
             if difference:
                 bad += 1
                 print(f"{text!r}\n  {difference}")
     print(f"{len(texts)} texts, {bad} differences; " + ", ".join(f"{kind} {n}" for kind, n in sorted(kinds.items(), key=str)))
     return 1 if bad else 0
-
-
-if __name__ == "__main__":
-    sys.exit(main(*map(int, sys.argv[1:])))

@@ -5,7 +5,7 @@ Written apart from the program, by docs/certificates.md and docs/predicates.md. 
 """
 from typing import NamedTuple
 
-from games import FOLDS, Agg, Var, better, holds, refutes
+from oracle.games import FOLDS, Agg, Var, better, holds, refutes
 
 # ---- The text of certificates.
 

@@ -1,10 +1,9 @@
-#!/usr/bin/env python3
 """Measures the program on the ladder: 54 problems in eight families, each with its known answer (rungs.py).
 
-    python3 bench/ladder.py [--list] [--only FAMILY] [--seed S] [--program PATH] [--seconds N] [--texts FOLDER]
-                            [--save FILE] [--compare FILE] [--model PATH] [--runs N]
+    bench/run ladder [--list] [--only FAMILY] [--seed S] [--program PATH] [--seconds N] [--texts FOLDER]
+                     [--save FILE] [--compare FILE] [--model PATH] [--runs N]
 
-Run it at the top of a checkout, after ./qecode has built the program. Nothing here is part of the gate.
+Nothing here is part of the gate.
 
 Each problem is solved within 10,000,000 turns and N processor seconds, and its certificate is checked. A line tells:
 
@@ -38,13 +37,12 @@ import random
 import re
 import resource
 import subprocess
-import sys
 import tempfile
 from dataclasses import dataclass, fields
 
-from rungs import FAMILIES
+from measure.rungs import FAMILIES
+from program import Program, add_option
 
-PROGRAM = "crates/qc_program/out/qc_program"
 TURNS = 10_000_000
 MEMORY = 6 << 30
 PLAIN = ["--no-drop", "--no-killer", "--no-polar", "--no-cache", "--no-witness"]
@@ -271,33 +269,28 @@ def save(path, results, seed):
         file.writelines("\t".join(result.cells()) + "\n" for result in results)
 
 
-def main():
-    parser = argparse.ArgumentParser(description="Measures the program on problems with known answers.")
+def main(words):
+    parser = argparse.ArgumentParser(prog="bench/run ladder", description="Measures the program on problems with known answers.")
     parser.add_argument("--list", action="store_true")
     parser.add_argument("--only", choices=FAMILIES, metavar="FAMILY")
     parser.add_argument("--seed", type=int, default=1)
-    parser.add_argument("--program", default=PROGRAM)
+    add_option(parser)
     parser.add_argument("--seconds", type=int, default=20)
     parser.add_argument("--runs", type=int, default=1)
     parser.add_argument("--texts", metavar="FOLDER")
     parser.add_argument("--save", metavar="FILE")
     parser.add_argument("--compare", metavar="FILE")
     parser.add_argument("--model", metavar="PATH")
-    options = parser.parse_args()
+    options = parser.parse_args(words)
     if options.list:
         for family, name, _, known, hard in rungs(options):
             print(f"{family:13} {name:24} {known}" + "  (hard)" * hard)
-        return
-    if not os.access(options.program, os.X_OK):
-        sys.exit("build the program first: ./qecode print examples/price.qc")
+        return 0
+    options.program = Program(options.program).path
     if options.texts:
         os.makedirs(options.texts, exist_ok=True)
     with tempfile.TemporaryDirectory() as folder:
         results, well = climb(options, folder)
     if options.save:
         save(options.save, results, options.seed)
-    sys.exit(not well)
-
-
-if __name__ == "__main__":
-    main()
+    return not well

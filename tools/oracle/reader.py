@@ -5,6 +5,8 @@
 import re
 from dataclasses import dataclass
 
+from oracle.predicates import SIGNATURES
+
 RESERVED = set(
     "exists forall goal solve var bool aggregate sum least greatest else minimize maximize constraint true false".split()
 )
@@ -16,33 +18,6 @@ KINDS = (
     " TooMany NotVisible"
 ).split()
 NUMBERS = {kind: number for number, kind in enumerate(KINDS, 1)} | {"BottleneckFirst": 14}
-
-# The kinds of arguments of each predicate, a letter each as in docs/predicates.md.
-SIGNATURES = {}
-for _names, _kinds in (
-    ("int_eq int_ne int_le int_lt int_abs", "ii"),
-    ("int_lin_eq int_lin_ne int_lin_le", "NIi"),
-    ("int_plus int_times int_min int_max int_div int_mod", "iii"),
-    ("bool_eq bool_not bool_le bool_lt", "bb"),
-    ("bool2int", "bi"),
-    ("array_int_element", "iNi"),
-    ("array_bool_element", "iMb"),
-    ("array_var_int_element", "iIi"),
-    ("array_var_bool_element", "iBb"),
-    ("array_int_minimum array_int_maximum", "iI"),
-    ("set_in", "iS"),
-    ("bool_and bool_or bool_xor", "bbb"),
-    ("array_bool_and array_bool_or", "Bb"),
-    ("array_bool_xor", "B"),
-    ("bool_clause", "BB"),
-    ("all_different_int", "I"),
-    ("table_int", "IN"),
-):
-    SIGNATURES.update({name: _kinds for name in _names.split()})
-for _name in (
-    "int_eq int_ne int_le int_lt int_lin_eq int_lin_ne int_lin_le set_in bool_eq bool_le bool_lt bool_clause".split()
-):
-    SIGNATURES[_name + "_reif"] = SIGNATURES[_name] + "b"
 
 
 class Refused(Exception):
@@ -61,10 +36,11 @@ class Token:
 
 @dataclass
 class Item:
-    """A part of a text. `owner` is the number of its scope; the goal has the number of scopes."""
+    """A part of a text, from the place `at` to `end`. `owner` is the number of its scope; the goal has the number of scopes."""
 
     what: str  # exists, forall, goal, var, aggregate or constraint
     at: int
+    end: int = 0
     owner: int = 0
     name: Token = None
     condition: tuple = None
@@ -222,7 +198,7 @@ class Parser:
                 return items if self.token.sort == "end" else self.stop()
             item = Item(first.value, first.at)
             parts[item.what](item)
-            self.sign(";")
+            item.end = self.sign(";").at + 1
             if item.what in ("exists", "forall", "goal"):
                 place, item.owner = item.what, scopes
                 scopes += item.what != "goal"
@@ -408,11 +384,16 @@ def canonical(items):
     return "".join(item_text(item) for item in sorted(items, key=lambda i: (i.owner, order[i.what]))) + "solve;\n"
 
 
+def read(data):
+    """The items of a problem text. Raises Refused where it's none."""
+    tokens = cut(data)
+    items = Parser(tokens).problem()
+    Checker(tokens, items).check()
+    return items
+
+
 def answer(data):
     try:
-        tokens = cut(data)
-        items = Parser(tokens).problem()
-        Checker(tokens, items).check()
-        return canonical(items).encode()
+        return canonical(read(data)).encode()
     except Refused as refused:
         return str(refused).encode()

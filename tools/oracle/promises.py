@@ -5,8 +5,8 @@ stands in one case. They are diligent: at a branch no constraint in force refute
 the first variable that is open comes first, and a horizon stands wherever no values left pass. They keep what was
 found: no value is left that is worse than a choice made before. `check` asks for none of this.
 """
-from certificates import UNKNOWN, Proof, replaced
-from games import Var, better, flat, refutes
+from oracle.certificates import UNKNOWN, Proof, replaced
+from oracle.games import Var, better, flat, refutes
 
 
 def variables_of(constraint):

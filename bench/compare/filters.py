@@ -1,8 +1,7 @@
-#!/usr/bin/env python3
 """Compares the filters with a plain one, on small boxes made at random, and measures them on large constraints.
 
-    python3 bench/filters.py compare [SEED [COUNT]]
-    python3 bench/filters.py measure
+    bench/run filters compare [SEED [COUNT]]
+    bench/run filters measure
 
 Build `crates/prop_yard` first (`rt run` in its folder). Nothing here is part of the gate.
 
@@ -21,10 +20,11 @@ import time
 from collections import Counter
 from itertools import product
 
-from games import Game, Var, flat, holds, refutes
-from player import Maker
+from compare.player import Maker
+from oracle.games import Var, flat, holds, refutes
+from program import TOP, Program
 
-PROGRAM = "crates/prop_yard/out/prop_yard"
+PROGRAM = os.path.join(TOP, "crates", "prop_yard", "out", "prop_yard")
 
 
 class OneScope(Maker):
@@ -175,13 +175,10 @@ def measure():
 
 
 def main(words):
+    Program(PROGRAM)  # there has to be one
     if words[:1] == ["measure"]:
         return measure()
     if words[:1] == ["compare"]:
         return compare(*map(int, words[1:]))
     print(__doc__, file=sys.stderr)
     return 2
-
-
-if __name__ == "__main__":
-    sys.exit(main(sys.argv[1:]))

@@ -1,0 +1,9 @@
+"""Problems, games and certificates as the pages of docs/ describe them, written apart from the program: the one place in Python
+that reads them and knows the predicates. The tools for people use it, and the comparisons of bench/.
+
+    predicates    what each predicate takes, when it holds, and when values left refute or entail it
+    reader        reads problem texts, and says what `qecode print` has to write
+    games         who wins, and what is optimal, by going over all moves
+    certificates  reads certificates, and says what they prove
+    promises      what `solve` promises of its certificates besides
+"""
