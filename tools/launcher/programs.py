@@ -1,0 +1,114 @@
+"""The programs that have a launcher: where they are built, their commands, and the page that tells people of them."""
+import os
+from typing import NamedTuple
+
+from .crates import TOP, folder_of
+
+MEBI = 1 << 20
+
+
+class Command(NamedTuple):
+    """One command as people are told of it."""
+
+    name: str
+    words: str
+    does: str
+    example: str
+    # For each word that names a file, in order, its place among the words and the most bytes that are read of it.
+    files: tuple = ()
+
+
+class Program(NamedTuple):
+    name: str
+    crate: str
+    what: str
+    commands: tuple
+    notes: str
+
+    @property
+    def built(self):
+        return os.path.join(folder_of(self.crate), "out", self.crate)
+
+    @property
+    def unproved(self):
+        """Where the build is kept of which nothing is proved. It isn't mistaken for the other: it has a folder of its own."""
+        return os.path.join(folder_of(self.crate), "out", "unproved", self.name)
+
+    @property
+    def launcher(self):
+        """How it is called from the folder in which we are."""
+        return shown(os.path.join(TOP, self.name))
+
+    def files_of(self, words):
+        """The places of the words that name files, with the most bytes that are read of each."""
+        found = [it.files for it in self.commands if words and it.name == words[0]]
+        return [it for it in (found[0] if found else ()) if it[0] < len(words)]
+
+    def page(self):
+        """What `--help` writes."""
+        lines = [f"{self.name} {self.what}", "", f"usage: ./{self.name} [--now] COMMAND WORDS", ""]
+        for it in self.commands:
+            lines += [f"  {it.words}", *(f"      {line}" for line in it.does.split("\n")), f"      ./{self.name} {it.example}", ""]
+        return "\n".join(lines) + self.notes
+
+
+def shown(path):
+    """The shorter way to a file of this repository, such that a shell finds it."""
+    near = os.path.relpath(path)
+    if len(near) > len(path):
+        return path
+    return near if os.sep in near else os.path.join(".", near)
+
+
+# A problem or a formula, a certificate, and both as `play` reads them with its moves.
+TEXT, CERTIFICATE, PLAYED, MOVES = 4 * MEBI, 1024 * MEBI, 32 * MEBI, 65_536
+
+QECODE = Program(
+    name="qecode",
+    crate="qc_program",
+    what="solves quantified constraint games, and writes answers that can be checked.",
+    commands=(
+        Command("solve", "solve PROBLEM [--turns N]",
+                "solves the game of a file and writes the answer with its certificate: true, true V with the best value,\n"
+                "false, or open N where the turns (1,000,000 if none are given) don't suffice",
+                "solve examples/defence.qc > defence.cert", ((1, TEXT),)),
+        Command("check", "check PROBLEM CERTIFICATE",
+                "says whether a certificate proves what it states: yes and the answer, or no",
+                "check examples/defence.qc defence.cert", ((1, TEXT), (2, CERTIFICATE))),
+        Command("play", "play PROBLEM CERTIFICATE MOVES",
+                "plays by a certificate against the moves of a file, in order, and writes the play",
+                "play examples/defence.qc defence.cert moves", ((1, TEXT), (2, PLAYED), (3, MOVES))),
+        Command("worst", "worst PROBLEM SCOPE [--turns N | --text | --gap]",
+                "solves the game where later owners break their ties against a scope's owner, or against all of them;\n"
+                "with --gap it tells the hopeful and the sure number, with --text it writes the game that it solves",
+                "worst examples/tolls.qc 1 --gap", ((1, TEXT),)),
+        Command("print", "print PROBLEM",
+                "writes a problem in its canonical text, or tells what is wrong with it and where",
+                "print examples/price.qc", ((1, TEXT),)),
+        Command("qbf", "qbf FILE [--turns N | --text]",
+                "solves a quantified Boolean formula in the QDIMACS format; with --text it writes the formula's game",
+                "qbf examples/formulas/copycat.qdimacs", ((1, TEXT),)),
+        Command("generate", "generate N [--text]",
+                "makes a problem from a number and solves it; with --text it writes the problem",
+                "generate 7 --text"),
+    ),
+    notes="""\
+  --now COMMAND WORDS
+      answers within minutes on a fresh machine, by a build of which nothing is proved; without it the first call
+      proves and builds the program, which takes up to an hour
+      ./qecode --now solve examples/defence.qc
+  --version
+      the commit, the kit, and whether the program is built
+  --help
+      this page
+
+A file may also be a pipe, as in ./qecode print <(cat game.qc). What the statuses mean stands in docs/command.md.
+Playing move by move, with names: tools/play PROBLEM CERTIFICATE.
+
+Where to read: README.md (the first problem), docs/guide.md (from the question to the answer), docs/idioms.md (how what
+people say is written), docs/faq.md (questions), docs/problem-text.md and docs/predicates.md (the input), docs/game.md
+(what a game means), docs/certificates.md (what the lines of an answer mean), docs/command.md (words and statuses).
+""",
+)
+
+PROGRAMS = {it.name: it for it in (QECODE,)}
