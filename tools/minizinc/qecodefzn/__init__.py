@@ -1,0 +1,1 @@
+"""From FlatZinc to qecode's problem texts, and from its answers back."""

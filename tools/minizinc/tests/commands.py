@@ -1,0 +1,74 @@
+"""The commands from end to end, as a user calls them: the installer, `minizinc --solver qecode` and `qecode-mzn`.
+
+Games that the documents show are solved as well.
+"""
+import os
+import re
+import tempfile
+
+from common import HERE, QECODE_MZN, TOOL, TOP, read, run, write
+
+from qecodefzn import program
+
+BARE = 'include "qecode.mzn"; var 0..3: x; constraint exists_scope(1, x); constraint x > 7; solve satisfy;\n'
+# Games that documents show, with a word of each and what is answered.
+SHOWN = (
+    ("guide.md", "takes", "% qecode: true 22\n", "order [1, 3, 2]"),
+    ("minizinc.md", "guard", "% qecode: false\n", "UNSATISFIABLE"),
+)
+
+
+def block_with(text, word):
+    return next(block for block in re.findall(r"^```\n(.*?)^```$", text, re.S | re.M) if "qecode.mzn" in block and word in block)
+
+
+def checks(tally):
+    with tempfile.TemporaryDirectory() as folder:
+        installed(tally, folder)
+        games(tally, folder)
+        kept(tally, folder)
+    for name, word, outcome, shown in SHOWN:
+        with tempfile.TemporaryDirectory() as folder:
+            path = write(folder, "shown.mzn", block_with(read(os.path.join(TOP, "docs", name)), word))
+            _, out, err = run([QECODE_MZN, path])
+            tally.check(f"the game of {name}", outcome in out and shown in out, out + err)
+
+
+def installed(tally, home):
+    def minizinc(*words):
+        status, out, err = run(["env", f"HOME={home}", "minizinc", "--solver", "qecode", *words])
+        return out + err
+
+    run(["env", f"HOME={home}", os.path.join(TOOL, "install")])
+    model = os.path.join(HERE, "models", "knapsack_b.mzn")
+    said = minizinc(model)
+    tally.check("an optimum", "----------\n==========" in said, said)
+    said = minizinc("-a", model)
+    tally.check("an optimum with -a", "----------\n==========" in said, said)
+    said = minizinc("-a", os.path.join(HERE, "models", "queens8.mzn"))
+    tally.check("all solutions", "-a: solutions aren't gone through" in said, said)
+    said = minizinc(os.path.join(HERE, "models", "queens3.mzn"))
+    tally.check("no solution", "=====UNSATISFIABLE=====" in said, said)
+    said = minizinc("-s", "-v", os.path.join(HERE, "models", "send.mzn"))
+    tally.check("statistics", "mzn-stat: certificateBytes=" in said and "S = 9;" in said, said)
+    said = minizinc("--time-limit", "2000", os.path.join(HERE, "models", "pigeon11.mzn"))
+    tally.check("a time limit", "=====UNKNOWN=====" in said, said)
+    said = minizinc(os.path.join(TOP, "examples", "defence.mzn"))
+    tally.check("a game without -g", "flattened with -g" in said and "=====ERROR=====" in said, said)
+    said = minizinc("-g", os.path.join(TOP, "examples", "defence.mzn"))
+    tally.check("a game with -g", "% qecode: true\n" in said and "guards [0, 1, 1]" in said, said)
+
+
+def games(tally, folder):
+    _, out, err = run([QECODE_MZN, os.path.join(TOP, "examples", "least_makespan.mzn")])
+    tally.check("qecode-mzn", "% qecode: true 7\n" in out and "start 0; after a delay of 0" in out, out + err)
+    status, out, err = run([QECODE_MZN, write(folder, "bare.mzn", BARE)])
+    is_refused = status == 1 and "outside of all rules can't hold" in err and "UNSAT" not in out
+    tally.check("a bare constraint that can't hold", is_refused, out + err)
+
+
+def kept(tally, folder):
+    certificate = os.path.join(folder, "best.cert")
+    run([QECODE_MZN, os.path.join(TOP, "examples", "best_price.mzn"), "--certificate", certificate])
+    _, said, _ = run([program.PROGRAM, "check", certificate + ".qc", certificate])
+    tally.check("a kept certificate", said == "yes true 15\n", said)
