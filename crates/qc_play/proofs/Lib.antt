@@ -7,9 +7,7 @@ pub mod Replies
 pub mod Turns
 pub mod Making
 pub mod Starts
-pub mod TurnLines
 mod Proving
-mod Listing
 mod Plays
 pub mod LeavesMore
 pub mod BestLeaf

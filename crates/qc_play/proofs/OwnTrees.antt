@@ -31,9 +31,9 @@ module _ (g : Game) (i : ℕ) (w : Walk) (h : IsWithin g w i) where
     taken_back t n at undone content = on_undone g i w b t n at taken_on undone content
 
 -- what the scope shows, by the leaves of its own tree
-pub own_shows : (g : Game) (i : ℕ) (js ks : Joins) (x y : Gathering) (box new : Box) (lines : ℕ) (ls : List Leaf) (v : List ℤ) (s : Shown) → new ≡ box → HasSeen g i js x 0 [] → Tells g i js x ks y lines ls → lines ≤ 4294967296 → IsAnswered (drop i g.scopes) g i (position g i box) ls →
+pub own_shows : (g : Game) (i : ℕ) (js ks : Joins) (x y : Gathering) (box new : Box) (ends : ℕ) (ls : List Leaf) (v : List ℤ) (s : Shown) → new ≡ box → HasSeen g i js x 0 [] → Tells g i js x ks y ends ls → ends ≤ 1073741824 → IsAnswered (drop i g.scopes) g i (position g i box) ls →
     ((n : ℕ) (ls : List Leaf) → HasSeen g i ks y n ls → IsAnswered (drop i g.scopes) g i (position g i new) ls → Shows (scope_finding (drop i g.scopes) g i (demands g i) (position g i new) ls) v s) →
     Shows (scope_finding (drop i g.scopes) g i (demands g i) (position g i box) ls) v s
-own_shows g i js ks x y box new lines ls v s e none told few answered shows =
+own_shows g i js ks x y box new ends ls v s e none told few answered shows =
     subst (λ b. Shows (scope_finding (drop i g.scopes) g i (demands g i) (position g i b) ls) v s) e
-    (shows (0 + lines) ls (told 0 [] (omega (arith, few)) none) (subst (λ b. IsAnswered (drop i g.scopes) g i (position g i b) ls) (sym e) answered))
+    (shows (0 + ends) ls (told 0 [] (omega (arith, few)) none) (subst (λ b. IsAnswered (drop i g.scopes) g i (position g i b) ls) (sym e) answered))

@@ -1,28 +1,33 @@
 -- What stands in place below a part that does.
-use Rattle.std.proofs.Common.{◌≡◌, ℕ, zero, suc, ◌<◌, ◌≤◌, Bool, true, false, not, ◌&&◌, List, [], ◌∷◌, length, drop, refl, ap, ◌∙◌, subst, arith, Option}
+use Rattle.std.proofs.Common.{◌≡◌, ℕ, zero, suc, ◌<◌, ◌≤◌, Bool, true, false, not, ◌&&◌, List, [], ◌∷◌, length, drop, refl, ap, ◌∙◌, subst, arith, Option, ℤ}
+use Rattle.std.specs.Prelude.{nat_lt}
 use Rattle.qc_model.specs.declared.problem.Scope.{Scope}
 use Rattle.qc_model.specs.declared.problem.VarId.{VarId}
 use Rattle.qc_model.specs.Content.{Game}
 use Rattle.qc_model.specs.Demands.{demands}
-use Rattle.qc_model.specs.Domains.{Box, has_empty, is_single, values_left}
+use Rattle.qc_model.specs.Domains.{Values, Box, has_empty, is_single, values_left}
 use Rattle.qc_model.specs.Game.{allows, is_of_scope}
-use Rattle.qc_arguments.specs.Asked.{is_box_of}
 use Rattle.proof_tree.specs.declared.tree.Horizon.{Horizon}
 use Rattle.proof_tree.specs.declared.tree.Step.{Step}
-use Rattle.proof_tree.specs.InPlace.{in_place, body_in_place, ending_in_place, branches_in_place, horizon_below, horizon_in_place, is_horizon}
+use Rattle.proof_tree.specs.Cover.{covered, uncovered, is_cover, box_to}
+use Rattle.proof_tree.specs.InPlace.{in_place, body_in_place, ending_in_place, branches_in_place, case_in_place, steps_in_place, horizon_below, horizon_in_place, is_horizon}
 use Rattle.proof_tree.specs.Place.{position, is_fixed, is_goal, next_scopes, list_after}
 use Rattle.proof_tree.specs.Steps.{after_steps}
-use Rattle.proof_tree.specs.Tree.{Tree, tree, goal, cases, Ending, next, branch, Branches}
+use Rattle.proof_tree.specs.Tree.{Tree, tree, goal, cases, Ending, next, branch, Branches, piece, Case, skip, left_open, go}
 use Rattle.qc_meaning.specs.Answered.{Answered, IsAnswered}
+use Rattle.line_check.specs.EndSizes.{IsWide}
 use Rattle.line_check.proofs.Facts.{next_drop}
+use Rattle.line_check.proofs.LedgerTurns.{demands_step}
 use Rattle.line_check.proofs.Parts.{of_scope}
-use Rattle.line_check.proofs.Readings.{box_size}
-use Rattle.qc_play.specs.Walk.{steps_fit, part_leaves, CanReadNode, CanReadPart, CanReadEnd, CanReadBranches}
-use Rattle.qc_play.proofs.TreeSizes.{list_next}
+use Rattle.qc_play.specs.Walk.{steps_fit, part_leaves, case_fits, CanReadNode, CanReadPart, CanReadEnd, CanReadBranches, CanReadCase}
 
 both : (a b : Bool) → (a && b) ≡ true → (a ≡ true) × (b ≡ true)
 both true b e = (refl, e)
 both false b e = cc
+
+three : (a b c : Bool) → (a && b && c) ≡ true → (a ≡ true) × (b ≡ true) × (c ≡ true)
+three true b c e = let h = both b c e in (refl, h.0, h.1)
+three false b c e = cc
 
 together : (a b : Bool) → a ≡ true → b ≡ true → (a && b) ≡ true
 together a b e f = ap (λ c. c && b) e ∙ f
@@ -41,6 +46,10 @@ some_scope [] zero e = cc
 some_scope [] (suc i) e = cc
 some_scope (s ∷ ss) zero e = omega arith
 some_scope (s ∷ ss) (suc i) e = let h = some_scope ss i e in omega (arith, h)
+
+-- the list after a scope is that of the next
+pub list_next : (g : Game) (i : ℕ) → i < length g.scopes → list_after g (drop i g.scopes) (demands g i) ≡ demands g (suc i)
+list_next g i h = demands_step g g.scopes i [] h
 
 -- the goal stands after all scopes
 pub goal_last : (g : Game) (z : Option Horizon) (i : ℕ) (box : Box) → CanReadNode g (tree z goal) i box → i ≤ length g.scopes → i ≡ length g.scopes
@@ -71,6 +80,14 @@ module _ (g : Game) (z : Option Horizon) (steps : List Step) (e : Ending) (i : �
 
   pub own_answered : IsAnswered (drop i g.scopes) g i (position g i box) (part_leaves g steps e i box)
   own_answered = h.answered.0
+
+-- what follows its removals
+pub part_end : (g : Game) (steps : List Step) (e : Ending) (i : ℕ) (box : Box) → CanReadPart g steps e i box → CanReadEnd g e i (after_steps steps box)
+part_end g steps e i box h = record {
+  horizon = h.horizon;
+  placed = (both (steps_fit g steps i box) (ending_in_place g e (drop i g.scopes) i (demands g i) (after_steps steps box) h.horizon) h.placed).1;
+  answered = h.answered;
+}
 
 -- the node after a tuple
 module _ (g : Game) (t : Tree) (i : ℕ) (box : Box) (h : CanReadEnd g (next t) i box) where
@@ -110,8 +127,32 @@ module _ (g : Game) (x : VarId) (bs : Branches) (i : ℕ) (box : Box) (h : CanRe
   pub branch_full : has_empty box ≡ false
   branch_full = branch_parts.0
 
-  pub branch_variable : is_box_of g box ≡ true → x.0 < length box
-  branch_variable d = let a = of_scope g i x.0 branch_parts.1 in let b = box_size g box d in omega (arith, a, b)
+  pub branch_variable : IsWide g box → x.0 < length box
+  branch_variable wide = let a = of_scope g i x.0 branch_parts.1 in omega (arith, a, wide)
 
   pub branch_cases : CanReadBranches g bs x.0 (values_left box x.0) i box
   branch_cases = record { horizon = h.horizon; placed = branch_parts.2; answered = h.answered }
+
+-- what a case owes, by the box that it leaves
+fits_of : (g : Game) (c : Case) (x : ℕ) (vs : Values) (i : ℕ) (box : Box) (h : Option ℕ) → case_in_place g c x vs (drop i g.scopes) i (demands g i) box h ≡ true → case_fits g c i (box_to box x vs) h ≡ true
+fits_of g skip x vs i box h e = refl
+fits_of g left_open x vs i box h e = refl
+fits_of g (go steps end) x vs i box h e =
+    let new = box_to box x vs in
+    let fits = steps_in_place g (drop i g.scopes) i (demands g i) steps new in
+    let ends = ending_in_place g end (drop i g.scopes) i (demands g i) (after_steps steps new) h in
+    let r = three (nat_lt (length vs) (length (values_left box x))) fits ends e in
+    together fits ends r.1 r.2
+
+-- the first of a branch's cases, and the cases after it
+module _ (g : Game) (x : ℕ) (vs : Values) (upto : Option ℤ) (c : Case) (rest : Branches) (i : ℕ) (box : Box) (h : CanReadBranches g (piece upto c rest) x vs i box) where
+  piece_parts : (is_cover upto vs ≡ true) × (case_in_place g c x (covered upto vs) (drop i g.scopes) i (demands g i) box h.horizon ≡ true) × (branches_in_place g rest x (uncovered upto vs) (drop i g.scopes) i (demands g i) box h.horizon ≡ true)
+  piece_parts =
+      three (is_cover upto vs) (case_in_place g c x (covered upto vs) (drop i g.scopes) i (demands g i) box h.horizon) (branches_in_place g rest x (uncovered upto vs) (drop i g.scopes) i (demands g i) box h.horizon)
+      h.placed
+
+  pub first_case : CanReadCase g c i (box_to box x (covered upto vs))
+  first_case = record { horizon = h.horizon; placed = fits_of g c x (covered upto vs) i box h.horizon piece_parts.1; answered = h.answered.0 }
+
+  pub later_cases : CanReadBranches g rest x (uncovered upto vs) i box
+  later_cases = record { horizon = h.horizon; placed = piece_parts.2; answered = h.answered.1 }

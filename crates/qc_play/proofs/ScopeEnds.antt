@@ -26,7 +26,7 @@ use Rattle.qc_play.specs.Gathers.{Gathers, IsAtScope, owner_of, wishes_of, count
 use Rattle.qc_play.specs.Shown.{Shows}
 use Rattle.qc_play.proofs.AtLevels.{first_scope}
 use Rattle.qc_play.proofs.Finished.{IsShown}
-use Rattle.qc_play.proofs.TreeSizes.{list_next}
+use Rattle.qc_play.proofs.Readable.{list_next}
 
 -- as many values as variables
 pub position_length : (g : Game) (i : ℕ) (box : Box) → is_box_of g box ≡ true → length (position g i box) ≡ before g i

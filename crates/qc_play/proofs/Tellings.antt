@@ -3,8 +3,8 @@ use Rattle.std.proofs.Common.{◌≡◌, ℕ, ◌+◌, ◌≤◌, List, [], ◌+
 use Rattle.qc_model.specs.Content.{Game}
 use Rattle.qc_model.specs.Verdict.{Seen}
 use Rattle.qc_joins.specs.Joins.{StandsAt}
-use Rattle.qc_joins.specs.Sizes.{HasSizes}
-use Rattle.qc_joins.proofs.Sizing.{sizes_both}
+use Rattle.qc_joins.specs.Ends.{HasEnds}
+use Rattle.qc_joins.proofs.Ends.{ends_join}
 use Rattle.qc_joins.specs.declared.joins.Joins.{Joins}
 use Rattle.proof_tree.specs.Finding.{Leaf, seen_of}
 use Rattle.line_check.proofs.Leaves.{seen-append}
@@ -29,25 +29,15 @@ tells_then g i js ks us x y z k l ms ns f h n ls few seen =
     append_is = append_assoc ls ms ns
 
 -- the same, by other words
-pub tells_as : (g : Game) (i : ℕ) (js ks : Joins) (x y : Gathering) (k l : ℕ) (ms ns : List Leaf) → k ≤ l → ms ≡ ns → Tells g i js x ks y k ms → Tells g i js x ks y l ns
-tells_as g i js ks x y k l ms ns a e f n ls few seen =
-    let h = f n ls (omega (arith, few, a)) seen in
-    subst (λ us. HasSeen g i ks y (n + l) (ls ++ us)) e
-    (record {
-      stands = h.stands;
-      gathers = h.gathers;
-      sizes = λ m. let b = h.sizes m in omega (arith, b, a);
-      kind = h.kind;
-      wishes = h.wishes;
-      place = h.place;
-    })
+pub tells_as : (g : Game) (i : ℕ) (js ks : Joins) (x y : Gathering) (k l : ℕ) (ms ns : List Leaf) → k ≡ l → ms ≡ ns → Tells g i js x ks y k ms → Tells g i js x ks y l ns
+tells_as g i js ks x y k l ms ns a e f = subst (λ us. Tells g i js x ks y l us) e (subst (λ n. Tells g i js x ks y n ms) a f)
 
 -- leaves that fit, which the join and the gathering take
 pub seen_more : (g : Game) (i : ℕ) (js ks : Joins) (x y : Gathering) (n k : ℕ) (ls ms : List Leaf) → HasSeen g i js x n ls → IsSameScope x y → StandsAt ks i (map seen_of ls ++ map seen_of ms) → Gathers y (ls ++ ms) → LeavesFit g i k ms → HasSeen g i ks y (n + k) (ls ++ ms)
 seen_more g i js ks x y n k ls ms h same stands gathers fits = record {
   stands = subst (StandsAt ks i) (sym (seen-append ls ms)) stands;
   gathers = gathers;
-  sizes = subst (HasSizes (n + k)) (sym (seen-append ls ms)) (sizes_both n k (map seen_of ls) (map seen_of ms) h.sizes fits.sizes);
+  ends = subst (HasEnds (n + k)) (sym (seen-append ls ms)) (ends_join n k (map seen_of ls) (map seen_of ms) h.ends fits.ends);
   kind = h.kind ∙ ap Some (sym same.owner);
   wishes = λ e. same.wishes ∙ h.wishes (sym same.owner ∙ e);
   place = same.before ∙ h.place;

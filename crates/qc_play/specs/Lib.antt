@@ -12,5 +12,4 @@ pub mod Entries
 pub mod Gathers
 pub mod Evidence
 pub mod Heads
-pub mod Listed
 pub mod Walk

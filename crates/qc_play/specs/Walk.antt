@@ -12,7 +12,7 @@ use Rattle.qc_arguments.specs.Asked.{is_box_of}
 use Rattle.qc_rules.specs.Spans.{kind_at}
 use Rattle.qc_joins.specs.declared.joins.Joins.{Joins}
 use Rattle.qc_joins.specs.Joins.{game_of as game_joined, StandsAt}
-use Rattle.qc_joins.specs.Sizes.{HasSizes}
+use Rattle.qc_joins.specs.Ends.{HasEnds}
 use Rattle.fd_store.specs.Held.{trail_len, Follows, IsUndone}
 use Rattle.line_check.specs.Machine.{IsAt, values_to}
 use Rattle.line_check.specs.Tracking.{tracked_at}
@@ -111,16 +111,15 @@ pub record IsBack (g : Game) (i : ℕ) (old new : Walk) : Type 0 where
   pub past : IsUndone (trail_len old.remains) old.remains new.remains
   pub box : new.remains.box ≡ old.remains.box
 
--- of scope i's own tree these leaves were seen: its join stands for them, they are gathered, and their numbers are as large
--- as n values of variables
+-- of scope i's own tree these leaves were seen: its join stands for them, they are gathered, and they come from n ends
 pub record HasSeen (g : Game) (i : ℕ) (js : Joins) (x : Gathering) (n : ℕ) (ls : List Leaf) : Type 0 where
   pub stands : StandsAt js i (map seen_of ls)
   pub gathers : Gathers x ls
-  pub sizes : HasSizes n (map seen_of ls)
+  pub ends : HasEnds n (map seen_of ls)
   pub kind : kind_at g i ≡ Some (owner_of x)
   pub wishes : owner_of x ≡ Exists → wishes_of x ≡ demands g (suc i)
   pub place : count_before x ≡ before g i
 
--- so many lines more were walked, and these leaves seen
+-- so many ends more were walked, and these leaves seen; a certificate has at most 2^30
 abbrev pub Tells : Game → ℕ → Joins → Gathering → Joins → Gathering → ℕ → List Leaf → Type 0
-Tells g i js x ks y lines more = (n : ℕ) (ls : List Leaf) → n + lines ≤ 4294967296 → HasSeen g i js x n ls → HasSeen g i ks y (n + lines) (ls ++ more)
+Tells g i js x ks y ends more = (n : ℕ) (ls : List Leaf) → n + ends ≤ 1073741824 → HasSeen g i js x n ls → HasSeen g i ks y (n + ends) (ls ++ more)

@@ -2,22 +2,22 @@
 //!
 //! A certificate that proves its outcome shows a strategy, or a counterstrategy: a tree of choices. `make_plan` and
 //! `make_counter` read it from the certificate's tree, and give nothing where the certificate doesn't prove its
-//! outcome. They fail only where memory is refused or the list of the tree's lines is full, which has room for 2^32, and
-//! ask for no memory where no tree can show what is stated. `play` plays the game with such a tree on one side and given
-//! moves on the other, and writes what happened, scope by scope. With an optimal strategy a play ends with a goal that
-//! holds, or with an opponent who has no allowed tuple. With a counterstrategy that wins it ends with a goal that doesn't
-//! hold, or with a player from whose tuples nobody can go on. `make_evidence` tells what a certificate shows, whatever it
-//! states.
+//! outcome. They fail only where memory is refused, and ask for none where no tree can show what is stated. `play` plays
+//! the game with such a tree on one side and given moves on the other, and writes what happened, scope by scope. With an
+//! optimal strategy a play ends with a goal that holds, or with an opponent who has no allowed tuple. With a
+//! counterstrategy that wins it ends with a goal that doesn't hold, or with a player from whose tuples nobody can go on.
+//! `make_evidence` tells what a certificate shows, whatever it states.
 //!
-//! A `Walk` goes over the tree, which was judged before, so that it stands in place. A scope's own tree is read leaf by
-//! leaf: a `Gathering` takes the leaves that go on, and gives the trees of choices of the scope from those of its leaves.
-//! It keeps of a scope of the player the best leaf, and a reply to each that is lost; of one of the opponent the first
-//! lost leaf, and an answer to each that is exact, which it sorts at the end.
+//! A `Walk` goes over the tree, which the checker said yes to before, so that it stands in place. What the leaves
+//! of a scope come to is added up in 64 bits: a certificate has at most 2^30 ends, and each brings a value of a
+//! variable at most. A scope's own tree is read leaf by leaf: a `Gathering` takes the leaves that go on, and gives
+//! the trees of choices of the scope from those of its leaves. It keeps of a scope of the player the best leaf, and
+//! a reply to each that is lost; of one of the opponent the first lost leaf, and an answer to each that is exact,
+//! which it sorts at the end.
 //!
 //! `specs/` says which tree a value is (`Shape`), how a play goes (`Play`), its text (`PlayText`), what it ends with
-//! (`Ends`), what is made of a certificate (`Made`), what one shows (`Evidence`), whether any tree may show it (`Heads`), the
-//! lines that a tree is judged by (`Listed`), what a node shows (`Shown`), what is gathered of leaves (`Gathers`), and what
-//! a walk may read and tells (`Walk`).
+//! (`Ends`), what is made of a certificate (`Made`), what one shows (`Evidence`), whether any tree may show it (`Heads`),
+//! what a node shows (`Shown`), what is gathered of leaves (`Gathers`), and what a walk may read and tells (`Walk`).
 #![tactic(auto)]
 
 mod alone;
@@ -31,7 +31,6 @@ mod gathering;
 mod heads;
 mod judged;
 mod lines;
-mod listed;
 mod make;
 mod numbers;
 mod opponent_leaves;

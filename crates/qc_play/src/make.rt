@@ -58,8 +58,8 @@ fn lost_counter(
 /// The strategy that a certificate shows, which is optimal. None comes exactly where the certificate doesn't prove what
 /// it states, or doesn't state that the game is won.
 ///
-/// It fails only where memory is refused or the list of the tree's lines is full, which has room for 2^32. It asks for no
-/// memory where the certificate states another outcome, or an optimum that no tree can show.
+/// It fails only where memory is refused, and asks for none where the certificate states another outcome, or an optimum
+/// that no tree can show.
 pub fn make_plan(
     alloc: Global,
     problem: &Problem,

@@ -1,9 +1,9 @@
 //! What the tree of a certificate shows, read by a walk over it.
-ghost use Rattle.std.specs.Prelude.{◌≡◌, ◌≤◌, ℤ, List, [], true, length, IfOk, IsTrue};
+ghost use Rattle.std.specs.Prelude.{◌≡◌, ◌≤◌, ◌^◌, ℤ, List, [], true, IfOk, IsTrue};
 ghost use Rattle.qc_model.specs.Domains.{declared_box};
 ghost use Rattle.qc_model.specs.Verdict.{is_exact, is_lost};
+ghost use Rattle.proof_tree.specs.Counts.{ends_of};
 ghost use Rattle.proof_tree.specs.InPlace.{root_in_place};
-ghost use Rattle.proof_tree.specs.Lines.{tree_lines};
 ghost use Rattle.proof_tree.specs.Read.{root_finding, strategy_of, counter_of};
 ghost use Rattle.proof_tree.specs.Shape.{tree_of};
 ghost use Rattle.qc_meaning.specs.Answered.{Answered};
@@ -23,7 +23,7 @@ use std::alloc::{AllocError, Global};
 fn read_root(alloc: Global, problem: &Problem, root: &Node) -> Result<Shown, AllocError>
     requires placed { root_in_place problem.now (tree_of root.now) ≡ true }
     requires answered { Answered problem.now (tree_of root.now) problem.now.scopes 0 [] (declared_box problem.now) }
-    requires few { length (tree_lines (tree_of root.now)) ≤ 4294967296 }
+    requires few { ends_of (tree_of root.now) ≤ 2 ^ 30 }
     ensures { IfOk result (λ s. (v : List ℤ) × Shows (root_finding problem.now (tree_of root.now)) v s) }
 {
     problem.known();
@@ -40,7 +40,7 @@ pub(crate) fn plan_of_root(
 ) -> Result<Plan, AllocError>
     requires placed { root_in_place problem.now (tree_of root.now) ≡ true }
     requires answered { Answered problem.now (tree_of root.now) problem.now.scopes 0 [] (declared_box problem.now) }
-    requires few { length (tree_lines (tree_of root.now)) ≤ 4294967296 }
+    requires few { ends_of (tree_of root.now) ≤ 2 ^ 30 }
     requires exact { IsTrue (is_exact (root_finding problem.now (tree_of root.now)).verdict) }
     ensures { IfOk result (λ plan. plan_of plan ≡ strategy_of problem.now (tree_of root.now)) }
 {
@@ -56,7 +56,7 @@ pub(crate) fn counter_of_root(
 ) -> Result<Counter, AllocError>
     requires placed { root_in_place problem.now (tree_of root.now) ≡ true }
     requires answered { Answered problem.now (tree_of root.now) problem.now.scopes 0 [] (declared_box problem.now) }
-    requires few { length (tree_lines (tree_of root.now)) ≤ 4294967296 }
+    requires few { ends_of (tree_of root.now) ≤ 2 ^ 30 }
     requires lost { IsTrue (is_lost (root_finding problem.now (tree_of root.now)).verdict) }
     ensures { IfOk result (λ counter. tree_of_counter counter ≡ counter_of problem.now (tree_of root.now)) }
 {

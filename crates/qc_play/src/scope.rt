@@ -7,7 +7,7 @@ ghost use Rattle.qc_model.specs.Game.{before};
 ghost use Rattle.qc_levels.specs.DemandLists.{HasLists};
 ghost use Rattle.qc_rules.specs.Spans.{kind_at};
 ghost use Rattle.qc_joins.specs.Joins.{IsLong, out_of};
-ghost use Rattle.qc_joins.specs.Sizes.{IsSized};
+ghost use Rattle.qc_joins.specs.Ends.{IsOfEnds};
 ghost use Rattle.proof_tree.specs.Finding.{Finding, Leaf, leaf_node, scope_finding};
 ghost use Rattle.proof_tree.specs.Place.{is_fixed, position};
 ghost use Rattle.qc_meaning.specs.Answered.{IsAnswered};
@@ -110,7 +110,7 @@ impl<'p> Walk<'p> {
         requires scope { i.0 < length (game_of tables.now).scopes }
         requires full { has_empty self.old.remains.box ≡ false }
         ensures back { OnOk result (IsBack (game_of tables.now) i.0 self.old self.new) }
-        ensures tells { OnOk result ((f : Finding) (lines : ℕ) → Shows f (out_of self.old.joins) shown → IsLong (game_of tables.now) (suc i.0) f.verdict → IsSized lines f.verdict → Tells (game_of tables.now) i.0 self.old.joins leaves.old self.new.joins leaves.new (suc lines) (leaf_node (position (game_of tables.now) (suc i.0) self.old.remains.box) f ∷ [])) }
+        ensures tells { OnOk result ((f : Finding) (ends : ℕ) → Shows f (out_of self.old.joins) shown → IsLong (game_of tables.now) (suc i.0) f.verdict → IsOfEnds ends f.verdict → Tells (game_of tables.now) i.0 self.old.joins leaves.old self.new.joins leaves.new ends (leaf_node (position (game_of tables.now) (suc i.0) self.old.remains.box) f ∷ [])) }
     {
         let level = tables.levels.level(i);
         self.joins.add_node(i, shown.found);

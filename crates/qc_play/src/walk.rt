@@ -10,8 +10,8 @@ ghost use Rattle.qc_model.specs.Domains.{box_within, has_empty, values_left};
 ghost use Rattle.qc_model.specs.Valid.{is_number};
 ghost use Rattle.qc_levels.specs.DemandLists.{HasLists};
 ghost use Rattle.qc_joins.specs.Joins.{out_of};
+ghost use Rattle.proof_tree.specs.Counts.{ends_of as ends_in, ending_ends, branch_ends, case_ends};
 ghost use Rattle.proof_tree.specs.Finding.{scope_finding, leaf_node};
-ghost use Rattle.proof_tree.specs.Lines.{tree_lines, ending_lines, branches_lines, case_lines};
 ghost use Rattle.proof_tree.specs.Place.{is_fixed, position};
 ghost use Rattle.proof_tree.specs.Shape.{tree_of, ending_of, branches_of, case_of};
 ghost use Rattle.qc_meaning.specs.Answered.{IsAnswered};
@@ -55,7 +55,7 @@ impl<'p> Walk<'p> {
         requires full { has_empty self.old.remains.box ≡ false }
         requires tree { CanReadNode (game_of tables.now) (tree_of node.now) i.0 self.old.remains.box }
         ensures back { OnOk result (IsBack (game_of tables.now) i.0 self.old self.new) }
-        ensures shows { IfOk result (λ s. length (tree_lines (tree_of node.now)) ≤ 4294967296 → Shows (node_finding (game_of tables.now) (tree_of node.now) i.0 self.old.remains.box) (out_of self.new.joins) s) }
+        ensures shows { IfOk result (λ s. ends_in (tree_of node.now) ≤ 1073741824 → Shows (node_finding (game_of tables.now) (tree_of node.now) i.0 self.old.remains.box) (out_of self.new.joins) s) }
     {
         match &node.body {
             Body::Stuck => Ok(self.stuck(tables, i)),
@@ -79,7 +79,7 @@ impl<'p> Walk<'p> {
         requires tree { CanReadPart (game_of tables.now) cases.now.steps (ending_of cases.now.end) i.0 self.old.remains.box }
         requires answered { IsAnswered (drop i.0 (game_of tables.now).scopes) (game_of tables.now) i.0 (position (game_of tables.now) i.0 self.old.remains.box) (part_leaves (game_of tables.now) cases.now.steps (ending_of cases.now.end) i.0 self.old.remains.box) }
         ensures back { OnOk result (IsBack (game_of tables.now) i.0 self.old self.new) }
-        ensures shows { IfOk result (λ s. length cases.now.steps + length (ending_lines (ending_of cases.now.end)) ≤ 4294967296 → Shows (scope_finding (drop i.0 (game_of tables.now).scopes) (game_of tables.now) i.0 (demands (game_of tables.now) i.0) (position (game_of tables.now) i.0 self.old.remains.box) (part_leaves (game_of tables.now) cases.now.steps (ending_of cases.now.end) i.0 self.old.remains.box)) (out_of self.new.joins) s) }
+        ensures shows { IfOk result (λ s. ending_ends (ending_of cases.now.end) ≤ 1073741824 → Shows (scope_finding (drop i.0 (game_of tables.now).scopes) (game_of tables.now) i.0 (demands (game_of tables.now) i.0) (position (game_of tables.now) i.0 self.old.remains.box) (part_leaves (game_of tables.now) cases.now.steps (ending_of cases.now.end) i.0 self.old.remains.box)) (out_of self.new.joins) s) }
     {
         let mark = self.remains.mark();
         self.joins.clear(i);
@@ -103,7 +103,7 @@ impl<'p> Walk<'p> {
         requires scope { i.0 < length (game_of tables.now).scopes }
         requires tree { CanReadPart (game_of tables.now) cases.now.steps (ending_of cases.now.end) i.0 self.old.remains.box }
         ensures on { OnOk result (LeadsOn (game_of tables.now) i.0 self.old self.new) }
-        ensures tells { OnOk result (Tells (game_of tables.now) i.0 self.old.joins leaves.old self.new.joins leaves.new (length cases.now.steps + length (ending_lines (ending_of cases.now.end))) (part_leaves (game_of tables.now) cases.now.steps (ending_of cases.now.end) i.0 self.old.remains.box)) }
+        ensures tells { OnOk result (Tells (game_of tables.now) i.0 self.old.joins leaves.old self.new.joins leaves.new (ending_ends (ending_of cases.now.end)) (part_leaves (game_of tables.now) cases.now.steps (ending_of cases.now.end) i.0 self.old.remains.box)) }
     {
         tables.levels.problem.known();
         self.take_steps(tables, i, cases.steps.items());
@@ -124,7 +124,7 @@ impl<'p> Walk<'p> {
         requires scope { i.0 < length (game_of tables.now).scopes }
         requires tree { CanReadEnd (game_of tables.now) (ending_of end.now) i.0 self.old.remains.box }
         ensures back { OnOk result (IsBack (game_of tables.now) i.0 self.old self.new) }
-        ensures tells { OnOk result (Tells (game_of tables.now) i.0 self.old.joins leaves.old self.new.joins leaves.new (length (ending_lines (ending_of end.now))) (end_leaves (game_of tables.now) (ending_of end.now) i.0 self.old.remains.box)) }
+        ensures tells { OnOk result (Tells (game_of tables.now) i.0 self.old.joins leaves.old self.new.joins leaves.new (ending_ends (ending_of end.now)) (end_leaves (game_of tables.now) (ending_of end.now) i.0 self.old.remains.box)) }
     {
         match end {
             End::Empty => Ok(()),
@@ -153,7 +153,7 @@ impl<'p> Walk<'p> {
         requires fixed { is_fixed (game_of tables.now) i.0 self.old.remains.box ≡ true }
         requires tree { CanReadNode (game_of tables.now) (tree_of node.now) (suc i.0) self.old.remains.box }
         ensures back { OnOk result (IsBack (game_of tables.now) i.0 self.old self.new) }
-        ensures tells { OnOk result (Tells (game_of tables.now) i.0 self.old.joins leaves.old self.new.joins leaves.new (suc (length (tree_lines (tree_of node.now)))) (leaf_node (position (game_of tables.now) (suc i.0) self.old.remains.box) (node_finding (game_of tables.now) (tree_of node.now) (suc i.0) self.old.remains.box) ∷ [])) }
+        ensures tells { OnOk result (Tells (game_of tables.now) i.0 self.old.joins leaves.old self.new.joins leaves.new (ends_in (tree_of node.now)) (leaf_node (position (game_of tables.now) (suc i.0) self.old.remains.box) (node_finding (game_of tables.now) (tree_of node.now) (suc i.0) self.old.remains.box) ∷ [])) }
     {
         tables.levels.problem.known();
         self.read_tuple(tables, i);
@@ -178,7 +178,7 @@ impl<'p> Walk<'p> {
         requires variable { x.0 < length self.old.remains.box }
         requires tree { CanReadBranches (game_of tables.now) (branches_of pieces.now) x.0 (values_left self.old.remains.box x.0) i.0 self.old.remains.box }
         ensures back { OnOk result (IsBack (game_of tables.now) i.0 self.old self.new) }
-        ensures tells { OnOk result (Tells (game_of tables.now) i.0 self.old.joins leaves.old self.new.joins leaves.new (length (branches_lines (branches_of pieces.now))) (pieces_leaves (game_of tables.now) (branches_of pieces.now) x.0 (values_left self.old.remains.box x.0) i.0 self.old.remains.box)) }
+        ensures tells { OnOk result (Tells (game_of tables.now) i.0 self.old.joins leaves.old self.new.joins leaves.new (branch_ends (branches_of pieces.now)) (pieces_leaves (game_of tables.now) (branches_of pieces.now) x.0 (values_left self.old.remains.box x.0) i.0 self.old.remains.box)) }
     {
         tables.levels.problem.known();
         let mut from = LEAST;
@@ -210,7 +210,7 @@ impl<'p> Walk<'p> {
         requires last { is_number ends.last ≡ true }
         requires tree { CanReadCase (game_of tables.now) (case_of case.now) i.0 (box_within self.old.remains.box x.0 ends.first ends.last) }
         ensures back { OnOk result (IsBack (game_of tables.now) i.0 self.old self.new) }
-        ensures tells { OnOk result (Tells (game_of tables.now) i.0 self.old.joins leaves.old self.new.joins leaves.new (length (case_lines (case_of case.now))) (taken_leaves (game_of tables.now) (case_of case.now) i.0 (box_within self.old.remains.box x.0 ends.first ends.last))) }
+        ensures tells { OnOk result (Tells (game_of tables.now) i.0 self.old.joins leaves.old self.new.joins leaves.new (case_ends (case_of case.now)) (taken_leaves (game_of tables.now) (case_of case.now) i.0 (box_within self.old.remains.box x.0 ends.first ends.last))) }
     {
         match case {
             Case::Skip => {
@@ -245,7 +245,7 @@ impl<'p> Walk<'p> {
         requires last { is_number ends.last ≡ true }
         requires tree { CanReadPart (game_of tables.now) cases.now.steps (ending_of cases.now.end) i.0 (box_within self.old.remains.box x.0 ends.first ends.last) }
         ensures back { OnOk result (IsBack (game_of tables.now) i.0 self.old self.new) }
-        ensures tells { OnOk result (Tells (game_of tables.now) i.0 self.old.joins leaves.old self.new.joins leaves.new (length cases.now.steps + length (ending_lines (ending_of cases.now.end))) (part_leaves (game_of tables.now) cases.now.steps (ending_of cases.now.end) i.0 (box_within self.old.remains.box x.0 ends.first ends.last))) }
+        ensures tells { OnOk result (Tells (game_of tables.now) i.0 self.old.joins leaves.old self.new.joins leaves.new (ending_ends (ending_of cases.now.end)) (part_leaves (game_of tables.now) cases.now.steps (ending_of cases.now.end) i.0 (box_within self.old.remains.box x.0 ends.first ends.last))) }
     {
         let mark = self.remains.mark();
         self.remains.keep(x, ends.first, ends.last);

@@ -24,9 +24,6 @@ counter_of_root-requires-clause-answered c =
     let cert = c.args.cert.now in
     c.trees_answer_all_tuples.ensures c.args.problem.now (tree_of cert.root) c.known.ensures (placed c.args.problem.now cert.optimum (tree_of cert.root) cert.outcome (proved (goal.at.counter_of_root-requires-clause-answered c).Else-not-lost))
 
-pub counter_of_root-requires-clause-few : goal.counter_of_root-requires-clause-few
-counter_of_root-requires-clause-few c = c.in_ok-lost.ensures.few c.if-not-lost.false
-
 pub counter_of_root-requires-clause-lost : goal.counter_of_root-requires-clause-lost
 counter_of_root-requires-clause-lost c =
     let cert = c.args.cert.now in

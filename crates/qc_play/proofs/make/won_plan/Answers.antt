@@ -24,9 +24,6 @@ plan_of_root-requires-clause-answered c =
     let cert = c.args.cert.now in
     c.trees_answer_all_tuples.ensures c.args.problem.now (tree_of cert.root) c.known.ensures (placed c.args.problem.now cert.optimum (tree_of cert.root) cert.outcome (proved (goal.at.plan_of_root-requires-clause-answered c).Else-not-won))
 
-pub plan_of_root-requires-clause-few : goal.plan_of_root-requires-clause-few
-plan_of_root-requires-clause-few c = c.in_ok-won.ensures.few c.if-not-won.false
-
 pub plan_of_root-requires-clause-exact : goal.plan_of_root-requires-clause-exact
 plan_of_root-requires-clause-exact c =
     let cert = c.args.cert.now in

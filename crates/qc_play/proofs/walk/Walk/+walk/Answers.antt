@@ -7,11 +7,10 @@ use Rattle.qc_model.specs.Verdict.{Seen}
 use Rattle.qc_joins.specs.Joins.{out_of, StandsAt}
 use Rattle.fd_store.specs.Held.{Held}
 use Rattle.line_check.specs.Cases.{IsCase}
-use Rattle.line_check.proofs.Readings.{passed_after}
-use Rattle.proof_tree.specs.Counts.{weight, ending_weight, branch_weight, case_weight}
+use Rattle.line_check.proofs.Readings.{box_size, passed_after}
+use Rattle.proof_tree.specs.Counts.{ends_of, ending_ends, weight, ending_weight, branch_weight, case_weight}
 use Rattle.std.proofs.lemmas.List.{drop_all}
 use Rattle.proof_tree.specs.Finding.{leaf_node, seen_of}
-use Rattle.proof_tree.specs.Lines.{tree_lines, ending_lines}
 use Rattle.proof_tree.specs.Place.{position}
 use Rattle.proof_tree.specs.Shape.{tree_of, body_of, ending_of, branches_of, case_of}
 use Rattle.proof_tree.specs.Steps.{after_steps}
@@ -25,9 +24,9 @@ use Rattle.line_check.proofs.Parts.{from_least}
 use Rattle.qc_play.proofs.Branching.{Branched, none_branched, one_branched, all_branched, first_piece, piece_case}
 use Rattle.qc_play.proofs.Outcomes.{on_ok, if_ok}
 use Rattle.qc_play.proofs.OwnTrees.{own_back, own_shows, taken_back}
-use Rattle.qc_play.proofs.Parted.{seen_none, seen_joins, steps_told, part_told, barred_told, next_told, branch_told, skip_told, open_told, go_told}
+use Rattle.qc_play.proofs.Parted.{seen_none, seen_joins, steps_told, part_told, empty_told, barred_told, next_told, branch_told, skip_told, open_told, go_told}
 use Rattle.qc_play.proofs.Readable.{goal_last, own_scope, own_part, own_answered, next_full, next_fixed, next_node, branch_full, branch_variable, branch_cases}
-use Rattle.qc_play.proofs.TreeSizes.{box_numbers, tree_fits}
+use Rattle.qc_play.proofs.TreeSizes.{box_domains, tree_fits}
 use Rattle.qc_play.proofs.walk.Walk.+walk.Goals as goal
 
 -- a node
@@ -79,6 +78,12 @@ part-returns-clause-tells t c =
     (part_told g i w.joins a.joins c.end.new.self.joins c.args.leaves.now c.end.new.leaves own.steps (ending_of own.end) box a.remains.box steps (c.take_steps.ensures.content ∙ ap (λ ss. after_steps ss box) c.items.ensures)) c.end.ensures.tells
 
 -- what follows its removals
+pub end-returns-in-Empty-clause-tells : goal.end-returns-in-Empty-clause-tells
+end-returns-in-Empty-clause-tells t c =
+    let x = c.args.leaves.now in
+    let js = c.args.self.now.joins in
+    empty_told (game_of c.args.tables.now) c.args.i.0 js js x x (ending_of c.args.end.now) c.args.self.now.remains.box (ap ending_of c.in-Empty.is)
+
 pub end-returns-in-Barred-clause-tells : goal.end-returns-in-Barred-clause-tells
 end-returns-in-Barred-clause-tells t c =
     barred_told (game_of c.args.tables.now) c.args.i.0 c.args.self.now.joins c.add_barred.new.self c.args.leaves.now c.args.leaves.now (ending_of c.args.end.now) c.args.self.now.remains.box (ap ending_of c.in-Barred.is) c.add_barred.ensures.stands
@@ -110,7 +115,7 @@ end-branch-self-requires t c =
     let e : ending_of c.args.end.now ≡ branch x bs = ap ending_of c.in-Branch.is ∙ (ending_branch x c.in-Branch.cases ∙ ap (λ ps. branch x (branches_of ps)) (sym c.items.ensures)) in
     let h = subst (λ u. CanReadEnd g u i box) e c.requires.tree in
     let w : ending_weight (ending_of c.args.end.now) ≡ 1 + branch_weight bs = ap ending_weight e in
-    (omega arith, (c.requires.lists, (c.requires.within, (c.requires.scope, (branch_full g x bs i box h, (branch_variable g x bs i box h c.requires.within.declared, branch_cases g x bs i box h))))))
+    (omega arith, (c.requires.lists, (c.requires.within, (c.requires.scope, (branch_full g x bs i box h, (branch_variable g x bs i box h (box_size g box c.requires.within.declared), branch_cases g x bs i box h))))))
 
 pub end-returns-in-Branch-clause-tells : goal.end-returns-in-Branch-clause-tells
 end-returns-in-Branch-clause-tells t c =
@@ -143,14 +148,14 @@ next-returns-clause-tells t c =
     let same : a.remains.box ≡ box = c.read_tuple.ensures.back.box in
     let there : b.remains.box ≡ box = back.box ∙ same in
     let f = node_finding g tree (suc i) box in
-    let fits = tree_fits g c.known.ensures tree (suc i) box (box_numbers g box c.known.ensures.domains c.requires.within.declared) in
+    let fits = tree_fits g c.known.ensures tree (suc i) box (box_domains g box c.known.ensures.domains c.requires.within.declared) c.requires.tree in
     on_ok c.add_node.result (λ h n ls few seen.
     let shows : Shows f (out_of b.joins) c.in_ok-shown.shown =
     subst (λ j. Shows (node_finding g tree j box) (out_of b.joins) c.in_ok-shown.shown) (add-one i)
     (subst (λ bx. Shows (node_finding g tree (i + 1) bx) (out_of b.joins) c.in_ok-shown.shown) same (c.in_ok-shown.ensures.shows (omega (arith, few)))) in
     let kept = seen_joins g i w.joins b.joins c.args.leaves.now n ls (λ s. back.keeps.joins i (map seen_of ls) (omega arith) (subst (λ js. StandsAt js i (map seen_of ls)) (sym c.read_tuple.ensures.joins) s)) seen in
-    subst (λ bx. HasSeen g i c.add_node.new.self.joins c.add_node.new.leaves (n + suc (length (tree_lines tree))) (ls ++ leaf_node (position g (suc i) bx) f ∷ [])) there
-    (h f (length (tree_lines tree)) shows fits.long fits.sized n ls few kept)) c.add_node.ensures.tells
+    subst (λ bx. HasSeen g i c.add_node.new.self.joins c.add_node.new.leaves (n + ends_of tree) (ls ++ leaf_node (position g (suc i) bx) f ∷ [])) there
+    (h f (ends_of tree) shows fits.long fits.ends n ls few kept)) c.add_node.ensures.tells
 
 -- a case
 pub case-returns-in-Skip-clause-tells : goal.case-returns-in-Skip-clause-tells
@@ -203,7 +208,7 @@ taken-returns-clause-tells t c =
     let g = game_of c.args.tables.now in
     let own = c.args.cases.now in
     let e = ending_of own.end in
-    subst (λ b. Tells g c.args.i.0 c.args.self.now.joins c.args.leaves.now c.part.new.self.joins c.part.new.leaves (length own.steps + length (ending_lines e)) (part_leaves g own.steps e c.args.i.0 b)) kept c.in_ok-part.ensures.tells
+    subst (λ b. Tells g c.args.i.0 c.args.self.now.joins c.args.leaves.now c.part.new.self.joins c.part.new.leaves (ending_ends e) (part_leaves g own.steps e c.args.i.0 b)) kept c.in_ok-part.ensures.tells
 
 -- the cases of a branch
 pub branch-loop-piece-init : goal.branch-loop-piece-init

@@ -18,7 +18,7 @@ returns-clause-back c =
     back_join g c.args.i.0 c.args.self.now c.add_node.new.self (within_fewer g c.args.i.0 c.args.self.now c.requires.within) c.add_node.ensures.same c.add_node.ensures.others
 
 pub returns-clause-tells : goal.returns-clause-tells
-returns-clause-tells c = λ f lines shows long sized n ls few seen.
+returns-clause-tells c = λ f ends shows long come n ls few seen.
     let g = game_of c.args.tables.now in
     let w = c.args.self.now in
     let i = c.args.i.0 in
@@ -33,6 +33,6 @@ returns-clause-tells c = λ f lines shows long sized n ls few seen.
     ap (take l.result.now.stop) c.deref.ensures.value
     ∙ (ap (λ k. take k w.values.items) (level_stop l.result.now g i l.ensures.problem l.ensures.number) ∙ sym (position_placed g (suc i) w.values.items w.remains.box (h.placed c.requires.full))) in
     let gathered = c.in_ok-add.ensures.leaf ls f seen.gathers (subst (λ v. Shows f v c.args.shown) (sym handed) shows) in
-    leaf_told g i w.joins ks c.args.leaves.now c.add.new.self a f u lines n ls seen few c.add.ensures.scope long sized shows.verdict
+    leaf_told g i w.joins ks c.args.leaves.now c.add.new.self a f u ends n ls seen few c.add.ensures.scope long come shows.verdict
     (λ fits. c.add_node.ensures.stands (map seen_of ls) seen.stands (subst (λ v. LeafFits v i (map seen_of ls) u) (sym h.joined) fits))
     (subst (λ v. Gathers c.add.new.self (ls ++ leaf_node v f ∷ [])) values gathered)
