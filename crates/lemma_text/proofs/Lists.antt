@@ -1,5 +1,5 @@
 -- Pieces that may come one after the other are those of one list.
-use Rattle.std.proofs.Common.{◌≡◌, refl, sym, ap, ◌∙◌, subst, ℕ, List, [], ◌∷◌, ◌++◌, Bool, true, false, ◌&&◌, cond, append_assoc}
+use Rattle.std.proofs.Common.{◌≡◌, refl, sym, ap, ◌∙◌, subst, ℕ, List, [], ◌∷◌, ◌++◌, true, false, cond, append_assoc}
 use Rattle.std.specs.Prelude.{map, flat_map}
 use Rattle.std.specs.List.{list_all}
 use Rattle.std.proofs.lemmas.Bool.{and_from, and_parts}
@@ -10,14 +10,14 @@ use Rattle.lemma_list.specs.declared.lemma.SumLiteral.{SumLiteral}
 use Rattle.lemma_list.specs.declared.lemma.Step.{Step}
 use Rattle.lemma_list.specs.declared.lemma.Ending.{Ending}
 use Rattle.lemma_list.specs.declared.lemma.Ending.TheVariants.{Emptied, Lost as LostEnding, Goal as GoalEnding}
-use Rattle.lemma_list.specs.Lemmas.{Lemma, Shown, Entry, shown, forget}
+use Rattle.lemma_list.specs.Lemmas.{Entry, shown, forget}
 use Rattle.lemma_text.specs.declared.item.Item.{Item}
 use Rattle.lemma_text.specs.declared.item.Item.TheVariants.{Head, Lemma as LemmaItem, Literal as LiteralItem, Sum as SumItem, Step as StepItem, Lost, Goal, Forget}
 use Rattle.lemma_text.specs.declared.parts.Due.{Due}
 use Rattle.lemma_text.specs.declared.parts.Due.TheVariants.{Entries, Steps, Sums}
 use Rattle.lemma_text.specs.Items.{item_text, item_fits, is_none, literal_items, ending_items, entry_items, list_items}
-use Rattle.lemma_text.specs.States.{State, Place, at_start, at_literal, at, state_at, place_after, may_step, allows}
-use Rattle.lemma_text.specs.Standing.{Standing, going, standing_from}
+use Rattle.lemma_text.specs.States.{Place, at_start, at_literal, at, state_at, place_after, may_step, allows}
+use Rattle.lemma_text.specs.Standing.{going, standing_from}
 use Rattle.lemma_text.specs.Accepted.{accepts, end_place, IsWhole}
 use Rattle.lemma_text.proofs.PiecesRead.{piece_read}
 

@@ -1,9 +1,9 @@
 -- Numbers are read whole.
-use Rattle.std.proofs.Common.{◌≡◌, refl, sym, ap, ◌∙◌, subst, ℕ, zero, suc, ◌+◌, ◌-◌, ◌*◌, ◌^◌, ◌≤◌, ◌<◌, List, [], ◌∷◌, ◌++◌, Bool, true, false, ◌&&◌, ◌||◌, cond, arith, leb-true, le-leb, append_assoc}
-use Rattle.std.specs.Prelude.{ℤ, pos, negsuc, nat_le, nat_eq, unsigned_abs}
+use Rattle.std.proofs.Common.{◌≡◌, refl, sym, ap, ◌∙◌, subst, ℕ, zero, suc, ◌+◌, ◌-◌, ◌*◌, ◌^◌, ◌≤◌, ◌<◌, List, [], ◌∷◌, ◌++◌, Bool, true, false, ◌||◌, cond, arith, leb-true, le-leb}
+use Rattle.std.specs.Prelude.{ℤ, pos, negsuc, nat_le, nat_eq}
 use Rattle.std.specs.Fmt.{decimal, signed_decimal}
 use Rattle.std.proofs.lemmas.Fmt.{decimal_digit}
-use Rattle.std.proofs.lemmas.Bool.{and_from, and_parts, eq-eqb, ne_eqb}
+use Rattle.std.proofs.lemmas.Bool.{and_from, ne_eqb}
 use Rattle.proof_text.proofs.Grammar.{AreDigits, value}
 use Rattle.proof_text.proofs.Digits.{parts, value_grows}
 use Rattle.lemma_text.specs.declared.item.Item.{Item}
@@ -12,9 +12,9 @@ use Rattle.lemma_text.specs.declared.parts.Field.TheVariants.{Variable, Constrai
 use Rattle.lemma_text.specs.declared.parts.Form.{Form}
 use Rattle.lemma_text.specs.declared.parts.Numeral.{Numeral}
 use Rattle.lemma_text.specs.declared.parts.Numeral.TheVariants.{Start, Minus, Zero, Digits}
-use Rattle.lemma_text.specs.Numerals.{most, is_signed, is_counted, value_fits, signed_of, Reading, further, ended, bad, finished, first_digit, next_digit, first_sign, continued, reading}
+use Rattle.lemma_text.specs.Numerals.{most, is_signed, value_fits, Reading, further, ended, bad, finished, first_digit, next_digit, first_sign, continued, reading}
 use Rattle.lemma_text.specs.States.{number, valued, read_by}
-use Rattle.lemma_text.specs.Standing.{Standing, going, moved, standing_from}
+use Rattle.lemma_text.specs.Standing.{going, moved, standing_from}
 
 pub most_is_small : (g : Field) → (1 ≤ most g) × (most g < 2 ^ 64)
 most_is_small Variable = (omega arith, omega arith)

@@ -1,5 +1,5 @@
 -- A text is one list's.
-use Rattle.std.proofs.Common.{◌≡◌, refl, sym, ap, ◌∙◌, ℕ, List, [], ◌∷◌, ◌++◌, Bool, true}
+use Rattle.std.proofs.Common.{◌≡◌, sym, ap, ◌∙◌, ℕ, List, [], ◌++◌}
 use Rattle.std.specs.Prelude.{flat_map, IsTrue}
 use Rattle.std.proofs.lemmas.List.{append-nil}
 use Rattle.qc_model.specs.declared.problem.Kind.{Kind}
@@ -9,9 +9,8 @@ use Rattle.lemma_text.specs.declared.parts.Due.{Due}
 use Rattle.lemma_text.specs.Text.{list_text}
 use Rattle.lemma_text.specs.Ranges.{has_text}
 use Rattle.lemma_text.specs.Items.{item_text, list_items}
-use Rattle.lemma_text.specs.States.{due, Place, at_start, at, state_at}
-use Rattle.lemma_text.specs.Standing.{Standing, going, no_text, standing, standing_from}
-use Rattle.lemma_text.specs.Accepted.{end_place}
+use Rattle.lemma_text.specs.States.{due, Place, at_start, state_at}
+use Rattle.lemma_text.specs.Standing.{Standing, going, no_text, standing}
 use Rattle.lemma_text.proofs.Spelled.{list_spelled, list_fits}
 use Rattle.lemma_text.proofs.Lists.{all_read, list_whole, one_list}
 

@@ -1,14 +1,10 @@
 -- Pieces are read whole, and so are lists of them.
-use Rattle.std.proofs.Common.{◌≡◌, refl, sym, ap, ◌∙◌, ℕ, suc, ◌+◌, List, [], ◌∷◌, ◌++◌, Bool, true, false, ◌&&◌, cond, add-one, append_assoc}
-use Rattle.std.specs.Prelude.{ℤ, pos, codes, flat_map, nat_le}
+use Rattle.std.proofs.Common.{◌≡◌, refl, sym, ap, ◌∙◌, ℕ, suc, List, [], ◌∷◌, ◌++◌, Bool, true, false, add-one, append_assoc}
+use Rattle.std.specs.Prelude.{ℤ, pos, codes, nat_le}
 use Rattle.std.specs.Fmt.{decimal, signed_decimal}
-use Rattle.std.specs.List.{list_all}
 use Rattle.std.proofs.lemmas.Bool.{and_parts}
-use Rattle.std.proofs.lemmas.List.{append-nil}
 use Rattle.qc_model.specs.declared.problem.Kind.{Kind}
 use Rattle.qc_model.specs.declared.problem.Kind.TheVariants.{Exists, Forall}
-use Rattle.qc_model.specs.declared.problem.VarId.{VarId}
-use Rattle.qc_model.specs.declared.problem.ConId.{ConId}
 use Rattle.proof_tree.specs.Text.{place_text, range_text, is_place}
 use Rattle.lemma_list.specs.declared.lemma.LemmaId.{LemmaId}
 use Rattle.lemma_list.specs.declared.lemma.Literal.{Literal}
@@ -21,17 +17,14 @@ use Rattle.lemma_list.specs.declared.lemma.Ending.TheVariants.{Lost as LostEndin
 use Rattle.lemma_text.specs.declared.item.Item.{Item}
 use Rattle.lemma_text.specs.declared.item.Item.TheVariants.{Head, Lemma as LemmaItem, Literal as LiteralItem, Sum as SumItem, Step as StepItem, Lost, Goal, Forget}
 use Rattle.lemma_text.specs.declared.parts.Field.TheVariants.{Variable, Constraint, Named, Value, Total}
-use Rattle.lemma_text.specs.declared.parts.Form.{Form}
 use Rattle.lemma_text.specs.declared.parts.Form.TheVariants.{Literal as LiteralForm, Sum, CutByConstraint, CutByLemma, Choice, LostToConstraint, LostToLemma, Forgotten}
-use Rattle.lemma_text.specs.declared.parts.Numeral.TheVariants.{Start}
 use Rattle.lemma_text.specs.declared.parts.Due.{Due}
 use Rattle.lemma_text.specs.declared.parts.Due.TheVariants.{Entries, Steps, Sums}
-use Rattle.lemma_text.specs.Text.{sum_text, step_text, ending_text}
-use Rattle.lemma_text.specs.Ranges.{literal_fits, sum_fits, reason_fits, step_fits, is_named, is_variable, is_constraint}
-use Rattle.lemma_text.specs.Items.{item_text, item_fits, end_text}
-use Rattle.lemma_text.specs.Pieces.{end_byte, fields}
-use Rattle.lemma_text.specs.States.{State, due, number, Place, at_start, at_literal, at, state_at, place_after, may_step, may_sum, allows}
-use Rattle.lemma_text.specs.Standing.{Standing, going, moved, standing_from}
+use Rattle.lemma_text.specs.Text.{step_text, ending_text}
+use Rattle.lemma_text.specs.Ranges.{literal_fits, sum_fits, reason_fits, step_fits, is_named}
+use Rattle.lemma_text.specs.Items.{item_text, item_fits}
+use Rattle.lemma_text.specs.States.{State, due, Place, at_start, at_literal, at, state_at, place_after, allows}
+use Rattle.lemma_text.specs.Standing.{Standing, going, standing_from}
 use Rattle.lemma_text.proofs.NumbersRead.{number_read}
 
 -- a number from 1, as the text has it
@@ -42,11 +35,11 @@ counted_fits : (most k : ℕ) → is_place most k ≡ true → nat_le (suc k) mo
 counted_fits most k h = ap (λ (x : ℕ). nat_le x most) (sym (add-one k)) ∙ h
 
 -- a counted number, and a range
-three_numbers : (k : ℕ) (low high : ℤ) (e : ℕ) (rest : List ℕ)
+pub three_numbers : (k : ℕ) (low high : ℤ) (e : ℕ) (rest : List ℕ)
     → ((place_text k ++ codes " " ++ range_text low high) ++ e ∷ []) ++ rest ≡ signed_decimal (pos (suc k)) ++ 32 ∷ (signed_decimal low ++ 32 ∷ (signed_decimal high ++ e ∷ rest))
 three_numbers k low high e rest = ap (λ (u : List ℕ). ((u ++ codes " " ++ range_text low high) ++ e ∷ []) ++ rest) (counted_text k) ∙ simp append_assoc
 
-four_numbers : (k : ℕ) (low high : ℤ) (c : ℕ) (rest : List ℕ)
+pub four_numbers : (k : ℕ) (low high : ℤ) (c : ℕ) (rest : List ℕ)
     → (place_text k ++ codes " " ++ range_text low high ++ codes " " ++ place_text c ++ codes "\n") ++ rest
     ≡ signed_decimal (pos (suc k)) ++ 32 ∷ (signed_decimal low ++ 32 ∷ (signed_decimal high ++ 32 ∷ (signed_decimal (pos (suc c)) ++ 10 ∷ rest)))
 four_numbers k low high c rest =
@@ -54,10 +47,10 @@ four_numbers k low high c rest =
     ∙ ap (λ (u : List ℕ). (signed_decimal (pos (suc k)) ++ codes " " ++ range_text low high ++ codes " " ++ u ++ codes "\n") ++ rest) (counted_text c)
     ∙ simp append_assoc
 
-two_numbers : (k : ℕ) (v : ℤ) (rest : List ℕ) → (place_text k ++ codes " " ++ signed_decimal v ++ codes "\n") ++ rest ≡ signed_decimal (pos (suc k)) ++ 32 ∷ (signed_decimal v ++ 10 ∷ rest)
+pub two_numbers : (k : ℕ) (v : ℤ) (rest : List ℕ) → (place_text k ++ codes " " ++ signed_decimal v ++ codes "\n") ++ rest ≡ signed_decimal (pos (suc k)) ++ 32 ∷ (signed_decimal v ++ 10 ∷ rest)
 two_numbers k v rest = ap (λ (u : List ℕ). (u ++ codes " " ++ signed_decimal v ++ codes "\n") ++ rest) (counted_text k) ∙ simp append_assoc
 
-last_number : (k : ℕ) (rest : List ℕ) → (place_text k ++ codes "\n") ++ rest ≡ signed_decimal (pos (suc k)) ++ 10 ∷ rest
+pub last_number : (k : ℕ) (rest : List ℕ) → (place_text k ++ codes "\n") ++ rest ≡ signed_decimal (pos (suc k)) ++ 10 ∷ rest
 last_number k rest = ap (λ (u : List ℕ). (u ++ codes "\n") ++ rest) (counted_text k) ∙ append_assoc (signed_decimal (pos (suc k))) (codes "\n") rest
 
 -- what is read so far, and these bytes

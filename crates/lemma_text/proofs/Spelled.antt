@@ -12,10 +12,10 @@ use Rattle.lemma_list.specs.declared.lemma.SumLiteral.{SumLiteral}
 use Rattle.lemma_list.specs.declared.lemma.Step.{Step}
 use Rattle.lemma_list.specs.declared.lemma.Ending.{Ending}
 use Rattle.lemma_list.specs.declared.lemma.Ending.TheVariants.{Emptied, Lost as LostEnding, Goal as GoalEnding}
-use Rattle.lemma_list.specs.Lemmas.{Lemma, Shown, Entry, shown, forget}
+use Rattle.lemma_list.specs.Lemmas.{Entry, shown, forget}
 use Rattle.lemma_text.specs.declared.item.Item.{Item}
 use Rattle.lemma_text.specs.declared.item.Item.TheVariants.{Sum, Step as StepItem}
-use Rattle.lemma_text.specs.Text.{literal_text, sum_text, lemma_text, loser_text, step_text, ending_text, entry_text, head_text, list_text}
+use Rattle.lemma_text.specs.Text.{literal_text, sum_text, loser_text, step_text, ending_text, entry_text, head_text, list_text}
 use Rattle.lemma_text.specs.Ranges.{literal_fits, sum_fits, step_fits, ending_fits, entry_fits, has_text}
 use Rattle.lemma_text.specs.Items.{end_text, item_text, item_fits, is_none, literal_items, ending_items, entry_items, list_items}
 

@@ -3,10 +3,9 @@ use Rattle.std.specs.Prelude.{ℕ, Bool, true, false, cond, List, [], ◌∷◌,
 use Rattle.qc_model.specs.declared.problem.Kind.{Kind}
 use Rattle.proof_tree.specs.Text.{place_text, range_text}
 use Rattle.lemma_list.specs.declared.lemma.Literal.{Literal}
-use Rattle.lemma_list.specs.declared.lemma.Reason.{Reason}
 use Rattle.lemma_list.specs.declared.lemma.Ending.{Ending}
 use Rattle.lemma_list.specs.declared.lemma.Ending.TheVariants.{Emptied, Lost as LostEnding, Goal as GoalEnding}
-use Rattle.lemma_list.specs.Lemmas.{Lemma, Entry, shown, forget}
+use Rattle.lemma_list.specs.Lemmas.{Entry, shown, forget}
 use Rattle.lemma_text.specs.declared.item.Item.{Item}
 use Rattle.lemma_text.specs.declared.item.Item.TheVariants.{Head, Lemma as LemmaItem, Literal as LiteralItem, Sum, Step, Lost, Goal, Forget}
 use Rattle.lemma_text.specs.Text.{head_text, loser_text, sum_text, step_text, ending_text}

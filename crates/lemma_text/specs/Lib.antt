@@ -7,3 +7,8 @@ pub mod States
 pub mod Standing
 pub mod Places
 pub mod Accepted
+pub mod Unfinished
+pub mod Telling
+pub mod Asked
+pub mod Kept
+pub mod Reader

@@ -11,7 +11,7 @@ use Rattle.lemma_list.specs.declared.lemma.Step.{Step}
 use Rattle.lemma_list.specs.declared.lemma.Step.TheVariants.{Cut, Choose}
 use Rattle.lemma_list.specs.declared.lemma.Ending.{Ending}
 use Rattle.lemma_list.specs.declared.lemma.Ending.TheVariants.{Emptied, Lost, Goal}
-use Rattle.lemma_list.specs.Lemmas.{Lemma, Entry, shown, forget}
+use Rattle.lemma_list.specs.Lemmas.{Entry, shown, forget}
 
 -- at most 500 variables and 20,000 constraints; the first 2^32 lemmas can be named
 abbrev pub is_variable : ℕ → Bool

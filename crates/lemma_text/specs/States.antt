@@ -1,6 +1,5 @@
 -- How a text is read byte by byte.
-use Rattle.std.specs.Prelude.{ℕ, ◌+◌, ◌≡◌, ◌<◌, nat_eq, nat_lt, Bool, true, false, ◌||◌, cond, List, [], ◌∷◌, ◌++◌, length, take, get_or, codes, ℤ}
-use Rattle.std.specs.Fmt.{signed_decimal}
+use Rattle.std.specs.Prelude.{ℕ, ◌+◌, nat_eq, nat_lt, Bool, true, false, ◌||◌, cond, List, [], ◌∷◌, ◌++◌, length, get_or, codes, ℤ}
 use Rattle.qc_model.specs.declared.problem.Kind.{Kind}
 use Rattle.qc_model.specs.declared.problem.Kind.TheVariants.{Exists, Forall}
 use Rattle.lemma_text.specs.declared.item.Item.{Item}
@@ -14,9 +13,8 @@ use Rattle.lemma_text.specs.declared.parts.Word.{Word}
 use Rattle.lemma_text.specs.declared.parts.Word.TheVariants.{Name, True, False}
 use Rattle.lemma_text.specs.declared.parts.Due.{Due}
 use Rattle.lemma_text.specs.declared.parts.Due.TheVariants.{Entries, Steps, Sums}
-use Rattle.lemma_text.specs.Numerals.{Reading, further, ended, bad, reading, numeral_text, FitsNumeral}
-use Rattle.lemma_text.specs.Pieces.{fields, letter, is_literal, lead, all_fit, item_of}
-use Rattle.lemma_text.specs.Text.{loser_text}
+use Rattle.lemma_text.specs.Numerals.{Reading, further, ended, bad, reading}
+use Rattle.lemma_text.specs.Pieces.{fields, is_literal, item_of}
 
 -- what has been read of a piece
 pub data State : Type 0 where

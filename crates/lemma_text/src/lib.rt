@@ -9,7 +9,17 @@
 
 mod item;
 mod laws;
+mod numeral;
+mod part;
 mod parts;
+mod reader;
+mod slot;
+mod spell;
 
 pub use item::Item;
-pub use laws::{each_text_is_of_one_list, items_spell_lists};
+pub use laws::{
+    bytes_are_one_list_or_have_one_fault, each_standing_is_right, each_text_is_of_one_list,
+    items_spell_lists, no_piece_begins_another,
+};
+pub use reader::{End, Fed, LemmaReader};
+pub use spell::{ROOM, spell_item};
