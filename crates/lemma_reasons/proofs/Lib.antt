@@ -1,0 +1,9 @@
+mod Standing
+mod Left
+mod Adding
+mod Shapes
+mod Rows
+mod Answering
+mod Asking
+mod Told
+mod Showing

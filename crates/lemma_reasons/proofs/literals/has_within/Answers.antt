@@ -1,0 +1,24 @@
+use Rattle.std.proofs.Common.{◌≡◌, ◌∙◌, sym, rules}
+use Rattle.std.proofs.lemmas.Int.{to_z-of_z}
+use mir.Val.{SFits}
+use mir.Syntax.{w64}
+use Rattle.qc_model.specs.Domains.{values_left}
+use Rattle.fd_store.specs.Held.{values_from, least_of}
+use Rattle.lemma_reasons.proofs.Left.{none_within, some_within}
+use Rattle.lemma_reasons.proofs.literals.has_within.Goals as goal
+
+pub returns-in-None : goal.returns-in-None
+returns-in-None c =
+    let d = values_left c.args.store.now.box c.args.x.0 in
+    let lo_fits : SFits w64 c.args.lo = search rules in
+    let e : c.next.result ≡ least_of (values_from c.args.lo d) = simp to_z-of_z at c.next.ensures in
+    none_within d c.args.lo c.args.hi (sym c.in-None.is ∙ e)
+
+pub returns-in-Some : goal.returns-in-Some
+returns-in-Some c =
+    let d = values_left c.args.store.now.box c.args.x.0 in
+    let lo_fits : SFits w64 c.args.lo = search rules in
+    let hi_fits : SFits w64 c.args.hi = search rules in
+    let v_fits : SFits w64 c.in-Some.v = search rules in
+    let e : c.next.result ≡ least_of (values_from c.args.lo d) = simp to_z-of_z at c.next.ensures in
+    simp to_z-of_z (some_within d c.args.lo c.args.hi c.in-Some.v (sym c.in-Some.is ∙ e))

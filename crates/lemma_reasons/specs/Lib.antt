@@ -1,0 +1,6 @@
+pub mod Steps
+pub mod Asked
+pub mod Terms
+pub mod Known
+pub mod Answering
+pub mod Within
