@@ -1,0 +1,5 @@
+pub mod Books
+pub mod Claims
+pub mod Gaps
+pub mod Held
+pub mod Machine
