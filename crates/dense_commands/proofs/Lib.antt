@@ -1,0 +1,4 @@
+mod Before
+mod Completeness
+mod Feeding
+mod Parts

@@ -1,0 +1,5 @@
+pub mod Answers
+pub mod Complete
+pub mod Fed
+pub mod View
+pub mod Words
