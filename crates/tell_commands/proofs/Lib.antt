@@ -1,0 +1,5 @@
+pub mod Positions
+pub mod Begun
+pub mod Settled
+pub mod Named
+pub mod Opened
