@@ -3,7 +3,7 @@
 
     bench/run minizinc [--seconds N] [MODEL ..]     # the models of tools/minizinc/tests/models, beside Gecode
     bench/run minizinc --games                      # games in MiniZinc, beside the hand-written texts
-    bench/run minizinc --random GAMES MODELS        # random ones, against brute force
+    bench/run minizinc --random GAMES MODELS [--seed S]     # random ones from number S on, against brute force
 
 It wants MiniZinc and Gecode (docs/minizinc.md names Debian's packages), and the program, which QECODE may name.
 """
@@ -60,10 +60,12 @@ def beside_texts():
     return tally.end()
 
 
-def random_ones(games, models):
+def random_ones(games, models, seed):
+    print(f"{models} models, {games} games and {games // 4} with optional integers, from seed {seed} on", flush=True)
     tally = Tally()
-    random_models.checks(tally, random_models.model_trial, "model", models)
-    random_models.checks(tally, random_models.game_trial, "game", games)
+    random_models.checks(tally, random_models.model_trial, "model", models, seed)
+    random_models.checks(tally, random_models.game_trial, "game", games, seed)
+    random_models.checks(tally, random_models.optional_game_trial, "game with optional integers", games // 4, seed)
     return tally.end()
 
 
@@ -72,12 +74,13 @@ def main(given):
     words.add_argument("--seconds", type=int, default=60, help="processor seconds for each solver and model")
     words.add_argument("--games", action="store_true", help="games beside the hand-written texts")
     words.add_argument("--random", type=int, nargs=2, metavar=("GAMES", "MODELS"), help="random ones against brute force")
+    words.add_argument("--seed", type=int, default=0, metavar="S", help="number of the first random game and model; 0 by default")
     words.add_argument("models", nargs="*", help="names of models; all where none is named")
     args = words.parse_args(given)
     if not has_minizinc() or not has_program() or not (has_gecode() or args.games or args.random):
         print("bench/run minizinc: minizinc, fzn-gecode or the program is missing", file=sys.stderr)
         return 2
     if args.random:
-        return random_ones(*args.random)
+        return random_ones(*args.random, args.seed)
     return beside_texts() if args.games else beside_gecode(args.models, args.seconds)
 

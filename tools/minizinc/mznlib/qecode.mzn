@@ -33,6 +33,16 @@ predicate exists_scope(int: k, var set of int: s) = qc_chosen_bool(k, 1, qc_bits
 predicate forall_scope(int: k, var set of int: s) = qc_chosen_bool(k, 0, qc_bits(s));
 predicate exists_scope(int: k, array[$T] of var set of int: xs) = forall(s in array1d(xs))(exists_scope(k, s));
 predicate forall_scope(int: k, array[$T] of var set of int: xs) = forall(s in array1d(xs))(forall_scope(k, s));
+% Of an optional integer one number is chosen, which is 0 where there is none; so 0 can't be one of its values. An optional Boolean
+% has no such number.
+predicate exists_scope(int: k, var opt int: x) = qc_chosen_int(k, 1, [qc_number(x)]);
+predicate forall_scope(int: k, var opt int: x) = qc_chosen_int(k, 0, [qc_number(x)]);
+predicate exists_scope(int: k, array[$T] of var opt int: xs) = qc_chosen_int(k, 1, [qc_number(x) | x in array1d(xs)]);
+predicate forall_scope(int: k, array[$T] of var opt int: xs) = qc_chosen_int(k, 0, [qc_number(x) | x in array1d(xs)]);
+predicate exists_scope(int: k, var opt bool: x) = assert(false, "an optional Boolean can't be chosen in a scope", true);
+predicate forall_scope(int: k, var opt bool: x) = assert(false, "an optional Boolean can't be chosen in a scope", true);
+function var int: qc_number(var opt int: x) =
+  assert(not had_zero(x), "an optional integer that may be 0 can't be chosen in a scope", deopt(x));
 function array[int] of var bool: qc_bits(var set of int: s) = [ set2bools_bit(s, i) | i in ub(s) ];
 
 predicate qc_rule(int: k, var bool: b);

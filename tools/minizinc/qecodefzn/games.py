@@ -10,6 +10,8 @@ tuples, one for one, and each end of play its values. It has to stand no later t
 that rule, a wish before the next scope of the opponent. Among these places any is right. A definition that only the player's
 side looks at is put into a scope of the player, since a scope of the opponent is gone through whole.
 """
+from itertools import combinations
+
 from .asserting import assert_is
 from .determined import Definitions, Determiner, find_cluster, follow_on, holds
 from .flatzinc import Range, annotation, place_of
@@ -172,6 +174,7 @@ class GameProblem(Problem):
         return rules
 
     def read_wishes(self):
+        folded = {}
         for c in self.words:
             if c.name == "qc_wish":
                 at = self.wishing(c)
@@ -181,6 +184,19 @@ class GameProblem(Problem):
             elif c.name == "qc_fold_wish":
                 at = self.wishing(c)
                 self.scopes[at - 1].wish = (SENSES[c.args[1]], self.aggregate(c, at))
+                folded[at] = c
+        self.refuse_after_least(folded)
+
+    def refuse_after_least(self, folded):
+        """Wishes over one scope of the opponent count from the nearest on, and behind a least or a greatest comes no other."""
+        for near, far in combinations(sorted(folded, reverse=True), 2):
+            one, other = self.scopes[near - 1].wish[1], self.scopes[far - 1].wish[1]
+            if one.fold != "sum" and one is not other and self.next_forall(near) == self.next_forall(far):
+                number, over = folded[near].args[0], folded[near].args[3]
+                raise Unsupported(
+                    f"a wish of scope {folded[far].args[0]} over scope {over}, of which scope {number}, a nearer one, wishes the "
+                    f"{one.fold} already: after that no other figure can be wished{place_of(folded[far].annotations)}"
+                )
 
     def wishing(self, c):
         at = self.place_in_order(c.args[0], c, "a wish of")

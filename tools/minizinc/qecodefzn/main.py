@@ -35,6 +35,8 @@ def words_of(words):
     p = argparse.ArgumentParser(prog="fzn-qecode", description="Solves a FlatZinc file with qecode.", allow_abbrev=False)
     p.add_argument("file", help="the FlatZinc file")
     p.add_argument("-a", "--all-solutions", action="store_true", help="of what is optimised: the best one is shown, as without it")
+    p.add_argument("-n", type=int, default=1, metavar="N", help="solutions to show; one is shown, and more are refused")
+    p.add_argument("-i", action="store_true", help="of what is optimised: the best one alone is shown, as without it")
     p.add_argument("-s", "--statistics", action="store_true", help="writes statistics")
     p.add_argument("-t", "--time-limit", type=int, default=0, metavar="MS", help="ends after so many milliseconds")
     p.add_argument("-v", "--verbose", action="store_true", help="tells each attempt on standard error")
@@ -80,6 +82,8 @@ def main(words=None):
         return 0
     except (Unsupported, flatzinc.FlatZincError, program.ProgramMissing, Failure) as error:
         print(f"fzn-qecode: {error}", file=sys.stderr)
+    except BrokenPipeError:
+        raise  # nobody reads any more, so nothing can be told
     except OSError as error:
         print(f"fzn-qecode: {error.filename}: {error.strerror}", file=sys.stderr)
     print(FAILED)
@@ -109,8 +113,9 @@ class Run:
         started = time.monotonic()
         with open(self.args.file, encoding="utf-8") as file:
             self.model = flatzinc.parse(file.read())
-        if self.args.all_solutions and self.model.goal[0] == "satisfy":
-            raise Unsupported("-a: solutions aren't gone through one by one; without it one is shown")
+        wanted = "-a" if self.args.all_solutions else f"-n {self.args.n}" if self.args.n != 1 else ""
+        if wanted and self.model.goal[0] == "satisfy":
+            raise Unsupported(f"{wanted}: solutions aren't gone through one by one; without it one is shown")
         self.problem = make_problem(self.model, self.args, self.args.order == "bools")
         self.write_text()
         self.tell(

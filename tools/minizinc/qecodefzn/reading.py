@@ -2,6 +2,7 @@
 
 Unbounded integers get the bounds that the constraint which defines them gives, or, where the caller asks for it, assumed ones.
 """
+from .builtins import RESULTS
 from .flatzinc import Call, Name, Range, annotation, place_of
 from .terms import C, Unsupported, V, high_of, is_within, low_of
 
@@ -11,6 +12,7 @@ NATIVE = {
     "qecode_all_different_int_reif": "all_different_int_reif",
     "qecode_table_int": "table_int",
     "qecode_table_int_reif": "table_int_reif",
+    "qecode_int_ne_reif": "int_ne_reif",
 }
 CHOSEN = ("qc_chosen_int", "qc_chosen_bool")
 
@@ -30,12 +32,31 @@ class Reader:
                 aliases[var.name] = var
         for name in aliases:
             self.vars[name] = self.resolve(self.end_of(name, aliases))
-        for call in model.constraints:
-            name = NATIVE.get(call.name, call.name)
-            self.constraints.append(C(name, [self.resolve(arg) for arg in call.args], call.annotations))
+        self.constraints = self.read_constraints()
+        while self.take_results(chosen):
+            self.constraints = self.read_constraints()
         for var in aliases.values():
             self.keep_domain(var)
         self.find_bounds()
+
+    def read_constraints(self):
+        calls = self.model.constraints
+        return [C(NATIVE.get(it.name, it.name), [self.resolve(arg) for arg in it.args], it.annotations) for it in calls]
+
+    def take_results(self, chosen):
+        """Lets what a function of constants comes to be a constant, where nobody chooses it; whether there was any.
+
+        MiniZinc itself does so for the builtins that it knows, and not for those that our library names anew.
+        """
+        found = {}
+        for c in self.constraints:
+            *given, v = c.args
+            if c.name in RESULTS and isinstance(v, V) and v.name not in chosen and not C(c.name, given).variables():
+                value = RESULTS[c.name](*given)
+                if value is not None and (v.domain is None or value in v.domain):
+                    found[v] = bool(value) if v.kind == "bool" else int(value)
+        self.vars.update({name: found[it] for name, it in self.vars.items() if isinstance(it, V) and it in found})
+        return bool(found)
 
     def chosen_names(self):
         """The variables that a scope of a game chooses: these stay variables even where they have one value."""

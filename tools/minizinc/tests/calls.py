@@ -1,36 +1,58 @@
-"""Each builtin and each global called directly, as it is and reified: it is solved, or refused by its name."""
+"""Each builtin of MiniZinc's library and each global called directly, as it is and reified: it is solved, or refused by name.
+
+The builtins are those that the library of the installed MiniZinc declares for FlatZinc, so none is forgotten. What a builtin
+means inside a goal is compared with `qecodefzn/builtins.py`, for all values of its variables, by a game each.
+"""
+import glob
+import itertools
+import os
 import re
 import tempfile
 
-from common import write
+from common import LIBRARY, read, write
 from random_models import answered, with_includes
 
+from qecodefzn.builtins import HOLDS
 from qecodefzn.configuration import written_configuration
 
-DECLARED = {
-    **{name: "var 0..3" for name in ("x", "y", "z")},
-    **{name: "var bool" for name in ("p", "q", "r")},
-    **{name: "var set of 1..3" for name in ("s", "t", "u")},
-    **{name: "var 1..3" for name in ("xx", "yy", "zz", "w1")},
-    **{name: "var 0..6" for name in ("w2", "w3", "w4")},
-    "o": "var opt 1..3",
+DOMAINS = {
+    **{name: "0..3" for name in ("x", "y", "z")},
+    **{name: "bool" for name in ("p", "q", "r", "m")},
+    **{name: "set of 1..3" for name in ("s", "t", "u")},
+    **{name: "1..3" for name in ("xx", "yy", "zz", "w1")},
+    **{name: "0..6" for name in ("w2", "w3", "w4")},
+    **{name: "0.0..3.0" for name in ("f", "g", "h")},
+    "o": "opt 1..3",
 }
-BUILTINS = """
-array_bool_and([p,q],r) | array_bool_element(x,[true,false,true],p) | array_bool_or([p,q],r) | array_bool_xor([p,q,r])
-array_int_element(x,[3,1,2],y) | array_int_maximum(x,[y,z]) | array_int_minimum(x,[y,z]) | array_var_bool_element(x,[p,q],r)
-array_var_int_element(x,[y,z],y) | bool2int(p,x) | bool_and(p,q,r) | bool_clause([p],[q]) | bool_clause_reif([p],[q],r)
-bool_eq(p,q) | bool_eq_reif(p,q,r) | bool_le(p,q) | bool_le_reif(p,q,r) | bool_lin_eq([1,2],[p,q],x) | bool_lin_le([1,2],[p,q],2)
-bool_lt(p,q) | bool_lt_reif(p,q,r) | bool_not(p,q) | bool_or(p,q,r) | bool_xor(p,q,r) | bool_xor(p,q)
-int_abs(x,y) | int_div(x,y,z) | int_eq(x,y) | int_eq_reif(x,y,p) | int_le(x,y) | int_le_reif(x,y,p) | int_lin_eq([1,2],[x,y],3)
-int_lin_eq_reif([1,2],[x,y],3,p) | int_lin_le([1,2],[x,y],3) | int_lin_le_reif([1,2],[x,y],3,p) | int_lin_ne([1,2],[x,y],3)
-int_lin_ne_reif([1,2],[x,y],3,p) | int_lt(x,y) | int_lt_reif(x,y,p) | int_max(x,y,z) | int_min(x,y,z) | int_mod(x,y,z)
-int_ne(x,y) | int_ne_reif(x,y,p) | int_plus(x,y,z) | int_pow(x,y,z) | int_pow_fixed(x,2,z) | int_times(x,y,z)
-set_in(x,{1,3}) | set_in_reif(x,{1,3},p) | set_in(x,s) | set_in_reif(x,s,p) | set_card(s,x) | set_eq(s,t) | set_eq_reif(s,t,p)
-set_ne(s,t) | set_ne_reif(s,t,p) | set_subset(s,t) | set_subset_reif(s,t,p) | set_superset(s,t) | set_superset_reif(s,t,p)
-u = s union t | u = s intersect t | u = s diff t | u = s symdiff t | set_le(s,t) | set_le_reif(s,t,p) | set_lt(s,t) | set_lt_reif(s,t,p)
-s = [{1},{2,3},{1,2}][x] | s = [t,u][x] | not (x div y = z) | not (x mod y = z) | p <-> ([x,y,z][z] = x) | p -> x = y | p -> x + 2*y <= 3
-not (min([x,y,z]) = 1) | p <-> xorall([q,r]) | pow(x,y) = z | card(s union t) = 2 | occurs(o) /\\ deopt(o) = x | forall(i in s)(i > 1)
-sum(i in s)(i) = 3 | max(s) = 2 | p <-> (s = {1})
+# What stands for arguments of a type that the library declares: for the first of that type, the second, and so on.
+ARGUMENTS = {
+    "int": "2 3",
+    "float": "0.5 1.5",
+    "set of int": "{1,3}",
+    "set of float": "0.0..1.0",
+    "var int": "z x y",
+    "var bool": "r m q p",
+    "var float": "f g h",
+    "var set of int": "s t u",
+    "array[int] of int": "[1,2]",
+    "array[int] of bool": "[true,false]",
+    "array[int] of float": "[0.5,1.5]",
+    "array[int] of set of int": "[{1},{2,3},{1,2}]",
+    "array[int] of var int": "[x,y]",
+    "array[int] of var bool": "[p,q] [r,m]",
+    "array[int] of var float": "[f,g]",
+    "array[int] of var set of int": "[s,t]",
+    "array[int,int] of var int": "[|x,y|y,z|]",
+    "array[int,int] of var bool": "[|p,q|q,r|]",
+    "array[int,int] of var float": "[|f,g|g,h|]",
+    "array[int,int] of var set of int": "[|s,t|t,u|]",
+}
+EXPRESSIONS = """
+u = s union t | u = s intersect t | u = s diff t | u = s symdiff t | s = [{1},{2,3},{1,2}][x] | s = [t,u][x] | not (x div y = z)
+not (x mod y = z) | p <-> ([x,y,z][z] = x) | p -> x = y | p -> x + 2*y <= 3 | not (min([x,y,z]) = 1) | p <-> xorall([q,r])
+pow(x,y) = z | card(s union t) = 2 | occurs(o) /\\ deopt(o) = x | forall(i in s)(i > 1) | sum(i in s)(i) = 3 | max(s) = 2
+p <-> (s = {1}) | array_set_element(xx,[{1},{2,3},{1,2}],s) | p <-> array_set_element(xx,[{1},{2,3},{1,2}],s)
+array_var_set_element(xx,[s,t,s],u) | p <-> array_var_set_element(xx,[s,t,s],u)
 """
 GLOBALS = """
 alldifferent([x,y,z]) | all_equal([x,y,z]) | alldifferent_except_0([x,y,z]) | among(1,[x,y,z],{1,2}) | arg_max([x,y,z]) = 2
@@ -49,42 +71,159 @@ sort([x,y,z],[xx,yy,zz]) | strict_lex2([|x,y|y,z|]) | strictly_increasing([x,y,z
 symmetric_all_different([xx,yy,zz]) | table([x,y],[|1,2|2,1|]) | table([p,q],[|true,false|]) | tree([1,2],[2,3],1,[p,q,r],[p,q])
 value_precede(1,2,[x,y,z]) | value_precede_chain([1,2,3],[x,y,z])
 """
+# Where MiniZinc 2.6.4 itself ends before any solver is called, and what it says then: reified versions that its library leaves out, a
+# file of it that forgets to include another, and assertions of its own, two of which fail where an index may lie outside of an array.
+UNLOCKED = "lib/gc.cpp:399: void* MiniZinc::GC::alloc(size_t): Assertion `locked()' failed"
+BY_MINIZINC = {
+    "bool_not": "'bool_not' is used in a reified context but no reified version is available",
+    "int2float": "Assertion `call->id() != _env.constants.ids.int2float' failed",
+    "array_set_element": UNLOCKED,
+    "array_var_set_element": UNLOCKED,
+    "array_var_set_element_nonshifted": UNLOCKED,
+    "array_var_set_element2d_nonshifted": UNLOCKED,
+    "arg_min": "no function or predicate with name `arg_max_total' found",
+    "connected": "Abort: Reified connected is not supported",
+    "cost_regular": "Abort: Reified cost_regular is not supported",
+    "path": "Abort: Reified path constraint is not supported",
+    "subcircuit": "Abort: Reified subcircuit/1 is not supported",
+    "tree": "Abort: Reified tree constraint is not supported",
+}
+DECLARATION = re.compile(r"\bpredicate\s+(\w+)\s*\(([^;=]*?)\)\s*(?:::\s*\w+\s*)?[;=]")
+COMMENT = re.compile(r"/\*.*?\*/|%[^\n]*", re.S)
+REFUSED = re.compile(r"^fzn-qecode: (.*\(m\.mzn, line \d+, column \d+\).*)$", re.M)
 
 
 def listed(table):
     return [call.strip() for line in table.split("\n") for call in line.split(" | ") if call.strip()]
 
 
+# ---- The builtins of the library.
+
+
+def sources():
+    """The files of MiniZinc's library that declare builtins, and that which takes the sets away."""
+    named = sorted(glob.glob(os.path.join(LIBRARY, "redefinitions*.mzn")))
+    return [os.path.join(LIBRARY, "flatzinc_builtins.mzn"), *named, os.path.join(LIBRARY, "nosets.mzn")]
+
+
+def declared():
+    """Each builtin by name and types, in the order of the files."""
+    found = {}
+    for path in sources():
+        for name, parameters in DECLARATION.findall(COMMENT.sub("", read(path))):
+            found[name, types_of(parameters)] = None
+    return list(found)
+
+
+def types_of(parameters):
+    """The types of parameters that are declared as `TYPE: NAME`, perhaps with annotations."""
+    parts = re.split(r",(?![^\[]*\])", re.sub(r"::\s*\w+", "", parameters))
+    return tuple(" ".join(part.rpartition(":")[0].split()) for part in parts)
+
+
+def call_of(name, types):
+    left = {kind: iter(words.split(" ")) for kind, words in ARGUMENTS.items()}
+    return f"{name}({','.join(next(left[kind]) for kind in types)})"
+
+
 def all_calls():
-    for call in listed(BUILTINS):
+    for name, types in declared():
+        call = call_of(name, types)
         yield call
+        if not name.endswith(("_reif", "_imp")):
+            yield f"m <-> {call}"
+            yield f"m -> {call}"
+    yield from listed(EXPRESSIONS)
     for call in listed(GLOBALS):
         yield call
         yield f"p <-> ({call})"
 
 
+# ---- Solved or refused.
+
+
+def names_in(call):
+    return [name for name in DOMAINS if re.search(rf"\b{name}\b", call)]
+
+
 def model_of(call):
-    named = [name for name in DECLARED if re.search(rf"\b{name}\b", call)]
-    return with_includes([*(f"{DECLARED[name]}: {name};" for name in named), f"constraint {call};", "solve satisfy;"], call)
+    declarations = [f"var {DOMAINS[name]}: {name};" for name in names_in(call)]
+    # Of all globals here one alone stands in two files, by its kind of arguments.
+    of_file = call.replace("regular(", "regular_regexp(") if '"' in call else call
+    return with_includes([*declarations, f"constraint {call};", "solve satisfy;"], of_file)
 
 
 def trial(call, folder, configuration):
     """Whether it is solved or proved to have no solution, and what is said else."""
     write(folder, "m.mzn", model_of(call))
-    out, err = answered(folder, configuration, [], [])
+    out, err = answered(folder, configuration, ["--keep-paths"], [])
     return ("----------" in out or "UNSATISFIABLE" in out), out + err
 
 
 def is_refused(call, said):
-    """Whether it is refused by its name, by the translator or by MiniZinc."""
-    names = re.findall(r"[a-z]\w+(?=\()", call)
-    return any(name in said for name in names) and ("rror" in said or "fzn-qecode" in said)
+    """Whether the translator refuses it: an error of its own, with a name of the call, and with the place in the model.
+
+    An error of MiniZinc's isn't one, whatever words it has.
+    """
+    told = REFUSED.search(said)
+    if told is None or "=====ERROR=====" not in said:
+        return False
+    named = re.findall(r"\w+?(?=_reif\b|_imp\b|\b)", told[1].partition(" (m.mzn")[0])
+    return not {*re.findall(r"\w+(?=\()", call), *names_in(call)}.isdisjoint(named)
+
+
+def is_left_to_minizinc(call, said):
+    """Whether it's one of the calls that are known to end in MiniZinc itself, and ends as is known."""
+    return any(said_there in said for name, said_there in BY_MINIZINC.items() if f"{name}(" in call)
+
+
+def check_calls(tally, folder, configuration):
+    for call in all_calls():
+        is_solved, said = trial(call, folder, configuration)
+        how = "solved" if is_solved else "refused by name" if is_refused(call, said) else "wrong"
+        if how == "wrong" and is_left_to_minizinc(call, said):
+            how = "ended by MiniZinc itself"
+        if how != "solved":
+            print(f"{how}: {call}", flush=True)
+        tally.check(f"call {call}", how != "wrong", said)
+
+
+# ---- What it means.
+
+
+def rows_of(name, call):
+    """The values of the call's variables for which the builtin holds, as the translator's own table of meanings has it."""
+    text = call.partition("(")[2][:-1].replace("true", "True").replace("false", "False")
+    names = names_in(call)
+    for values in itertools.product(*(range(2) if DOMAINS[it] == "bool" else range(-2, 3) for it in names)):
+        truths = {it: bool(value) if DOMAINS[it] == "bool" else value for it, value in zip(names, values)}
+        if HOLDS[name](*eval(f"({text},)", {"__builtins__": {}}, truths)):
+            yield values
+
+
+def game_of(name, call):
+    """The opponent chooses all variables, and the player wins where the builtin holds for the values of `rows_of` alone."""
+    names = names_in(call)
+    lines = ['include "qecode.mzn"; include "table.mzn";']
+    domain = {it: "bool" if DOMAINS[it] == "bool" else "-2..2" for it in names}
+    lines += [f"var {domain[it]}: {it}; constraint forall_scope(1, {it});" for it in names]
+    numbers = ",".join(f"bool2int({it})" if DOMAINS[it] == "bool" else it for it in names)
+    rows = "|".join(",".join(map(str, row)) for row in rows_of(name, call))
+    return "\n".join([*lines, f"constraint goal({call} <-> table([{numbers}],[|{rows}|]));", "solve satisfy;\n"])
+
+
+def check_meanings(tally, folder, configuration):
+    for name, types in declared():
+        call = call_of(name, types)
+        # A goal is reified by itself, so the reified forms are those that this is about.
+        is_plain = name in HOLDS and name not in BY_MINIZINC and not name.endswith("_reif")
+        if is_plain and not any("var set" in kind for kind in types):
+            write(folder, "m.mzn", game_of(name, call))
+            out, err = answered(folder, configuration, ["-g", "--keep-paths"], [])
+            tally.check(f"the meaning of {call}", "% qecode: true\n" in out, out + err)
 
 
 def checks(tally):
     with written_configuration() as configuration, tempfile.TemporaryDirectory() as folder:
-        for call in all_calls():
-            is_solved, said = trial(call, folder, configuration)
-            if not is_solved and is_refused(call, said):
-                print(f"refused by its name: {call}", flush=True)
-            tally.check(f"call {call}", is_solved or is_refused(call, said), said)
+        check_calls(tally, folder, configuration)
+        check_meanings(tally, folder, configuration)

@@ -7,10 +7,14 @@ import re
 import tempfile
 
 from common import HERE, QECODE_MZN, TOOL, TOP, read, run, write
+from random_models import answered
 
 from qecodefzn import program
+from qecodefzn.configuration import written_configuration
 
 BARE = 'include "qecode.mzn"; var 0..3: x; constraint exists_scope(1, x); constraint x > 7; solve satisfy;\n'
+# Variables that nothing constrains: what MiniZinc's output model says of them has to be known without the solver's library.
+UNCONSTRAINED = ("opt 1..2", "opt 0..2", "opt bool", "set of 1..2", "bool", "1..2")
 # Games that documents show, with a word of each and what is answered.
 SHOWN = (
     ("guide.md", "takes", "% qecode: true 22\n", "order [1, 3, 2]"),
@@ -27,6 +31,7 @@ def checks(tally):
         installed(tally, folder)
         games(tally, folder)
         kept(tally, folder)
+        by_steps(tally, folder)
     for name, word, outcome, shown in SHOWN:
         with tempfile.TemporaryDirectory() as folder:
             path = write(folder, "shown.mzn", block_with(read(os.path.join(TOP, "docs", name)), word))
@@ -47,6 +52,12 @@ def installed(tally, home):
     tally.check("an optimum with -a", "----------\n==========" in said, said)
     said = minizinc("-a", os.path.join(HERE, "models", "queens8.mzn"))
     tally.check("all solutions", "-a: solutions aren't gone through" in said, said)
+    said = minizinc("-n", "2", os.path.join(HERE, "models", "queens8.mzn"))
+    tally.check("two solutions", "-n 2: solutions aren't gone through" in said, said)
+    said = minizinc("-n", "1", os.path.join(HERE, "models", "queens8.mzn"))
+    tally.check("one solution", "----------" in said and "ERROR" not in said, said)
+    said = minizinc("-i", model)
+    tally.check("an optimum with -i", "----------\n==========" in said, said)
     said = minizinc(os.path.join(HERE, "models", "queens3.mzn"))
     tally.check("no solution", "=====UNSATISFIABLE=====" in said, said)
     said = minizinc("-s", "-v", os.path.join(HERE, "models", "send.mzn"))
@@ -65,6 +76,15 @@ def games(tally, folder):
     status, out, err = run([QECODE_MZN, write(folder, "bare.mzn", BARE)])
     is_refused = status == 1 and "outside of all rules can't hold" in err and "UNSAT" not in out
     tally.check("a bare constraint that can't hold", is_refused, out + err)
+
+
+def by_steps(tally, folder):
+    """MiniZinc flattens, the solver solves, and MiniZinc writes the solution by the output model alone."""
+    with written_configuration() as configuration:
+        for kind in UNCONSTRAINED:
+            write(folder, "m.mzn", f"var {kind}: v; solve satisfy;\n")
+            out, err = answered(folder, configuration, [], [])
+            tally.check(f"step by step, var {kind}", '"v"' in out and "----------" in out and not err, out + err)
 
 
 def kept(tally, folder):

@@ -202,14 +202,10 @@ class Maker:
         return f"card({s[0]})", lambda env: len(s[1](env))
 
     def integer_deopt(self, _):
-        name = self.pick.choice(self.opts)
-
-        def value(env):
-            if env[name] is None:
-                raise Undefined
-            return env[name]
-
-        return f"deopt({name})", value
+        """The value of an absent one isn't asked for: MiniZinc leaves open what it is."""
+        name, k = self.pick.choice(self.opts), self.pick.randint(0, 3)
+        text = f"(if occurs({name}) then deopt({name}) else {k} endif)"
+        return text, lambda env: k if env[name] is None else env[name]
 
     # ---- Sets.
 

@@ -39,6 +39,17 @@ GAMES = {
     "wish_unseen": ("constraint wish_min(1, z);", "a wish sees only"),
     "holds_anyhow": ("constraint x + y >= 0; constraint goal(z >= y);", "true"),
     "determined": ("var int: w = y + 1; constraint goal(z + 1 >= w);", "true"),
+    "least_before_sum": (
+        "constraint exists_here(0); constraint wish_max_sum(0, 2, x); constraint wish_max_greatest(1, 2, x, 0);",
+        "of which scope 1, a nearer one, wishes the greatest already",
+    ),
+    "sum_before_least": ("constraint exists_here(0); constraint wish_min_greatest(0, 2, x, 0); constraint wish_max_sum(1, 2, x);", "true 3"),
+    "optional_scope": (
+        "var opt 1..2: o; constraint forall_scope(4, o); constraint wish_max_sum(3, 4, if occurs(o) then deopt(o) else 4 endif); "
+        "constraint wish_max(1, x);",
+        "true 3",
+    ),
+    "optional_choice": ("var opt {1,3}: o; constraint exists_scope(4, o); constraint goal(occurs(o) /\\ deopt(o) >= y);", "true"),
     "counted": ("constraint wish_max_sum(1, 2, x);", "true 12"),
     "same_rule_twice": ("constraint rule(2, x > y); constraint goal(x > y);", "true"),
     "narrowing_goal": ("constraint goal(y <= 2);", "false"),
@@ -50,6 +61,13 @@ GAMES = {
     "reified_global": (
         'include "circuit.mzn"; array[1..3] of var 1..3: k; constraint exists_scope(3, k); '
         "constraint goal(circuit(k) /\\ (y = 1 -> k[1] = 3));",
+        "true",
+    ),
+    "reified_precedence": (
+        'include "value_precede_chain.mzn"; array[1..3] of var 1..3: k; constraint forall_scope(4, k); '
+        "constraint goal(value_precede(1, 2, k) <-> k[1] != 2 /\\ (k[2] = 2 -> k[1] = 1) /\\ (k[3] = 2 -> k[1] = 1 \\/ k[2] = 1)); "
+        "constraint goal(value_precede_chain([1, 2, 3], k) <-> value_precede(1, 2, k) /\\ k[1] != 3 /\\ (k[2] = 3 -> k[1] = 2) "
+        "/\\ (k[3] = 3 -> k[1] = 2 \\/ k[2] = 2));",
         "true",
     ),
     "opponents_regular": (
@@ -64,6 +82,7 @@ OTHERS = {
     "solve_minimize": (["-g"], GAME_HEAD + "constraint goal(z >= y);\nsolve minimize x;\n", "a game ends with `solve satisfy`"),
     "too_many": ([], "array[1..501] of var 0..1: x; constraint forall(i in 1..500)(x[i] <= x[i+1]); solve satisfy;\n", "501 variables"),
     "unbounded": ([], "var int: x; constraint x > 3; solve satisfy;\n", "x is unbounded"),
+    "optional_unseen": (["--output-mode", "json"], "var opt 1..2: o; solve satisfy;\n", "X_INTRODUCED_0_ = false;"),
     "float": ([], "var 0.0..1.0: x; constraint x > 0.5; solve satisfy;\n", "x is a float variable"),
 }
 EXAMPLES = {"defence": "true", "best_price": "true 15", "least_makespan": "true 7"}

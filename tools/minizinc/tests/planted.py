@@ -92,6 +92,7 @@ PLANTED = {
     "narrowed domains are taken": patch.object(games, "CANARY", "x"),
     "rules see later scopes": patch.object(GameProblem, "latest", lambda self, v: v.scope or 1),
     "wishes see everything": patch.object(GameProblem, "refuse_unseen", lambda self, of, at, c: None),
+    "wishes come in any order": patch.object(GameProblem, "refuse_after_least", lambda self, folded: None),
     "wishes are turned": patch.object(GameProblem, "read_wishes", swapped_senses),
     "the goal is a rule": patch.object(GameProblem, "read_rules", goal_in_rules),
     "an alias forgets its domain": patch.object(reading.Reader, "keep_domain", lambda self, alias: None),

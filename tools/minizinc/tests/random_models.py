@@ -12,7 +12,7 @@ import re
 import tempfile
 from collections import Counter
 
-from common import LIBRARY, run, write
+from common import GECODE, LIBRARY, has_gecode, run, write
 from expressions import GLOBALS, Maker, Undefined
 
 from qecodefzn import main
@@ -26,12 +26,12 @@ class Variable:
         self.name, self.declared, self.domain, self.kind = name, declared, domain, kind
 
 
-def random_variable(pick, name, kinds):
+def random_variable(pick, name, kinds, least=-1):
     kind = pick.choice(kinds)
     name = f"{kind}{name}"
     if kind == "b":
         return Variable(name, "var bool", [False, True], kind)
-    low = pick.randint(-1, 1)
+    low = pick.randint(least, 1)
     domain = list(range(low, low + pick.randint(2, 4)))
     if pick.random() < 0.2 and len(domain) > 2:
         domain.pop(1)
@@ -108,6 +108,9 @@ class Model:
         return best(self.wish[1][1](env) for env in found)
 
 
+REFUSALS = ("fzn-qecode: ", "Error: result of evaluation is undefined")
+
+
 def from_json(value):
     if isinstance(value, dict):
         ends = [range(it[0], it[1] + 1) if isinstance(it, list) else [it] for it in value["set"]]
@@ -116,14 +119,13 @@ def from_json(value):
 
 
 def judge_model(model, out, err):
-    """What is said of the answer: "right", "refused: ..", or what is wrong."""
+    """What is said of the answer: "right", "refused: ..", or what is wrong, which an end by neither is too."""
     known = model.known()
     if "UNSATISFIABLE" in out:
         return "right" if known is None else f"WRONG: unsatisfiable, where {known} is known"
     if "----------" not in out:
         return refusal(out, err)
-    found = {name: from_json(value) for name, value in json.loads(out[: out.index("----------")]).items()}
-    env = {v.name: found.get(v.name) for v in model.variables}
+    env = values(model, out[: out.index("----------")])
     if known is None:
         return f"WRONG: solved by {env}, where nothing fits"
     if any(env[v.name] not in v.domain for v in model.variables) or not model.holds(env):
@@ -134,19 +136,29 @@ def judge_model(model, out, err):
 
 
 def refusal(out, err):
-    lines = [line for line in (err + out).splitlines() if "rror" in line or "fzn-qecode" in line]
-    return "refused: " + re.sub(r"\d+", "#", lines[0] if lines else (err + out)[:100])[:120]
+    """A refusal by the translator, or by MiniZinc where a part without variables has no value; all else is wrong."""
+    lines = [line for line in (err + out).splitlines() if line.startswith(("fzn-qecode: ", "Error: "))]
+    if not lines or not lines[0].startswith(REFUSALS) or "the program refuses" in lines[0]:
+        return f"WRONG: neither an answer nor a refusal: {out + err}"
+    return "refused: " + re.sub(r"\d+", "#", lines[0])[:120]
+
+
+# A constraint is lost by MiniZinc itself, with any solver.
+OF_MINIZINC = "refused: an error of MiniZinc, which Gecode makes as well"
+
+KINDS = ("xxb", "xxb", "xxbs")
+OPTIONAL_KINDS = ("xo", "xob", "xobs")
 
 
 class Game:
     """Scopes in order, each with variables, rules and perhaps a wish; and a goal."""
 
-    def __init__(self, seed):
+    def __init__(self, seed, kinds=KINDS, least=-1):
         pick = random.Random(f"game {seed}")
         self.scopes, met = [], []
-        kinds = pick.choice(["xxb", "xxb", "xxbs"])
+        kinds = pick.choice(kinds)
         for k in range(1, pick.randint(2, 4) + 1):
-            own = [random_variable(pick, f"{k}_{j}", kinds) for j in range(1, pick.randint(1, 2) + 1)]
+            own = [random_variable(pick, f"{k}_{j}", kinds, least) for j in range(1, pick.randint(1, 2) + 1)]
             met += own
             rules = [maker_of(pick, met).boolean(2) for _ in range(pick.choice([0, 1, 1, 2]))]
             self.scopes.append({"kind": pick.choice(["exists", "forall"]), "variables": own, "rules": rules, "wish": None})
@@ -288,11 +300,37 @@ def answered(folder, configuration, flags, options):
 def model_trial(seed, folder, configuration, options=()):
     model = Model(seed)
     write(folder, "m.mzn", model.text())
-    return judge_model(model, *answered(folder, configuration, [], options)), model
+    out, err = answered(folder, configuration, [], options)
+    answer = judge_model(model, out, err)
+    if answer.startswith("WRONG: no solution is") and has_gecode() and is_of_gecode(model, folder, out):
+        return OF_MINIZINC, model
+    return answer, model
 
 
-def game_trial(seed, folder, configuration, options=()):
-    game = Game(seed)
+def is_of_gecode(model, folder, out):
+    """Whether Gecode gives this solution too: then it's MiniZinc that loses a constraint, as 2.6.4 does with `deopt`."""
+    text = re.sub(r"^solve .*$", "solve satisfy;", model.text(), flags=re.M)
+    words = ["minizinc", "-a", "--solver", write(folder, "gecode.msc", json.dumps(GECODE)), "--output-mode", "json"]
+    for flags in [], ["-G", "std"]:
+        _, others, err = run([*words, *flags, write(folder, "others.mzn", text)])
+        if "Registry" not in others + err:  # where Gecode lacks a global that its library hands to it
+            break
+    return values(model, out[: out.index("----------")]) in [values(model, it) for it in others.split("----------") if "{" in it]
+
+
+def values(model, solution):
+    """The value of each variable in a solution that is told as JSON; None where it has none."""
+    found = json.loads(solution[solution.index("{"):])
+    return {v.name: from_json(found.get(v.name)) for v in model.variables}
+
+
+def optional_game_trial(seed, folder, configuration, options=()):
+    """Optional integers in scopes, none of which may be 0."""
+    return game_trial(seed, folder, configuration, options, Game(seed, OPTIONAL_KINDS, 1))
+
+
+def game_trial(seed, folder, configuration, options=(), game=None):
+    game = game or Game(seed)
     write(folder, "m.mzn", game.text())
     return judge_game(game, *answered(folder, configuration, ["-g", "--keep-paths"], options)), game
 
@@ -303,6 +341,8 @@ def checks(tally, trial, what, count, first=0, options=()):
     with written_configuration() as configuration, tempfile.TemporaryDirectory() as folder:
         for seed in range(first, first + count):
             answer, it = trial(seed, folder, configuration, options)
+            if answer.startswith("refused") and answer not in said:
+                print(f"{what} {seed}, the first that is {answer}", flush=True)
             said[answer if answer.startswith("refused") else answer.split(":")[0]] += 1
             if not answer.startswith("refused"):
                 tally.check(f"{what} {seed}", answer == "right", answer + "\n" + it.text())

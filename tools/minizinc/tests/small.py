@@ -12,6 +12,7 @@ import tempfile
 from unittest.mock import patch
 
 from common import FZN_QECODE, TOOL, Tally, has_program, read, run, write
+from calls import is_refused
 from flattening import sources, stored
 
 from qecodefzn import flatzinc, main, plain, program
@@ -179,8 +180,34 @@ def check_reader(tally):
     text = "array [1..2] of int: a = [0x1F,-3]; var {1,5}: x :: output_var; constraint int_lin_le(a,[x,2],7); solve minimize x;"
     reader = Reader(flatzinc.parse(text))
     tally.check("a model is read", str(reader.constraints[0]) == "int_lin_le([31, -3], [x, 2], 7)", str(reader.constraints[0]))
+    words = "var bool: b; var 0..1: n; var 0..3: x; constraint qecode_int_ne_reif(2,1,b); constraint bool2int(b,n); "
+    known = Reader(flatzinc.parse(words + "constraint int_plus(n,x,n); constraint array_bool_and([b,b],b); solve satisfy;"))
+    tally.check("results of constants", str(known.constraints[2]) == "int_plus(1, x, 1)", str(known.constraints[2]))
+    words = "var 0..1: n; constraint int_plus(1,1,n); constraint int_div(1,0,n); constraint qc_chosen_int(1,1,[n]); solve satisfy;"
+    for text in words, words.replace("int_plus(1,1,n)", "int_plus(0,1,n)"), words.replace("qc_chosen", "other"):
+        free = Reader(flatzinc.parse(text)).vars["n"]
+        tally.check(f"no result of constants in {text}", isinstance(free, V), str(free))
     narrow = Reader(flatzinc.parse("var 0..9: x; var 2..3: y = x; solve satisfy;"))
     tally.check("an alias keeps its domain", any(c.name == "set_in" for c in narrow.constraints), "no constraint does")
+
+
+PLACE = "(m.mzn, line 2, column 12)"
+SAID_OF_POWERS = {
+    f"=====ERROR=====\nfzn-qecode: the powers of int_pow are more than 100000 numbers {PLACE}\n": True,
+    f"=====ERROR=====\nfzn-qecode: y is unbounded {PLACE}; give it a domain\n": True,
+    f"=====ERROR=====\nfzn-qecode: the builtin int_pow_reif is none of the predicates {PLACE}\n": True,
+    f"=====ERROR=====\nfzn-qecode: the builtin int_power is none of the predicates {PLACE}\n": False,
+    "=====ERROR=====\nfzn-qecode: the powers of int_pow are more than 100000 numbers\n": False,
+    f"fzn-qecode: the powers of int_pow are more than 100000 numbers {PLACE}\n": False,
+    "Error: evaluation error: internal error: missing builtin 'int_pow'\nm.mzn:2.12-25\n": False,
+    f"Traceback (most recent call last):\n  File \"x.py\", line 2, in int_pow\nKeyError: int_pow {PLACE}\n=====ERROR=====\n": False,
+}
+
+
+def check_refusals(tally):
+    """What counts as refused by name, where the tests call each builtin."""
+    for said, is_one in SAID_OF_POWERS.items():
+        tally.check(f"taken for a refusal: {said}", is_refused("int_pow(x,y,z)", said) == is_one, f"{not is_one}")
 
 
 BOUNDING = "int_lin_eq int_plus int_times int_div int_mod int_abs int_min int_max array_var_int_element table_int".split()
@@ -299,6 +326,8 @@ def check_limits(tally):
         said = answer_to([os.path.join(folder, "none.fzn")])
         tally.check("no file", "No such file" in said and "=====ERROR=====" in said, said)
         status, out, _ = run([FZN_QECODE, "-t", "1", hard])
+        _, _, err = run(["sh", "-c", '"$0" "$1" | true', FZN_QECODE, hard])
+        tally.check("a reader that has gone", err == "", err)
         tally.check("time limit", status == 0 and "=====UNKNOWN=====" in out, out)
 
 
@@ -311,7 +340,7 @@ def check_installer(tally):
         tally.check("the installer takes away", not os.path.exists(path), "it is still there")
 
 
-OF_PYTHON = (check_determined, check_lowered, check_asserted, check_reader, check_bounds, check_installer)
+OF_PYTHON = (check_determined, check_lowered, check_asserted, check_reader, check_bounds, check_refusals, check_installer)
 OF_PROGRAM = (check_predicates, check_stored, check_stored_early, check_kept, check_limits)
 
 
