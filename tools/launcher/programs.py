@@ -111,4 +111,53 @@ people say is written), docs/faq.md (questions), docs/problem-text.md and docs/p
 """,
 )
 
-PROGRAMS = {it.name: it for it in (QECODE,)}
+QTELL = Program(
+    name="qtell",
+    crate="qtell",
+    what="tells what people rely on: how an answer begins, what is allowed at a position, and what stands behind a gap.",
+    commands=(
+        Command("first", "first PROBLEM CERTIFICATE",
+                "tells, of a certificate that proves what it states, the first move by names",
+                "first examples/defence.qc defence.cert", ((1, TEXT), (2, PLAYED))),
+        Command("allowed", "allowed PROBLEM POSITION [--most N]",
+                "lists the allowed tuples of the next scope after the values of the first scopes, a file of numbers",
+                "allowed examples/defence.qc position --most 20", ((1, TEXT), (2, MOVES))),
+        Command("gap", "gap PROBLEM SCOPE --hopeful|--sure [--turns N]",
+                "writes one of the two certificates behind ./qecode worst PROBLEM SCOPE --gap",
+                "gap examples/tolls.qc 1 --sure > sure.cert", ((1, TEXT),)),
+    ),
+    notes="""\
+  --now COMMAND WORDS
+      answers within minutes on a fresh machine, by a build of which nothing is proved
+  --version
+      the commit, the kit, and whether the program is built
+  --help
+      this page
+
+Where to read: docs/tell.md (words, lines and statuses), docs/command.md (the other programs).
+""",
+)
+
+QDENSE = Program(
+    name="qdense",
+    crate="dense_program",
+    what="checks lists of lemmas: certificates that say who wins a game, each part shown once.",
+    commands=(
+        Command("check", "check PROBLEM CERTIFICATE",
+                "says whether a list of lemmas proves who wins the game of a file: yes true, yes false, or no",
+                "check crates/dense_program/data/sum.qc crates/dense_program/data/sum.cert", ((1, TEXT), (2, CERTIFICATE))),
+    ),
+    notes="""\
+  --now COMMAND WORDS
+      answers within minutes on a fresh machine, by a build of which nothing is proved; without it the first call
+      proves and builds the program
+  --version
+      the commit, the kit, and whether the program is built
+  --help
+      this page
+
+What the lines of a list mean stands in docs/lemmas.md, what the statuses mean in docs/command.md.
+""",
+)
+
+PROGRAMS = {it.name: it for it in (QECODE, QTELL, QDENSE)}

@@ -1,8 +1,10 @@
 """Runs a program for its launcher. Its words, its output and its status are its own: its output isn't changed by a byte. What
 is added is written to standard error, and most of it on a terminal alone."""
+import contextlib
 import fcntl
 import os
 import select
+import signal
 import stat
 import subprocess
 import time
@@ -16,6 +18,8 @@ CHUNK = 1 << 16
 HEAD = 256
 # The program's status where its output could not be written.
 WRITE_FAULT = 8
+# What ends a launcher, and its program with it.
+ENDING = {signal.SIGINT, signal.SIGTERM, signal.SIGHUP}
 
 
 class Ran:
@@ -30,14 +34,27 @@ class Ran:
         return self.head.decode("ascii", "replace").split("\n")
 
 
+@contextlib.contextmanager
+def started(path, words, **more):
+    """The program, which whatever ends this ends too. A signal that comes while it is started waits until it can be ended."""
+    mask = signal.pthread_sigmask(signal.SIG_BLOCK, ENDING)
+    try:
+        child = subprocess.Popen([path, *words], close_fds=False, preexec_fn=lambda: signal.pthread_sigmask(signal.SIG_SETMASK, mask), **more)
+        with child:
+            try:
+                signal.pthread_sigmask(signal.SIG_SETMASK, mask)
+                yield child
+            except BaseException:
+                child.terminate()
+                raise
+    finally:
+        signal.pthread_sigmask(signal.SIG_SETMASK, mask)
+
+
 def quietly(path, words):
     """Runs it with this program's own input and output."""
-    with subprocess.Popen([path, *words], close_fds=False) as child:
-        try:
-            return Ran(child.wait())
-        except BaseException:
-            child.terminate()
-            raise
+    with started(path, words) as child:
+        return Ran(child.wait())
 
 
 
@@ -73,14 +90,13 @@ def into_file(program, path, words):
     else:
         start = os.lseek(1, 0, os.SEEK_CUR)
     watch = Watch(program, end)
-    with subprocess.Popen([path, *words], close_fds=False) as child:
+    with started(path, words) as child:
         os.close(held)
         try:
             watch.wait()  # the end is readable once the program has let go of the other end
             status = child.wait()
         except BaseException:
             watch.line.remove()
-            child.terminate()
             raise
         finally:
             os.close(end)
@@ -97,7 +113,7 @@ def handed_on(program, path, words):
     """Runs it and hands its output on as it comes. It is told of a fault as it would be by the output itself: where a piece
     can't be written, it finds that nobody reads any more, or its status is changed to the one for that."""
     head, size, lost = b"", 0, False
-    with subprocess.Popen([path, *words], stdout=subprocess.PIPE, close_fds=False, bufsize=0) as child:
+    with started(path, words, stdout=subprocess.PIPE, bufsize=0) as child:
         output = child.stdout.fileno()
         watch = Watch(program, output)
         try:
@@ -117,7 +133,6 @@ def handed_on(program, path, words):
             status = child.wait()
         except BaseException:
             watch.line.remove()
-            child.terminate()
             raise
     return Ran(WRITE_FAULT if lost and status >= 0 else status, head, size)
 

@@ -15,7 +15,7 @@ def say(program, text):
 
 
 def duration(seconds):
-    return f"{seconds / 60:.0f} min" if seconds >= 90 else f"{seconds:.0f} s"
+    return f"{seconds / 60:.0f} min" if seconds >= 150 else f"{seconds:.0f} s"
 
 
 class LiveLine:

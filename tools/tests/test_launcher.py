@@ -176,14 +176,20 @@ class Pages(LauncherCase):
         self.assertEqual(self.runs(), [])
 
     def test_examples_and_pages_of_help_are_there(self):
-        page = programs.QECODE.page()
-        for name in re.findall(r"(?:docs|examples)/[\w/.-]+\w|README\.md", page):
-            self.assertTrue(os.path.exists(os.path.join(TOP, name)), name)
+        for program in programs.PROGRAMS.values():
+            for name in re.findall(r"(?:docs|examples|crates)/[\w/.-]+\w|README\.md", program.page()):
+                self.assertTrue(os.path.exists(os.path.join(TOP, name)), name)
 
     def test_help_names_the_commands_of_the_program(self):
-        table = read(os.path.join(TOP, "docs", "command.md")).decode()
-        told = {it.name for it in programs.QECODE.commands}
-        self.assertEqual(told, set(re.findall(r"^\| `qecode (\w+)", table, re.M)))
+        for program, page in ((programs.QECODE, "command.md"), (programs.QTELL, "tell.md"), (programs.QDENSE, "command.md")):
+            table = read(os.path.join(TOP, "docs", page)).decode()
+            told = {it.name for it in program.commands}
+            self.assertEqual(told, set(re.findall(rf"^\| `{program.name} (\w+)", table, re.M)))
+
+    def test_each_program_has_its_launcher(self):
+        for name in programs.PROGRAMS:
+            done = subprocess.run([os.path.join(TOP, name), "--help"], check=False, stdout=subprocess.PIPE)
+            self.assertEqual((done.returncode, done.stdout.decode()), (0, programs.PROGRAMS[name].page()))
 
     def test_version_without_git_and_kit(self):
         os.makedirs(self.at("bin"))
@@ -406,6 +412,14 @@ class OnATerminal(LauncherCase):
         self.assertTrue(terminal.text().startswith(b"qcert 2\nfalse\nendqecode: false"))
 
 
+def has_ended(number):
+    """Whether a process has ended, also where nobody has asked yet how."""
+    try:
+        return "Z" in read(f"/proc/{number}/stat").decode().rpartition(")")[2].split()[0]
+    except (FileNotFoundError, ProcessLookupError):
+        return True
+
+
 class Ended(LauncherCase):
     def end_by(self, number, stdin=None):
         """Ends the launcher while the program runs, and gives how it ended."""
@@ -421,8 +435,10 @@ class Ended(LauncherCase):
                 else:
                     child.send_signal(number)
                 status = child.wait(timeout=30)
-        with self.assertRaises(ProcessLookupError):
-            os.kill(program, 0)
+        until = time.monotonic() + 10
+        while not has_ended(program) and time.monotonic() < until:
+            time.sleep(0.02)
+        self.assertTrue(has_ended(program))
         self.assert_nothing_left()
         return status
 
