@@ -1,9 +1,14 @@
 """What the program says of a problem and a certificate."""
 import os
+import shutil
 import subprocess
 import tempfile
 
 from people.ending import Failed
+from program import TOP
+
+# The program that tells first moves, where ./qtell has proved and built it.
+TELLER = os.path.join(TOP, "crates", "qtell", "out", "qtell")
 
 PATIENCE = 60  # seconds for the worst ties
 
@@ -22,6 +27,17 @@ def checker_words(program):
     if program.is_built_here():
         return "qecode check (the proved checker)"
     return f"{os.path.basename(program.path)} check (a program that isn't known to be the proved build)"
+
+
+def first_told(problem, certificate):
+    """The values of the first move that `qtell first` tells of a certificate, in the order of the text; None where qtell isn't
+    built here, or tells of no move."""
+    path = shutil.which(os.environ.get("QTELL", TELLER))
+    if path is None:
+        return None
+    done = subprocess.run([path, "first", problem, certificate], stdin=subprocess.DEVNULL, stdout=subprocess.PIPE, check=False)
+    values = [int(line.split(" = ")[1]) for line in done.stdout.decode().splitlines() if " = " in line]
+    return values if done.returncode == 0 and values else None
 
 
 def played(program, problem, certificate, moves):

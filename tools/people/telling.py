@@ -63,6 +63,14 @@ class Teller:
             return "the opponent begins" if self.word == "true" else "none: the opponent has no first move that is shown"
         return "none that wins" if self.word == "false" else "nothing is chosen first"
 
+    def confirm_first(self, values):
+        """Whether the first move that this tool read is the one that was told; another one is a fault. None: none was told."""
+        if values is None or not self.game.goal or self.root.kind != "cases" or not self.root.pick:
+            return False
+        if values != [self.root.pick.values[x] for x in self.game.own[0]]:
+            raise Failed("this tool read another first move from the certificate than qtell, which is a fault of the tool", FAULT)
+        return True
+
     def confirm_by_play(self, program, certificate):
         """Plays the hardest play that this tool found by `qecode play`; whether it could be played. Another play is a fault."""
         if self.word == "open" or self.root.kind != "cases":

@@ -1,5 +1,7 @@
 """tools/explain."""
+import os
 import re
+from unittest import mock
 
 from helping import Case, example, tool
 
@@ -26,6 +28,16 @@ class Explain(Case):
                 self.assertIn(word, checked)
             for word in worked_out:
                 self.assertIn(word, own)
+
+    def test_the_move_that_qtell_tells(self):
+        words = example("best_price.qc"), example("best_price.cert"), "--no-worst"
+        teller = os.path.join(self.folder, "teller")
+        for told, wanted in (("5", "qtell first has told it"), ("4", "this tool read another first move")):
+            with open(teller, "w", encoding="ascii") as file:
+                file.write(f"#!/bin/sh\necho yes true 15\necho price = {told}\n")
+            os.chmod(teller, 0o755)
+            with mock.patch.dict(os.environ, {"QTELL": teller}):
+                self.assertIn(wanted, " ".join(re.sub(r"\s+", " ", part) for part in tool("explain", *words)[1:]))
 
     def test_no_worst(self):
         self.assertNotIn("Sure is", self.parts(example("best_price.qc"), example("best_price.cert"), "--no-worst")[0])

@@ -23,9 +23,10 @@ def main_of(name):
 
 
 def written(name, *words):
-    """What the tool writes where the program is the one that was proved and built here."""
-    out = io.StringIO()
-    with contextlib.redirect_stdout(out), contextlib.redirect_stderr(io.StringIO()), mock.patch.object(Program, "is_built_here", lambda _: True):
+    """What the tool writes where the program is the one that was proved and built here, and qtell isn't built."""
+    out, built = io.StringIO(), mock.patch.object(Program, "is_built_here", lambda _: True)
+    without = mock.patch.dict(os.environ, {"QTELL": ""})
+    with contextlib.redirect_stdout(out), contextlib.redirect_stderr(io.StringIO()), built, without:
         main_of(name)([os.path.join(TOP, it) if it.startswith("examples/") else it for it in words])
     return out.getvalue()
 
