@@ -1,12 +1,13 @@
 """Lists of lemmas that a search wrote, and damaged ones, against a player that goes over all moves.
 
-    bench/run lemmas SEARCH [--games N] [--seed S] [--mutants M]
+    bench/run lemmas SEARCH [--games N] [--seed S] [--mutants M] [--qdense PATH]
     bench/run lemmas --judge PROBLEM LIST..
 
 SEARCH is a program that is called as `SEARCH PROBLEM -o LIST` and writes a list of lemmas for a plain game. It solves
 small games that are made at random; the oracle's reader of lists (tools/oracle/lemmas.py) has to believe each list, and
 it has to prove the outcome that the oracle finds by going over all moves. Then lists are damaged, and held against other
-games: none may prove another outcome. `--judge` tells what lists prove of a problem.
+games: none may prove another outcome. `--judge` tells what lists prove of a problem. With `--qdense` that program checks
+each list as well, and has to say what the oracle's reader says.
 """
 import argparse
 import os
@@ -60,9 +61,18 @@ class Trials:
         judgement = judged(game, data)
         answer = judgement.partition(":")[0]
         self.met[f"{what}: {answer}"] += 1
-        if answer not in right:
-            parts = f"-- game {number}, {what}: {outcome} by going over all moves, judged {judgement}", game.text, data
-            self.wrong.append("\n".join([parts[0], *(part.decode(errors="replace") for part in parts[1:])]))
+        told = answered(self.options.qdense, self.problem, self.found, data) if self.options.qdense else answer
+        if answer not in right or told != answer:
+            head = f"-- game {number}, {what}: {outcome} by going over all moves, judged {judgement}, {told} by the program"
+            self.wrong.append("\n".join([head, *(part.decode(errors="replace") for part in (game.text, data))]))
+
+
+def answered(program, problem, path, data):
+    """What the program says that a list proves."""
+    with open(path, "wb") as file:
+        file.write(data)
+    done = subprocess.run([program, "check", problem, path], stdout=subprocess.PIPE, check=False)
+    return {b"yes true\n": "true", b"yes false\n": "false"}.get(done.stdout, "no" if done.returncode in (1, 5) else "nothing")
 
 
 def main(words):
@@ -72,6 +82,7 @@ def main(words):
     options.add_argument("--games", type=int, default=1000)
     options.add_argument("--seed", default="1")
     options.add_argument("--mutants", type=int, default=12)
+    options.add_argument("--qdense", metavar="PATH", help="the program that has to say the same")
     options = options.parse_args(words)
     if options.judge:
         return judge_files(*options.judge)
