@@ -45,7 +45,8 @@ pub(crate) fn check_files<S: Shelf, K: Sink>(
     }
 }
 
-fn check_problem<S: Shelf, K: Sink>(
+/// Checks the certificate of a file against a problem.
+pub fn check_problem<S: Shelf, K: Sink>(
     alloc: Global,
     problem: &Problem,
     certificate: &str,
@@ -109,7 +110,7 @@ fn tell<K: Sink>(out: &mut K, checked: Checked) -> Status
 }
 
 /// The line that names the place of a fault.
-pub(crate) fn refuse<K: Sink>(out: &mut K, words: &[u8], at: u64) -> Status
+pub fn refuse<K: Sink>(out: &mut K, words: &[u8], at: u64) -> Status
     ensures wrote { Wrote (K.written out.old) (K.written out.new) (K.faults out.old) (K.faults out.new) result
         (λ s t. (s ≡ Status.BadCertificate) × (t ≡ words.now ++ decimal at ++ codes "\n")) }
     ensures rows { (result ≡ Status.BadCertificate) ⊎ (result ≡ Status.WriteFault) }

@@ -16,7 +16,7 @@ use std::alloc::Global;
 
 /// The game of a file's formula. Where the file can't be read, is too long or has none, the answer is written, and its
 /// status given.
-pub(crate) fn open_formula<S: Shelf, K: Sink>(
+pub fn open_formula<S: Shelf, K: Sink>(
     alloc: Global,
     name: &str,
     shelf: &mut S,

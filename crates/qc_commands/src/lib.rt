@@ -27,14 +27,16 @@ mod writing;
 
 // What another program needs that reads such files and writes such answers.
 pub use certificate_file::open_certificate;
+pub use check::{check_problem, refuse};
 pub use file::open_file;
+pub use formula_file::open_formula;
 pub use gap::outcome_line;
 pub use moves::{NoMoves, read_moves};
 pub use play::{MOVES_LIMIT, tell_open, turn_moves_down, turn_play_down};
 pub use problem_file::open_problem;
-pub use solve::solve_file;
+pub use solve::{solve_file, solve_problem};
 pub use status::Status;
 pub use top::{run, run_sound};
 pub use words::{USUAL_TURNS, is_name, number_within, places_in, turns_in};
 pub use worst::oppose_file;
-pub use writing::finish;
+pub use writing::{finish, too_long};

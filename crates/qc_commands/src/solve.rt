@@ -38,7 +38,7 @@ pub fn solve_file<S: Shelf, K: Sink>(
 }
 
 /// Solves a problem within so many turns.
-pub(crate) fn solve_problem<K: Sink>(
+pub fn solve_problem<K: Sink>(
     alloc: Global,
     problem: &Problem,
     turns: u64,

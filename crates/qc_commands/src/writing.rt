@@ -21,7 +21,7 @@ pub fn finish<K: Sink>(out: &mut K, text: &[u8], status: Status) -> Status
 }
 
 /// Tells that a file is longer than its limit.
-pub(crate) fn too_long<K: Sink>(out: &mut K, name: &str) -> Status
+pub fn too_long<K: Sink>(out: &mut K, name: &str) -> Status
     ensures wrote { Wrote (K.written out.old) (K.written out.new) (K.faults out.old) (K.faults out.new) result
         (λ s t. (s ≡ Status.TooLong) × (t ≡ codes "too long: " ++ name.now ++ codes "\n")) }
     ensures rows { (result ≡ Status.TooLong) ⊎ (result ≡ Status.WriteFault) }
