@@ -285,6 +285,20 @@ not_shown = refl
 unknown : proves (summed (pos 3)) Forall (loses Forall (is 2 (pos 0) (pos 1) ∷ []) (choose 3 (pos 0) ∷ []) Goal ∷ loses Forall [] (choose 0 (pos 0) ∷ []) (lost (lemma 0)) ∷ []) ≡ false
 unknown = refl
 
+-- exists; var 0..1: x; forall; var 0..1: y; goal; constraint int_lin_le([1,1],[x,y],0); solve;
+abbrev pub two_terms : Game
+two_terms = record {
+  scopes = scope Exists ∷ scope Forall ∷ [];
+  variables = variable 0 (codes "x") (Range (pos 0) (pos 1)) ∷ variable 1 (codes "y") (Range (pos 0) (pos 1)) ∷ [];
+  aggregates = [];
+  constraints = rule 2 IntLinLe (Numbers (pos 1 ∷ pos 1 ∷ []) ∷ Many (var 0 ∷ var 1 ∷ []) ∷ One (Num (pos 0)) ∷ []) ∷ [];
+}
+
+-- a lemma's sum is of the terms before its last scope: y, which may be 1, counts besides
+last_term : proves two_terms Forall
+    (with_sums Forall (is 1 (pos 0) (pos 1) ∷ []) (sum 0 (pos 0) (pos 0) ∷ []) [] Goal ∷ loses Forall [] (choose 0 (pos 0) ∷ []) (lost (lemma 0)) ∷ []) ≡ false
+last_term = refl
+
 -- exists; var 0..3: x; var 0..3: y; forall; var 0..1: u; exists; var 0..6: z; goal; constraint PRED(x,y,..); solve;
 abbrev pub compared : Game
 compared = record {
