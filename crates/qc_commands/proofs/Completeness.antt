@@ -130,7 +130,7 @@ confirms_done l told g bytes proof file NotProved t c = absurd (never_denied l.c
 confirms_done l told g bytes proof file BadCertificate t (fault, is, line) = absurd (never_faulty l.never told g bytes t fault proof file is line)
 confirms_done l told g bytes proof file s t c = absurd c
 
-checks_done : Laws → (name : List ℕ) (told : Option (List ℕ)) (gave : ℕ → Type 0) (g : Game) → TellsProof told g →
+pub checks_done : Laws → (name : List ℕ) (told : Option (List ℕ)) (gave : ℕ → Type 0) (g : Game) → TellsProof told g →
     (s : Status) (t : List ℕ) → ChecksFile name told gave g s t → ¬ (s ≡ Memory) → ¬ (s ≡ ReadFault) → s ≡ Done
 checks_done l name told gave g proof s t h m r =
     elim h [
@@ -157,7 +157,7 @@ never_turned_away l name told gave f tells Memory t d m r = m refl
 never_turned_away l name told gave f tells ReadFault t d m r = r refl
 never_turned_away l name told gave f tells s t d m r = d
 
-for_formula : Laws → (P : Formula → Status → List ℕ → Type 0) (name : List ℕ) (told : Option (List ℕ)) (gave : ℕ → Type 0) (f : File) → TellsFormula told f →
+pub for_formula : Laws → (P : Formula → Status → List ℕ → Type 0) (name : List ℕ) (told : Option (List ℕ)) (gave : ℕ → Type 0) (f : File) → TellsFormula told f →
     (s : Status) (t : List ℕ) → AnswersFormula P name told gave s t → ¬ (s ≡ Memory) → ¬ (s ≡ ReadFault) → P (formula_of f) s t
 for_formula l P name told gave f tells s t h m r =
     elim h [
@@ -165,7 +165,7 @@ for_formula l P name told gave f tells s t h m r =
       | inr (h0, of, k) ↦ subst (λ q. P (formula_of q) s t) (same_file l.formula told f h0 tells of) k
     ]
 
-decides_done : (turns : ℕ) (φ : Formula) (s : Status) (t : List ℕ) → DecidesFormula turns φ s t → ¬ (s ≡ Memory) → full_turns_of (game_of φ) ≤ turns → s ≡ Done
+pub decides_done : (turns : ℕ) (φ : Formula) (s : Status) (t : List ℕ) → DecidesFormula turns φ s t → ¬ (s ≡ Memory) → full_turns_of (game_of φ) ≤ turns → s ≡ Done
 decides_done turns φ Done t c m f = refl
 decides_done turns φ Open t c m f = absurd (open_below c.certifies.outcome (game_of φ) turns c.certifies.root c.certifies.ends c.certifies.spent f)
 decides_done turns φ Memory t c m f = absurd (m refl)

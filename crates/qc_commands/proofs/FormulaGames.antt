@@ -16,7 +16,7 @@ use Rattle.qc_commands.specs.Answers.{SolvesProblem, PrintsProblem}
 use Rattle.qc_commands.specs.Certifies.{Certifies}
 use Rattle.qc_commands.specs.Formulas.{Tells, Decides, DecidesFormula, RewritesFormula}
 
-is_false : (b : Bool) → (IsTrue b → ⊥) → IsFalse b
+pub is_false : (b : Bool) → (IsTrue b → ⊥) → IsFalse b
 is_false true never = absurd (never refl)
 is_false false never = refl
 

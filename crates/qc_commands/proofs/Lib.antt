@@ -4,7 +4,7 @@ mod Compared
 pub mod Completeness
 pub mod Down
 mod Feeding
-mod FormulaGames
+pub mod FormulaGames
 mod Numerals
 mod Parts
 pub mod Played

@@ -38,12 +38,7 @@ pub fn solve_file<S: Shelf, K: Sink>(
 }
 
 /// Solves a problem within so many turns.
-pub fn solve_problem<K: Sink>(
-    alloc: Global,
-    problem: &Problem,
-    turns: u64,
-    out: &mut K,
-) -> Status
+pub fn solve_problem<K: Sink>(alloc: Global, problem: &Problem, turns: u64, out: &mut K) -> Status
     requires turns { (1 ≤ turns) × (turns ≤ 10000000) }
     ensures wrote { Wrote (K.written out.old) (K.written out.new) (K.faults out.old) (K.faults out.new) result (SolvesProblem turns problem.now) }
     ensures rows { (result ≢ Status.Usage) × (result ≢ Status.BadProblem) × (result ≢ Status.ReadFault) }
