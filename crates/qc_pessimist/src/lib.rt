@@ -8,7 +8,6 @@
 //! makes this problem, and its contract says why its answer is that of the old one (`specs/Laws`).
 #![tactic(auto)]
 
-mod copies;
 mod laws;
 mod made;
 mod opposed;

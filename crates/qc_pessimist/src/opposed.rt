@@ -5,8 +5,8 @@ ghost use Rattle.qc_pessimist.specs.Opposed.{added, with_opposing, move_variable
 ghost use Rattle.qc_pessimist.specs.Refusals.{is_chosen as is_chosen_of};
 ghost use Rattle.qc_pessimist.specs.Table.{places_from, place_in};
 
-use crate::copies::{copy_arguments, copy_domain, copy_name};
 use crate::reading::Places;
+use model_copies::{copy_arguments, copy_domain, copy_name};
 use qc_model::{
     Aggregate, ConId, Condition, Constraint, Kind, Problem, Scope, ScopeId, Sense, Variable,
 };

@@ -1,5 +1,5 @@
 use Rattle.std.proofs.Common.{◌≡◌, ◌++◌, drop}
-use Rattle.qc_pessimist.proofs.copies.copy_args.Given as goal
+use Rattle.model_copies.proofs.copies.copy_args.Given as goal
 
 abbrev pub invariant-loop-item : goal.invariant-loop-item
 invariant-loop-item l = l.copy ++ drop l.item-index l.items ≡ l.items

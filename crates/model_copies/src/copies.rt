@@ -4,7 +4,8 @@ ghost use Rattle.std.specs.Prelude.{◌≡◌, IfOk};
 use qc_model::{Args, Argument, Domain, Name, Numbers, Set};
 use std::alloc::{AllocError, Global};
 
-pub(crate) fn copy_name(alloc: Global, name: &Name) -> Result<Name, AllocError>
+/// A copy of a name.
+pub fn copy_name(alloc: Global, name: &Name) -> Result<Name, AllocError>
     ensures { IfOk result (λ copy. copy ≡ name.now) }
 {
     Name::new(alloc, name.text())
@@ -32,7 +33,8 @@ fn copy_args(alloc: Global, args: &Args) -> Result<Args, AllocError>
     Ok(copy)
 }
 
-pub(crate) fn copy_domain(alloc: Global, domain: &Domain) -> Result<Domain, AllocError>
+/// A copy of a domain.
+pub fn copy_domain(alloc: Global, domain: &Domain) -> Result<Domain, AllocError>
     ensures { IfOk result (λ copy. copy ≡ domain.now) }
 {
     match domain {
@@ -62,10 +64,8 @@ fn copy_argument(alloc: Global, argument: &Argument) -> Result<Argument, AllocEr
     }
 }
 
-pub(crate) fn copy_arguments(
-    alloc: Global,
-    arguments: &[Argument],
-) -> Result<Vec<Argument>, AllocError>
+/// Copies of the arguments of a constraint.
+pub fn copy_arguments(alloc: Global, arguments: &[Argument]) -> Result<Vec<Argument>, AllocError>
     ensures { IfOk result (λ copies. copies.items ≡ arguments.now) }
 {
     let mut copies = Vec::new(alloc);

@@ -1,0 +1,12 @@
+mod Kept
+mod Worst
+mod Free
+mod Places
+mod Play
+mod Wishes
+mod Law
+mod Steps
+mod Valid
+mod Ends
+mod CaseGames
+mod Cases

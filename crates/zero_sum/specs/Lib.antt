@@ -1,0 +1,4 @@
+pub mod Stake
+pub mod Bounded
+pub mod Laws
+pub mod Refusals
