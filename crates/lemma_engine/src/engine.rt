@@ -1,0 +1,239 @@
+//! What a search goes over, and what it changes.
+use crate::known::Known;
+use crate::waiting::Waiting;
+use lemma_ground::{Boxes, Cut, Facts, Trail, Wakes, Why, rule_at};
+use qc_model::{ConId, Kind, Problem, VarId};
+use std::alloc::{AllocError, Global};
+
+/// A value that the winner takes.
+#[derive(Clone, Copy)]
+pub struct Choice {
+    pub x: VarId,
+    pub v: i64,
+}
+
+/// What a conflict comes from: no value is left to a variable, a constraint is refuted, a lemma holds, or all values are taken
+/// and the goal holds.
+#[derive(Clone, Copy)]
+pub enum Cause {
+    Emptied(VarId),
+    Rule(ConId),
+    Lemma(usize),
+    Goal,
+}
+
+/// The loser loses here, whatever it does, where the winner takes these values.
+#[derive(Drop)]
+pub struct Conflict {
+    pub loser: Kind,
+    pub cause: Cause,
+    pub choices: Vec<Choice>,
+}
+
+// A condition of a lemma that is watched, and another one that hasn't been met when it was looked at last.
+#[derive(Clone, Copy)]
+pub(crate) struct Watch {
+    pub(crate) lemma: usize,
+    pub(crate) place: usize,
+    pub(crate) lo: i64,
+    pub(crate) hi: i64,
+    pub(crate) other: VarId,
+    pub(crate) other_lo: i64,
+    pub(crate) other_hi: i64,
+}
+
+// Two items of a clause to look at first.
+#[derive(Clone, Copy)]
+pub(crate) struct Hint {
+    pub(crate) first: usize,
+    pub(crate) second: usize,
+}
+
+/// The values left, the changes that led to them, the lemmas known, what waits to be looked at, and the scope whose variables
+/// are chosen next: those of earlier scopes have one value each.
+#[derive(Drop)]
+pub struct Engine<'p> {
+    pub alloc: Global,
+    pub facts: Facts,
+    pub boxes: Boxes<'p>,
+    pub trail: Trail,
+    pub known: Vec<Known>,
+    pub scope: usize,
+    /// The value that each variable had last.
+    pub saved: Vec<Option<i64>>,
+    /// Constraints and lemmas that were looked at.
+    pub work: u64,
+    /// Lemmas that are looked at.
+    pub live: usize,
+    pub(crate) watches: Vec<Vec<Watch>>,
+    pub(crate) by_place: Vec<Vec<usize>>,
+    pub(crate) waiting: Waiting,
+    pub(crate) hints: Vec<Hint>,
+    pub(crate) steps_scopes: bool,
+}
+
+// A constraint of so many variables takes long.
+const MANY: usize = 4;
+
+impl<'p> Engine<'p> {
+    /// The declared domains, before any decision; all constraints that speak there wait. It fails only where memory runs out.
+    pub fn new(alloc: Global, problem: &'p Problem) -> Result<Engine<'p>, AllocError> {
+        let facts = Facts::new(alloc, problem)?;
+        let mut is_slow = Vec::new(alloc);
+        let mut hints = Vec::new(alloc);
+        for k in 0..facts.rules() {
+            let c = rule_at(k);
+            is_slow.push(!facts.is_clause(c) && facts.own_of(c).len() > MANY)?;
+            hints.push(Hint {
+                first: 0,
+                second: 0,
+            })?;
+        }
+        let mut watches: Vec<Vec<Watch>> = Vec::new(alloc);
+        for _ in 0..facts.variables().saturating_mul(3) {
+            watches.push(Vec::new(alloc))?;
+        }
+        let mut saved = Vec::new(alloc);
+        for _ in 0..facts.variables() {
+            saved.push(None)?;
+        }
+        let mut by_place: Vec<Vec<usize>> = Vec::new(alloc);
+        let mut steps_scopes = false;
+        for scope in 0..facts.goal().saturating_add(1) {
+            by_place.push(Vec::new(alloc))?;
+            if scope < facts.goal() && facts.is_restricted(scope) {
+                steps_scopes = true;
+            }
+        }
+        let mut engine = Engine {
+            alloc,
+            boxes: Boxes::new(alloc, problem)?,
+            trail: Trail::new(alloc, facts.variables())?,
+            known: Vec::new(alloc),
+            scope: 0,
+            saved,
+            work: 0,
+            live: 0,
+            watches,
+            by_place,
+            waiting: Waiting::new(alloc, facts.variables(), is_slow)?,
+            hints,
+            steps_scopes,
+            facts,
+        };
+        engine.wake_active(None)?;
+        Ok(engine)
+    }
+
+    /// Whether a constraint speaks where the next scope is this one.
+    pub(crate) fn is_active_at(&self, c: ConId, scope: usize) -> bool {
+        let own = self.facts.rule_scope(c);
+        own >= scope && own < self.facts.reach_from(self.facts.rule_side(c), scope)
+    }
+
+    /// Lets all constraints wait that speak here and didn't at an earlier scope.
+    pub(crate) fn wake_active(&mut self, earlier: Option<usize>) -> Result<(), AllocError> {
+        for k in 0..self.facts.rules() {
+            let c = rule_at(k);
+            let did = match earlier {
+                Some(scope) => self.is_active_at(c, scope),
+                None => false,
+            };
+            if !did && self.is_active_at(c, self.scope) {
+                self.waiting.add_rule(c)?;
+            }
+        }
+        Ok(())
+    }
+
+    /// Lets what a change of x concerns wait, where its ends were these before.
+    pub(crate) fn wake(&mut self, x: VarId, least: i64, greatest: i64) -> Result<(), AllocError> {
+        let is_raised = self.boxes.least(x) > least;
+        let is_lowered = self.boxes.greatest(x) < greatest;
+        for k in 0..self.facts.wakers_of(x).len() {
+            let Some(waker) = self.facts.wakers_of(x).get(k).copied() else {
+                break;
+            };
+            let concerns = match waker.when {
+                Wakes::Raised => is_raised,
+                Wakes::Lowered => is_lowered,
+                Wakes::Changed => true,
+            };
+            if concerns && self.can_wake(waker.c) {
+                self.waiting.add_rule(waker.c)?;
+            }
+        }
+        self.waiting.add_variable(x)
+    }
+
+    // Whether a constraint doesn't wait, speaks here, and may have something to say.
+    fn can_wake(&self, c: ConId) -> bool {
+        !self.waiting.has_rule(c) && self.is_active_at(c, self.scope) && !self.is_hinted(c)
+    }
+
+    /// Takes values of the loser's out of x, and notes why. A conflict comes where none would be left.
+    pub(crate) fn remove(
+        &mut self,
+        x: VarId,
+        lo: i64,
+        hi: i64,
+        why: Why,
+        loser: Kind,
+    ) -> Result<Option<Conflict>, AllocError> {
+        let (least, greatest) = (self.boxes.least(x), self.boxes.greatest(x));
+        match self.boxes.cut(x, lo, hi)? {
+            Cut::Nothing => Ok(None),
+            Cut::Emptied => {
+                self.trail.push(x, lo, hi, false, why)?;
+                Ok(Some(Conflict {
+                    loser,
+                    cause: Cause::Emptied(x),
+                    choices: Vec::new(self.alloc),
+                }))
+            }
+            Cut::Some => {
+                self.trail.push(x, lo, hi, false, why)?;
+                self.wake(x, least, greatest)?;
+                Ok(None)
+            }
+        }
+    }
+
+    /// Looks at all that waits, until nothing does or a conflict is found.
+    pub fn propagate(&mut self) -> Result<Option<Conflict>, AllocError> {
+        for _ in 0..u64::MAX {
+            let Some(found) = self.look_at_next()? else {
+                return Ok(None);
+            };
+            if found.is_some() {
+                self.waiting.clear();
+                return Ok(found);
+            }
+        }
+        Ok(None)
+    }
+
+    // What looking at the next comes to. None: nothing waits.
+    fn look_at_next(&mut self) -> Result<Option<Option<Conflict>>, AllocError> {
+        if let Some(x) = self.waiting.next_variable() {
+            return Ok(Some(self.visit_lemmas(x)?));
+        }
+        let Some(c) = self.waiting.next_rule() else {
+            return Ok(None);
+        };
+        let found = self.look_at_rule(c)?;
+        self.waiting.finish_rule(c);
+        Ok(Some(found))
+    }
+
+    fn look_at_rule(&mut self, c: ConId) -> Result<Option<Conflict>, AllocError> {
+        if !self.is_active_at(c, self.scope) {
+            return Ok(None);
+        }
+        self.work = self.work.saturating_add(1);
+        if self.facts.is_clause(c) {
+            return self.run_clause(c);
+        }
+        self.run_rule(c)
+    }
+}

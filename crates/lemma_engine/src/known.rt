@@ -1,0 +1,113 @@
+//! Lemmas as the search keeps them.
+use lemma_ground::{Boxes, Why};
+use qc_model::{ConId, Kind, VarId};
+
+/// The values from `lo` to `hi`.
+#[derive(Clone, Copy, PartialEq, Eq)]
+pub struct Range {
+    pub lo: i64,
+    pub hi: i64,
+}
+
+/// A variable has a value from `lo` to `hi`, and where there are ranges, in one of these, which ascend.
+#[derive(Drop)]
+pub struct Condition {
+    pub x: VarId,
+    pub lo: i64,
+    pub hi: i64,
+    pub ranges: Vec<Range>,
+}
+
+/// The variables that a linear constraint has in scopes before the last one that the lemma speaks of come to a sum from
+/// `lo` to `hi`.
+#[derive(Clone, Copy, PartialEq, Eq)]
+pub struct SumCondition {
+    pub c: ConId,
+    pub lo: i64,
+    pub hi: i64,
+}
+
+/// A step of a lemma's proof: values of the loser's go, or the winner takes one.
+#[derive(Clone, Copy)]
+pub enum Taken {
+    Cut {
+        x: VarId,
+        lo: i64,
+        hi: i64,
+        why: Why,
+    },
+    Choose {
+        x: VarId,
+        v: i64,
+    },
+}
+
+/// How a lemma's proof ends: no value is left to some variable, a constraint is refuted, a lemma holds, or the goal does.
+#[derive(Clone, Copy)]
+pub enum Finish {
+    Emptied,
+    Rule(ConId),
+    Lemma(usize),
+    Goal,
+}
+
+/// A lemma: the loser loses at the position before scope `place` where the conditions and sums hold. It comes with the steps
+/// that show it, and how they end. Two of its conditions are watched.
+#[derive(Drop)]
+pub struct Known {
+    pub loser: Kind,
+    pub place: usize,
+    pub conditions: Vec<Condition>,
+    pub sums: Vec<SumCondition>,
+    pub taken: Vec<Taken>,
+    pub finish: Finish,
+    pub activity: u64,
+    pub is_dead: bool,
+    pub first: usize,
+    pub second: usize,
+}
+
+impl Condition {
+    /// Whether each value left meets it.
+    pub fn is_met(&self, boxes: &Boxes) -> bool {
+        if boxes.least(self.x) < self.lo || boxes.greatest(self.x) > self.hi {
+            return false;
+        }
+        let mut rest = self.ranges.iter();
+        let Some(first) = rest.next() else {
+            return true;
+        };
+        let mut end = first.hi;
+        for range in rest {
+            // no value lies between two ranges
+            if let Some(v) = boxes.next(self.x, end.saturating_add(1))
+                && v < range.lo
+            {
+                return false;
+            }
+            end = range.hi;
+        }
+        true
+    }
+
+    /// A value left that meets it.
+    pub fn value_of(&self, boxes: &Boxes) -> Option<i64> {
+        if self.ranges.is_empty() {
+            return value_within(self.x, self.lo, self.hi, boxes);
+        }
+        for range in self.ranges.as_slice() {
+            if let Some(v) = value_within(self.x, range.lo, range.hi, boxes) {
+                return Some(v);
+            }
+        }
+        None
+    }
+}
+
+fn value_within(x: VarId, lo: i64, hi: i64, boxes: &Boxes) -> Option<i64> {
+    if hi < boxes.least(x) || boxes.greatest(x) < lo {
+        return None;
+    }
+    let v = boxes.next(x, lo)?;
+    if v <= hi { Some(v) } else { None }
+}

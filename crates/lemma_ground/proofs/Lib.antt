@@ -1,0 +1,4 @@
+pub mod Asking
+pub mod Declared
+pub mod Going
+pub mod Stacks

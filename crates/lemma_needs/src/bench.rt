@@ -1,0 +1,76 @@
+//! Boxes that are made of some changes, to ask what these alone show.
+use lemma_engine::{Choice, Engine};
+use lemma_ground::{Boxes, Change, Cut};
+use qc_model::{ConId, Problem, VarId};
+use std::alloc::{AllocError, Global};
+
+/// A box to try changes on. Between two tries it is the declared one.
+#[derive(Drop)]
+pub struct Bench<'p> {
+    boxes: Boxes<'p>,
+}
+
+impl<'p> Bench<'p> {
+    pub fn new(alloc: Global, problem: &'p Problem) -> Result<Bench<'p>, AllocError> {
+        Ok(Bench {
+            boxes: Boxes::new(alloc, problem)?,
+        })
+    }
+
+    pub fn open(&mut self) -> Result<(), AllocError> {
+        self.boxes.open_level()
+    }
+
+    pub fn close(&mut self) {
+        self.boxes.close_to(0);
+    }
+
+    /// Gives up all tries but so many that are open.
+    pub(crate) fn close_to(&mut self, tries: usize) {
+        self.boxes.close_to(tries);
+    }
+
+    /// Makes a change, and says whether values are left.
+    pub fn make(&mut self, change: &Change) -> Result<bool, AllocError> {
+        if change.keeps {
+            return self.keep(change.x, change.lo, change.hi);
+        }
+        Ok(self.boxes.cut(change.x, change.lo, change.hi)? != Cut::Emptied)
+    }
+
+    /// Keeps the values from lo to hi alone, and says whether some are left.
+    pub fn keep(&mut self, x: VarId, lo: i64, hi: i64) -> Result<bool, AllocError> {
+        let (least, greatest) = (self.boxes.least(x), self.boxes.greatest(x));
+        if self.boxes.cut(x, least, lo.saturating_sub(1))? == Cut::Emptied {
+            return Ok(false);
+        }
+        Ok(self.boxes.cut(x, hi.saturating_add(1), greatest)? != Cut::Emptied)
+    }
+
+    /// Takes the values that the winner chooses, and says whether all were left.
+    pub fn choose(&mut self, choices: &[Choice]) -> Result<bool, AllocError> {
+        for choice in choices {
+            if !self.boxes.has(choice.x, choice.v) || !self.keep(choice.x, choice.v, choice.v)? {
+                return Ok(false);
+            }
+        }
+        Ok(true)
+    }
+
+    pub fn refutes(&self, c: ConId) -> bool {
+        self.boxes.refutes(c)
+    }
+
+    /// Whether the constraint holds on all that is left, as far as is seen at once.
+    pub fn keeps(&self, engine: &Engine, c: ConId) -> bool {
+        if let Some(linear) = engine.facts.linear_of(c) {
+            return linear.is_kept_by(linear.total(&self.boxes), &self.boxes);
+        }
+        engine
+            .facts
+            .own_of(c)
+            .iter()
+            .all(|x| self.boxes.is_fixed(*x))
+            && !self.boxes.refutes(c)
+    }
+}

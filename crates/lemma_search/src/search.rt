@@ -1,0 +1,144 @@
+//! The search.
+use crate::deciding::{first_values, next_choice};
+use crate::listing::{List, listed};
+use crate::pacing::Pace;
+use lemma_analysis::Analyst;
+use lemma_engine::{Cause, Conflict, Engine};
+use qc_model::{Kind, Problem};
+use std::alloc::{AllocError, Global};
+
+/// A list of lemmas that says who wins the game, for a plain one, without conditions and aggregates. None comes where the game
+/// isn't plain, where the search gives up, where it has looked at as many constraints and lemmas as the budget says, and where
+/// it keeps too much. Nothing is promised of a list that comes. It fails only where memory runs out.
+///
+/// What is gone over besides counts for the budget too, so much of it for a look as takes about as long. All lemmas learnt are
+/// kept with the steps that show them, up to 12,000,000 literals, sums and steps, where each lemma counts as 16 more: together
+/// with the list they take about 1 GB at most. What the values of the variables take, and what one lemma may take, of some
+/// steps for each value of the game, comes besides.
+pub fn learn(alloc: Global, problem: &Problem, budget: u64) -> Result<Option<List>, AllocError> {
+    if !is_plain(problem) {
+        return Ok(None);
+    }
+    let mut engine = Engine::new(alloc, problem)?;
+    let mut analyst = Analyst::new(alloc, problem, &engine, budget)?;
+    engine.saved = first_values(alloc, &engine)?;
+    if !is_decided(&mut engine, &mut analyst)? {
+        return Ok(None);
+    }
+    listed(alloc, problem, &engine)
+}
+
+fn is_plain(problem: &Problem) -> bool {
+    problem.known();
+    if problem.aggregates() > 0 {
+        return false;
+    }
+    for i in 0..problem.scopes() {
+        if problem
+            .scope(qc_model::ScopeId(i as u8))
+            .condition
+            .is_some()
+        {
+            return false;
+        }
+    }
+    true
+}
+
+// What a turn of the search comes to: it goes on, it met a conflict, or no turn is left.
+enum Turn {
+    Goes,
+    Met(Conflict),
+    Spent,
+}
+
+// Goes on until the last lemma says who wins, or it gives up.
+fn is_decided(engine: &mut Engine, analyst: &mut Analyst) -> Result<bool, AllocError> {
+    let mut pace = Pace::new();
+    for _ in 0..u64::MAX {
+        match one_turn(engine, analyst, &mut pace)? {
+            Turn::Goes => {}
+            Turn::Spent => return Ok(false),
+            Turn::Met(conflict) => match learn_from(engine, analyst, &mut pace, conflict)? {
+                Learnt::More => pace.count(),
+                Learnt::All => return Ok(true),
+                Learnt::Stuck => return Ok(false),
+            },
+        }
+        if pace.is_full(engine.live) {
+            engine.forget_half()?;
+        }
+    }
+    Ok(false)
+}
+
+fn one_turn(
+    engine: &mut Engine,
+    analyst: &mut Analyst,
+    pace: &mut Pace,
+) -> Result<Turn, AllocError> {
+    if let Some(conflict) = engine.propagate()? {
+        return Ok(Turn::Met(conflict));
+    }
+    if engine.advance()? {
+        return match engine.visit_new_lemmas()? {
+            Some(conflict) => Ok(Turn::Met(conflict)),
+            None => Ok(Turn::Goes),
+        };
+    }
+    if engine.scope >= engine.facts.goal() {
+        return Ok(Turn::Met(Conflict {
+            loser: Kind::Forall,
+            cause: Cause::Goal,
+            choices: Vec::new(engine.alloc),
+        }));
+    }
+    if analyst.is_spent(engine) || pace.keeps_too_much() {
+        return Ok(Turn::Spent);
+    }
+    if pace.is_over() && engine.trail.levels() > 0 {
+        engine.go_back(0);
+        return Ok(Turn::Goes);
+    }
+    match next_choice(engine, analyst) {
+        Some(choice) => engine.decide(choice.x, choice.v)?,
+        None => return Ok(Turn::Spent),
+    }
+    Ok(Turn::Goes)
+}
+
+// What a conflict comes to: a lemma more, the last lemma, or the analysis gives up.
+#[derive(Clone, Copy)]
+enum Learnt {
+    More,
+    All,
+    Stuck,
+}
+
+// Learns from a conflict, and from those that lemmas meet as soon as they are learnt.
+fn learn_from(
+    engine: &mut Engine,
+    analyst: &mut Analyst,
+    pace: &mut Pace,
+    met: Conflict,
+) -> Result<Learnt, AllocError> {
+    let mut conflict = met;
+    for _ in 0..u64::MAX {
+        let Some(lesson) = analyst.study(engine, &conflict)? else {
+            return Ok(Learnt::Stuck);
+        };
+        if lesson.lemma.conditions.is_empty() && lesson.lemma.sums.is_empty() {
+            engine.known.push(lesson.lemma)?;
+            return Ok(Learnt::All);
+        }
+        if lesson.levels >= engine.trail.levels() {
+            return Ok(Learnt::Stuck);
+        }
+        pace.keep(&lesson.lemma);
+        match engine.learn(lesson.lemma, lesson.levels, lesson.x)? {
+            Some(next) => conflict = next,
+            None => return Ok(Learnt::More),
+        }
+    }
+    Ok(Learnt::Stuck)
+}
