@@ -141,11 +141,18 @@ Where to read: docs/tell.md (words, lines and statuses), docs/command.md (the ot
 QDENSE = Program(
     name="qdense",
     crate="dense_program",
-    what="checks lists of lemmas: certificates that say who wins a game, each part shown once.",
+    what="solves games by lists of lemmas: certificates that say who wins, each part shown once.",
     commands=(
+        Command("solve", "solve PROBLEM [--turns N]",
+                "solves the game of a file and writes a list of lemmas that proves who wins; where none is found, or the\n"
+                "game has wishes, the certificate that ./qecode solve writes",
+                "solve examples/counters.qc > counters.cert", ((1, TEXT),)),
         Command("check", "check PROBLEM CERTIFICATE",
-                "says whether a list of lemmas proves who wins the game of a file: yes true, yes false, or no",
+                "says whether a certificate, a list or one of ./qecode, proves what it states: yes and the answer, or no",
                 "check crates/dense_program/data/sum.qc crates/dense_program/data/sum.cert", ((1, TEXT), (2, CERTIFICATE))),
+        Command("qbf", "qbf FILE [--turns N]",
+                "solves a quantified Boolean formula in the QDIMACS format",
+                "qbf examples/formulas/copycat.qdimacs", ((1, TEXT),)),
     ),
     notes="""\
   --now COMMAND WORDS

@@ -92,8 +92,8 @@ def tell_answer(program, ran, words, is_proved):
     problem = "PROBLEM" if is_pipe(words[1]) else shlex.quote(words[1])
     both = f"{problem} {shlex.quote(near(file)) if file else 'CERTIFICATE'}"
     ways = [f"check: {launcher} check {both}"]
-    if not states[2]:
-        # The helps run a program themselves: where this answer isn't of the proved one, that of the same build.
+    # The helps read trees, and run qecode themselves: where this answer isn't of the proved one, that of the same build.
+    if not states[2] and program.name == "qecode":
         by = "" if is_proved else f"QECODE={shlex.quote(near(program.unproved))} "
         ways += [f"{what}: {by}{shown(os.path.join(TOP, tool))} {both}{more}" for tool, what, more in HELPS if os.path.exists(os.path.join(TOP, tool))]
     where = "" if file else "; kept in a file (> CERTIFICATE)"

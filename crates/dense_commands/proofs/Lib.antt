@@ -1,4 +1,5 @@
 mod Before
 mod Completeness
 mod Feeding
-mod Parts
+mod Formulas
+mod Heads

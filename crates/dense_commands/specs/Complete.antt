@@ -1,14 +1,18 @@
 -- What a run answers in which nothing failed, and where memory sufficed.
-use Rattle.std.specs.Prelude.{◌≡◌, ◌≤◌, ⊤, ℕ, List, length, Option, Some, None, IsTrue}
+use Rattle.std.specs.Prelude.{◌≡◌, ◌≤◌, ◌⊎◌, ⊤, ℕ, List, length, Option, Some, None, IsTrue}
 use Rattle.qc_model.specs.declared.problem.Kind.{Kind}
 use Rattle.qc_model.specs.Content.{Game}
+use Rattle.qc_model.specs.Turns.{full_turns_of}
+use Rattle.qdimacs.specs.Grammar.{File}
+use Rattle.qdimacs.specs.Content.{game_of}
+use Rattle.qdimacs.specs.Refusals.{formula_of}
 use Rattle.lemma_list.specs.Lemmas.{Entry}
 use Rattle.lemma_list.specs.InPlace.{proves}
 use Rattle.lemma_judge.specs.Checking.{IsListText}
 use Rattle.qc_commands.specs.declared.status.Status.{Status}
 use Rattle.qc_commands.specs.declared.status.Status.TheVariants.{Done, Usage}
-use Rattle.qc_commands.specs.Complete.{TellsProblem}
-use Rattle.dense_commands.specs.Words.{Asked, checks}
+use Rattle.qc_commands.specs.Complete.{TellsProblem, TellsFormula, TellsProof as TellsTreeProof}
+use Rattle.dense_commands.specs.Words.{Asked, solves, decides, checks}
 
 -- the file is told, and has the text of a list that proves what it states
 pub record TellsProof (told : Option (List ℕ)) (g : Game) : Type 0 where
@@ -20,10 +24,13 @@ pub record TellsProof (told : Option (List ℕ)) (g : Game) : Type 0 where
   pub read : IsListText bytes loser entries
   pub proved : IsTrue (proves g loser entries)
 
--- a list that proves what it states is confirmed
+-- A problem is solved, and a formula decided, where the turns are as many as the game can take. A certificate that proves what it
+-- states is confirmed, be it a list or one of the first two versions.
 abbrev pub Completes : Asked → (List ℕ → Option (List ℕ)) → Status → Type 0
+Completes (solves name turns) told status = (g : Game) → TellsProblem (told name) g → full_turns_of g ≤ turns → status ≡ Done
+Completes (decides name turns) told status = (f : File) → TellsFormula (told name) f → full_turns_of (game_of (formula_of f)) ≤ turns → status ≡ Done
 Completes (checks problem certificate) told status =
-    (g : Game) → TellsProblem (told problem) g → TellsProof (told certificate) g → status ≡ Done
+    (g : Game) → TellsProblem (told problem) g → TellsProof (told certificate) g ⊎ TellsTreeProof (told certificate) g → status ≡ Done
 
 abbrev pub IsComplete : Option Asked → (List ℕ → Option (List ℕ)) → Status → Type 0
 IsComplete None told status = status ≡ Usage

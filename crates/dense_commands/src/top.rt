@@ -7,7 +7,9 @@ ghost use Rattle.dense_commands.specs.Answers.{Answers};
 ghost use Rattle.dense_commands.specs.Complete.{IsComplete, MayRunOut};
 
 use crate::check::check_files;
-use crate::words::names_in;
+use crate::formula::decide_file;
+use crate::solve::solve_file;
+use crate::words::{Command, command_of};
 use lemma_text::bytes_are_one_list_or_have_one_fault;
 use proof_text::bytes_are_one_text_or_have_one_fault;
 use qc_commands::{Status, finish};
@@ -16,11 +18,13 @@ use qc_syntax::texts_say_one_thing;
 use qdimacs::texts_get_one_answer;
 use std::alloc::Global;
 
-const USAGE: &[u8] = b"usage: qdense check PROBLEM CERTIFICATE\n";
+const USAGE: &[u8] =
+    b"usage: qdense solve PROBLEM [--turns N] | check PROBLEM CERTIFICATE | qbf FILE [--turns N]\n";
 
 /// Does what the words ask for.
 ///
-/// Where nothing failed and memory sufficed, a list of lemmas that proves what it states is confirmed.
+/// Where nothing failed and memory sufficed, a problem is solved, and a formula decided, within as many turns as the whole game
+/// can take, and a certificate that proves what it states is confirmed, be it a list of lemmas or a tree.
 pub fn run<S: Shelf, K: Sink>(alloc: Global, words: &[&str], shelf: &mut S, out: &mut K) -> Status
     ensures wrote { Wrote (K.written out.old) (K.written out.new) (K.faults out.old) (K.faults out.new) result
         (Answers (asked_of (map (λ w. w.now) words.now)) (S.told shelf.old) (λ n. RoseBy n (S.given shelf.old) (S.given shelf.new))) }
@@ -48,8 +52,15 @@ fn answer<S: Shelf, K: Sink>(alloc: Global, words: &[&str], shelf: &mut S, out: 
     ensures read_fault { result ≡ Status.ReadFault → Rose (S.faults shelf.old) (S.faults shelf.new) }
     ensures no_read_fault { result ≢ Status.ReadFault → S.faults shelf.new ≡ S.faults shelf.old }
 {
-    match names_in(words) {
-        Some(names) => check_files(alloc, names.problem, names.certificate, shelf, out),
+    match command_of(words) {
+        Some(Command::Solve { problem, turns }) => solve_file(alloc, problem, turns, shelf, out),
+        Some(Command::Decide { formula, turns }) => decide_file(alloc, formula, turns, shelf, out),
+        Some(
+            Command::Check {
+                problem,
+                certificate,
+            },
+        ) => check_files(alloc, problem, certificate, shelf, out),
         None => finish(out, USAGE, Status::Usage),
     }
 }

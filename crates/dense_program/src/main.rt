@@ -1,4 +1,4 @@
-//! The program `qdense`: checks lists of lemmas, certificates of games of quantified constraints.
+//! The program `qdense`: solves games of quantified constraints by lists of lemmas, and checks certificates.
 #![tactic(auto)]
 
 ghost use Rattle.std.specs.Prelude.{◌≡◌, IfOk, drop, map, string_bytes};

@@ -9,3 +9,7 @@
 mod lists;
 #[cfg(test)]
 mod runs;
+#[cfg(test)]
+mod solved;
+#[cfg(test)]
+mod trees;

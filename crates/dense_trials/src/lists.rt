@@ -16,7 +16,8 @@ const SUM: &[u8] =
 const WISH: &[u8] =
     b"exists minimize x; var 0..1: x; forall; var 0..1: y; constraint int_le(y,x); goal; constraint int_ne(y,1); solve;";
 
-const USAGE: &[u8] = b"usage: qdense check PROBLEM CERTIFICATE\n";
+const USAGE: &[u8] =
+    b"usage: qdense solve PROBLEM [--turns N] | check PROBLEM CERTIFICATE | qbf FILE [--turns N]\n";
 
 const LOW_LIST: &[u8] = b"qcert 3\ntrue\nw\nc 1 0\np 2 1 1 1\ng\n";
 
@@ -65,13 +66,12 @@ fn lists_are_judged(rt: HostRuntime) -> Result<(), Fail> {
     Ok(())
 }
 
-// No byte, another version, a line that is cut off, a letter that no line has there, a number beyond its range, and a
-// literal without its end.
+// No outcome, a line that is cut off, a letter that no line has there, a number beyond its range, and a literal without its
+// end.
 #[test]
 fn faults_have_places(rt: HostRuntime) -> Result<(), Fail> {
-    let rows: [(&[u8], &[u8]); 6] = [
-        (b"", b"bad certificate at 0\n"),
-        (b"qcert 2\ntrue\n", b"bad certificate at 6\n"),
+    let rows: [(&[u8], &[u8]); 5] = [
+        (b"qcert 3", b"bad certificate at 7\n"),
         (b"qcert 3\ntrue\nw\ng", b"bad certificate at 16\n"),
         (b"qcert 3\ntrue\nx\n", b"bad certificate at 13\n"),
         (b"qcert 3\ntrue\nw\nc 501 0\n", b"bad certificate at 19\n"),
@@ -88,11 +88,17 @@ fn faults_have_places(rt: HostRuntime) -> Result<(), Fail> {
 #[test]
 fn other_words_get_the_usage_line(rt: HostRuntime) -> Result<(), Fail> {
     let alloc = rt.alloc();
-    let rows: [&[&str]; 5] = [
+    let rows: [&[&str]; 11] = [
         &[],
+        &["solve"],
         &["check", "p"],
         &["check", "p", "-"],
         &["solve", "p", "c"],
+        &["solve", "-p"],
+        &["solve", "p", "--turns", "0"],
+        &["solve", "p", "--turns", "10000001"],
+        &["qbf", "p", "--text"],
+        &["qbf", "p", "--turns", "01"],
         &["check", "p", "c", "c"],
     ];
     for words in rows {
@@ -107,11 +113,12 @@ fn other_words_get_the_usage_line(rt: HostRuntime) -> Result<(), Fail> {
     Ok(())
 }
 
-// The problem is read in two calls, the second of which tells its end, and so is the list.
+// The problem is read in two calls, the second of which tells its end, then the first bytes of the list, and then the list in
+// two calls.
 #[test]
 fn calls_that_fail_are_told(rt: HostRuntime) -> Result<(), Fail> {
     let alloc = rt.alloc();
-    for call in [1, 2, 3, 4] {
+    for call in [1, 2, 3, 4, 5] {
         let mut shelf = MemoryShelf::new(alloc);
         shelf.add("p", LOW)?;
         shelf.add("c", LOW_LIST)?;

@@ -14,16 +14,50 @@ pub(crate) fn run(
     run_over(alloc, words, shelf, sink)
 }
 
-// What a check of a list against a problem answers and writes.
+// What a check of a certificate against a problem answers and writes.
 pub(crate) fn judged(
     alloc: Global,
     problem: &[u8],
-    list: &[u8],
+    certificate: &[u8],
 ) -> Result<(Status, MemorySink), AllocError> {
     let mut shelf = MemoryShelf::new(alloc);
     shelf.add("p", problem)?;
-    shelf.add("c", list)?;
+    shelf.add("c", certificate)?;
     let mut sink = MemorySink::new(alloc, 65_536, 65_536)?;
     let status = run(alloc, &["check", "p", "c"], &mut shelf, &mut sink);
     Ok((status, sink))
+}
+
+// What is answered and written for words over one file.
+pub(crate) fn answered(
+    alloc: Global,
+    words: &[&str],
+    text: &[u8],
+) -> Result<(Status, MemorySink), AllocError> {
+    let mut shelf = MemoryShelf::new(alloc);
+    shelf.add("p", text)?;
+    let mut sink = MemorySink::new(alloc, 65_536, 65_536)?;
+    let status = run(alloc, words, &mut shelf, &mut sink);
+    Ok((status, sink))
+}
+
+// Whether just this was written.
+pub(crate) fn wrote(sink: &MemorySink, text: &[u8]) -> bool {
+    sink.bytes() == text
+}
+
+// Whether what was written begins so.
+pub(crate) fn begins(sink: &MemorySink, front: &[u8]) -> bool {
+    sink.bytes().starts_with(front)
+}
+
+// Whether a check of a certificate against a problem answers with this line.
+pub(crate) fn confirmed(
+    alloc: Global,
+    problem: &[u8],
+    certificate: &[u8],
+    line: &[u8],
+) -> Result<bool, AllocError> {
+    let (status, sink) = judged(alloc, problem, certificate)?;
+    Ok(status == Status::Done && sink.bytes() == line)
 }

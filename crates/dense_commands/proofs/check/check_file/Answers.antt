@@ -1,17 +1,29 @@
-use Rattle.std.proofs.Common.{inl, inr, refl, rules, subst}
-use Rattle.lemma_check.specs.Machine.{game_of}
-use Rattle.lemma_judge.specs.Checking.{Comes}
+use Rattle.std.proofs.Common.{◌≡◌, [], refl, subst}
+use Rattle.qc_io.specs.Counts.{RoseBy}
+use Rattle.qc_io.proofs.Known.{Appends-nil}
+use Rattle.qc_commands.proofs.Down.{rose_after}
 use Rattle.qc_commands.proofs.Written.{Wrote-weaker}
+use Rattle.dense_commands.specs.Answers.{ChecksFile}
+use Rattle.dense_commands.proofs.Before.{checks_before, unread}
 use Rattle.dense_commands.proofs.check.check_file.Goals as goal
 
 pub returns-in-Ok-clause-wrote : goal.returns-in-Ok-clause-wrote
 returns-in-Ok-clause-wrote g c =
-    let fed = c.in-Ok.ensures.fed in
-    Wrote-weaker _ _ _ _ c.tell.result _ _
-    (λ s t h. inr (fed.bytes, fed.file, h (game_of c.args.checker.now.machine) fed.bytes (subst (λ q. Comes q fed.bytes c.finish.result) c.in-Ok.ensures.same (c.finish.ensures fed.bytes fed.checking))))
-    c.tell.ensures.wrote
+    let name = c.args.name.now in
+    let game = c.args.problem.now in
+    let old = g.S.Shelf.given c.args.shelf.now in
+    let mid = g.S.Shelf.given c.begins_list.new.shelf in
+    let new = g.S.Shelf.given c.check_as.new.shelf in
+    let told = g.S.Shelf.told c.args.shelf.now in
+    let stays : g.S.Shelf.told c.begins_list.new.shelf ≡ told = c.begins_list.ensures.stays in
+    Wrote-weaker _ _ _ _ c.check_as.result _ _
+    (λ s t h. checks_before name (told name) (λ n. RoseBy n mid new) (λ n. RoseBy n old new) game (λ n k. rose_after 0 n old mid new c.begins_list.ensures.given k) s t
+    (subst (λ q. ChecksFile name (q name) (λ n. RoseBy n mid new) game s t) stays h))
+    c.check_as.ensures.wrote
 
-pub returns-in-Err-TooLong-clause-wrote : goal.returns-in-Err-TooLong-clause-wrote
-returns-in-Err-TooLong-clause-wrote g c =
-    Wrote-weaker _ _ _ _ c.too_long.result _ _
-    (λ s t is. inl (rw (is.0, is.1) (record { given = search rules; longer = search rules; line = refl }))) c.too_long.ensures.wrote
+pub returns-in-Err-clause-wrote : goal.returns-in-Err-clause-wrote
+returns-in-Err-clause-wrote g c =
+    let name = c.args.name.now in
+    let old = g.S.Shelf.given c.args.shelf.now in
+    let new = g.S.Shelf.given c.begins_list.new.shelf in
+    (refl, ([], unread name (g.S.Shelf.told c.args.shelf.now name) (λ n. RoseBy n old new) c.args.problem.now, Appends-nil _))

@@ -1,8 +1,8 @@
 use Rattle.std.proofs.Common.{subst}
 use Rattle.qc_io.specs.Counts.{RoseBy}
 use Rattle.qc_commands.proofs.Written.{Wrote-weaker}
-use Rattle.dense_commands.specs.Answers.{ChecksFile}
-use Rattle.dense_commands.proofs.check.check_problem.Goals as goal
+use Rattle.dense_commands.specs.Answers.{ChecksListFile}
+use Rattle.dense_commands.proofs.list.check_list.Goals as goal
 
 pub returns-clause-wrote : goal.returns-clause-wrote
 returns-clause-wrote g c =
@@ -11,4 +11,4 @@ returns-clause-wrote g c =
     let old = g.S.Shelf.given c.args.shelf.now in
     let new = g.S.Shelf.given c.check_file.new.shelf in
     Wrote-weaker _ _ _ _ c.check_file.result _ _
-    (λ s t h. subst (λ q. ChecksFile name told (λ n. RoseBy n old new) q s t) c.in-Ok.ensures.same h) c.check_file.ensures.wrote
+    (λ s t h. subst (λ q. ChecksListFile name told (λ n. RoseBy n old new) q s t) c.in-Ok.ensures.same h) c.check_file.ensures.wrote

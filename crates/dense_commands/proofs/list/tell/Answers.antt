@@ -1,7 +1,7 @@
 use Rattle.std.proofs.Common.{subst}
 use Rattle.lemma_judge.specs.Checking.{Comes}
 use Rattle.qc_commands.proofs.Written.{Wrote-weaker}
-use Rattle.dense_commands.proofs.check.tell.Goals as goal
+use Rattle.dense_commands.proofs.list.tell.Goals as goal
 
 pub returns-in-Yes-clause-wrote : goal.returns-in-Yes-clause-wrote
 returns-in-Yes-clause-wrote g c = Wrote-weaker _ _ _ _ c.confirm.result _ _

@@ -1,0 +1,73 @@
+//! `solve`: who wins a game, by a list of lemmas or by a certificate of `qecode`.
+ghost use Rattle.std.specs.Prelude.{◌≡◌, ◌≢◌, ◌≤◌, IfSome};
+ghost use Rattle.qc_io.specs.Counts.{Rose, RoseBy};
+ghost use Rattle.lemma_solver.specs.Believed.{IsBelieved};
+ghost use Rattle.qc_commands.specs.Answers.{AnswersProblem};
+ghost use Rattle.qc_commands.specs.Files.{Wrote};
+ghost use Rattle.dense_commands.specs.Answers.{SolvesGame};
+
+use lemma_solver::{Believed, solve_by_lemmas};
+use qc_commands::{Status, finish, open_problem, solve_problem};
+use qc_io::{Shelf, Sink};
+use qc_model::Problem;
+use std::alloc::{AllocError, Global};
+
+/// How many looks at constraints and lemmas the search for a list is given for each turn.
+const LOOKS_A_TURN: u64 = 64;
+
+/// Solves the problem of a file within so many turns.
+pub(crate) fn solve_file<S: Shelf, K: Sink>(
+    alloc: Global,
+    name: &str,
+    turns: u64,
+    shelf: &mut S,
+    out: &mut K,
+) -> Status
+    requires turns { (1 ≤ turns) × (turns ≤ 10000000) }
+    ensures wrote { Wrote (K.written out.old) (K.written out.new) (K.faults out.old) (K.faults out.new) result
+        (AnswersProblem (SolvesGame turns) name.now (S.told shelf.old name.now) (λ n. RoseBy n (S.given shelf.old) (S.given shelf.new))) }
+    ensures usage { result ≢ Status.Usage }
+    ensures read_fault { result ≡ Status.ReadFault → Rose (S.faults shelf.old) (S.faults shelf.new) }
+    ensures no_read_fault { result ≢ Status.ReadFault → S.faults shelf.new ≡ S.faults shelf.old }
+{
+    match open_problem(alloc, name, shelf, out) {
+        Ok(problem) => solve_game(alloc, &problem, turns, out),
+        Err(status) => status,
+    }
+}
+
+/// Solves a game: by a list of lemmas, where one is found that is believed, and else within so many turns as `qecode` does.
+pub(crate) fn solve_game<K: Sink>(
+    alloc: Global,
+    problem: &Problem,
+    turns: u64,
+    out: &mut K,
+) -> Status
+    requires turns { (1 ≤ turns) × (turns ≤ 10000000) }
+    ensures wrote { Wrote (K.written out.old) (K.written out.new) (K.faults out.old) (K.faults out.new) result (SolvesGame turns problem.now) }
+    ensures rows { (result ≢ Status.Usage) × (result ≢ Status.ReadFault) }
+{
+    match solve_by_lemmas(alloc, problem, turns.saturating_mul(LOOKS_A_TURN)) {
+        Ok(found) => write_or_search(alloc, problem, turns, found, out),
+        Err(AllocError) => Status::Memory,
+    }
+}
+
+// Writes the list that was found. Where there is none, the game is searched.
+fn write_or_search<K: Sink>(
+    alloc: Global,
+    problem: &Problem,
+    turns: u64,
+    found: Option<Believed>,
+    out: &mut K,
+) -> Status
+    requires turns { (1 ≤ turns) × (turns ≤ 10000000) }
+    requires believed { IfSome found (λ it. IsBelieved problem.now it) }
+    ensures wrote { Wrote (K.written out.old) (K.written out.new) (K.faults out.old) (K.faults out.new) result (SolvesGame turns problem.now) }
+    ensures rows { (result ≢ Status.Usage) × (result ≢ Status.ReadFault) }
+{
+    match found {
+        Some(list) => finish(out, list.text.as_slice(), Status::Done),
+        None => solve_problem(alloc, problem, turns, out),
+    }
+}
