@@ -1,29 +1,39 @@
 """The program that tools, comparisons and measurements run, named in one way: by the option --program, else by the environment
-variable QECODE, else the one that ./qecode has proved and built."""
+variable QECODE, else the one that ./qecode has proved and built. Where it's qdense that runs, the variable is QDENSE, and the
+program that of ./qdense."""
 import os
 import shutil
 import subprocess
 
 TOP = os.path.dirname(os.path.dirname(os.path.realpath(__file__)))
-BUILT = os.path.join(TOP, "crates", "qc_program", "out", "qc_program")
+CRATES = {"qecode": "qc_program", "qdense": "dense_program"}
+
+
+def built(tool):
+    """Where the program is that its launcher has proved and built."""
+    return os.path.join(TOP, "crates", CRATES[tool], "out", CRATES[tool])
+
+
+BUILT = built("qecode")
 
 
 class NoProgram(Exception):
     """No such program can be run."""
 
 
-def add_option(parser):
-    parser.add_argument("--program", metavar="PATH", help="the program to run, in place of $QECODE or the one that ./qecode built")
+def add_option(parser, tool="qecode"):
+    told = f"the program to run, in place of ${tool.upper()} or the one that ./{tool} built"
+    parser.add_argument("--program", metavar="PATH", help=told)
 
 
 class Program:
     """A program that can be run; `path` is absolute."""
 
-    def __init__(self, name=None):
-        wanted = name or os.environ.get("QECODE") or BUILT
+    def __init__(self, name=None, tool="qecode"):
+        wanted = name or os.environ.get(tool.upper()) or built(tool)
         found = shutil.which(wanted)
         if found is None:
-            raise NoProgram(missing(wanted))
+            raise NoProgram(missing(wanted, tool))
         self.path = os.path.abspath(found)
 
     def is_built_here(self):
@@ -37,7 +47,11 @@ class Program:
         return done.returncode, done.stdout
 
 
-def missing(wanted):
-    if wanted == BUILT:
-        return "the program isn't built yet: run ./qecode print examples/price.qc first, or name another by --program or QECODE"
+# A call that proves and builds.
+FIRST = {"qecode": "print examples/price.qc", "qdense": "check crates/dense_program/data/sum.qc crates/dense_program/data/sum.cert"}
+
+
+def missing(wanted, tool):
+    if wanted == built(tool):
+        return f"the program isn't built yet: run ./{tool} {FIRST[tool]} first, or name another by --program or {tool.upper()}"
     return f"{wanted}: no program that can be run"

@@ -3,11 +3,15 @@
     bench/run lemmas SEARCH [--games N] [--seed S] [--mutants M] [--qdense PATH]
     bench/run lemmas --judge PROBLEM LIST..
 
-SEARCH is a program that is called as `SEARCH PROBLEM -o LIST` and writes a list of lemmas for a plain game. It solves
-small games that are made at random; the oracle's reader of lists (tools/oracle/lemmas.py) has to believe each list, and
-it has to prove the outcome that the oracle finds by going over all moves. Then lists are damaged, and held against other
-games: none may prove another outcome. `--judge` tells what lists prove of a problem. With `--qdense` that program checks
-each list as well, and has to say what the oracle's reader says.
+SEARCH says how a search is called that writes a list of lemmas for a plain game: `"PROGRAM solve PROBLEM"`, where it writes
+the list to its output, `"PROGRAM PROBLEM -o LIST"`, or `PROGRAM` for the same. It solves small games that are made at random,
+every other one with many weak constraints; the oracle's reader of lists (tools/oracle/lemmas.py) has to believe each list,
+and it has to prove the outcome that the oracle finds by going over all moves. Then lists are damaged, and held against other
+games: none may prove another outcome. With `--qdense` that program checks each list as well, and has to say what the oracle's
+reader says.
+
+Where the search writes nothing, or a certificate of version 2, the game counts as not solved. At the end it is told which
+lines the lists had, and how many predicates the games. `--judge` tells what lists prove of a problem.
 """
 import argparse
 import os
@@ -17,11 +21,47 @@ import sys
 import tempfile
 from collections import Counter
 
-from compare.player import Maker, damaged
+from compare.player import Maker, argument_text, damaged
+from compare.searches import Search
 from oracle.games import Game
 from oracle.lemmas import judged
+from oracle.predicates import SIGNATURES
 
 OTHERS = 3
+
+
+class Denser(Maker):
+    """Makes games in which the sides take turns, the player last, with many clauses and sums that mostly have one variable of
+    the opponent's and some of the player's, so that one conflict isn't enough."""
+
+    SCOPES = [2, 3, 3, 4, 4]
+    VARIABLES = [2, 3, 3, 4]
+    RESTRICTIONS = [0, 0, 1]
+    GOALS = [6, 8, 10, 12]
+    BOOLEAN = 0.75
+
+    def declare(self):
+        self.kinds = ["forall" if (len(self.kinds) - k) % 2 == 0 else "exists" for k in range(len(self.kinds))]
+        super().declare()
+
+    def constraint(self, i):
+        letter = "x" if self.likely(0.3) else "b"
+        names = [x for x, owner in self.owner.items() if owner <= i and x[0] == letter]
+        items = self.some(names, "forall", self.random.choice([0, 1, 1]))
+        items += self.some(names, "exists", self.random.choice([2, 2, 3]))
+        if self.likely(0.1) or not items:
+            return super().constraint(i)
+        if letter == "b":
+            parts = [[x for x in items if self.random.getrandbits(1)], []]
+            parts[1] = [x for x in items if x not in parts[0]]
+            return f"constraint bool_clause({','.join(map(argument_text, parts))});"
+        factors = [self.random.choice([-2, -1, 1, 2]) for _ in items]
+        most = sum(max(f * v for v in self.values[x]) for f, x in zip(factors, items)) - self.random.choice([1, 1, 2])
+        return f"constraint int_lin_le({argument_text(factors)},{argument_text(items)},{most});"
+
+    def some(self, names, kind, count):
+        of_kind = [x for x in names if self.kinds[self.owner[x]] == kind]
+        return self.random.sample(of_kind, min(count, len(of_kind)))
 
 
 class Trials:
@@ -29,16 +69,19 @@ class Trials:
 
     def __init__(self, options, folder):
         self.options, self.met, self.wrong, self.lists = options, Counter(), [], []
+        self.predicates = Counter()
         self.problem, self.found = os.path.join(folder, "problem"), os.path.join(folder, "list")
 
     def play(self, number):
         chance = random.Random(f"{self.options.seed} {number}")
-        game = Maker(chance, True).game()
+        game = (Denser if number % 2 else Maker)(chance, True).game()
         outcome = game.outcome().split()[0]
-        data = self.solved(game)
-        if data is None:
-            self.met["not solved"] += 1
+        self.predicates.update({constraint.name for constraint in game.constraints})
+        data, status = self.solved(game)
+        if data is None or data.startswith(b"qcert 2"):
+            self.met["not solved, " + ("a tree" if data else f"status {status}")] += 1
             return
+        self.met.update(f"solved, with a line {line[:1].decode()}" for line in {line[:1] for line in data.splitlines()[2:]})
         self.judge(number, game, data, "solved", outcome, (outcome,))
         self.lists = (self.lists + [data])[-20:]
         for _ in range(self.options.mutants):
@@ -49,13 +92,7 @@ class Trials:
     def solved(self, game):
         with open(self.problem, "wb") as file:
             file.write(game.text)
-        if os.path.exists(self.found):
-            os.remove(self.found)
-        subprocess.run([self.options.search, self.problem, "-o", self.found], stdout=subprocess.DEVNULL, check=False)
-        if not os.path.exists(self.found):
-            return None
-        with open(self.found, "rb") as file:
-            return file.read()
+        return self.options.search.found(self.problem, self.found)
 
     def judge(self, number, game, data, what, outcome, right):
         judgement = judged(game, data)
@@ -89,12 +126,15 @@ def main(words):
     if not options.search:
         print("bench/run lemmas: a search is wanted", file=sys.stderr)
         return 2
+    options.search = Search(options.search)
     with tempfile.TemporaryDirectory() as folder:
         trials = Trials(options, folder)
         for number in range(options.games):
             trials.play(number)
     for kind, count in sorted(trials.met.items()):
         print(f"{count:8} {kind}")
+    rarest = min(SIGNATURES, key=lambda name: trials.predicates[name])
+    print(f"{len(trials.predicates)} of {len(SIGNATURES)} predicates; {rarest} in {trials.predicates[rarest]} games, the others in more")
     print(*trials.wrong[:5], f"{len(trials.wrong)} wrong", sep="\n")
     return bool(trials.wrong)
 

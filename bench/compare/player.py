@@ -51,6 +51,13 @@ SAMPLES = 12
 class Maker:
     """Makes the texts of small problems: all predicates, repeated variables, empty arrays, domains with holes."""
 
+    # how many there are of each, one of these numbers
+    SCOPES = [0, 1, 1, 2, 2, 2, 3, 3, 3, 4]
+    VARIABLES = [0, 1, 1, 1, 2, 2, 3]
+    RESTRICTIONS = [0, 0, 1, 1, 2]
+    GOALS = [0, 0, 1, 1, 2]
+    BOOLEAN = 0.3
+
     def __init__(self, chance, plain):
         self.random, self.plain = chance, plain
 
@@ -67,7 +74,7 @@ class Maker:
 
     def text(self):
         """Heads, variables, aggregates and constraints, scope by scope."""
-        kinds, scopes = self.random.choice([(3, 2), (1, 1)]), self.random.choice([0, 1, 1, 2, 2, 2, 3, 3, 3, 4])
+        kinds, scopes = self.random.choice([(3, 2), (1, 1)]), self.random.choice(self.SCOPES)
         self.kinds = self.random.choices(["exists", "forall"], kinds, k=scopes)
         self.declare()
         parts = []
@@ -75,14 +82,14 @@ class Maker:
             parts.append(self.head(i))
             parts += [f"var {self.spelled[name]}: {name};" for name, owner in self.owner.items() if owner == i]
             parts += [self.aggregate(name, i) for name, owner in self.folds if owner == i]
-            parts += [self.constraint(i) for _ in range(self.random.choice([0, 0, 1, 1, 2]))]
-        parts += ["goal;"] + [self.constraint(len(self.kinds)) for _ in range(self.random.choice([0, 0, 1, 1, 2]))]
+            parts += [self.constraint(i) for _ in range(self.random.choice(self.RESTRICTIONS))]
+        parts += ["goal;"] + [self.constraint(len(self.kinds)) for _ in range(self.random.choice(self.GOALS))]
         return "\n".join(parts + ["solve;"]) + "\n"
 
     def declare(self):
         self.owner, self.values, self.spelled, self.folds = {}, {}, {}, []
         for i in range(len(self.kinds)):
-            for _ in range(self.random.choice([0, 1, 1, 1, 2, 2, 3])):
+            for _ in range(self.random.choice(self.VARIABLES)):
                 values, spelled = self.domain()
                 if prod(map(len, self.values.values())) * len(values) <= MOST_TUPLES:
                     name = ("b" if spelled == "bool" else "x") + str(len(self.owner))
@@ -92,7 +99,7 @@ class Maker:
                 self.folds += [(f"q{i}_{k}", i) for k in range(self.random.choice([0, 1, 1, 2]))]
 
     def domain(self):
-        if self.likely(0.3):
+        if self.likely(self.BOOLEAN):
             return [0, 1], "bool"
         low, width = self.random.randrange(-2, 3), self.random.choice([1, 2, 2, 3, 3, 4])
         if self.likely(0.7):
