@@ -1,7 +1,8 @@
 """Each builtin of MiniZinc's library and each global called directly, as it is and reified: it is solved, or refused by name.
 
 The builtins are those that the library of the installed MiniZinc declares for FlatZinc, so none is forgotten. What a builtin
-means inside a goal is compared with `qecodefzn/builtins.py`, for all values of its variables, by a game each.
+means inside a goal is compared, for all values of its variables, by a game each: with `qecodefzn/builtins.py`, and of sets and of
+arrays with an expression of the same meaning.
 """
 import glob
 import itertools
@@ -22,6 +23,7 @@ DOMAINS = {
     **{name: "1..3" for name in ("xx", "yy", "zz", "w1")},
     **{name: "0..6" for name in ("w2", "w3", "w4")},
     **{name: "0.0..3.0" for name in ("f", "g", "h")},
+    "n": "opt 0..2",
     "o": "opt 1..3",
 }
 # What stands for arguments of a type that the library declares: for the first of that type, the second, and so on.
@@ -71,22 +73,56 @@ sort([x,y,z],[xx,yy,zz]) | strict_lex2([|x,y|y,z|]) | strictly_increasing([x,y,z
 symmetric_all_different([xx,yy,zz]) | table([x,y],[|1,2|2,1|]) | table([p,q],[|true,false|]) | tree([1,2],[2,3],1,[p,q,r],[p,q])
 value_precede(1,2,[x,y,z]) | value_precede_chain([1,2,3],[x,y,z])
 """
-# Where MiniZinc 2.6.4 itself ends before any solver is called, and what it says then: reified versions that its library leaves out, a
-# file of it that forgets to include another, and assertions of its own, two of which fail where an index may lie outside of an array.
-UNLOCKED = "lib/gc.cpp:399: void* MiniZinc::GC::alloc(size_t): Assertion `locked()' failed"
+# Where MiniZinc 2.6.4 itself ends, since it has no reified version, and what it says then.
 BY_MINIZINC = {
     "bool_not": "'bool_not' is used in a reified context but no reified version is available",
-    "int2float": "Assertion `call->id() != _env.constants.ids.int2float' failed",
-    "array_set_element": UNLOCKED,
-    "array_var_set_element": UNLOCKED,
-    "array_var_set_element_nonshifted": UNLOCKED,
-    "array_var_set_element2d_nonshifted": UNLOCKED,
-    "arg_min": "no function or predicate with name `arg_max_total' found",
     "connected": "Abort: Reified connected is not supported",
     "cost_regular": "Abort: Reified cost_regular is not supported",
     "path": "Abort: Reified path constraint is not supported",
     "subcircuit": "Abort: Reified subcircuit/1 is not supported",
     "tree": "Abort: Reified tree constraint is not supported",
+}
+# What a call means, in other words. Of sets and of elements of arrays the reified forms are tried as well, where there are some.
+ALIKE = "forall(k in 1..4)(k in {} <-> k in {})"
+RANKS = [0] * 16
+for rank, members in enumerate(sorted([k for k in range(1, 5) if code >> k - 1 & 1] for code in range(16))):
+    RANKS[sum(1 << k - 1 for k in members)] = rank
+RANK = "{}[1 + sum(k in 1..4)(bool2int(k in {{}}) * pow(2, k - 1))]".format(RANKS)
+MEANINGS = {
+    "set_card(s,x)": "sum(k in 1..4)(bool2int(k in s)) = x",
+    "set_eq(s,t)": ALIKE.format("s", "t"),
+    "set_ne(s,t)": "exists(k in 1..4)(k in s xor k in t)",
+    "set_le(s,t)": RANK.format("s") + " <= " + RANK.format("t"),
+    "set_lt(s,t)": RANK.format("s") + " < " + RANK.format("t"),
+    "set_in(x,s)": "exists(k in 1..4)(x = k /\\ k in s)",
+    "set_in(2,t)": "2 in t",
+    "set_subset(s,t)": "forall(k in 1..4)(k in s -> k in t)",
+    "set_superset(s,t)": "forall(k in 1..4)(k in t -> k in s)",
+    "set_union(s,t,u)": "forall(k in 1..4)(k in u <-> k in s \\/ k in t)",
+    "set_intersect(s,t,u)": "forall(k in 1..4)(k in u <-> k in s /\\ k in t)",
+    "set_diff(s,t,u)": "forall(k in 1..4)(k in u <-> k in s /\\ not (k in t))",
+    "set_symdiff(s,t,u)": "forall(k in 1..4)(k in u <-> (k in s xor k in t))",
+    "u = s diff {}": ALIKE.format("u", "s"),
+    "{} = t symdiff {2}": "forall(k in 1..4)(k in t <-> k = 2)",
+    "t < {}": "false",
+    "array_set_element(x,[{1},{2,3},{}],s)": "exists(i in 1..3)(x = i /\\ forall(k in 1..4)(k in s <-> k in [{1},{2,3},{}][i]))",
+    "array_var_set_element(x,[s,t],u)": "exists(i in 1..2)(x = i /\\ forall(k in 1..4)(k in u <-> k in [s,t][i]))",
+    "array_var_set_element_nonshifted(x,array1d(0..1,[s,t]),u)": f"x = 0 /\\ {ALIKE.format('u', 's')} \\/ x = 1 /\\ {ALIKE.format('u', 't')}",
+    "array_var_set_element2d_nonshifted(x,y,[|s,t|t,s|],s)": f"x in 1..2 /\\ y in 1..2 /\\ (x = y \\/ {ALIKE.format('s', 't')})",
+    "array_var_int_element_nonshifted(x,array1d(0..1,[y,z]),z)": "x = 0 /\\ y = z \\/ x = 1",
+    "array_var_bool_element_nonshifted(x,array1d(0..1,[p,q]),q)": "x = 0 /\\ p = q \\/ x = 1",
+    "array_var_int_element2d_nonshifted(x,y,[|x,z|z,y|],z)": "x in 1..2 /\\ y in 1..2 /\\ (x != y \\/ x = z)",
+    "array_var_bool_element2d_nonshifted(x,y,[|p,q|q,p|],q)": "x in 1..2 /\\ y in 1..2 /\\ (x != y \\/ p = q)",
+    "[{1},{2,3},{}][x] = s": "exists(i in 1..3)(x = i /\\ forall(k in 1..4)(k in s <-> k in [{1},{2,3},{}][i]))",
+    "[s,t][x] = u": "exists(i in 1..2)(x = i /\\ forall(k in 1..4)(k in u <-> k in [s,t][i]))",
+    "[|x,z|z,y|][xx,yy] = z": "xx = 1 /\\ yy = 1 /\\ x = z \\/ xx = 2 /\\ yy = 2 /\\ y = z \\/ xx + yy = 3",
+    "arg_min([x,y,z]) = 2": "y < x /\\ y <= z",
+    "arg_max([x,y,z]) = 2": "y > x /\\ y >= z",
+    "arg_min([p,q,r]) = 2": "p /\\ not q",
+    "arg_max([p,q,r]) = 2": "not p /\\ q",
+    "arg_min([n,o]) = 2": "occurs(o) /\\ (absent(n) \\/ deopt(o) < deopt(n))",
+    "arg_max([n,o]) = 2": "occurs(o) /\\ (absent(n) \\/ deopt(o) > deopt(n))",
+    "absent(arg_min_weak([n,o]))": "absent(n) /\\ absent(o)",
 }
 DECLARATION = re.compile(r"\bpredicate\s+(\w+)\s*\(([^;=]*?)\)\s*(?:::\s*\w+\s*)?[;=]")
 COMMENT = re.compile(r"/\*.*?\*/|%[^\n]*", re.S)
@@ -212,15 +248,35 @@ def game_of(name, call):
     return "\n".join([*lines, f"constraint goal({call} <-> table([{numbers}],[|{rows}|]));", "solve satisfy;\n"])
 
 
+def other_forms(call):
+    """The call, and its forms with a Boolean that the library declares."""
+    name, _, rest = call.partition("(")
+    names = {it for it, _ in declared()} if rest.endswith(")") and name.isidentifier() else ()
+    yield call, "{}"
+    if name + "_reif" in names:
+        yield f"{name}_reif({rest[:-1]},m)", "(m <-> ({}))"
+    if name + "_imp" in names:
+        yield f"{name}_imp({rest[:-1]},m)", "(m -> ({}))"
+
+
+def game_of_words(call, meaning):
+    """The opponent chooses all variables, and the player wins where the call holds for those for which its meaning does."""
+    domains = {"s": "set of 1..3", "t": "set of {2,4}", "u": "set of 1..4", **{it: "-1..3" for it in "xyz"}, "xx": "1..2", "yy": "1..2"}
+    declarations = [f"var {domains.get(it, DOMAINS[it])}: {it}; constraint forall_scope(1, {it});" for it in names_in(call + meaning)]
+    return with_includes(['include "qecode.mzn";', *declarations, f"constraint goal(({call}) <-> ({meaning}));", "solve satisfy;"], call.replace("_weak", ""))
+
+
 def check_meanings(tally, folder, configuration):
+    games = [(call, game_of_words(call, form.format(meaning))) for it, meaning in MEANINGS.items() for call, form in other_forms(it)]
     for name, types in declared():
-        call = call_of(name, types)
         # A goal is reified by itself, so the reified forms are those that this is about.
         is_plain = name in HOLDS and name not in BY_MINIZINC and not name.endswith("_reif")
         if is_plain and not any("var set" in kind for kind in types):
-            write(folder, "m.mzn", game_of(name, call))
-            out, err = answered(folder, configuration, ["-g", "--keep-paths"], [])
-            tally.check(f"the meaning of {call}", "% qecode: true\n" in out, out + err)
+            games.append((call_of(name, types), game_of(name, call_of(name, types))))
+    for call, game in games:
+        write(folder, "m.mzn", game)
+        out, err = answered(folder, configuration, ["-g", "--keep-paths"], [])
+        tally.check(f"the meaning of {call}", "% qecode: true\n" in out, out + err)
 
 
 def checks(tally):
