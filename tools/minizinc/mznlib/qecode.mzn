@@ -33,16 +33,23 @@ predicate exists_scope(int: k, var set of int: s) = qc_chosen_bool(k, 1, qc_bits
 predicate forall_scope(int: k, var set of int: s) = qc_chosen_bool(k, 0, qc_bits(s));
 predicate exists_scope(int: k, array[$T] of var set of int: xs) = forall(s in array1d(xs))(exists_scope(k, s));
 predicate forall_scope(int: k, array[$T] of var set of int: xs) = forall(s in array1d(xs))(forall_scope(k, s));
-% Of an optional integer one number is chosen, which is 0 where there is none; so 0 can't be one of its values. An optional Boolean
-% has no such number.
-predicate exists_scope(int: k, var opt int: x) = qc_chosen_int(k, 1, [qc_number(x)]);
-predicate forall_scope(int: k, var opt int: x) = qc_chosen_int(k, 0, [qc_number(x)]);
-predicate exists_scope(int: k, array[$T] of var opt int: xs) = qc_chosen_int(k, 1, [qc_number(x) | x in array1d(xs)]);
-predicate forall_scope(int: k, array[$T] of var opt int: xs) = qc_chosen_int(k, 0, [qc_number(x) | x in array1d(xs)]);
-predicate exists_scope(int: k, var opt bool: x) = assert(false, "an optional Boolean can't be chosen in a scope", true);
-predicate forall_scope(int: k, var opt bool: x) = assert(false, "an optional Boolean can't be chosen in a scope", true);
-function var int: qc_number(var opt int: x) =
-  assert(not had_zero(x), "an optional integer that may be 0 can't be chosen in a scope", deopt(x));
+% Of what is optional it is chosen whether it is there, and its value, which is 0 or false where it isn't. So an optional integer that
+% can't be 0 is chosen as its number alone.
+predicate qc_chosen_opt_int(int: k, int: kind, var bool: is_there, var int: x, int: absent);
+predicate qc_chosen_opt_bool(int: k, int: kind, var bool: is_there, var bool: x);
+predicate exists_scope(int: k, var opt int: x) = qc_choose(k, 1, x);
+predicate exists_scope(int: k, var opt bool: x) = qc_choose(k, 1, x);
+predicate exists_scope(int: k, array[$T] of var opt int: xs) = forall(x in array1d(xs))(qc_choose(k, 1, x));
+predicate exists_scope(int: k, array[$T] of var opt bool: xs) = forall(x in array1d(xs))(qc_choose(k, 1, x));
+predicate forall_scope(int: k, var opt int: x) = qc_choose(k, 0, x);
+predicate forall_scope(int: k, var opt bool: x) = qc_choose(k, 0, x);
+predicate forall_scope(int: k, array[$T] of var opt int: xs) = forall(x in array1d(xs))(qc_choose(k, 0, x));
+predicate forall_scope(int: k, array[$T] of var opt bool: xs) = forall(x in array1d(xs))(qc_choose(k, 0, x));
+predicate qc_choose(int: k, int: kind, var opt bool: x) = qc_chosen_opt_bool(k, kind, occurs(x), deopt(x));
+predicate qc_choose(int: k, int: kind, var opt int: x) =
+  if had_zero(x) then qc_chosen_opt_int(k, kind, occurs(x), deopt(x), if 0 in dom(deopt(x)) then 0 else lb(deopt(x)) endif)
+  else qc_chosen_int(k, kind, [deopt(x)])
+  endif;
 function array[int] of var bool: qc_bits(var set of int: s) = [ set2bools_bit(s, i) | i in ub(s) ];
 
 predicate qc_rule(int: k, var bool: b);

@@ -10,17 +10,20 @@ tuples, one for one, and each end of play its values. It has to stand no later t
 that rule, a wish before the next scope of the opponent. Among these places any is right. A definition that only the player's
 side looks at is put into a scope of the player, since a scope of the opponent is gone through whole.
 """
+from dataclasses import dataclass
+from functools import partial
 from itertools import combinations
 
 from .asserting import assert_is
 from .determined import Definitions, Determiner, find_cluster, follow_on, holds
 from .flatzinc import Range, annotation, place_of
-from .lowering import WHOLE, lowered
+from .lowering import WHOLE, fresh_bool, lowered
 from .output import Output
 from .problem import Problem
 from .reading import CHOSEN
 from .terms import Aggregate, C, Scope, Unsupported, V
 
+OPTIONAL = ("qc_chosen_opt_int", "qc_chosen_opt_bool")
 WORDS = CHOSEN + ("qc_rule", "qc_goal", "qc_scope", "qc_wish", "qc_fold_wish")
 KINDS = ("forall", "exists")
 SENSES = ("minimize", "maximize")
@@ -32,6 +35,20 @@ def is_game(reader):
     return any(c.name in WORDS for c in reader.constraints)
 
 
+@dataclass
+class Option:
+    """What a scope chooses of an optional variable: whether it is there, and its value, which is that one where it is absent."""
+
+    scope: int
+    is_there: V
+    x: V
+    absent: int
+
+    def is_kept(self, value):
+        """Whether the values, which may lack either, can be chosen."""
+        return value.get(self.is_there, True) or value.get(self.x, self.absent) == self.absent
+
+
 class GameProblem(Problem):
     """`chosen` has the variables that somebody chooses, `definitions` what determines the others."""
 
@@ -41,7 +58,7 @@ class GameProblem(Problem):
         super().__init__(reader)
         if reader.model.goal[0] != "satisfy":
             raise Unsupported("a game ends with `solve satisfy`; what an owner wants stands in wish_min(..) or wish_max(..)")
-        self.latest_of = {}
+        self.latest_of, self.options = {}, []
         self.words = [c for c in reader.constraints if c.name in WORDS]
         self.read_scopes()
         self.chosen = self.read_chosen()
@@ -75,7 +92,9 @@ class GameProblem(Problem):
 
     def read_chosen(self):
         for c in self.words:
-            if c.name in CHOSEN:
+            if c.name in OPTIONAL:
+                self.choose_optional(c)
+            elif c.name in CHOSEN:
                 for v in c.args[2]:
                     self.choose(v, c)
         return list(dict.fromkeys(v for v in self.reader.vars.values() if isinstance(v, V) and v.scope))
@@ -89,6 +108,12 @@ class GameProblem(Problem):
         if v.is_new and annotation(v.annotations, "is_defined_var"):
             raise Unsupported(f"{v.name}, which is chosen in scope {number}, is the value of an expression{place}")
         v.scope, v.is_new = self.number_of[number], False
+
+    def choose_optional(self, c):
+        number, _, is_there, x, *absent = c.args
+        self.choose(is_there, c)
+        self.choose(x, c)
+        self.options.append(Option(self.number_of[number], is_there, x, absent[0] if absent else False))
 
     # ---- What follows from what.
 
@@ -139,10 +164,14 @@ class GameProblem(Problem):
     def refuse_bare(self, bare):
         """A constraint outside of all rules that isn't a definition has to hold anyhow."""
         for c in bare:
-            if not is_plainly_true(c) and not self.definitions.always(c.variables(), lambda value, c=c: holds(c, value)):
+            if not is_plainly_true(c) and not self.definitions.always(c.variables(), partial(self.holds_anyhow, c)):
                 raise Unsupported(
                     f"a constraint outside of all rules: {c}{place_of(c.annotations)}; write it in a rule(..) or goal(..)"
                 )
+
+    def holds_anyhow(self, c, value):
+        """Whether c holds, or these are no values that scopes may choose, since what is absent has another one."""
+        return holds(c, value) or not all(it.is_kept(value) for it in self.options)
 
     def latest(self, v):
         """The latest scope on which the value of v rests."""
@@ -157,6 +186,8 @@ class GameProblem(Problem):
     def read_rules(self):
         """What each scope's owner keeps to, by the scope's place; what the player has to reach stands behind the last scope."""
         rules = {at: [] for at in range(1, len(self.scopes) + 2)}
+        for it in self.options:
+            rules[it.scope].append(self.rule_of(it))
         for c in self.words:
             if c.name == "qc_goal":
                 assert_is(c.args[0], True, self.definitions, rules[len(self.scopes) + 1])
@@ -172,6 +203,14 @@ class GameProblem(Problem):
                         )
                 rules[at] += said
         return rules
+
+    def rule_of(self, option):
+        """What is absent has one value."""
+        if option.x.kind == "bool":
+            return C("bool_clause", [[option.is_there], [option.x]])
+        is_absent = fresh_bool(self.reader)
+        self.definitions.put(is_absent, C("int_eq_reif", [option.x, option.absent, is_absent]))
+        return C("bool_clause", [[option.is_there, is_absent], []])
 
     def read_wishes(self):
         folded = {}

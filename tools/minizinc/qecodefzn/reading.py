@@ -14,7 +14,7 @@ NATIVE = {
     "qecode_table_int_reif": "table_int_reif",
     "qecode_int_ne_reif": "int_ne_reif",
 }
-CHOSEN = ("qc_chosen_int", "qc_chosen_bool")
+CHOSEN = ("qc_chosen_int", "qc_chosen_bool", "qc_chosen_opt_int", "qc_chosen_opt_bool")
 
 
 class Reader:

@@ -129,8 +129,9 @@ BOOLEANS = (
 class Maker:
     """Makes expressions over variables of each kind."""
 
-    def __init__(self, pick, ints=(), bools=(), sets=(), opts=()):
-        self.pick, self.ints, self.bools, self.sets, self.opts = pick, list(ints), list(bools), list(sets), list(opts)
+    def __init__(self, pick, ints=(), bools=(), sets=(), opts=(), opt_bools=()):
+        self.pick, self.ints, self.bools, self.sets = pick, list(ints), list(bools), list(sets)
+        self.opts, self.opt_bools = list(opts), list(opt_bools)
 
     def three(self, depth):
         return [self.integer(depth) for _ in range(3)]
@@ -227,7 +228,8 @@ class Maker:
 
     def boolean(self, depth):
         kind = self.pick.choice(BOOLEANS) if depth else "compare"
-        lacks = {"var": self.bools, "set_compare": self.sets, "set_in": self.sets, "occurs": self.opts, "opt_compare": self.opts}
+        optional = self.opts + self.opt_bools
+        lacks = {"var": self.bools, "set_compare": self.sets, "set_in": self.sets, "occurs": optional, "opt_compare": optional}
         if not lacks.get(kind, True):
             kind = "compare"
         return getattr(self, "boolean_" + kind)(depth)
@@ -293,12 +295,14 @@ class Maker:
         return f"({a[0]} in {s[0]})", relational(lambda env: a[1](env) in s[1](env))
 
     def boolean_occurs(self, _):
-        name = self.pick.choice(self.opts)
+        name = self.pick.choice(self.opts + self.opt_bools)
         return f"occurs({name})", lambda env: env[name] is not None
 
     def boolean_opt_compare(self, depth):
         """An absent value satisfies no comparison here: it is asked for besides, since MiniZinc's own rule is another."""
-        name, a = self.pick.choice(self.opts), self.integer(depth - 1)
+        name, a = self.pick.choice(self.opts + self.opt_bools), self.integer(depth - 1)
+        if name in self.opt_bools:
+            return f"(occurs({name}) /\\ deopt({name}))", lambda env: bool(env[name])
         sign = self.pick.choice(list(COMPARISONS))
         text = f"(occurs({name}) /\\ (deopt({name}) {sign} {a[0]}))"
         return text, relational(lambda env: env[name] is not None and COMPARISONS[sign](env[name], a[1](env)))

@@ -50,6 +50,29 @@ GAMES = {
         "true 3",
     ),
     "optional_choice": ("var opt {1,3}: o; constraint exists_scope(4, o); constraint goal(occurs(o) /\\ deopt(o) >= y);", "true"),
+    "optional_zero": (
+        "var opt 0..1: o; var opt bool: q; constraint forall_scope(2, [o]); constraint forall_scope(2, q); "
+        "constraint wish_max_sum(1, 2, if occurs(o) then deopt(o) + 1 else 5 endif);",
+        "true 96",
+    ),
+    "optional_moves": (
+        "array[1..2] of var opt -1..1: o; array[1..2] of var opt bool: q; constraint exists_scope(4, o); constraint exists_scope(4, q); "
+        "constraint goal(occurs(o[1]) /\\ deopt(o[1]) = y - 2 \\/ absent(o[1]) /\\ y = 0); "
+        "constraint goal(occurs(q[1]) /\\ deopt(q[1]) /\\ absent(q[2]));",
+        "true",
+    ),
+    "optional_fixed": (
+        "var opt 0..2: o; constraint exists_scope(3, o); constraint occurs(o); constraint goal(z >= y);",
+        "was fixed to True outside of all rules",
+    ),
+    "optional_bare": (
+        "var opt 0..2: o; constraint exists_scope(3, o); constraint occurs(o) -> deopt(o) > 0; constraint goal(z >= y);",
+        "outside of all rules",
+    ),
+    "optional_made_equal": (
+        "var opt 0..2: o; constraint exists_scope(3, o); constraint exists_scope(4, o); constraint goal(z >= y);",
+        "is chosen twice",
+    ),
     "counted": ("constraint wish_max_sum(1, 2, x);", "true 12"),
     "same_rule_twice": ("constraint rule(2, x > y); constraint goal(x > y);", "true"),
     "narrowing_goal": ("constraint goal(y <= 2);", "false"),
@@ -81,6 +104,7 @@ OTHERS = {
     "without_g": ([], GAME_HEAD + "constraint goal(z >= y);\nsolve satisfy;\n", "flattened with -g"),
     "solve_minimize": (["-g"], GAME_HEAD + "constraint goal(z >= y);\nsolve minimize x;\n", "a game ends with `solve satisfy`"),
     "too_many": ([], "array[1..501] of var 0..1: x; constraint forall(i in 1..500)(x[i] <= x[i+1]); solve satisfy;\n", "501 variables"),
+    "pairs": ([], "var 0..3: x; var 0..3: y; var bool: b; constraint x + y = 3; constraint b -> x > y; solve satisfy;\n", "b = "),
     "unbounded": ([], "var int: x; constraint x > 3; solve satisfy;\n", "x is unbounded"),
     "optional_unseen": (["--output-mode", "json"], "var opt 1..2: o; solve satisfy;\n", "X_INTRODUCED_0_ = false;"),
     "float": ([], "var 0.0..1.0: x; constraint x > 0.5; solve satisfy;\n", "x is a float variable"),
