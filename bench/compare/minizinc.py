@@ -61,11 +61,12 @@ def beside_texts():
 
 
 def random_ones(games, models, seed):
-    print(f"{models} models, {games} games and {games // 4} with optional integers, from seed {seed} on", flush=True)
+    print(f"{models} models, of {models // 4} all solutions, {games} games and {games // 4} with optional variables, from {seed} on", flush=True)
     tally = Tally()
     random_models.checks(tally, random_models.model_trial, "model", models, seed)
     random_models.checks(tally, random_models.game_trial, "game", games, seed)
-    random_models.checks(tally, random_models.optional_game_trial, "game with optional integers", games // 4, seed)
+    random_models.checks(tally, random_models.optional_game_trial, "game with optional variables", games // 4, seed)
+    random_models.checks(tally, random_models.solutions_trial, "all solutions", models // 4, seed)
     return tally.end()
 
 

@@ -18,6 +18,7 @@ from .output import Output
 from .plain import PlainProblem
 from .play import NoPlay, Player
 from .reading import Reader
+from .solutions import each
 from .terms import Unsupported, V
 
 # Turns of the first rounds, where two orders of the variables are tried one after the other.
@@ -31,11 +32,15 @@ class Failure(Exception):
     """The program, or this translator, did what it mustn't; the text says what."""
 
 
+class Unsettled(Exception):
+    """Whether there is another solution isn't settled within the turns."""
+
+
 def words_of(words):
     p = argparse.ArgumentParser(prog="fzn-qecode", description="Solves a FlatZinc file with qecode.", allow_abbrev=False)
     p.add_argument("file", help="the FlatZinc file")
-    p.add_argument("-a", "--all-solutions", action="store_true", help="of what is optimised: the best one is shown, as without it")
-    p.add_argument("-n", type=int, default=1, metavar="N", help="solutions to show; one is shown, and more are refused")
+    p.add_argument("-a", "--all-solutions", action="store_true", help="shows all solutions; of what is optimised the best one, as without it")
+    p.add_argument("-n", type=count, default=1, metavar="N", help="shows N solutions where there are as many; as -a")
     p.add_argument("-i", action="store_true", help="of what is optimised: the best one alone is shown, as without it")
     p.add_argument("-s", "--statistics", action="store_true", help="writes statistics")
     p.add_argument("-t", "--time-limit", type=int, default=0, metavar="MS", help="ends after so many milliseconds")
@@ -64,6 +69,12 @@ def bounds(text):
     return int(met[1]), int(met[2])
 
 
+def count(text):
+    if not text.isdigit() or int(text) < 1:
+        raise argparse.ArgumentTypeError(f"{text!r} isn't a number of solutions from 1 on")
+    return int(text)
+
+
 def turns(text):
     if not text.isdigit() or not 1 <= int(text) <= MOST_TURNS:
         raise argparse.ArgumentTypeError(f"{text!r} isn't a number from 1 to {MOST_TURNS}")
@@ -90,11 +101,19 @@ def main(words=None):
     return 1
 
 
+def are_several_wanted(model, args):
+    """Whether solutions are gone through; of what is optimised the best one is shown alone."""
+    return (args.all_solutions or args.n > 1) and model.goal[0] == "satisfy"
+
+
 def make_problem(model, args, bools_first=False):
     reader = Reader(model, args.assume_bounds)
-    if is_game(reader):
-        return GameProblem(reader, not args.early)
-    return PlainProblem(reader, bools_first)
+    several = are_several_wanted(model, args)
+    if not is_game(reader):
+        return PlainProblem(reader, bools_first, several)
+    if several:
+        raise Unsupported("-a and -n: a game has one answer")
+    return GameProblem(reader, not args.early)
 
 
 class Run:
@@ -105,18 +124,18 @@ class Run:
         self.deadline = program.Deadline(args.time_limit)
         self.comment = f"written by fzn-qecode from {os.path.basename(args.file)}"
         self.text_path = os.path.join(folder, "problem.qc")
-        # A kept certificate is written beside its place, since it may be too long for the folder of temporary files.
-        self.certificate_path = args.certificate + ".part" if args.certificate else os.path.join(folder, "certificate")
-        self.attempts = 0
+        # A certificate that is to be kept is written beside its place, since it may be too long for the folder of temporary files.
+        self.unkept_path = args.certificate + ".part" if args.certificate else os.path.join(folder, "certificate")
+        self.orders, self.narrowed = [], ([], [])
+        self.attempts = self.certificates = self.bytes = 0
+        self.solve_time = self.check_time = 0.0
 
     def run(self):
         started = time.monotonic()
         with open(self.args.file, encoding="utf-8") as file:
             self.model = flatzinc.parse(file.read())
-        wanted = "-a" if self.args.all_solutions else f"-n {self.args.n}" if self.args.n != 1 else ""
-        if wanted and self.model.goal[0] == "satisfy":
-            raise Unsupported(f"{wanted}: solutions aren't gone through one by one; without it one is shown")
         self.problem = make_problem(self.model, self.args, self.args.order == "bools")
+        self.orders = [self.problem]
         self.write_text()
         self.tell(
             variables=len(self.problem.variables()),
@@ -127,12 +146,16 @@ class Run:
             self.keep_text()
             return
         try:
-            outcome = self.solved()
-            self.keep()
+            if are_several_wanted(self.model, self.args):
+                self.show_several()
+            else:
+                outcome = self.solved()
+                self.keep(self.args.certificate)
+                self.tell_spent(outcome)
+                self.report(outcome)
         finally:
-            if self.args.certificate and os.path.exists(self.args.certificate + ".part"):
-                os.unlink(self.args.certificate + ".part")
-        self.report(outcome)
+            if self.args.certificate and os.path.exists(self.unkept_path):
+                os.unlink(self.unkept_path)
 
     # ---- Files.
 
@@ -149,26 +172,39 @@ class Run:
         else:
             print(text, end="")
 
-    def keep(self):
+    def keep(self, certificate):
         """Keeps what was asked for, once it was checked."""
-        if self.args.text:
+        if self.args.text and self.certificates == 1:
             self.keep_text()
-        if self.args.certificate:
-            with open(self.args.certificate + ".qc", "w", encoding="ascii") as file:
+        if certificate:
+            with open(certificate + ".qc", "w", encoding="ascii") as file:
                 file.write(self.problem.text(self.comment))
-            os.replace(self.certificate_path, self.args.certificate)
-            self.certificate_path = self.args.certificate
+            os.replace(self.certificate_path, certificate)
+            self.certificate_path = certificate
 
     def tell(self, **what):
         if self.args.statistics:
             for name, value in what.items():
                 print(f"%%%mzn-stat: {name}={value}")
 
+    def tell_spent(self, outcome, **more):
+        self.tell(
+            solveTime=round(self.solve_time, 3),
+            checkTime=round(self.check_time, 3),
+            attempts=self.attempts,
+            certificateBytes=self.bytes,
+            outcome=" ".join(outcome),
+            **more,
+        )
+        if self.args.statistics:
+            print("%%%mzn-stat-end")
+
     # ---- Solving.
 
     def solved(self):
         """The words of the outcome of a certificate that was checked."""
         started = time.monotonic()
+        self.certificate_path = self.unkept_path
         self.search()
         searched = time.monotonic()
         with open(self.certificate_path, encoding="ascii") as file:
@@ -177,15 +213,10 @@ class Run:
         _, said = program.answer(["check", self.text_path, self.certificate_path], self.folder, self.deadline)
         if said.split() != ["yes", *outcome]:
             raise Failure(f"the certificate isn't confirmed: check answers {said.strip()!r} where {' '.join(outcome)!r} is stated")
-        self.tell(
-            solveTime=round(searched - started, 3),
-            checkTime=round(time.monotonic() - searched, 3),
-            attempts=self.attempts,
-            certificateBytes=os.path.getsize(self.certificate_path),
-            outcome=" ".join(outcome),
-        )
-        if self.args.statistics:
-            print("%%%mzn-stat-end")
+        self.solve_time += searched - started
+        self.check_time += time.monotonic() - searched
+        self.certificates += 1
+        self.bytes += os.path.getsize(self.certificate_path)
         return outcome
 
     def search(self):
@@ -195,7 +226,7 @@ class Run:
             return
         if self.attempt(ROUNDS[0]):
             return
-        other = make_problem(self.model, self.args, True)
+        other = self.other_order()
         orders = [other, self.problem]  # the one that wasn't tried yet is the first
         if other.text(self.comment) == self.problem.text(self.comment):
             orders = [self.problem]
@@ -204,6 +235,13 @@ class Run:
                 self.write_text()
                 if self.attempt(most):
                     return
+
+    def other_order(self):
+        """The problem in the order of its variables that isn't the present one."""
+        if len(self.orders) == 1:
+            self.orders.append(make_problem(self.model, self.args, True))
+            self.orders[1].narrow(*self.narrowed)
+        return self.orders[self.problem is self.orders[0]]
 
     def has_orders(self):
         """Whether two orders are to be tried: a game keeps the order of its text, and without Booleans there is one."""
@@ -229,22 +267,73 @@ class Run:
 
     def report(self, outcome):
         self.output = Output(self.problem.reader)
-        assumed = self.problem.reader.assumed
         if self.problem.is_game:
             print("% qecode: " + " ".join(outcome))
-        if assumed:
-            low, high = self.args.assume_bounds
-            print(f"% within the assumed bounds {low}..{high} of {', '.join(assumed)}")
-        if outcome[0] == "open" or outcome[0] == "false" and assumed:
+        self.tell_assumed()
+        if outcome[0] == "open":
             print(NOT_KNOWN)
         elif outcome[0] == "false":
-            print(PROVED_FALSE)
+            self.tell_none()
         elif self.problem.is_game:
             self.report_play()
         else:
-            self.report_solution(outcome, bool(assumed))
+            print("\n".join([*self.output.lines(self.solution(outcome)), ONE]))
+            if self.problem.target is not None:
+                self.tell_all()
 
-    def report_solution(self, outcome, is_assumed):
+    def tell_assumed(self):
+        assumed = self.problem.reader.assumed
+        if assumed:
+            low, high = self.args.assume_bounds
+            print(f"% within the assumed bounds {low}..{high} of {', '.join(assumed)}")
+
+    def tell_none(self):
+        print(NOT_KNOWN if self.problem.reader.assumed else PROVED_FALSE)
+
+    def tell_all(self):
+        """That there is nothing better, or no other solution."""
+        if not self.problem.reader.assumed:
+            print(ALL)
+
+    def show_several(self):
+        """Shows solutions one by one, and tells where there is none left."""
+        self.tell_assumed()
+        shown, most = 0, None if self.args.all_solutions else self.args.n
+        is_at_end = False
+        try:
+            for _, lines in each(len(self.problem.groups), self.next_solution):
+                print("\n".join([*lines, ONE]), flush=True)
+                shown += 1
+                if shown == most:
+                    break
+            else:
+                is_at_end = True
+        except (Unsettled, program.OutOfTime):
+            if not shown:
+                print(NOT_KNOWN)
+        if is_at_end and shown:
+            self.tell_all()
+        elif is_at_end:
+            self.tell_none()
+        self.tell_spent(["true"] if shown else ["false"] if is_at_end else ["open"], certificates=self.certificates)
+
+    def next_solution(self, given, taken):
+        """What `solutions.each` asks for: the values of the groups, and the lines that show the solution."""
+        self.narrowed = given, taken
+        for problem in self.orders:
+            problem.narrow(given, taken)
+        self.write_text()
+        outcome = self.solved()
+        self.keep(f"{self.args.certificate}.{self.certificates}" if self.args.certificate else None)
+        if outcome[0] == "open":
+            raise Unsettled
+        if outcome[0] == "false":
+            return None
+        value = self.solution(outcome)
+        return [[value[v] for v in group] for group in self.problem.groups], Output(self.problem.reader).lines(value)
+
+    def solution(self, outcome):
+        """The values of all variables, which the text and the flattened model were evaluated with."""
         problem = self.problem
         value = self.assignment(outcome)
         if value is None:
@@ -256,9 +345,7 @@ class Run:
         reached = value[problem.target] if isinstance(problem.target, V) else None
         if reached is not None and [str(reached)] != outcome[1:]:
             raise Failure(f"the assignment reaches {reached}, where {' '.join(outcome)} is stated")
-        print("\n".join([*self.output.lines(value), ONE]))
-        if problem.target is not None and not is_assumed:
-            print(ALL)
+        return value
 
     def assignment(self, outcome):
         """The values of the variables, by the program's play, or from a certificate that is too long for it; or None."""

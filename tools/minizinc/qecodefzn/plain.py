@@ -3,7 +3,9 @@ from .builtins import HOLDS
 from .determined import holds
 from .flatzinc import Call, annotation
 from .lowering import lowered
+from .output import Output
 from .problem import Problem
+from .solutions import added, groups_of
 from .terms import C, Scope, Unsupported, V, covers
 
 WIDEST_JOINED = 500
@@ -11,16 +13,20 @@ COMPARISONS = ("int_eq_reif", "int_ne_reif", "int_le_reif", "int_lt_reif", "set_
 
 
 class PlainProblem(Problem):
-    """`target` is what is optimised, a V, a number or None. `left_out` has the variables that nothing looks at."""
+    """`target` is what is optimised, a V, a number or None. `left_out` has the variables that nothing looks at.
 
-    def __init__(self, reader, bools_first=False):
+    Where all solutions are gone through, `groups` has the shown variables, and these are all kept.
+    """
+
+    def __init__(self, reader, bools_first=False, is_gone_through=False):
         super().__init__(reader)
+        self.groups = groups_of(Output(reader).variables) if is_gone_through else []
         lower = []
         for c in reader.constraints:
             lowered(reader, c, lower)
         kept = [c for c in joined_counts(lower, self.shown()) if c.variables() or not holds(c, {})]
         order = self.order(kept, bools_first)
-        used = {v for c in kept for v in c.variables()}
+        used = {v for c in kept for v in c.variables()} | {v for group in self.groups for v in group}
         how, *wanted = reader.model.goal
         self.target = reader.resolve(wanted[0]) if wanted else None
         scope = Scope()
@@ -28,10 +34,14 @@ class PlainProblem(Problem):
             used.add(self.target)
             scope.wish = (how, self.target)
         scope.variables = [v for v in order if v in used]
-        scope.constraints = kept
+        scope.constraints = self.kept = kept
         self.scopes = [scope]
         self.left_out = [v for v in order if v not in used]
         self.name_words()
+
+    def narrow(self, given, taken):
+        """Asks for a solution with the given values of the first groups, and none of the taken values of the next one."""
+        self.scopes[0].constraints = self.kept + added(self.groups, given, taken)
 
     def shown(self):
         """The variables that the model's output names."""

@@ -50,12 +50,12 @@ def installed(tally, home):
     tally.check("an optimum", "----------\n==========" in said, said)
     said = minizinc("-a", model)
     tally.check("an optimum with -a", "----------\n==========" in said, said)
-    said = minizinc("-a", os.path.join(HERE, "models", "queens8.mzn"))
-    tally.check("all solutions", "-a: solutions aren't gone through" in said, said)
-    said = minizinc("-n", "2", os.path.join(HERE, "models", "queens8.mzn"))
-    tally.check("two solutions", "-n 2: solutions aren't gone through" in said, said)
-    said = minizinc("-n", "1", os.path.join(HERE, "models", "queens8.mzn"))
-    tally.check("one solution", "----------" in said and "ERROR" not in said, said)
+    for words, count, is_at_end in (["-a"], 3, True), (["-n", "2"], 2, False), (["-n", "1"], 1, False), (["-n", "9"], 3, True):
+        said = minizinc(*words, os.path.join(HERE, "models", "quasigroup8.mzn"))
+        is_right = said.count("----------") == count and ("==========" in said) == is_at_end and "ERROR" not in said
+        tally.check("quasigroups with " + " ".join(words), is_right, said)
+    said = minizinc("-a", os.path.join(HERE, "models", "queens3.mzn"))
+    tally.check("all of no solutions", "=====UNSATISFIABLE=====" in said, said)
     said = minizinc("-i", model)
     tally.check("an optimum with -i", "----------\n==========" in said, said)
     said = minizinc(os.path.join(HERE, "models", "queens3.mzn"))
@@ -68,6 +68,8 @@ def installed(tally, home):
     tally.check("a game without -g", "flattened with -g" in said and "=====ERROR=====" in said, said)
     said = minizinc("-g", os.path.join(TOP, "examples", "defence.mzn"))
     tally.check("a game with -g", "% qecode: true\n" in said and "guards [0, 1, 1]" in said, said)
+    said = minizinc("-g", "-a", os.path.join(TOP, "examples", "defence.mzn"))
+    tally.check("a game with -a", "a game has one answer" in said and "=====ERROR=====" in said, said)
 
 
 def games(tally, folder):

@@ -137,8 +137,31 @@ def show_goal(fzn):
 QUICK = ("queens8", "send", "zebra", "golomb5", "knapsack_b", "coins", "magic3", "sudoku_easy", "pow3", "bibd7")
 
 
+SEVERAL = ("langford", "latin_lex", "magic3", "quasigroup8", "queens3", "send", "stable", "sudoku_easy")
+
+
+def solutions_of(solver, path, *words):
+    """All solutions in order, as text, and what is told at the end."""
+    _, out, err = run(["minizinc", "--solver", solver, *words, "--output-mode", "dzn", path], 600)
+    *shown, last = out.split("----------\n")
+    return sorted(shown), last + err
+
+
+def checks_of_several(tally):
+    """All solutions of a few models are those that Gecode finds."""
+    with written_configuration() as qecode, tempfile.TemporaryDirectory() as folder:
+        gecode = write(folder, "gecode.msc", json.dumps(GECODE))
+        for path in models(SEVERAL):
+            found, last = solutions_of(qecode, path, "-a")
+            others, others_last = solutions_of(gecode, path, "-a", "-G", "std")
+            name = os.path.basename(path)
+            is_same = found == others and ("==========" in last) == ("==========" in others_last)
+            tally.check(f"all solutions of {name} beside Gecode", is_same, f"{len(found)} where Gecode has {len(others)}: {last}{others_last}")
+
+
 def checks(tally):
     """A few models: the same outcome as Gecode's, and Gecode accepts the solutions."""
+    checks_of_several(tally)
     for path in models(QUICK):
         row = measured(path, 60)
         tally.check(f"{row.name} beside Gecode", row.is_same() is not False, f"{row.outcome}, where Gecode has {row.gecode}")

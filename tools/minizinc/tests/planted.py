@@ -9,9 +9,9 @@ from unittest.mock import patch
 import small
 from common import Tally
 
-from qecodefzn import asserting, builtins, determined, games, lowering, output, plain, problem, reading
+from qecodefzn import asserting, builtins, determined, games, lowering, output, plain, problem, reading, solutions
 from qecodefzn.determined import Cluster, Definitions
-from qecodefzn.games import GameProblem
+from qecodefzn.games import GameProblem, Option
 from qecodefzn.terms import C
 
 
@@ -67,6 +67,20 @@ def assumed_silently(self, v):
     v.domain = reading.Range(*(self.assume or (-9, 9)))
 
 
+def first_alone(group, values):
+    """Excludes all that have the first value."""
+    return EXCLUDED(group[:1], values[:1])
+
+
+def one_of_each(count, solve):
+    """Of each value of the first group one solution."""
+    taken = []
+    while count and (found := solve([], taken)):
+        yield found
+        taken.append(found[0][0])
+
+
+EXCLUDED = solutions.excluded
 LOWERED, WISHES, RULES = lowering.lowered, GameProblem.read_wishes, GameProblem.read_rules
 PLANTED = {
     "half-reification is the whole": patch.object(small, "lowered", as_reified),
@@ -102,6 +116,12 @@ PLANTED = {
     ),
     "minimise is maximise": patch.object(plain, "Scope", TurnedScope),
     "another value is shown": patch.object(output, "shown", lambda value, kind: str(int(value) + 1)),
+    "what is absent may have any value": patch.object(GameProblem, "rule_of", lambda self, it: C("bool_eq", [True, True])),
+    "nothing can be chosen of options": patch.object(Option, "is_kept", lambda self, value: False),
+    "more than a solution is excluded": patch.object(solutions, "excluded", first_alone),
+    "a number is excluded by one factor": patch.object(solutions, "factors_of", lambda group: [1] * len(group)),
+    "solutions with the same beginning are passed over": patch.object(solutions, "each", one_of_each),
+    "the values of earlier groups are free": patch.object(solutions, "fixed", lambda v, value: C("bool_eq", [True, True])),
     "assumed bounds are forgotten": patch.object(reading.Reader, "assume_bounds", assumed_silently),
     "too many variables are written": patch.object(problem.Problem, "refuse_too_large", lambda self: None),
 }

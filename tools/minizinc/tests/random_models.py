@@ -31,6 +31,8 @@ def random_variable(pick, name, kinds, least=-1):
     name = f"{kind}{name}"
     if kind == "b":
         return Variable(name, "var bool", [False, True], kind)
+    if kind == "q":
+        return Variable(name, "var opt bool", [None, False, True], kind)
     low = pick.randint(least, 1)
     domain = list(range(low, low + pick.randint(2, 4)))
     if pick.random() < 0.2 and len(domain) > 2:
@@ -45,8 +47,7 @@ def random_variable(pick, name, kinds, least=-1):
 
 
 def maker_of(pick, variables):
-    by_kind = {kind: [v.name for v in variables if v.kind == kind] for kind in "xbso"}
-    return Maker(pick, by_kind["x"], by_kind["b"], by_kind["s"], by_kind["o"])
+    return Maker(pick, *([v.name for v in variables if v.kind == kind] for kind in "xbsoq"))
 
 
 def total_expression(pick, ints):
@@ -96,10 +97,13 @@ class Model:
         except Undefined:
             return False
 
+    def solutions(self):
+        names = [v.name for v in self.variables]
+        return [env for it in itertools.product(*(v.domain for v in self.variables)) if self.holds(env := dict(zip(names, it)))]
+
     def known(self):
         """None, True, or the optimum."""
-        names = [v.name for v in self.variables]
-        found = [env for it in itertools.product(*(v.domain for v in self.variables)) if self.holds(env := dict(zip(names, it)))]
+        found = self.solutions()
         if not found:
             return None
         if not self.wish:
@@ -147,7 +151,7 @@ def refusal(out, err):
 OF_MINIZINC = "refused: an error of MiniZinc, which Gecode makes as well"
 
 KINDS = ("xxb", "xxb", "xxbs")
-OPTIONAL_KINDS = ("xo", "xob", "xobs")
+OPTIONAL_KINDS = ("xo", "xob", "xobs", "xoq", "xoq", "xobqs")
 
 
 class Game:
@@ -309,13 +313,57 @@ def model_trial(seed, folder, configuration, options=()):
 
 def is_of_gecode(model, folder, out):
     """Whether Gecode gives this solution too: then it's MiniZinc that loses a constraint, as 2.6.4 does with `deopt`."""
+    return values(model, out[: out.index("----------")]) in gecode_solutions(model, folder)
+
+
+def gecode_solutions(model, folder):
     text = re.sub(r"^solve .*$", "solve satisfy;", model.text(), flags=re.M)
     words = ["minizinc", "-a", "--solver", write(folder, "gecode.msc", json.dumps(GECODE)), "--output-mode", "json"]
     for flags in [], ["-G", "std"]:
         _, others, err = run([*words, *flags, write(folder, "others.mzn", text)])
         if "Registry" not in others + err:  # where Gecode lacks a global that its library hands to it
             break
-    return values(model, out[: out.index("----------")]) in [values(model, it) for it in others.split("----------") if "{" in it]
+    return all_values(model, others)
+
+
+def all_values(model, out):
+    return [values(model, it) for it in out.split("----------") if "{" in it]
+
+
+MOST_SHOWN = 25
+
+
+def solutions_trial(seed, folder, configuration, options=()):
+    """All solutions of a model, or the first ones where there are many."""
+    model = Model(seed)
+    model.wish = None
+    write(folder, "m.mzn", model.text())
+    known = model.solutions()
+    wanted = ["-a"] if len(known) <= MOST_SHOWN else ["-n", str(MOST_SHOWN)]
+    out, err = answered(folder, configuration, [], [*options, *wanted])
+    answer = judge_solutions(model, known, out, err)
+    if answer.startswith("WRONG: other solutions") and has_gecode() and is_same(all_values(model, out), gecode_solutions(model, folder)):
+        return OF_MINIZINC, model
+    return answer, model
+
+
+def judge_solutions(model, known, out, err):
+    if not known:
+        return judge_model(model, out, err)
+    if "----------" not in out:
+        return "WRONG: unsatisfiable, where there are solutions" if "UNSATISFIABLE" in out else refusal(out, err)
+    shown = all_values(model, out)
+    if len(known) > MOST_SHOWN:
+        is_right = all(env in known for env in shown) and len(shown) == MOST_SHOWN and "==========" not in out
+    else:
+        is_right = is_same(shown, known) and "==========" in out
+    if not is_right:
+        return f"WRONG: other solutions, {shown}, where {known} are known"
+    return "right" if all(one != other for one, other in itertools.combinations(shown, 2)) else "WRONG: one is shown twice"
+
+
+def is_same(some, others):
+    return all(env in others for env in some) and all(env in some for env in others)
 
 
 def values(model, solution):
@@ -325,8 +373,8 @@ def values(model, solution):
 
 
 def optional_game_trial(seed, folder, configuration, options=()):
-    """Optional integers in scopes, none of which may be 0."""
-    return game_trial(seed, folder, configuration, options, Game(seed, OPTIONAL_KINDS, 1))
+    """Optional integers and Booleans in scopes; in every other game integers may be 0."""
+    return game_trial(seed, folder, configuration, options, Game(seed, OPTIONAL_KINDS, seed % 2 * 2 - 1))
 
 
 def game_trial(seed, folder, configuration, options=(), game=None):

@@ -15,7 +15,7 @@ from common import FZN_QECODE, TOOL, Tally, has_program, read, run, write
 from calls import is_refused
 from flattening import sources, stored
 
-from qecodefzn import flatzinc, main, plain, program
+from qecodefzn import flatzinc, main, plain, program, solutions
 from qecodefzn.asserting import assert_is
 from qecodefzn.builtins import PREDICATES
 from qecodefzn.certificate import assignment
@@ -210,6 +210,25 @@ def check_refusals(tally):
         tally.check(f"taken for a refusal: {said}", is_refused("int_pow(x,y,z)", said) == is_one, f"{not is_one}")
 
 
+def check_each(tally):
+    """Whatever the solutions are, each is given once, by constraints that hold for what is asked."""
+    for seed in range(3 * TRIALS):
+        bench = Bench(random.Random(f"solutions {seed}"))
+        variables = bench.pick.sample(bench.ints + bench.bools, bench.pick.randint(0, 5))
+        known = [env for env in environments(variables) if bench.pick.random() < 0.4]
+
+        def solve(given, taken):
+            asked = solutions.added(groups, given, taken)
+            env = next((env for env in known if all(holds(c, env) for c in asked)), None)
+            return None if env is None else ([[env[v] for v in group] for group in groups], env)
+
+        with patch.object(solutions, "MOST_TOGETHER", bench.pick.choice([1, 6, 20, 1_000])):
+            groups = solutions.groups_of(variables)
+            found = [env for _, env in itertools.islice(solutions.each(len(groups), solve), len(known) + 1)]
+        is_right = len(found) == len(known) and all(env in found for env in known)
+        tally.check(f"each solution of {len(groups)} groups, {seed}", is_right, f"{found}, where {known} are known")
+
+
 BOUNDING = "int_lin_eq int_plus int_times int_div int_mod int_abs int_min int_max array_var_int_element table_int".split()
 
 
@@ -314,6 +333,33 @@ def reads_same(name, kept):
     return plain.broken(problem, value) is None
 
 
+def check_several(tally):
+    """Several solutions, with their certificates, and what is told where there is no other."""
+    one, last = "----------", "==========\n"
+    for words, name, count, is_at_end in (
+        (["-a"], "pairs", 6, True),
+        (["-n", "2"], "pairs", 2, False),
+        (["-n", "9"], "pairs", 6, True),
+        (["-a"], "send", 1, True),
+        (["-a"], "knapsack_b", 1, True),
+        (["-a"], "queens3", 0, False),
+        (["-a", "--turns", "1"], "zebra", 0, False),
+    ):
+        said = answer_to([*words, stored(name)])
+        is_right = said.count(one) == count and said.endswith(last) == is_at_end and "ERROR" not in said
+        tally.check(f"{' '.join(words)} of {name}", is_right, said)
+        parts = [part for part in said.split(one) if "=" in part.replace(last, "")]
+        tally.check(f"each once by {' '.join(words)} of {name}", len(set(parts)) == len(parts), said)
+    said = answer_to(["-a", stored("defence")])
+    tally.check("several answers of a game", "a game has one answer" in said and "ERROR" in said, said)
+    with tempfile.TemporaryDirectory() as folder:
+        kept = os.path.join(folder, "kept")
+        answer_to(["-a", "--certificate", kept, stored("pairs")])
+        outcomes = [run([program.PROGRAM, "check", f"{kept}.{k}.qc", f"{kept}.{k}"])[1] for k in range(1, len(os.listdir(folder)) // 2 + 1)]
+        is_right = outcomes.count("yes true\n") == 6 and outcomes[-1] == "yes false\n" and {*outcomes} == {"yes true\n", "yes false\n"}
+        tally.check("kept certificates of several", is_right, str(outcomes))
+
+
 def check_limits(tally):
     with tempfile.TemporaryDirectory() as folder:
         hard = stored("golomb5")
@@ -340,8 +386,8 @@ def check_installer(tally):
         tally.check("the installer takes away", not os.path.exists(path), "it is still there")
 
 
-OF_PYTHON = (check_determined, check_lowered, check_asserted, check_reader, check_bounds, check_refusals, check_installer)
-OF_PROGRAM = (check_predicates, check_stored, check_stored_early, check_kept, check_limits)
+OF_PYTHON = (check_determined, check_lowered, check_asserted, check_reader, check_bounds, check_refusals, check_each, check_installer)
+OF_PROGRAM = (check_predicates, check_stored, check_stored_early, check_kept, check_several, check_limits)
 
 
 def checks(tally):
