@@ -1,5 +1,6 @@
 % Sets of integers by Booleans, one for each number that a set may have. It stands in place of MiniZinc's file of this name, which
-% ends in an assertion where the index of an element may lie outside of its array, and reads arrays outside of their indices.
+% ends in an assertion where the index of an element may lie outside of its array, and reads arrays outside of their indices. That
+% file has half-reified forms too. MiniZinc takes these in places where the reified form is meant, as in an index, so there are none.
 
 % ---- The Booleans of a set, and the way back for the output, which MiniZinc asks for.
 
@@ -22,7 +23,7 @@ predicate mzn_reverse_map_var(var set of int: x) = let { array[int] of var bool:
 function var bool: qecode_has(array[int] of var bool: b, int: i) = if i in index_set(b) then b[i] else false endif;
 function var bool: qecode_has_above(array[int] of var bool: b, int: i) = exists([ b[j] | j in index_set(b) where j > i ]);
 
-% ---- What holds of sets: one body for the plain, the reified and the half-reified form.
+% ---- What holds of sets: one body for the plain and the reified form.
 
 predicate qecode_set_eq(array[int] of var bool: x, array[int] of var bool: y) =
   forall(i in index_set(x) union index_set(y))(qecode_has(x, i) = qecode_has(y, i));
@@ -42,28 +43,21 @@ predicate qecode_set_before_from(int: i, int: last, array[int] of var bool: x, a
 
 predicate set_eq(var set of int: x, var set of int: y) = qecode_set_eq(set2bools(x), set2bools(y));
 predicate set_eq_reif(var set of int: x, var set of int: y, var bool: r) = r <-> qecode_set_eq(set2bools(x), set2bools(y));
-predicate set_eq_imp(var set of int: x, var set of int: y, var bool: r) = r -> qecode_set_eq(set2bools(x), set2bools(y));
 predicate set_ne(var set of int: x, var set of int: y) = not qecode_set_eq(set2bools(x), set2bools(y));
 predicate set_ne_reif(var set of int: x, var set of int: y, var bool: r) = r <-> not qecode_set_eq(set2bools(x), set2bools(y));
-predicate set_ne_imp(var set of int: x, var set of int: y, var bool: r) = r -> not qecode_set_eq(set2bools(x), set2bools(y));
 predicate set_le(var set of int: x, var set of int: y) = qecode_set_before(set2bools(x), set2bools(y), true);
 predicate set_le_reif(var set of int: x, var set of int: y, var bool: r) = r <-> qecode_set_before(set2bools(x), set2bools(y), true);
-predicate set_le_imp(var set of int: x, var set of int: y, var bool: r) = r -> qecode_set_before(set2bools(x), set2bools(y), true);
 predicate set_lt(var set of int: x, var set of int: y) = qecode_set_before(set2bools(x), set2bools(y), false);
 predicate set_lt_reif(var set of int: x, var set of int: y, var bool: r) = r <-> qecode_set_before(set2bools(x), set2bools(y), false);
-predicate set_lt_imp(var set of int: x, var set of int: y, var bool: r) = r -> qecode_set_before(set2bools(x), set2bools(y), false);
 predicate set_subset(var set of int: x, var set of int: y) = qecode_set_subset(set2bools(x), set2bools(y));
 predicate set_subset_reif(var set of int: x, var set of int: y, var bool: r) = r <-> qecode_set_subset(set2bools(x), set2bools(y));
-predicate set_subset_imp(var set of int: x, var set of int: y, var bool: r) = r -> qecode_set_subset(set2bools(x), set2bools(y));
 predicate set_superset(var set of int: x, var set of int: y) = set_subset(y, x);
 predicate set_superset_reif(var set of int: x, var set of int: y, var bool: r) = set_subset_reif(y, x, r);
-predicate set_superset_imp(var set of int: x, var set of int: y, var bool: r) = set_subset_imp(y, x, r);
 
 predicate set_in(int: x, var set of int: y) = qecode_has(set2bools(y), x);
 predicate set_in_reif(int: x, var set of int: y, var bool: r) = r <-> qecode_has(set2bools(y), x);
 predicate set_in(var int: x, var set of int: y) = if card(ub(y)) = 0 then false else set2bools(y)[x] endif;
 predicate set_in_reif(var int: x, var set of int: y, var bool: r) = if card(ub(y)) = 0 then not r else r <-> set2bools(y)[x] endif;
-predicate set_in_imp(var int: x, var set of int: y, var bool: r) = if card(ub(y)) = 0 then not r else r -> set2bools(y)[x] endif;
 
 % ---- What sets come to.
 

@@ -257,20 +257,28 @@ def annotation(annotations, name):
     return None
 
 
-def place_of(annotations):
-    """Where in the model something comes from, as " (FILE, line L, column C)"; nothing where MiniZinc doesn't tell.
+def steps_in_model(annotations):
+    """The steps of a path in the user's file, each cut into its parts; none where MiniZinc doesn't tell.
 
-    A path has the calls that led there, parted by semicolons, and begins in the user's file; the innermost place in that
-    file is told, and none in the library.
+    A path has the calls that led somewhere, parted by semicolons. It begins in the user's file, and goes on in the library.
     """
     path = annotation(annotations, "mzn_path")
     if not path or not isinstance(path, Call) or not isinstance(path.args[0], Text):
-        return ""
+        return []
     steps = [step.split("|") for step in path.args[0].text.split(";")]
-    inner = [step for step in steps if len(step) > 2 and step[0] == steps[0][0]]
-    if not inner:
-        return ""
-    return f" ({inner[-1][0].rpartition('/')[2]}, line {inner[-1][1]}, column {inner[-1][2]})"
+    return [step for step in steps if len(step) > 2 and step[0] == steps[0][0]]
+
+
+def place_of(annotations):
+    """Where in the model something comes from, as " (FILE, line L, column C)": the innermost place; nothing where it isn't told."""
+    inner = steps_in_model(annotations)
+    return f" ({inner[-1][0].rpartition('/')[2]}, line {inner[-1][1]}, column {inner[-1][2]})" if inner else ""
+
+
+def call_of(annotations):
+    """The innermost call of the model that something comes from, as " of NAME(..)"; nothing where it isn't told."""
+    names = [step[6].rpartition("@")[2] for step in steps_in_model(annotations) if len(step) > 6 and step[5] == "ca"]
+    return f" of {names[-1]}(..)" if names and names[-1].isidentifier() else ""
 
 
 def parse(text):

@@ -16,7 +16,7 @@ from itertools import combinations
 
 from .asserting import assert_is
 from .determined import Definitions, Determiner, find_cluster, follow_on, holds
-from .flatzinc import Range, annotation, place_of
+from .flatzinc import Range, annotation, call_of, place_of
 from .lowering import WHOLE, fresh_bool, lowered
 from .output import Output
 from .problem import Problem
@@ -157,7 +157,7 @@ class GameProblem(Problem):
         free = [v for v in dict.fromkeys(met) if v not in self.known and v.name != CANARY]
         if free:
             free = [v for v in free if not v.is_new] or free  # new ones often follow from those of the model
-            told = ", ".join(v.name + place_of(v.annotations) for v in free[:5])
+            told = ", ".join(v.name + (call_of(v.annotations) if v.is_new else "") + place_of(v.annotations) for v in free[:5])
             more = f" and {len(free) - 5} more" if len(free) > 5 else ""
             raise Unsupported(f"nobody chooses these variables, and nothing determines them: {told}{more}")
 

@@ -1,0 +1,4 @@
+include "qecode_graphs.mzn";
+predicate fzn_dpath_reif(array[int] of $$N: from, array[int] of $$N: to, var $$N: s, var $$N: t, array[$$N] of var bool: ns,
+                         array[int] of var bool: es, var bool: b) =
+  b <-> (qecode_is_tree_from(from, to, s, ns, es) /\ qecode_is_tree_from(to, from, t, ns, es));

@@ -1,0 +1,4 @@
+include "qecode_graphs.mzn";
+predicate fzn_dreachable_reif(int: N, int: E, array[int] of int: from, array[int] of int: to, var int: r,
+                              array[int] of var bool: ns, array[int] of var bool: es, var bool: b) =
+  b <-> qecode_spans_from(from, to, r, ns, es);
