@@ -61,7 +61,7 @@ def beside_texts():
 
 
 def random_ones(games, models, seed):
-    print(f"{models} models, of {models // 4} all solutions, {games} games and {games // 4} with optional variables, from {seed} on", flush=True)
+    print(f"{models} models, {models // 4} with all solutions, {games} games, {games // 4} with optional variables, from {seed} on", flush=True)
     tally = Tally()
     random_models.checks(tally, random_models.model_trial, "model", models, seed)
     random_models.checks(tally, random_models.game_trial, "game", games, seed)

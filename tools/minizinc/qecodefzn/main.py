@@ -39,7 +39,7 @@ class Unsettled(Exception):
 def words_of(words):
     p = argparse.ArgumentParser(prog="fzn-qecode", description="Solves a FlatZinc file with qecode.", allow_abbrev=False)
     p.add_argument("file", help="the FlatZinc file")
-    p.add_argument("-a", "--all-solutions", action="store_true", help="shows all solutions; of what is optimised the best one, as without it")
+    p.add_argument("-a", "--all-solutions", action="store_true", help="shows all solutions; of what is optimised the best one alone")
     p.add_argument("-n", type=count, default=1, metavar="N", help="shows N solutions where there are as many; as -a")
     p.add_argument("-i", action="store_true", help="of what is optimised: the best one alone is shown, as without it")
     p.add_argument("-s", "--statistics", action="store_true", help="writes statistics")
@@ -298,23 +298,21 @@ class Run:
     def show_several(self):
         """Shows solutions one by one, and tells where there is none left."""
         self.tell_assumed()
-        shown, most = 0, None if self.args.all_solutions else self.args.n
-        is_at_end = False
+        shown, is_at_end = 0, False
         try:
             for _, lines in each(len(self.problem.groups), self.next_solution):
                 print("\n".join([*lines, ONE]), flush=True)
                 shown += 1
-                if shown == most:
+                if shown == self.args.n and not self.args.all_solutions:
                     break
             else:
                 is_at_end = True
         except (Unsettled, program.OutOfTime):
-            if not shown:
-                print(NOT_KNOWN)
-        if is_at_end and shown:
-            self.tell_all()
+            pass  # what was shown stands
+        if not is_at_end and not shown:
+            print(NOT_KNOWN)
         elif is_at_end:
-            self.tell_none()
+            self.tell_all() if shown else self.tell_none()
         self.tell_spent(["true"] if shown else ["false"] if is_at_end else ["open"], certificates=self.certificates)
 
     def next_solution(self, given, taken):

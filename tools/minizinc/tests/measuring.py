@@ -156,7 +156,8 @@ def checks_of_several(tally):
             others, others_last = solutions_of(gecode, path, "-a", "-G", "std")
             name = os.path.basename(path)
             is_same = found == others and ("==========" in last) == ("==========" in others_last)
-            tally.check(f"all solutions of {name} beside Gecode", is_same, f"{len(found)} where Gecode has {len(others)}: {last}{others_last}")
+            why = f"{len(found)}, where Gecode has {len(others)}: {last}{others_last}"
+            tally.check(f"all solutions of {name} beside Gecode", is_same, why)
 
 
 def checks(tally):

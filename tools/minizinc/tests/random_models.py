@@ -342,8 +342,9 @@ def solutions_trial(seed, folder, configuration, options=()):
     wanted = ["-a"] if len(known) <= MOST_SHOWN else ["-n", str(MOST_SHOWN)]
     out, err = answered(folder, configuration, [], [*options, *wanted])
     answer = judge_solutions(model, known, out, err)
-    if answer.startswith("WRONG: other solutions") and has_gecode() and is_same(all_values(model, out), gecode_solutions(model, folder)):
-        return OF_MINIZINC, model
+    if answer.startswith("WRONG: other solutions") and has_gecode():
+        if is_same(all_values(model, out), gecode_solutions(model, folder)):
+            return OF_MINIZINC, model
     return answer, model
 
 

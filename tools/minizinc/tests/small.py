@@ -355,8 +355,9 @@ def check_several(tally):
     with tempfile.TemporaryDirectory() as folder:
         kept = os.path.join(folder, "kept")
         answer_to(["-a", "--certificate", kept, stored("pairs")])
-        outcomes = [run([program.PROGRAM, "check", f"{kept}.{k}.qc", f"{kept}.{k}"])[1] for k in range(1, len(os.listdir(folder)) // 2 + 1)]
-        is_right = outcomes.count("yes true\n") == 6 and outcomes[-1] == "yes false\n" and {*outcomes} == {"yes true\n", "yes false\n"}
+        numbers = range(1, len(os.listdir(folder)) // 2 + 1)
+        outcomes = [run([program.PROGRAM, "check", f"{kept}.{k}.qc", f"{kept}.{k}"])[1] for k in numbers]
+        is_right = outcomes.count("yes true\n") == 6 and outcomes[-1] == "yes false\n" and len(set(outcomes)) == 2
         tally.check("kept certificates of several", is_right, str(outcomes))
 
 
