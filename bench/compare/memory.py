@@ -1,12 +1,13 @@
 """Refuses one allocation of the program after the other, and looks at what it answers.
 
-    bench/run memory [--program PATH] [--first N] [--samples N] [--on] [--kit N,N..]
+    bench/run memory [--program PATH | --qdense PATH] [--first N] [--samples N] [--on] [--kit N,N..]
 
 Nothing here is part of the gate.
 
 The runs are `solve` of examples/tolls.qc, `check` of what that writes, `print` of a small text, and `generate 0`. Where an
 allocation is refused, the program has to end with status 9 and nothing written, or as it does when none is. An allocation is a call of
-malloc or realloc. The first 300 are refused in turn, the last 20 too, and about 300 between them.
+malloc or realloc. The first 300 are refused in turn, the last 20 too, and about 300 between them. With `--qdense` it is that
+program's `solve` of examples/schedule.qc, `check` of the list that it writes, and `qbf` of a formula.
 
 How it is run: the program takes its memory from the C library, so refuse.c, which is compiled by cc, is loaded
 before that library (LD_PRELOAD) and refuses the Nth call. So the built program itself is tried, in milliseconds.
@@ -33,6 +34,8 @@ REFUSED = 9
 LAST = 20
 SMALL = "exists;constraint int_le(x,3);var {2,0,1,2}: x; % c\ngoal;solve;"
 TOLLS = os.path.join(TOP, "examples", "tolls.qc")
+SCHEDULE = os.path.join(TOP, "examples", "schedule.qc")
+FORMULA = os.path.join(TOP, "examples", "formulas", "copycat.qdimacs")
 KIT_TURNS = "2000"
 
 
@@ -99,6 +102,17 @@ def try_built(options, folder):
     return wrong
 
 
+def try_lists(options, folder):
+    """The same for `qdense`: lists that it writes for a schedule and a formula, and checks."""
+    certificate = os.path.join(folder, "schedule.list")
+    built = Built(Program(options.qdense), folder, options.on)
+    solved, wrong = tried(options, built, ["solve", SCHEDULE])
+    write(certificate, solved)
+    for words in ["check", SCHEDULE, certificate], ["qbf", FORMULA]:
+        wrong += tried(options, built, words)[1]
+    return wrong
+
+
 def kit_answer(words, files, number):
     """The status and the output by the kit; number 0 refuses none."""
     data = [word for name, path in files.items() for word in ("--data", f"{name}={path}")]
@@ -131,11 +145,13 @@ def try_kit(options, folder):
 def main(words):
     parser = argparse.ArgumentParser(prog="bench/run memory", description="Refuses allocations of the program.")
     add_option(parser)
+    parser.add_argument("--qdense", metavar="PATH", help="tries that program in its place: solve, check and qbf")
     parser.add_argument("--first", type=int, default=300)
     parser.add_argument("--samples", type=int, default=300)
     parser.add_argument("--on", action="store_true")
     parser.add_argument("--kit", metavar="N,N..")
     options = parser.parse_args(words)
     with tempfile.TemporaryDirectory() as folder:
-        wrong = try_kit(options, folder) if options.kit else try_built(options, folder)
+        way = try_kit if options.kit else try_lists if options.qdense else try_built
+        wrong = way(options, folder)
     return wrong > 0

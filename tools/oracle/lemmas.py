@@ -10,6 +10,8 @@ from oracle.predicates import ENTAILED, SIGNATURES
 
 HEADS = {b"true": "forall", b"false": "exists"}  # who loses the game
 LOSERS = {b"l": "exists", b"w": "forall"}
+# A text has no number beyond these: a value, and an end of a sum's range.
+VALUE, SUM = 10**9, 2**62
 
 
 class NotProved(Exception):
@@ -70,9 +72,16 @@ class Proof:
 
     def numbers(self, count):
         try:
-            return numbers(self.next()[1:], count)
+            letter, *words = self.next()
+            if len(letter) != 1:
+                raise ValueError
+            return numbers(words, count)
         except ValueError:
             self.fail("numbers")
+
+    def within(self, most, *found):
+        if any(abs(number) > most for number in found):
+            self.fail("a number too far from zero")
 
     def entry(self):
         """A lemma with its steps, or a lemma that is forgotten; whether it ends the list."""
@@ -86,9 +95,11 @@ class Proof:
             self.fail("a lemma is expected")
         found = self.numbers(None)
         literals = [(found[k] - 1, found[k + 1], found[k + 2]) for k in range(0, len(found), 3)]
+        self.within(VALUE, *(end for _, low, high in literals for end in (low, high)))
         sums = []
         while self.peek() == b"u":
             c, low, high = self.numbers(3)
+            self.within(SUM, low, high)
             sums.append((c - 1, low, high))
         lemma = Lemma(LOSERS[letter], literals, sums)
         self.begin(lemma)
@@ -151,6 +162,7 @@ class Proof:
 
     def cut(self, letter):
         x, low, high, reason = self.numbers(4)
+        self.within(VALUE, low, high)
         x -= 1
         kept = 0 <= x < len(self.box) and frozenset(v for v in self.box[x] if low <= v <= high)
         if not kept or self.is_winners(x):
