@@ -17,14 +17,16 @@ use Rattle.qc_likeness.proofs.Plain.{no_demands, later_none, cases_none}
 use Rattle.kept_nodes.specs.Known.{IsKnown, IsEnded, IsFinished, StandsHere}
 use Rattle.search_parts.specs.Made.{NodeMade}
 use Rattle.search_parts.specs.Settled.{beats_none}
-use Rattle.game_search.specs.Told.{NodeTold}
+use Rattle.game_search.specs.Here.{Here, here_at}
+use Rattle.game_search.specs.Put.{NodePut}
+use Rattle.game_search.specs.Told.{NodeTold, came_to}
 use Rattle.kept_nodes.proofs.Knowing.{decided_made, node_ends}
 use Rattle.game_search.specs.declared.walk.Walk.{Walk}
 use Rattle.search_parts.proofs.Joining.{own_so}
 
 -- what stands at a node that is known
 pub known_told : (above : ℤ → Bool) (g : Game) (i : ℕ) (box : Box) (h : Option ℕ) (vs : List ℤ) (v : Verdict) (won : Bool) (turns had left : ℕ) (ls old new : List Line) (joins : Joins) → ask_nothing g.scopes ≡ true → turns ≤ had → left ≡ had - turns → v ≡ decided_as won → IsLike g i vs box →
-    new ≡ old ++ ls → StandsAt joins i [] → IsKnown g i h vs won turns ls → NodeTold true above g i box h v had left old new joins
+    new ≡ old ++ ls → StandsAt joins i [] → IsKnown g i h vs won turns ls → NodePut (here_at true above g i box h) v had left old new joins
 known_told above g i box h vs v won turns had left ls old new joins plain enough f e like q stands k =
     let d = k.1.decided box like in
     let made = decided_made above g i h won turns had k.0 box plain enough d in
@@ -47,37 +49,31 @@ goal_decided g won d a e = ap (λ dd. goal_verdict g won dd a) e ∙ by won
     by false = refl
 
 -- the lines that stand here
-pub stands_told : (cuts : Bool) (above : ℤ → Bool) (g : Game) (i : ℕ) (box : Box) (h : Option ℕ) (vs : List ℤ) (v : Verdict) (won : Bool) (turns had left n : ℕ) (a : List ℤ) (ls old new : List Line) (joins : Joins) → cuts ≡ true → StandsHere g i h had box vs won turns ls → left ≡ had - turns → v ≡ goal_verdict g won (demands g n) a →
-    new ≡ old ++ ls → StandsAt joins i [] → NodeTold cuts above g i box h v had left old new joins
-stands_told cuts above g i box h vs v won turns had left n a ls old new joins cut s f q e stands =
-    subst (λ b. NodeTold b above g i box h v had left old new joins) (sym cut)
-    (known_told above g i box h vs v won turns had left ls old new joins s.plain s.few f (q ∙ goal_decided g won (demands g n) a (no_demands g n s.plain)) s.like e stands s.known)
+pub stands_told : (node : Here) (vs : List ℤ) (v : Verdict) (won : Bool) (turns had left n : ℕ) (a : List ℤ) (ls old new : List Line) (joins : Joins) → node.cuts ≡ true → StandsHere node.game node.number node.horizon had node.box vs won turns ls → left ≡ had - turns → v ≡ goal_verdict node.game won (demands node.game n) a →
+    new ≡ old ++ ls → StandsAt joins node.number [] → NodePut node v had left old new joins
+stands_told node vs v won turns had left n a ls old new joins cut s f q e stands =
+    subst (λ b. NodePut (here_at b node.above node.game node.number node.box node.horizon) v had left old new joins) (sym cut)
+    (known_told node.above node.game node.number node.box node.horizon vs v won turns had left ls old new joins s.plain s.few f (q ∙ goal_decided node.game won (demands node.game n) a (no_demands node.game n s.plain)) s.like e stands s.known)
 
 -- so where it was told whatever is above
-pub any_ends : (g : Game) (i : ℕ) (box : Box) (h : Option ℕ) (v : Verdict) (had left : ℕ) (old new : List Line) (joins : Joins) → ((cuts : Bool) (above : ℤ → Bool) → NodeTold cuts above g i box h v had left old new joins) →
+pub any_ends : (g : Game) (i : ℕ) (box : Box) (h : Option ℕ) (v : Verdict) (had left : ℕ) (old new : List Line) (joins : Joins) → ((cuts : Bool) (above : ℤ → Bool) → NodePut (here_at cuts above g i box h) v had left old new joins) →
     IsEnded g i box h v had left (drop (length old) new)
 any_ends g i box h v had left old new joins told = node_ends true beats_none g i box box h v had left (length old) old new refl refl refl (told true beats_none).written
 
--- it stays so where the joins, the turns and the lines do
-pub ended_kept : (g : Game) (i : ℕ) (box : Box) (h : Option ℕ) (found : Found) (start had : ℕ) (b c : Walk) → c.joins ≡ b.joins → c.left ≡ b.left → c.lines ≡ b.lines → IsEnded g i box h (verdict_of found (out_of b.joins)) had b.left (drop start b.lines) →
-    IsEnded g i box h (verdict_of found (out_of c.joins)) had c.left (drop start c.lines)
-ended_kept g i box h found start had b c joins left lines e =
-    subst (λ (js : Joins). IsEnded g i box h (verdict_of found (out_of js)) had c.left (drop start c.lines)) (sym joins)
-    (subst (λ n. IsEnded g i box h (verdict_of found (out_of b.joins)) had n (drop start c.lines)) (sym left)
-    (subst (λ ls. IsEnded g i box h (verdict_of found (out_of b.joins)) had b.left (drop start ls)) (sym lines) e))
+-- so by a search that cuts
+pub told_ends : (node : Here) (found : Found) (a w : Walk) → node.cuts ≡ true → NodeTold node found a w → IsEnded node.game node.number node.box node.horizon (came_to found w) a.left w.left (drop (length a.lines) w.lines)
+told_ends node found a w cut told = node_ends node.cuts node.above node.game node.number node.box node.box node.horizon (came_to found w) a.left w.left (length a.lines) a.lines w.lines cut refl refl told.written
 
--- so it is finished
-pub node_finished : (cuts : Bool) (above : ℤ → Bool) (g : Game) (i : ℕ) (box now : Box) (h : Option ℕ) (found : Found) (vector : List ℤ) (had left start : ℕ) (old new : List Line) (joins : Joins) → cuts ≡ true → now ≡ box → start ≡ length old → NodeTold cuts above g i box h (verdict_of found vector) had left old new joins →
-    IsFinished g i now h found had left (drop start new)
-node_finished cuts above g i box now h found vector had left start old new joins cut same e w = record {
-  vector = vector;
-  ended = node_ends cuts above g i box now h (verdict_of found vector) had left start old new cut same e w.written;
+-- and it is finished
+pub node_finished : (node : Here) (found : Found) (start : ℕ) (a w : Walk) → node.cuts ≡ true → w.remains.store.box ≡ node.box → start ≡ length a.lines → NodeTold node found a w → IsFinished node.game node.number w.remains.store.box node.horizon found a.left w.left (drop start w.lines)
+node_finished node found start a w cut same begun told = record {
+  vector = out_of w.joins;
+  ended = node_ends node.cuts node.above node.game node.number node.box w.remains.store.box node.horizon (came_to found w) a.left w.left start a.lines w.lines cut same begun told.written;
 }
 
 -- what was told stays so where the joins, the turns and the lines do
-pub kept_told : (cuts : Bool) (above : ℤ → Bool) (g : Game) (i : ℕ) (box : Box) (h : Option ℕ) (found : Found) (a b c : Walk) → c.joins ≡ b.joins → c.left ≡ b.left → c.lines ≡ b.lines → NodeTold cuts above g i box h (verdict_of found (out_of b.joins)) a.left b.left a.lines b.lines b.joins →
-    NodeTold cuts above g i box h (verdict_of found (out_of c.joins)) a.left c.left a.lines c.lines c.joins
-kept_told cuts above g i box h found a b c joins left lines w =
-    subst (λ (js : Joins). NodeTold cuts above g i box h (verdict_of found (out_of js)) a.left c.left a.lines c.lines js) (sym joins)
-    (subst (λ n. NodeTold cuts above g i box h (verdict_of found (out_of b.joins)) a.left n a.lines c.lines b.joins) (sym left)
-    (subst (λ ls. NodeTold cuts above g i box h (verdict_of found (out_of b.joins)) a.left b.left a.lines ls b.joins) (sym lines) w))
+pub kept_told : (node : Here) (found : Found) (a b c : Walk) → c.joins ≡ b.joins → c.left ≡ b.left → c.lines ≡ b.lines → NodeTold node found a b → NodeTold node found a c
+kept_told node found a b c joins left lines told =
+    subst (λ (js : Joins). NodePut node (verdict_of found (out_of js)) a.left c.left a.lines c.lines js) (sym joins)
+    (subst (λ n. NodePut node (came_to found b) a.left n a.lines c.lines b.joins) (sym left)
+    (subst (λ ls. NodePut node (came_to found b) a.left b.left a.lines ls b.joins) (sym lines) told))

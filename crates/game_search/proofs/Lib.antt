@@ -10,3 +10,7 @@ pub mod Rivals
 pub mod Knowing
 pub mod Covering
 pub mod Outdoing
+pub mod Spread
+pub mod OwnTrees
+pub mod Searched
+pub mod Branching

@@ -42,7 +42,7 @@ use Rattle.search_parts.specs.Beaten.{firsts, seen_bounds}
 use Rattle.search_parts.specs.Made.{StepsMade}
 use Rattle.game_search.specs.Narrowed.{NarrowTold, FirstNarrowed}
 use Rattle.search_parts.specs.Settled.{is_settled}
-use Rattle.game_search.specs.Told.{IsReady, BoundedSteps}
+use Rattle.game_search.specs.Put.{IsReady, BoundedSteps}
 use Rattle.game_search.specs.declared.aim.Worse.{Worse}
 use Rattle.search_parts.proofs.Beating.{no_worse_yet}
 use Rattle.search_parts.proofs.Bools.{two, both}

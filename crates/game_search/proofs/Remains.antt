@@ -27,7 +27,7 @@ use Rattle.search_box.proofs.Entering.{fixed_within}
 use Rattle.search_box.proofs.Goings.{closed_now, closed_before, kept_fewer}
 use Rattle.search_box.proofs.Places.{fixed_none, fixed_both, fixed_more}
 use Rattle.game_search.specs.Going.{GoesOn}
-use Rattle.game_search.specs.Told.{IsBack}
+use Rattle.game_search.specs.Put.{IsBack}
 use Rattle.search_parts.specs.Uppers.{upto_between, without_before}
 use Rattle.game_search.specs.declared.walk.Walk.{Walk}
 use Rattle.search_parts.proofs.Bools.{both}

@@ -1,4 +1,6 @@
 pub mod Going
+pub mod Put
+pub mod Here
 pub mod Told
 pub mod Trimmed
 pub mod Attempted

@@ -8,7 +8,9 @@ use Rattle.proof_tree.specs.declared.tree.Step.{Step}
 use Rattle.qc_joins.specs.Joins.{StandsAt}
 use Rattle.qc_joins.specs.declared.joins.Joins.{Joins}
 use Rattle.search_parts.specs.Beaten.{seen_bounds}
-use Rattle.game_search.specs.Told.{StepsTold, BoundedSteps}
+use Rattle.game_search.specs.Put.{StepsTold, BoundedSteps}
+use Rattle.game_search.specs.declared.stage.Stage.{Stage}
+use Rattle.game_search.specs.declared.walk.Walk.{Walk}
 use Rattle.game_search.specs.declared.narrowing.GivenUp.{GivenUp}
 use Rattle.game_search.specs.declared.narrowing.GivenUp.TheVariants.{Nothing, Values as SomeValues, All}
 
@@ -34,3 +36,10 @@ abbrev pub IsGivenUp : GivenUp → Box → Box → Type 0
 IsGivenUp Nothing old new = new ≡ old
 IsGivenUp (SomeValues x) old new = HasLost x.0 old new
 IsGivenUp All old new = IsTrue (has_empty new)
+
+-- what the calls say of it, at the stage's scope
+abbrev pub NarrowAnswers : Stage → Box → Walk → Walk → Type 0
+NarrowAnswers s box old new = (before : List Seen) → StandsAt old.joins s.level.now.number before → NarrowTold s.level.now.problem.now s.level.now.number box new.remains.store.box before new.joins new.steps
+
+abbrev pub FirstAnswers : Stage → Walk → Walk → Type 0
+FirstAnswers s old new = StandsAt old.joins s.level.now.number [] → FirstNarrowed s.level.now.problem.now s.level.now.number old.remains.store.box new.remains.store.box new.joins new.steps

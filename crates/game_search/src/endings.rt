@@ -1,19 +1,12 @@
 //! Nodes that have no tree of their own, and what a scope's tree comes to.
-ghost use Rattle.std.specs.Prelude.{◌≡◌, ◌<◌, ℤ, Bool, Option, ℕ, List, length, drop, true, IfOk, OnOk, IsTrue};
-ghost use Rattle.qc_model.specs.Demands.{demands};
-ghost use Rattle.qc_model.specs.Verdict.{Seen};
+ghost use Rattle.std.specs.Prelude.{◌≡◌, length, IfOk, OnOk, IsTrue};
 ghost use Rattle.proof_tree.specs.InPlace.{is_horizon};
-ghost use Rattle.proof_tree.specs.Place.{list_after, position};
-ghost use Rattle.qc_levels.specs.Seen.{verdict_of};
-ghost use Rattle.qc_joins.specs.Joins.{game_of, out_of, StandsAt, KeepsAll};
-ghost use Rattle.qc_joins.specs.Verdicts.{verdict_at};
+ghost use Rattle.qc_joins.specs.Joins.{game_of, KeepsAll};
 ghost use Rattle.search_box.specs.Complete.{IsClosedAtGoal};
 ghost use Rattle.search_box.specs.Entered.{IsEntered};
 ghost use Rattle.search_box.specs.Looking.{scope_number};
-ghost use Rattle.kept_nodes.specs.Known.{IsEnded};
-ghost use Rattle.game_search.specs.Rivals.{outdoes};
-ghost use Rattle.search_parts.specs.Settled.{is_ended as is_ended_by};
-ghost use Rattle.game_search.specs.Told.{IsBack, BodyTold, NodeTold};
+ghost use Rattle.game_search.specs.Put.{IsBack};
+ghost use Rattle.game_search.specs.Told.{EndsSo, GoalAnswers, JoinAnswers, NoLeafCounts, StuckAnswers};
 
 use crate::rival::is_outdone;
 use crate::stage::Stage;
@@ -36,8 +29,8 @@ pub(crate) fn at_goal(
     requires here { IsEntered levels.now.problem.now number walk.old.remains }
     requires closed { IsClosedAtGoal levels.now.problem.now walk.old.remains.store.box }
     requires joins { game_of walk.old.joins ≡ levels.now.problem.now }
-    ensures told { IfOk result (λ found. (cuts : Bool) (above : ℤ → Bool) → NodeTold cuts above levels.now.problem.now number walk.old.remains.store.box (scope_number horizon) (verdict_of found (out_of walk.new.joins)) walk.old.left walk.new.left walk.old.lines walk.new.lines walk.new.joins) }
-    ensures ended { IfOk result (λ found. IsEnded levels.now.problem.now number walk.old.remains.store.box (scope_number horizon) (verdict_of found (out_of walk.new.joins)) walk.old.left walk.new.left (drop (length walk.old.lines) walk.new.lines)) }
+    ensures told { IfOk result (λ found. GoalAnswers levels.now.problem.now number horizon found walk.old walk.new) }
+    ensures ended { IfOk result (λ found. EndsSo levels.now.problem.now number horizon found walk.old walk.new) }
     ensures back { OnOk result (IsBack levels.now.problem.now number walk.old walk.new) }
 {
     levels.problem.known();
@@ -56,7 +49,7 @@ pub(crate) fn at_goal(
 pub(crate) fn stuck(level: &Level, walk: &mut Walk) -> Result<Found, AllocError>
     requires here { IsEntered level.now.problem.now level.now.number walk.old.remains }
     requires joins { game_of walk.old.joins ≡ level.now.problem.now }
-    ensures told { IfOk result (λ found. (cuts : Bool) (above : ℤ → Bool) (h : Option ℕ) → is_horizon h level.now.number ≡ true → BodyTold cuts above level.now.problem.now level.now.number walk.old.remains.store.box h (verdict_of found (out_of walk.new.joins)) walk.old.left walk.new.left walk.old.lines walk.new.lines walk.new.joins) }
+    ensures told { IfOk result (λ found. StuckAnswers level.now found walk.old walk.new) }
     ensures back { OnOk result (IsBack level.now.problem.now level.now.number walk.old walk.new) }
 {
     level.problem.known();
@@ -84,7 +77,7 @@ pub(crate) fn is_here(horizon: Option<ScopeId>, number: u8) -> bool
 pub(crate) fn verdict(level: &Level, walk: &mut Walk) -> Found
     requires here { IsEntered level.now.problem.now level.now.number walk.old.remains }
     requires joins { game_of walk.old.joins ≡ level.now.problem.now }
-    ensures verdict { (xs : List Seen) → StandsAt walk.old.joins level.now.number xs → verdict_of result (out_of walk.new.joins) ≡ verdict_at level.now.problem.now level.now.number (position level.now.problem.now level.now.number walk.old.remains.store.box) xs }
+    ensures verdict { JoinAnswers level.now result walk.old walk.new }
     ensures joins { KeepsAll walk.old.joins walk.new.joins }
     ensures game { game_of walk.new.joins ≡ game_of walk.old.joins }
     ensures remains { walk.new.remains ≡ walk.old.remains }
@@ -98,7 +91,7 @@ pub(crate) fn verdict(level: &Level, walk: &mut Walk) -> Found
 /// Whether no further leaf of the scope counts: it is settled, or outdone by the scope right above.
 pub(crate) fn is_ended(stage: &Stage, joins: &Joins) -> bool
     requires joins { game_of joins.now ≡ stage.now.level.now.problem.now }
-    ensures { IsTrue result → (xs : List Seen) → StandsAt joins.now stage.now.level.now.number xs → IsTrue (is_ended_by (outdoes stage.now.level.now.problem.now stage.now.level.now.number stage.now.rival) (drop stage.now.level.now.number stage.now.level.now.problem.now.scopes) (list_after stage.now.level.now.problem.now (drop stage.now.level.now.number stage.now.level.now.problem.now.scopes) (demands stage.now.level.now.problem.now stage.now.level.now.number)) xs) }
+    ensures { IsTrue result → NoLeafCounts stage.now joins.now }
 {
     let number = ScopeId(stage.level.number);
     if joins.is_settled(number) {

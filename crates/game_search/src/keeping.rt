@@ -1,14 +1,9 @@
 //! Nodes whose lines are kept: those whose position may be met again, and those below tuples that were tried first.
-ghost use Rattle.std.specs.Prelude.{◌≡◌, ◌<◌, ℤ, suc, Bool, length, drop, IfOk, IfSome, OnOk, IsTrue, slice_get};
-ghost use Rattle.qc_model.specs.Demands.{demands};
-ghost use Rattle.qc_levels.specs.Seen.{verdict_of};
-ghost use Rattle.qc_joins.specs.Joins.{game_of, out_of};
+ghost use Rattle.std.specs.Prelude.{◌≡◌, ◌<◌, suc, length, IfOk, IfSome, OnOk, IsTrue};
+ghost use Rattle.qc_joins.specs.Joins.{game_of};
 ghost use Rattle.search_box.specs.Entered.{IsEntered};
-ghost use Rattle.search_box.specs.Looking.{scope_number};
-ghost use Rattle.kept_nodes.specs.Aside.{StandsAside};
-ghost use Rattle.kept_nodes.specs.Known.{IsEnded, IsFinished, StandsHere};
-ghost use Rattle.game_search.specs.Told.{IsBack, NodeTold};
-ghost use Rattle.search_parts.specs.Written.{NodeWritten};
+ghost use Rattle.game_search.specs.Put.{IsBack};
+ghost use Rattle.game_search.specs.Told.{AsideAnswers, AsideStands, BelowFinished, EndsSo, IsBackBelow, IsBelow, KnownAnswers, KnownStands, NodeFinished};
 
 use crate::stage::Stage;
 use crate::walk::Walk;
@@ -51,7 +46,7 @@ pub(crate) fn known_at(
     requires joins { game_of walk.now.joins ≡ levels.now.problem.now }
     ensures cuts { IfSome result (λ at. IsTrue cuts) }
     ensures within { IfSome result (λ at. at < length walk.now.known.nodes.items) }
-    ensures stands { IfSome result (λ at. IfSome (slice_get walk.now.known.nodes.items at) (λ n. StandsHere levels.now.problem.now number (scope_number horizon) walk.now.left walk.now.remains.store.box n.values.items n.won n.turns n.lines.items)) }
+    ensures stands { IfSome result (λ at. KnownStands levels.now.problem.now number horizon walk.now at) }
 {
     if !cuts {
         return None;
@@ -74,9 +69,9 @@ pub(crate) fn put_known(
     requires joins { game_of walk.old.joins ≡ levels.now.problem.now }
     requires cuts { IsTrue cuts }
     requires within { at < length walk.old.known.nodes.items }
-    requires stands { IfSome (slice_get walk.old.known.nodes.items at) (λ n. StandsHere levels.now.problem.now number (scope_number horizon) walk.old.left walk.old.remains.store.box n.values.items n.won n.turns n.lines.items) }
-    ensures told { IfOk result (λ found. (above : ℤ → Bool) → NodeTold cuts above levels.now.problem.now number walk.old.remains.store.box (scope_number horizon) (verdict_of found (out_of walk.new.joins)) walk.old.left walk.new.left walk.old.lines walk.new.lines walk.new.joins) }
-    ensures ended { IfOk result (λ found. IsEnded levels.now.problem.now number walk.old.remains.store.box (scope_number horizon) (verdict_of found (out_of walk.new.joins)) walk.old.left walk.new.left (drop (length walk.old.lines) walk.new.lines)) }
+    requires stands { KnownStands levels.now.problem.now number horizon walk.old at }
+    ensures told { IfOk result (λ found. KnownAnswers cuts levels.now.problem.now number horizon found walk.old walk.new) }
+    ensures ended { IfOk result (λ found. EndsSo levels.now.problem.now number horizon found walk.old walk.new) }
     ensures back { OnOk result (IsBack levels.now.problem.now number walk.old walk.new) }
 {
     levels.problem.known();
@@ -104,7 +99,7 @@ pub(crate) fn keep_node(
     requires scope { number < length levels.now.problem.now.scopes }
     requires here { IsEntered levels.now.problem.now number walk.old.remains }
     requires joins { game_of walk.old.joins ≡ levels.now.problem.now }
-    requires finished { IsTrue cuts → end.had < 2147483648 → IsFinished levels.now.problem.now number walk.old.remains.store.box (scope_number horizon) end.found end.had end.left (drop start walk.old.lines) }
+    requires finished { IsTrue cuts → NodeFinished levels.now.problem.now number horizon end start walk.old }
     ensures remains { walk.new.remains ≡ walk.old.remains }
     ensures joins { walk.new.joins ≡ walk.old.joins }
     ensures left { walk.new.left ≡ walk.old.left }
@@ -132,11 +127,11 @@ pub(crate) fn keep_node(
 
 /// The place of the node below the tuple that is complete, where its lines were kept aside when the tuple was tried.
 pub(crate) fn aside_at(stage: &Stage, walk: &Walk) -> Option<usize>
-    requires here { IsEntered stage.now.level.now.problem.now (suc stage.now.level.now.number) walk.now.remains }
+    requires here { IsBelow stage.now walk.now.remains }
     requires joins { game_of walk.now.joins ≡ stage.now.level.now.problem.now }
     ensures cuts { IfSome result (λ at. IsTrue stage.now.cuts) }
     ensures within { IfSome result (λ at. at < length walk.now.aside.nodes.items) }
-    ensures stands { IfSome result (λ at. IfSome (slice_get walk.now.aside.nodes.items at) (λ n. StandsAside stage.now.level.now.problem.now (suc stage.now.level.now.number) (scope_number stage.now.horizon) walk.now.left walk.now.remains.store.box (verdict_of n.found n.vector.items) n.turns n.lines.items)) }
+    ensures stands { IfSome result (λ at. AsideStands stage.now walk.now at) }
 {
     if !stage.cuts || walk.aside.len() == 0 {
         return None;
@@ -164,10 +159,10 @@ pub(crate) fn put_aside(stage: &Stage, at: usize, walk: &mut Walk) -> Result<Fou
     requires joins { game_of walk.old.joins ≡ stage.now.level.now.problem.now }
     requires cuts { IsTrue stage.now.cuts }
     requires within { at < length walk.old.aside.nodes.items }
-    requires stands { IfSome (slice_get walk.old.aside.nodes.items at) (λ n. StandsAside stage.now.level.now.problem.now (suc stage.now.level.now.number) (scope_number stage.now.horizon) walk.old.left walk.old.remains.store.box (verdict_of n.found n.vector.items) n.turns n.lines.items) }
-    ensures told { IfOk result (λ found. (above : ℤ → Bool) → NodeWritten stage.now.cuts above stage.now.level.now.problem.now (drop (suc stage.now.level.now.number) stage.now.level.now.problem.now.scopes) (suc stage.now.level.now.number) (demands stage.now.level.now.problem.now (suc stage.now.level.now.number)) walk.old.remains.store.box (scope_number stage.now.horizon) (verdict_of found (out_of walk.new.joins)) walk.old.left walk.new.left walk.old.lines walk.new.lines) }
-    ensures ended { IfOk result (λ found. IsEnded stage.now.level.now.problem.now (suc stage.now.level.now.number) walk.old.remains.store.box (scope_number stage.now.horizon) (verdict_of found (out_of walk.new.joins)) walk.old.left walk.new.left (drop (length walk.old.lines) walk.new.lines)) }
-    ensures back { OnOk result (IsBack stage.now.level.now.problem.now (suc stage.now.level.now.number) walk.old walk.new) }
+    requires stands { AsideStands stage.now walk.old at }
+    ensures told { IfOk result (λ found. AsideAnswers stage.now found walk.old walk.new) }
+    ensures ended { IfOk result (λ found. EndsSo stage.now.level.now.problem.now (suc stage.now.level.now.number) stage.now.horizon found walk.old walk.new) }
+    ensures back { OnOk result (IsBackBelow stage.now walk.old walk.new) }
 {
     let node = walk.aside.node(at);
     walk.lines.put_all(node.lines())?;
@@ -184,9 +179,9 @@ pub(crate) fn keep_aside(
     end: NodeEnd,
     walk: &mut Walk,
 ) -> Result<(), AllocError>
-    requires here { IsEntered stage.now.level.now.problem.now (suc stage.now.level.now.number) walk.old.remains }
+    requires here { IsBelow stage.now walk.old.remains }
     requires joins { game_of walk.old.joins ≡ stage.now.level.now.problem.now }
-    requires ended { IsTrue stage.now.cuts → end.had < 2147483648 → IsEnded stage.now.level.now.problem.now (suc stage.now.level.now.number) walk.old.remains.store.box (scope_number stage.now.horizon) (verdict_of end.found (out_of walk.old.joins)) end.had end.left (drop start walk.old.lines) }
+    requires ended { IsTrue stage.now.cuts → BelowFinished stage.now end start walk.old }
     ensures remains { walk.new.remains ≡ walk.old.remains }
     ensures joins { walk.new.joins ≡ walk.old.joins }
     ensures left { walk.new.left ≡ walk.old.left }

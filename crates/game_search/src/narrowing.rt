@@ -1,15 +1,13 @@
 //! A case that is taken: its variable takes the value, what the incumbent rules out is given up, and the box is closed. So where
 //! a scope's own tree begins with a bound.
-ghost use Rattle.std.specs.Prelude.{◌≡◌, ◌<◌, ◌+◌, ◌∷◌, [], List, length, IfOk, OnOk, IsTrue, IsFalse};
+ghost use Rattle.std.specs.Prelude.{◌≡◌, ◌<◌, ◌+◌, ◌∷◌, [], IfOk, OnOk, IsTrue, IsFalse};
 ghost use Rattle.qc_model.specs.Domains.{has_empty, has_value, values_left};
-ghost use Rattle.qc_model.specs.Verdict.{Seen};
 ghost use Rattle.proof_tree.specs.Cover.{box_to};
-ghost use Rattle.qc_joins.specs.Joins.{game_of, StandsAt, KeepsOthers};
+ghost use Rattle.qc_joins.specs.Joins.{game_of, KeepsOthers};
 ghost use Rattle.search_box.specs.Boxed.{LeadsOn};
-ghost use Rattle.search_box.specs.Entered.{IsEntered};
 ghost use Rattle.game_search.specs.Aims.{IsSpan};
-ghost use Rattle.game_search.specs.Going.{IsGoing, GoesOn};
-ghost use Rattle.game_search.specs.Narrowed.{NarrowTold, FirstNarrowed, IsGivenUp};
+ghost use Rattle.game_search.specs.Narrowed.{IsGivenUp, FirstAnswers, NarrowAnswers};
+ghost use Rattle.game_search.specs.Told.{GoesFrom, GoesOnFrom, IsAt};
 
 use crate::aim::{Worse, between, worse_values};
 use crate::stage::Stage;
@@ -31,11 +29,11 @@ pub(crate) enum GivenUp {
 /// Gives up the values that the incumbent of the scope's own tree rules out, where there are such: a bound, of whose mark the
 /// scope's join is told.
 fn give_up(stage: &Stage, walk: &mut Walk) -> Result<GivenUp, AllocError>
-    requires here { IsEntered stage.now.level.now.problem.now stage.now.level.now.number walk.old.remains }
+    requires here { IsAt stage.now walk.old.remains }
     requires joins { game_of walk.old.joins ≡ stage.now.level.now.problem.now }
     requires none { walk.old.steps ≡ [] }
     ensures lost { IfOk result (λ given. IsGivenUp given walk.old.remains.store.box walk.new.remains.store.box) }
-    ensures told { OnOk result ((before : List Seen) → StandsAt walk.old.joins stage.now.level.now.number before → NarrowTold stage.now.level.now.problem.now stage.now.level.now.number walk.old.remains.store.box walk.new.remains.store.box before walk.new.joins walk.new.steps) }
+    ensures told { OnOk result (NarrowAnswers stage.now walk.old.remains.store.box walk.old walk.new) }
     ensures on { LeadsOn walk.old.remains walk.new.remains }
     ensures game { game_of walk.new.joins ≡ game_of walk.old.joins }
     ensures others { KeepsOthers stage.now.level.now.number walk.old.joins walk.new.joins }
@@ -75,12 +73,12 @@ pub(crate) fn narrow(
     walk: &mut Walk,
 ) -> Result<Closed, AllocError>
     requires var { x.0 < stage.now.level.now.stop }
-    requires going { IsGoing stage.now.level.now.problem.now stage.now.level.now.number x.0 walk.old.remains }
+    requires going { GoesFrom stage.now x.0 walk.old.remains }
     requires value { IsTrue (has_value (values_left walk.old.remains.store.box x.0) value) }
     requires joins { game_of walk.old.joins ≡ stage.now.level.now.problem.now }
     requires none { walk.old.steps ≡ [] }
-    ensures goes { IfOk result (λ closed. GoesOn closed stage.now.level.now.problem.now stage.now.level.now.number (x.0 + 1) walk.new.remains) }
-    ensures told { OnOk result ((before : List Seen) → StandsAt walk.old.joins stage.now.level.now.number before → NarrowTold stage.now.level.now.problem.now stage.now.level.now.number (box_to walk.old.remains.store.box x.0 (value ∷ [])) walk.new.remains.store.box before walk.new.joins walk.new.steps) }
+    ensures goes { IfOk result (λ closed. GoesOnFrom stage.now closed (x.0 + 1) walk.new.remains) }
+    ensures told { OnOk result (NarrowAnswers stage.now (box_to walk.old.remains.store.box x.0 (value ∷ [])) walk.old walk.new) }
     ensures on { LeadsOn walk.old.remains walk.new.remains }
     ensures game { game_of walk.new.joins ≡ game_of walk.old.joins }
     ensures others { KeepsOthers stage.now.level.now.number walk.old.joins walk.new.joins }
@@ -102,13 +100,13 @@ pub(crate) fn narrow(
 /// Gives up values of the variable that the scope's own tree optimises, where that tree begins: a bound, of whose mark the
 /// join is told. Says whether each variable has a value left.
 fn bound_first(stage: &Stage, worse: Worse, walk: &mut Walk) -> Result<bool, AllocError>
-    requires here { IsEntered stage.now.level.now.problem.now stage.now.level.now.number walk.old.remains }
+    requires here { IsAt stage.now walk.old.remains }
     requires joins { game_of walk.old.joins ≡ stage.now.level.now.problem.now }
     requires span { IsSpan stage.now.level.now.problem.now stage.now.level.now.number worse }
     requires none { walk.old.steps ≡ [] }
-    ensures entered { IfOk result (λ some. IsTrue some → IsEntered stage.now.level.now.problem.now stage.now.level.now.number walk.new.remains) }
+    ensures entered { IfOk result (λ some. IsTrue some → IsAt stage.now walk.new.remains) }
     ensures emptied { IfOk result (λ some. IsFalse some → IsTrue (has_empty walk.new.remains.store.box)) }
-    ensures told { OnOk result (StandsAt walk.old.joins stage.now.level.now.number [] → FirstNarrowed stage.now.level.now.problem.now stage.now.level.now.number walk.old.remains.store.box walk.new.remains.store.box walk.new.joins walk.new.steps) }
+    ensures told { OnOk result (FirstAnswers stage.now walk.old walk.new) }
     ensures on { LeadsOn walk.old.remains walk.new.remains }
     ensures game { game_of walk.new.joins ≡ game_of walk.old.joins }
     ensures others { KeepsOthers stage.now.level.now.number walk.old.joins walk.new.joins }
@@ -140,12 +138,12 @@ pub(crate) fn narrow_first(
     worse: Worse,
     walk: &mut Walk,
 ) -> Result<Closed, AllocError>
-    requires here { IsEntered stage.now.level.now.problem.now stage.now.level.now.number walk.old.remains }
+    requires here { IsAt stage.now walk.old.remains }
     requires joins { game_of walk.old.joins ≡ stage.now.level.now.problem.now }
     requires span { IsSpan stage.now.level.now.problem.now stage.now.level.now.number worse }
     requires none { walk.old.steps ≡ [] }
-    ensures goes { IfOk result (λ closed. GoesOn closed stage.now.level.now.problem.now stage.now.level.now.number stage.now.level.now.from walk.new.remains) }
-    ensures told { OnOk result (StandsAt walk.old.joins stage.now.level.now.number [] → FirstNarrowed stage.now.level.now.problem.now stage.now.level.now.number walk.old.remains.store.box walk.new.remains.store.box walk.new.joins walk.new.steps) }
+    ensures goes { IfOk result (λ closed. GoesOnFrom stage.now closed stage.now.level.now.from walk.new.remains) }
+    ensures told { OnOk result (FirstAnswers stage.now walk.old walk.new) }
     ensures on { LeadsOn walk.old.remains walk.new.remains }
     ensures game { game_of walk.new.joins ≡ game_of walk.old.joins }
     ensures others { KeepsOthers stage.now.level.now.number walk.old.joins walk.new.joins }

@@ -19,28 +19,15 @@
 //! Where a leaf settles its scope, so that no other leaf changes what the node comes to, the cases after it are left
 //! out, and the join isn't told of them. They are left out too where the leaves of a scope of the opponent give a bound that
 //! the incumbent of the scope right above beats. Where no turn is left the cases that remain are left open.
-ghost use Rattle.std.specs.Prelude.{◌≡◌, ◌≤◌, ◌<◌, ◌∷◌, ◌++◌, ◌+◌, ◌*◌, ℤ, suc, Option, [], List, length, drop, not, true, false, IfOk, IfSome, OnOk, IsTrue, IsFalse};
-ghost use Rattle.qc_model.specs.Demands.{demands};
-ghost use Rattle.qc_model.specs.Domains.{Box, has_value, is_single, values_left};
+ghost use Rattle.std.specs.Prelude.{◌≡◌, ◌≤◌, ◌<◌, suc, length, false, IfOk, IfSome, OnOk, IsTrue, IsFalse};
+ghost use Rattle.qc_model.specs.Domains.{has_value, is_single, values_left};
 ghost use Rattle.qc_model.specs.Game.{is_of_scope};
-ghost use Rattle.qc_model.specs.Verdict.{Seen};
-ghost use Rattle.proof_tree.specs.Cover.{box_to};
-ghost use Rattle.proof_tree.specs.Diligent.{SeesAhead};
-ghost use Rattle.proof_tree.specs.Incumbents.{has_no_worse};
-ghost use Rattle.proof_tree.specs.Place.{position};
-ghost use Rattle.qc_levels.specs.Seen.{verdict_of};
-ghost use Rattle.qc_joins.specs.Joins.{game_of, out_of, StandsAt};
-ghost use Rattle.search_box.specs.Complete.{IsClosedAtGoal};
+ghost use Rattle.qc_joins.specs.Joins.{game_of};
 ghost use Rattle.search_box.specs.Entered.{IsEntered};
-ghost use Rattle.search_box.specs.Looking.{scope_number};
-ghost use Rattle.game_search.specs.Aims.{tracked_at, IsSpan};
-ghost use Rattle.search_parts.specs.Beaten.{firsts, seen_bounds};
-ghost use Rattle.game_search.specs.Going.{IsGoing, GoesOn};
-ghost use Rattle.kept_nodes.specs.Known.{IsEnded};
-ghost use Rattle.game_search.specs.Rivals.{above_at, StandsAbove, outdoes};
-ghost use Rattle.search_parts.specs.Settled.{is_vague_verdict, beats_none};
-ghost use Rattle.game_search.specs.Told.{IsReady, IsBack, EndingTold, BoundedSteps, PartTold, BoundedTold, FirstTold, CaseTold, CasesTold, BodyTold, NodeTold};
-ghost use Rattle.search_parts.specs.Written.{NodeWritten};
+ghost use Rattle.game_search.specs.Aims.{IsSpan};
+ghost use Rattle.game_search.specs.Put.{IsBack};
+ghost use Rattle.game_search.specs.Here.{here_of};
+ghost use Rattle.game_search.specs.Told.{BelowAnswers, BelowEnded, CaseAnswers, CasesAnswer, EndingAnswers, FirstTold, GoalIsClosed, GoesFrom, GoesOnFrom, HasFew, IsAt, IsBackAt, IsBackBelow, IsBelow, IsSure, NodeAnswers, NodeEnded, OwnAnswers, PartAnswers, TreeAnswers};
 
 use crate::aim::{Worse, aim_of};
 use crate::endings::{at_goal, is_ended, is_here, stuck, verdict};
@@ -79,10 +66,10 @@ pub(crate) fn node(
     requires scope { number ≤ length levels.now.problem.now.scopes }
     requires horizon { IfSome horizon (λ h. h.0 ≤ length levels.now.problem.now.scopes) }
     requires here { IsEntered levels.now.problem.now number walk.old.remains }
-    requires closed { number ≡ length levels.now.problem.now.scopes → IsClosedAtGoal levels.now.problem.now walk.old.remains.store.box }
+    requires closed { GoalIsClosed levels.now.problem.now number walk.old.remains }
     requires joins { game_of walk.old.joins ≡ levels.now.problem.now }
-    ensures told { IfOk result (λ found. walk.old.left < 2147483648 → (up : List Seen) → StandsAbove walk.old.joins number up → NodeTold cuts (above_at levels.now.problem.now number up) levels.now.problem.now number walk.old.remains.store.box (scope_number horizon) (verdict_of found (out_of walk.new.joins)) walk.old.left walk.new.left walk.old.lines walk.new.lines walk.new.joins) }
-    ensures ended { IfOk result (λ found. IsTrue cuts → walk.old.left < 2147483648 → IsEnded levels.now.problem.now number walk.old.remains.store.box (scope_number horizon) (verdict_of found (out_of walk.new.joins)) walk.old.left walk.new.left (drop (length walk.old.lines) walk.new.lines)) }
+    ensures told { IfOk result (λ found. NodeAnswers cuts levels.now.problem.now number horizon found walk.old walk.new) }
+    ensures ended { IfOk result (λ found. NodeEnded cuts levels.now.problem.now number horizon found walk.old walk.new) }
     ensures back { OnOk result (IsBack levels.now.problem.now number walk.old walk.new) }
 {
     levels.problem.known();
@@ -110,8 +97,8 @@ fn searched_node(
     requires horizon { IfSome horizon (λ h. h.0 ≤ length levels.now.problem.now.scopes) }
     requires here { IsEntered levels.now.problem.now number walk.old.remains }
     requires joins { game_of walk.old.joins ≡ levels.now.problem.now }
-    ensures told { IfOk result (λ found. walk.old.left < 2147483648 → (up : List Seen) → StandsAbove walk.old.joins number up → NodeTold cuts (above_at levels.now.problem.now number up) levels.now.problem.now number walk.old.remains.store.box (scope_number horizon) (verdict_of found (out_of walk.new.joins)) walk.old.left walk.new.left walk.old.lines walk.new.lines walk.new.joins) }
-    ensures ended { IfOk result (λ found. IsTrue cuts → walk.old.left < 2147483648 → IsEnded levels.now.problem.now number walk.old.remains.store.box (scope_number horizon) (verdict_of found (out_of walk.new.joins)) walk.old.left walk.new.left (drop (length walk.old.lines) walk.new.lines)) }
+    ensures told { IfOk result (λ found. NodeAnswers cuts levels.now.problem.now number horizon found walk.old walk.new) }
+    ensures ended { IfOk result (λ found. NodeEnded cuts levels.now.problem.now number horizon found walk.old walk.new) }
     ensures back { OnOk result (IsBack levels.now.problem.now number walk.old walk.new) }
 {
     levels.problem.known();
@@ -145,10 +132,10 @@ fn searched_node(
 /// The own tree of a scope's node.
 #[cycle(search)]
 fn own_tree(stage: &Stage, walk: &mut Walk) -> Result<Found, AllocError>
-    requires here { IsEntered stage.now.level.now.problem.now stage.now.level.now.number walk.old.remains }
+    requires here { IsAt stage.now walk.old.remains }
     requires joins { game_of walk.old.joins ≡ stage.now.level.now.problem.now }
-    ensures told { IfOk result (λ found. walk.old.left < 2147483648 → SeesAhead stage.now.level.now.problem.now (drop stage.now.level.now.number stage.now.level.now.problem.now.scopes) stage.now.level.now.number walk.old.remains.store.box (scope_number stage.now.horizon) → BodyTold stage.now.cuts (outdoes stage.now.level.now.problem.now stage.now.level.now.number stage.now.rival) stage.now.level.now.problem.now stage.now.level.now.number walk.old.remains.store.box (scope_number stage.now.horizon) (verdict_of found (out_of walk.new.joins)) walk.old.left walk.new.left walk.old.lines walk.new.lines walk.new.joins) }
-    ensures back { OnOk result (IsBack stage.now.level.now.problem.now stage.now.level.now.number walk.old walk.new) }
+    ensures told { IfOk result (λ found. TreeAnswers (here_of stage.now walk.old) found walk.old walk.new) }
+    ensures back { OnOk result (IsBackAt stage.now walk.old walk.new) }
 {
     let best = walk.advice.enter(
         stage.level,
@@ -168,10 +155,10 @@ fn own_tree(stage: &Stage, walk: &mut Walk) -> Result<Found, AllocError>
 /// where it isn't sure then what the node comes to, the lines of that are taken back.
 #[cycle(search)]
 fn advised_tree(stage: &Stage, best: Option<i64>, walk: &mut Walk) -> Result<Found, AllocError>
-    requires here { IsEntered stage.now.level.now.problem.now stage.now.level.now.number walk.old.remains }
+    requires here { IsAt stage.now walk.old.remains }
     requires joins { game_of walk.old.joins ≡ stage.now.level.now.problem.now }
-    ensures told { IfOk result (λ found. walk.old.left < 2147483648 → SeesAhead stage.now.level.now.problem.now (drop stage.now.level.now.number stage.now.level.now.problem.now.scopes) stage.now.level.now.number walk.old.remains.store.box (scope_number stage.now.horizon) → BodyTold stage.now.cuts (outdoes stage.now.level.now.problem.now stage.now.level.now.number stage.now.rival) stage.now.level.now.problem.now stage.now.level.now.number walk.old.remains.store.box (scope_number stage.now.horizon) (verdict_of found (out_of walk.new.joins)) walk.old.left walk.new.left walk.old.lines walk.new.lines walk.new.joins) }
-    ensures back { OnOk result (IsBack stage.now.level.now.problem.now stage.now.level.now.number walk.old walk.new) }
+    ensures told { IfOk result (λ found. TreeAnswers (here_of stage.now walk.old) found walk.old walk.new) }
+    ensures back { OnOk result (IsBackAt stage.now walk.old walk.new) }
 {
     let Some(worse) = first_worse(stage, best) else {
         return whole_tree(stage, walk);
@@ -191,11 +178,11 @@ fn advised_tree(stage: &Stage, best: Option<i64>, walk: &mut Walk) -> Result<Fou
 /// node comes to.
 #[cycle(search)]
 fn bounded_tree(stage: &Stage, worse: Worse, walk: &mut Walk) -> Result<Found, AllocError>
-    requires here { IsEntered stage.now.level.now.problem.now stage.now.level.now.number walk.old.remains }
+    requires here { IsAt stage.now walk.old.remains }
     requires joins { game_of walk.old.joins ≡ stage.now.level.now.problem.now }
     requires span { IsSpan stage.now.level.now.problem.now stage.now.level.now.number worse }
-    ensures told { IfOk result (λ found. IsFalse (is_vague_verdict beats_none (verdict_of found (out_of walk.new.joins))) → walk.old.left < 2147483648 → SeesAhead stage.now.level.now.problem.now (drop stage.now.level.now.number stage.now.level.now.problem.now.scopes) stage.now.level.now.number walk.old.remains.store.box (scope_number stage.now.horizon) → BodyTold stage.now.cuts (outdoes stage.now.level.now.problem.now stage.now.level.now.number stage.now.rival) stage.now.level.now.problem.now stage.now.level.now.number walk.old.remains.store.box (scope_number stage.now.horizon) (verdict_of found (out_of walk.new.joins)) walk.old.left walk.new.left walk.old.lines walk.new.lines walk.new.joins) }
-    ensures back { OnOk result (IsBack stage.now.level.now.problem.now stage.now.level.now.number walk.old walk.new) }
+    ensures told { IfOk result (λ found. IsSure found walk.new → TreeAnswers (here_of stage.now walk.old) found walk.old walk.new) }
+    ensures back { OnOk result (IsBackAt stage.now walk.old walk.new) }
 {
     stage.level.problem.known();
     walk.remains.known();
@@ -206,11 +193,11 @@ fn bounded_tree(stage: &Stage, worse: Worse, walk: &mut Walk) -> Result<Found, A
 /// Its lines.
 #[cycle(search)]
 fn bounded_part(stage: &Stage, worse: Worse, walk: &mut Walk) -> Result<(), AllocError>
-    requires here { IsEntered stage.now.level.now.problem.now stage.now.level.now.number walk.old.remains }
+    requires here { IsAt stage.now walk.old.remains }
     requires joins { game_of walk.old.joins ≡ stage.now.level.now.problem.now }
     requires span { IsSpan stage.now.level.now.problem.now stage.now.level.now.number worse }
-    ensures told { OnOk result (walk.old.left < 2147483648 → FirstTold stage.now.cuts (outdoes stage.now.level.now.problem.now stage.now.level.now.number stage.now.rival) stage.now.level.now.problem.now stage.now.level.now.number walk.old.remains.store.box (scope_number stage.now.horizon) walk.old.left walk.new.left walk.old.lines walk.new.lines walk.new.joins) }
-    ensures back { OnOk result (IsBack stage.now.level.now.problem.now stage.now.level.now.number walk.old walk.new) }
+    ensures told { OnOk result (HasFew walk.old → FirstTold (here_of stage.now walk.old) walk.old walk.new) }
+    ensures back { OnOk result (IsBackAt stage.now walk.old walk.new) }
 {
     walk.joins.clear(ScopeId(stage.level.number));
     let mark = walk.remains.mark();
@@ -224,10 +211,10 @@ fn bounded_part(stage: &Stage, worse: Worse, walk: &mut Walk) -> Result<(), Allo
 /// The own tree where no values are given up first.
 #[cycle(search)]
 fn whole_tree(stage: &Stage, walk: &mut Walk) -> Result<Found, AllocError>
-    requires here { IsEntered stage.now.level.now.problem.now stage.now.level.now.number walk.old.remains }
+    requires here { IsAt stage.now walk.old.remains }
     requires joins { game_of walk.old.joins ≡ stage.now.level.now.problem.now }
-    ensures told { IfOk result (λ found. walk.old.left < 2147483648 → SeesAhead stage.now.level.now.problem.now (drop stage.now.level.now.number stage.now.level.now.problem.now.scopes) stage.now.level.now.number walk.old.remains.store.box (scope_number stage.now.horizon) → BodyTold stage.now.cuts (outdoes stage.now.level.now.problem.now stage.now.level.now.number stage.now.rival) stage.now.level.now.problem.now stage.now.level.now.number walk.old.remains.store.box (scope_number stage.now.horizon) (verdict_of found (out_of walk.new.joins)) walk.old.left walk.new.left walk.old.lines walk.new.lines walk.new.joins) }
-    ensures back { OnOk result (IsBack stage.now.level.now.problem.now stage.now.level.now.number walk.old walk.new) }
+    ensures told { IfOk result (λ found. TreeAnswers (here_of stage.now walk.old) found walk.old walk.new) }
+    ensures back { OnOk result (IsBackAt stage.now walk.old walk.new) }
 {
     stage.level.problem.known();
     walk.remains.known();
@@ -239,10 +226,10 @@ fn whole_tree(stage: &Stage, walk: &mut Walk) -> Result<Found, AllocError>
 /// this tuple alone.
 #[cycle(search)]
 fn own_part(stage: &Stage, walk: &mut Walk) -> Result<(), AllocError>
-    requires here { IsEntered stage.now.level.now.problem.now stage.now.level.now.number walk.old.remains }
+    requires here { IsAt stage.now walk.old.remains }
     requires joins { game_of walk.old.joins ≡ stage.now.level.now.problem.now }
-    ensures told { OnOk result (walk.old.left < 2147483648 → PartTold stage.now.cuts (outdoes stage.now.level.now.problem.now stage.now.level.now.number stage.now.rival) stage.now.level.now.problem.now stage.now.level.now.number walk.old.remains.store.box (scope_number stage.now.horizon) [] [] walk.old.left walk.new.left walk.old.lines walk.new.lines walk.new.joins) }
-    ensures back { OnOk result (IsBack stage.now.level.now.problem.now stage.now.level.now.number walk.old walk.new) }
+    ensures told { OnOk result (OwnAnswers (here_of stage.now walk.old) walk.old walk.new) }
+    ensures back { OnOk result (IsBackAt stage.now walk.old walk.new) }
 {
     if !is_advised(stage, walk) {
         return shortened_part(stage, walk);
@@ -257,11 +244,11 @@ fn own_part(stage: &Stage, walk: &mut Walk) -> Result<(), AllocError>
 /// Where some do after each of those that are tried, no line is left of the tries.
 #[cycle(search)]
 fn advised_part(stage: &Stage, walk: &mut Walk) -> Result<bool, AllocError>
-    requires here { IsEntered stage.now.level.now.problem.now stage.now.level.now.number walk.old.remains }
+    requires here { IsAt stage.now walk.old.remains }
     requires joins { game_of walk.old.joins ≡ stage.now.level.now.problem.now }
     requires cuts { IsTrue stage.now.cuts }
-    ensures told { IfOk result (λ whole. IsTrue whole → walk.old.left < 2147483648 → PartTold stage.now.cuts (outdoes stage.now.level.now.problem.now stage.now.level.now.number stage.now.rival) stage.now.level.now.problem.now stage.now.level.now.number walk.old.remains.store.box (scope_number stage.now.horizon) [] [] walk.old.left walk.new.left walk.old.lines walk.new.lines walk.new.joins) }
-    ensures back { OnOk result (IsBack stage.now.level.now.problem.now stage.now.level.now.number walk.old walk.new) }
+    ensures told { IfOk result (λ whole. IsTrue whole → OwnAnswers (here_of stage.now walk.old) walk.old walk.new) }
+    ensures back { OnOk result (IsBackAt stage.now walk.old walk.new) }
     ensures undone { IfOk result (λ whole. IsFalse whole → walk.new.lines ≡ walk.old.lines) }
 {
     let mut tries = most_tries(stage);
@@ -278,10 +265,10 @@ fn advised_part(stage: &Stage, walk: &mut Walk) -> Result<bool, AllocError>
 /// is tried alone, since no value before it counts.
 #[cycle(search)]
 fn shortened_part(stage: &Stage, walk: &mut Walk) -> Result<(), AllocError>
-    requires here { IsEntered stage.now.level.now.problem.now stage.now.level.now.number walk.old.remains }
+    requires here { IsAt stage.now walk.old.remains }
     requires joins { game_of walk.old.joins ≡ stage.now.level.now.problem.now }
-    ensures told { OnOk result (walk.old.left < 2147483648 → PartTold stage.now.cuts (outdoes stage.now.level.now.problem.now stage.now.level.now.number stage.now.rival) stage.now.level.now.problem.now stage.now.level.now.number walk.old.remains.store.box (scope_number stage.now.horizon) [] [] walk.old.left walk.new.left walk.old.lines walk.new.lines walk.new.joins) }
-    ensures back { OnOk result (IsBack stage.now.level.now.problem.now stage.now.level.now.number walk.old walk.new) }
+    ensures told { OnOk result (OwnAnswers (here_of stage.now walk.old) walk.old walk.new) }
+    ensures back { OnOk result (IsBackAt stage.now walk.old walk.new) }
 {
     let had = walk.left;
     let start = walk.lines.len();
@@ -301,10 +288,10 @@ fn shortened_part(stage: &Stage, walk: &mut Walk) -> Result<(), AllocError>
 /// So where the next advised tuple is tried.
 #[cycle(search)]
 fn tried_part(stage: &Stage, walk: &mut Walk) -> Result<bool, AllocError>
-    requires here { IsEntered stage.now.level.now.problem.now stage.now.level.now.number walk.old.remains }
+    requires here { IsAt stage.now walk.old.remains }
     requires joins { game_of walk.old.joins ≡ stage.now.level.now.problem.now }
-    ensures told { IfOk result (λ whole. IsTrue whole → walk.old.left < 2147483648 → PartTold stage.now.cuts (outdoes stage.now.level.now.problem.now stage.now.level.now.number stage.now.rival) stage.now.level.now.problem.now stage.now.level.now.number walk.old.remains.store.box (scope_number stage.now.horizon) [] [] walk.old.left walk.new.left walk.old.lines walk.new.lines walk.new.joins) }
-    ensures back { OnOk result (IsBack stage.now.level.now.problem.now stage.now.level.now.number walk.old walk.new) }
+    ensures told { IfOk result (λ whole. IsTrue whole → OwnAnswers (here_of stage.now walk.old) walk.old walk.new) }
+    ensures back { OnOk result (IsBackAt stage.now walk.old walk.new) }
     ensures undone { IfOk result (λ whole. IsFalse whole → walk.new.lines ≡ walk.old.lines) }
 {
     let from = walk.lines.len();
@@ -322,10 +309,10 @@ fn tried_part(stage: &Stage, walk: &mut Walk) -> Result<bool, AllocError>
 /// allows one, and whether that is enough is answered.
 #[cycle(search)]
 fn closed_part(stage: &Stage, tries: bool, walk: &mut Walk) -> Result<bool, AllocError>
-    requires here { IsEntered stage.now.level.now.problem.now stage.now.level.now.number walk.old.remains }
+    requires here { IsAt stage.now walk.old.remains }
     requires joins { game_of walk.old.joins ≡ stage.now.level.now.problem.now }
-    ensures told { IfOk result (λ whole. (IsTrue tries → IsTrue whole) → walk.old.left < 2147483648 → PartTold stage.now.cuts (outdoes stage.now.level.now.problem.now stage.now.level.now.number stage.now.rival) stage.now.level.now.problem.now stage.now.level.now.number walk.old.remains.store.box (scope_number stage.now.horizon) [] [] walk.old.left walk.new.left walk.old.lines walk.new.lines walk.new.joins) }
-    ensures back { OnOk result (IsBack stage.now.level.now.problem.now stage.now.level.now.number walk.old walk.new) }
+    ensures told { IfOk result (λ whole. (IsTrue tries → IsTrue whole) → OwnAnswers (here_of stage.now walk.old) walk.old walk.new) }
+    ensures back { OnOk result (IsBackAt stage.now walk.old walk.new) }
 {
     let level = stage.level;
     level.problem.known();
@@ -354,10 +341,10 @@ fn part(
     tries: bool,
     walk: &mut Walk,
 ) -> Result<bool, AllocError>
-    requires goes { GoesOn closed stage.now.level.now.problem.now stage.now.level.now.number x walk.old.remains }
+    requires goes { GoesOnFrom stage.now closed x walk.old.remains }
     requires joins { game_of walk.old.joins ≡ stage.now.level.now.problem.now }
-    ensures told { IfOk result (λ whole. (IsTrue tries → IsTrue whole) → (box : Box) (before : List Seen) (ms : List ℤ) → BoundedSteps stage.now.level.now.problem.now stage.now.level.now.number box walk.old.remains.store.box before ms walk.old.steps → IsReady stage.now.level.now.problem.now stage.now.level.now.number walk.old.joins (suc (2 * walk.old.left)) (before ++ seen_bounds ms) → BoundedTold stage.now.cuts (outdoes stage.now.level.now.problem.now stage.now.level.now.number stage.now.rival) stage.now.level.now.problem.now stage.now.level.now.number box (scope_number stage.now.horizon) before ms walk.old.left walk.new.left walk.old.lines walk.new.lines walk.new.joins) }
-    ensures back { OnOk result (IsBack stage.now.level.now.problem.now stage.now.level.now.number walk.old walk.new) }
+    ensures told { IfOk result (λ whole. (IsTrue tries → IsTrue whole) → PartAnswers (here_of stage.now walk.old) walk.old walk.new) }
+    ensures back { OnOk result (IsBackAt stage.now walk.old walk.new) }
 {
     match closed {
         Closed::Empty => {
@@ -381,10 +368,10 @@ fn part(
 /// their values.
 #[cycle(search)]
 fn within(stage: &Stage, x: usize, tries: bool, walk: &mut Walk) -> Result<bool, AllocError>
-    requires going { IsGoing stage.now.level.now.problem.now stage.now.level.now.number x walk.old.remains }
+    requires going { GoesFrom stage.now x walk.old.remains }
     requires joins { game_of walk.old.joins ≡ stage.now.level.now.problem.now }
-    ensures told { IfOk result (λ whole. (IsTrue tries → IsTrue whole) → (before : List Seen) → IsReady stage.now.level.now.problem.now stage.now.level.now.number walk.old.joins (suc (2 * walk.old.left)) before → IsTrue (has_no_worse (tracked_at stage.now.level.now.problem.now stage.now.level.now.number) (firsts before) walk.old.remains.store.box) → EndingTold stage.now.cuts (outdoes stage.now.level.now.problem.now stage.now.level.now.number stage.now.rival) stage.now.level.now.problem.now stage.now.level.now.number walk.old.remains.store.box (scope_number stage.now.horizon) before walk.old.left walk.new.left walk.old.lines walk.new.lines walk.new.joins) }
-    ensures back { OnOk result (IsBack stage.now.level.now.problem.now stage.now.level.now.number walk.old walk.new) }
+    ensures told { IfOk result (λ whole. (IsTrue tries → IsTrue whole) → EndingAnswers (here_of stage.now walk.old) walk.old walk.new) }
+    ensures back { OnOk result (IsBackAt stage.now walk.old walk.new) }
 {
     stage.level.problem.known();
     let next = walk.remains.next_free(stage.level, x);
@@ -404,10 +391,10 @@ fn within(stage: &Stage, x: usize, tries: bool, walk: &mut Walk) -> Result<bool,
 /// below is kept aside.
 #[cycle(search)]
 fn after_tuple(stage: &Stage, tries: bool, walk: &mut Walk) -> Result<(), AllocError>
-    requires going { IsGoing stage.now.level.now.problem.now stage.now.level.now.number stage.now.level.now.stop walk.old.remains }
+    requires going { GoesFrom stage.now stage.now.level.now.stop walk.old.remains }
     requires joins { game_of walk.old.joins ≡ stage.now.level.now.problem.now }
-    ensures told { OnOk result ((before : List Seen) → IsReady stage.now.level.now.problem.now stage.now.level.now.number walk.old.joins (suc (2 * walk.old.left)) before → IsTrue (has_no_worse (tracked_at stage.now.level.now.problem.now stage.now.level.now.number) (firsts before) walk.old.remains.store.box) → EndingTold stage.now.cuts (outdoes stage.now.level.now.problem.now stage.now.level.now.number stage.now.rival) stage.now.level.now.problem.now stage.now.level.now.number walk.old.remains.store.box (scope_number stage.now.horizon) before walk.old.left walk.new.left walk.old.lines walk.new.lines walk.new.joins) }
-    ensures back { OnOk result (IsBack stage.now.level.now.problem.now stage.now.level.now.number walk.old walk.new) }
+    ensures told { OnOk result (EndingAnswers (here_of stage.now walk.old) walk.old walk.new) }
+    ensures back { OnOk result (IsBackAt stage.now walk.old walk.new) }
 {
     stage.level.problem.known();
     let level = stage.level;
@@ -431,12 +418,12 @@ fn after_tuple(stage: &Stage, tries: bool, walk: &mut Walk) -> Result<(), AllocE
 /// The node below a complete tuple: its lines are copied where they were kept aside, and else it is gone through.
 #[cycle(search)]
 fn below_tuple(stage: &Stage, walk: &mut Walk) -> Result<Found, AllocError>
-    requires here { IsEntered stage.now.level.now.problem.now (suc stage.now.level.now.number) walk.old.remains }
-    requires closed { suc stage.now.level.now.number ≡ length stage.now.level.now.problem.now.scopes → IsClosedAtGoal stage.now.level.now.problem.now walk.old.remains.store.box }
+    requires here { IsBelow stage.now walk.old.remains }
+    requires closed { GoalIsClosed stage.now.level.now.problem.now (suc stage.now.level.now.number) walk.old.remains }
     requires joins { game_of walk.old.joins ≡ stage.now.level.now.problem.now }
-    ensures told { IfOk result (λ found. walk.old.left < 2147483648 → (up : List Seen) → StandsAt walk.old.joins stage.now.level.now.number up → NodeWritten stage.now.cuts (above_at stage.now.level.now.problem.now (suc stage.now.level.now.number) up) stage.now.level.now.problem.now (drop (suc stage.now.level.now.number) stage.now.level.now.problem.now.scopes) (suc stage.now.level.now.number) (demands stage.now.level.now.problem.now (suc stage.now.level.now.number)) walk.old.remains.store.box (scope_number stage.now.horizon) (verdict_of found (out_of walk.new.joins)) walk.old.left walk.new.left walk.old.lines walk.new.lines) }
-    ensures ended { IfOk result (λ found. IsTrue stage.now.cuts → walk.old.left < 2147483648 → IsEnded stage.now.level.now.problem.now (suc stage.now.level.now.number) walk.old.remains.store.box (scope_number stage.now.horizon) (verdict_of found (out_of walk.new.joins)) walk.old.left walk.new.left (drop (length walk.old.lines) walk.new.lines)) }
-    ensures back { OnOk result (IsBack stage.now.level.now.problem.now (suc stage.now.level.now.number) walk.old walk.new) }
+    ensures told { IfOk result (λ found. BelowAnswers stage.now found walk.old walk.new) }
+    ensures ended { IfOk result (λ found. BelowEnded stage.now found walk.old walk.new) }
+    ensures back { OnOk result (IsBackBelow stage.now walk.old walk.new) }
 {
     stage.level.problem.known();
     if let Some(at) = aside_at(stage, walk) {
@@ -455,12 +442,12 @@ fn below_tuple(stage: &Stage, walk: &mut Walk) -> Result<Found, AllocError>
 #[cycle(search)]
 fn over_values(stage: &Stage, x: VarId, walk: &mut Walk) -> Result<(), AllocError>
     requires var { x.0 < stage.now.level.now.stop }
-    requires going { IsGoing stage.now.level.now.problem.now stage.now.level.now.number x.0 walk.old.remains }
+    requires going { GoesFrom stage.now x.0 walk.old.remains }
     requires own { IsTrue (is_of_scope stage.now.level.now.problem.now stage.now.level.now.number x.0) }
     requires free { is_single (values_left walk.old.remains.store.box x.0) ≡ false }
     requires joins { game_of walk.old.joins ≡ stage.now.level.now.problem.now }
-    ensures told { OnOk result ((before : List Seen) → IsReady stage.now.level.now.problem.now stage.now.level.now.number walk.old.joins (suc (2 * walk.old.left)) before → IsTrue (has_no_worse (tracked_at stage.now.level.now.problem.now stage.now.level.now.number) (firsts before) walk.old.remains.store.box) → EndingTold stage.now.cuts (outdoes stage.now.level.now.problem.now stage.now.level.now.number stage.now.rival) stage.now.level.now.problem.now stage.now.level.now.number walk.old.remains.store.box (scope_number stage.now.horizon) before walk.old.left walk.new.left walk.old.lines walk.new.lines walk.new.joins) }
-    ensures back { OnOk result (IsBack stage.now.level.now.problem.now stage.now.level.now.number walk.old walk.new) }
+    ensures told { OnOk result (EndingAnswers (here_of stage.now walk.old) walk.old walk.new) }
+    ensures back { OnOk result (IsBackAt stage.now walk.old walk.new) }
 {
     stage.level.problem.known();
     walk.lines.put(Line::Branch { x })?;
@@ -472,11 +459,11 @@ fn over_values(stage: &Stage, x: VarId, walk: &mut Walk) -> Result<(), AllocErro
 #[cycle(search)]
 fn cases(stage: &Stage, x: VarId, walk: &mut Walk) -> Result<(), AllocError>
     requires var { x.0 < stage.now.level.now.stop }
-    requires going { IsGoing stage.now.level.now.problem.now stage.now.level.now.number x.0 walk.old.remains }
+    requires going { GoesFrom stage.now x.0 walk.old.remains }
     requires free { is_single (values_left walk.old.remains.store.box x.0) ≡ false }
     requires joins { game_of walk.old.joins ≡ stage.now.level.now.problem.now }
-    ensures told { OnOk result ((before : List Seen) → IsReady stage.now.level.now.problem.now stage.now.level.now.number walk.old.joins (suc (2 * walk.old.left)) before → CasesTold stage.now.cuts (outdoes stage.now.level.now.problem.now stage.now.level.now.number stage.now.rival) stage.now.level.now.problem.now stage.now.level.now.number walk.old.remains.store.box (scope_number stage.now.horizon) x.0 (values_left walk.old.remains.store.box x.0) before walk.old.left walk.new.left walk.old.lines walk.new.lines walk.new.joins) }
-    ensures back { OnOk result (IsBack stage.now.level.now.problem.now stage.now.level.now.number walk.old walk.new) }
+    ensures told { OnOk result (CasesAnswer (here_of stage.now walk.old) x.0 walk.old walk.new) }
+    ensures back { OnOk result (IsBackAt stage.now walk.old walk.new) }
 {
     stage.level.problem.known();
     walk.remains.known();
@@ -522,11 +509,11 @@ fn with_value(
     walk: &mut Walk,
 ) -> Result<bool, AllocError>
     requires var { x.0 < stage.now.level.now.stop }
-    requires going { IsGoing stage.now.level.now.problem.now stage.now.level.now.number x.0 walk.old.remains }
+    requires going { GoesFrom stage.now x.0 walk.old.remains }
     requires value { IsTrue (has_value (values_left walk.old.remains.store.box x.0) value) }
     requires joins { game_of walk.old.joins ≡ stage.now.level.now.problem.now }
-    ensures told { IfOk result (λ whole. (IsTrue tries → IsTrue whole) → (before : List Seen) → IsReady stage.now.level.now.problem.now stage.now.level.now.number walk.old.joins (2 + 2 * walk.old.left) before → CaseTold stage.now.cuts (outdoes stage.now.level.now.problem.now stage.now.level.now.number stage.now.rival) stage.now.level.now.problem.now stage.now.level.now.number (box_to walk.old.remains.store.box x.0 (value ∷ [])) (scope_number stage.now.horizon) before walk.old.left walk.new.left walk.old.lines walk.new.lines walk.new.joins) }
-    ensures back { OnOk result (IsBack stage.now.level.now.problem.now stage.now.level.now.number walk.old walk.new) }
+    ensures told { IfOk result (λ whole. (IsTrue tries → IsTrue whole) → CaseAnswers (here_of stage.now walk.old) x.0 value walk.old walk.new) }
+    ensures back { OnOk result (IsBackAt stage.now walk.old walk.new) }
 {
     let mark = walk.remains.mark();
     walk.steps.clear();
@@ -541,12 +528,12 @@ fn with_value(
 #[cycle(search)]
 fn try_branch(stage: &Stage, x: VarId, walk: &mut Walk) -> Result<bool, AllocError>
     requires var { x.0 < stage.now.level.now.stop }
-    requires going { IsGoing stage.now.level.now.problem.now stage.now.level.now.number x.0 walk.old.remains }
+    requires going { GoesFrom stage.now x.0 walk.old.remains }
     requires own { IsTrue (is_of_scope stage.now.level.now.problem.now stage.now.level.now.number x.0) }
     requires free { is_single (values_left walk.old.remains.store.box x.0) ≡ false }
     requires joins { game_of walk.old.joins ≡ stage.now.level.now.problem.now }
-    ensures told { IfOk result (λ whole. IsTrue whole → (before : List Seen) → IsReady stage.now.level.now.problem.now stage.now.level.now.number walk.old.joins (suc (2 * walk.old.left)) before → IsTrue (has_no_worse (tracked_at stage.now.level.now.problem.now stage.now.level.now.number) (firsts before) walk.old.remains.store.box) → EndingTold stage.now.cuts (outdoes stage.now.level.now.problem.now stage.now.level.now.number stage.now.rival) stage.now.level.now.problem.now stage.now.level.now.number walk.old.remains.store.box (scope_number stage.now.horizon) before walk.old.left walk.new.left walk.old.lines walk.new.lines walk.new.joins) }
-    ensures back { OnOk result (IsBack stage.now.level.now.problem.now stage.now.level.now.number walk.old walk.new) }
+    ensures told { IfOk result (λ whole. IsTrue whole → EndingAnswers (here_of stage.now walk.old) walk.old walk.new) }
+    ensures back { OnOk result (IsBackAt stage.now walk.old walk.new) }
 {
     stage.level.problem.known();
     let Some(value) = value_to_try(stage, x, walk) else {
@@ -565,14 +552,14 @@ fn try_branch(stage: &Stage, x: VarId, walk: &mut Walk) -> Result<bool, AllocErr
 #[cycle(search)]
 fn try_case(stage: &Stage, x: VarId, value: i64, walk: &mut Walk) -> Result<bool, AllocError>
     requires var { x.0 < stage.now.level.now.stop }
-    requires going { IsGoing stage.now.level.now.problem.now stage.now.level.now.number x.0 walk.old.remains }
+    requires going { GoesFrom stage.now x.0 walk.old.remains }
     requires free { is_single (values_left walk.old.remains.store.box x.0) ≡ false }
     requires value { IsTrue (has_value (values_left walk.old.remains.store.box x.0) value) }
     requires cuts { IsTrue stage.now.cuts }
     requires turn { 0 < walk.old.left }
     requires joins { game_of walk.old.joins ≡ stage.now.level.now.problem.now }
-    ensures told { IfOk result (λ whole. IsTrue whole → (before : List Seen) → IsReady stage.now.level.now.problem.now stage.now.level.now.number walk.old.joins (suc (2 * walk.old.left)) before → CasesTold stage.now.cuts (outdoes stage.now.level.now.problem.now stage.now.level.now.number stage.now.rival) stage.now.level.now.problem.now stage.now.level.now.number walk.old.remains.store.box (scope_number stage.now.horizon) x.0 (values_left walk.old.remains.store.box x.0) before walk.old.left walk.new.left walk.old.lines walk.new.lines walk.new.joins) }
-    ensures back { OnOk result (IsBack stage.now.level.now.problem.now stage.now.level.now.number walk.old walk.new) }
+    ensures told { IfOk result (λ whole. IsTrue whole → CasesAnswer (here_of stage.now walk.old) x.0 walk.old walk.new) }
+    ensures back { OnOk result (IsBackAt stage.now walk.old walk.new) }
 {
     if stage.rival.is_some() {
         return try_against_rival(stage, x, value, walk);
@@ -605,14 +592,14 @@ fn try_against_rival(
     walk: &mut Walk,
 ) -> Result<bool, AllocError>
     requires var { x.0 < stage.now.level.now.stop }
-    requires going { IsGoing stage.now.level.now.problem.now stage.now.level.now.number x.0 walk.old.remains }
+    requires going { GoesFrom stage.now x.0 walk.old.remains }
     requires free { is_single (values_left walk.old.remains.store.box x.0) ≡ false }
     requires value { IsTrue (has_value (values_left walk.old.remains.store.box x.0) value) }
     requires cuts { IsTrue stage.now.cuts }
     requires turn { 0 < walk.old.left }
     requires joins { game_of walk.old.joins ≡ stage.now.level.now.problem.now }
-    ensures told { IfOk result (λ whole. IsTrue whole → (before : List Seen) → IsReady stage.now.level.now.problem.now stage.now.level.now.number walk.old.joins (suc (2 * walk.old.left)) before → CasesTold stage.now.cuts (outdoes stage.now.level.now.problem.now stage.now.level.now.number stage.now.rival) stage.now.level.now.problem.now stage.now.level.now.number walk.old.remains.store.box (scope_number stage.now.horizon) x.0 (values_left walk.old.remains.store.box x.0) before walk.old.left walk.new.left walk.old.lines walk.new.lines walk.new.joins) }
-    ensures back { OnOk result (IsBack stage.now.level.now.problem.now stage.now.level.now.number walk.old walk.new) }
+    ensures told { IfOk result (λ whole. IsTrue whole → CasesAnswer (here_of stage.now walk.old) x.0 walk.old walk.new) }
+    ensures back { OnOk result (IsBackAt stage.now walk.old walk.new) }
 {
     stage.level.problem.known();
     walk.remains.known();

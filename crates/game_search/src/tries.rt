@@ -3,7 +3,7 @@ ghost use Rattle.std.specs.Prelude.{◌≡◌, ◌<◌, false, IfSome, IsTrue};
 ghost use Rattle.qc_model.specs.Domains.{has_value, values_left};
 ghost use Rattle.qc_joins.specs.Joins.{game_of};
 ghost use Rattle.game_search.specs.Aims.{IsSpan};
-ghost use Rattle.game_search.specs.Going.{IsGoing};
+ghost use Rattle.game_search.specs.Told.{GoesFrom};
 
 use crate::aim::{Aim, Worse, worse_than_found};
 use crate::rival::is_outdone;
@@ -46,7 +46,7 @@ pub(crate) fn most_tries(stage: &Stage) -> usize {
 /// The advised value of x, where it is left and the case may be gone into.
 pub(crate) fn value_to_try(stage: &Stage, x: VarId, walk: &Walk) -> Option<i64>
     requires var { x.0 < stage.now.level.now.stop }
-    requires going { IsGoing stage.now.level.now.problem.now stage.now.level.now.number x.0 walk.now.remains }
+    requires going { GoesFrom stage.now x.0 walk.now.remains }
     ensures cuts { IfSome result (λ v. IsTrue stage.now.cuts) }
     ensures turn { IfSome result (λ v. 0 < walk.now.left) }
     ensures value { IfSome result (λ v. IsTrue (has_value (values_left walk.now.remains.store.box x.0) v)) }

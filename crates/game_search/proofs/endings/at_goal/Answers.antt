@@ -1,37 +1,32 @@
 use Rattle.std.proofs.Common.{◌≡◌, ◌∙◌, sym, ap, refl, subst, true, length, arith}
-use Rattle.std.specs.List.{list_all}
 use Rattle.qc_model.specs.Content.{Game}
 use Rattle.qc_model.specs.Demands.{demands}
 use Rattle.qc_model.specs.ForallVerdict.{goal_verdict}
-use Rattle.qc_model.specs.Valid.{is_number}
-use Rattle.qc_model.specs.Game.{before}
-use Rattle.qc_arguments.specs.Asked.{is_box_of}
-use Rattle.proof_tree.specs.Place.{position}
 use Rattle.search_box.specs.Entered.{IsEntered}
-use Rattle.search_box.proofs.Places.{read_numbers}
+use Rattle.search_box.specs.Looking.{scope_number}
+use Rattle.game_search.specs.Here.{node_of}
 use Rattle.game_search.proofs.Here.{goal_there, lost_there}
 use Rattle.game_search.proofs.Knowing.{any_ends}
+use Rattle.game_search.proofs.OwnTrees.{numbers_at}
 use Rattle.game_search.proofs.Remains.{none_back, line_back, back_more}
 use Rattle.game_search.proofs.endings.at_goal.Goals as goal
 
 pub returns-then-is_here-clause-told : goal.returns-then-is_here-clause-told
 returns-then-is_here-clause-told c =
     let g = c.args.levels.now.problem.now in
-    let b = c.args.walk.now.remains in
-    let declared = subst (λ (f : Game). is_box_of f b.store.box ≡ true) c.requires.here.game c.known-2.ensures.declared in
-    let numbers : list_all is_number (position g c.args.number b.store.box) ≡ true = read_numbers g b.store.box (before g c.args.number) c.known.ensures.domains declared c.requires.here.full in
-    λ cuts above. lost_there cuts above g c.args.number _ c.requires.scope c.known.ensures b.store.box numbers (sym c.is_here.ensures ∙ c.if-is_here.true) c.args.walk.now.left c.args.walk.now.lines c.put.new.self c.args.walk.now.joins c.in_ok-put.ensures.put
+    let a = c.args.walk.now in
+    let numbers = numbers_at g c.args.number a.remains c.known.ensures c.requires.here c.known-2.ensures.declared in
+    λ cuts above. lost_there (node_of cuts above g c.args.number (scope_number c.args.horizon) a) c.requires.scope c.known.ensures numbers (sym c.is_here.ensures ∙ c.if-is_here.true) c.args.walk.now.left c.args.walk.now.lines c.put.new.self c.args.walk.now.joins c.in_ok-put.ensures.put
 
 pub returns-clause-told : goal.returns-clause-told
 returns-clause-told c =
     let g = c.args.levels.now.problem.now in
     let b = c.args.walk.now.remains in
     let n = length g.scopes in
-    let declared = subst (λ (f : Game). is_box_of f b.store.box ≡ true) c.requires.here.game c.known-2.ensures.declared in
-    let numbers : list_all is_number (position g c.args.number b.store.box) ≡ true = read_numbers g b.store.box (before g c.args.number) c.known.ensures.domains declared c.requires.here.full in
+    let numbers = numbers_at g c.args.number b c.known.ensures c.requires.here c.known-2.ensures.declared in
     let holds = c.goal_holds-holds.result in
     let v = c.goal.ensures.verdict ∙ (ap (λ (f : Game). goal_verdict f holds (demands f (length f.scopes)) c.all_values-values.result.now) c.requires.joins ∙ ap (goal_verdict g holds (demands g n)) (c.all_values-values.ensures g (subst (λ k. IsEntered g k b) c.requires.scope c.requires.here))) in
-    λ cuts above. goal_there cuts above g c.args.number _ c.requires.scope c.known.ensures b.store.box numbers (sym c.is_here.ensures ∙ c.if-is_here.false) c.args.walk.now.left c.args.walk.now.lines c.put-2.new.self c.goal.new.self _ holds c.goal_holds-holds.ensures v c.in_ok-put-2.ensures.put
+    λ cuts above. goal_there (node_of cuts above g c.args.number (scope_number c.args.horizon) c.args.walk.now) c.requires.scope c.known.ensures numbers (sym c.is_here.ensures ∙ c.if-is_here.false) c.args.walk.now.left c.args.walk.now.lines c.put-2.new.self c.goal.new.self _ holds c.goal_holds-holds.ensures v c.in_ok-put-2.ensures.put
 
 pub returns-then-is_here-clause-back : goal.returns-then-is_here-clause-back
 returns-then-is_here-clause-back c =

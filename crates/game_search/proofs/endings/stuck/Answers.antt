@@ -1,15 +1,11 @@
 use Rattle.std.proofs.Common.{◌≡◌, ◌∙◌, ap, refl, subst, true, drop, arith}
-use Rattle.std.specs.List.{list_all}
 use Rattle.qc_model.specs.Content.{Game}
 use Rattle.qc_model.specs.Demands.{demands}
-use Rattle.qc_model.specs.Valid.{is_number}
-use Rattle.qc_model.specs.Game.{before}
-use Rattle.qc_arguments.specs.Asked.{is_box_of}
-use Rattle.proof_tree.specs.Place.{position}
 use Rattle.qc_levels.specs.Seen.{verdict_of}
 use Rattle.qc_joins.specs.Verdicts.{stuck_of}
-use Rattle.search_box.proofs.Places.{read_numbers}
+use Rattle.game_search.specs.Here.{node_of}
 use Rattle.game_search.proofs.Here.{stuck_told}
+use Rattle.game_search.proofs.OwnTrees.{numbers_at}
 use Rattle.game_search.proofs.Remains.{none_back, back_more}
 use Rattle.game_search.proofs.endings.stuck.Goals as goal
 
@@ -18,10 +14,9 @@ returns-clause-told c =
     let g = c.args.level.now.problem.now in
     let i = c.args.level.now.number in
     let b = c.args.walk.now.remains in
-    let declared = subst (λ (f : Game). is_box_of f b.store.box ≡ true) c.requires.here.game c.known-2.ensures.declared in
-    let numbers : list_all is_number (position g i b.store.box) ≡ true = read_numbers g b.store.box (before g i) c.known.ensures.domains declared c.requires.here.full in
+    let numbers = numbers_at g i b c.known.ensures c.requires.here c.known-2.ensures.declared in
     let v = c.stuck-found.ensures.verdict ∙ (ap (λ (f : Game). stuck_of (drop i f.scopes) f (demands f i) c.values_before-values.result.now) c.requires.joins ∙ ap (stuck_of (drop i g.scopes) g (demands g i)) c.values_before-values.ensures) in
-    λ cuts above h f. stuck_told cuts above g i h c.known.ensures b.store.box numbers f c.args.walk.now.left c.args.walk.now.lines c.put.new.self c.clear.new.self _ (ap (verdict_of c.stuck-found.result) c.clear.ensures.out ∙ v) c.in_ok-put.ensures.put (λ s. c.clear.ensures.stands)
+    λ cuts above h f. stuck_told (node_of cuts above g i h c.args.walk.now) c.known.ensures numbers f c.args.walk.now.left c.args.walk.now.lines c.put.new.self c.clear.new.self _ (ap (verdict_of c.stuck-found.result) c.clear.ensures.out ∙ v) c.in_ok-put.ensures.put (λ s. c.clear.ensures.stands)
 
 pub returns-clause-back : goal.returns-clause-back
 returns-clause-back c =

@@ -8,6 +8,7 @@ use Rattle.qc_joins.specs.Joins.{out_of}
 use Rattle.proof_tree.specs.declared.line.Line.{Line}
 use Rattle.search_box.specs.Looking.{scope_number}
 use Rattle.kept_nodes.specs.Known.{StandsHere}
+use Rattle.game_search.specs.Here.{node_of}
 use Rattle.kept_nodes.specs.declared.known.KnownNode.{KnownNode}
 use Rattle.search_parts.specs.Settled.{beats_none}
 use Rattle.kept_nodes.proofs.Knowing.{node_ends}
@@ -20,16 +21,15 @@ returns-clause-told c =
     let a = c.args.walk.now in
     let i = c.args.number in
     let h = scope_number c.args.horizon in
-    let box = a.remains.store.box in
     let node = c.node-node.result.now in
     let joins = c.goal-found.new.self in
     let values = c.all_values.result.now in
     let v = verdict_of c.goal-found.result (out_of joins) in
-    let here = subst (λ o. IfSome o (λ (n : KnownNode). StandsHere g i h a.left box n.values.items n.won n.turns n.lines.items)) c.node-node.ensures.node c.requires.stands in
+    let here = subst (λ o. IfSome o (λ (n : KnownNode). StandsHere g i h a.left a.remains.store.box n.values.items n.won n.turns n.lines.items)) c.node-node.ensures.node c.requires.stands in
     let comes = subst (λ (u : Game). v ≡ goal_verdict u node.won (demands u (length u.scopes)) values) (c.clear.ensures.same ∙ c.requires.joins) c.goal-found.ensures.verdict in
     let written = subst (λ (ls : List Line). c.put_all.new.self ≡ a.lines ++ ls) c.lines.ensures c.in_ok-put_all.ensures.put in
     λ above.
-    stands_told c.args.cuts above g i box h node.values.items v node.won node.turns a.left _ (length g.scopes) values node.lines.items a.lines c.put_all.new.self joins c.requires.cuts here c.saturating_sub-walk.ensures comes written (c.goal-found.ensures.all i [] c.clear.ensures.stands)
+    stands_told (node_of c.args.cuts above g i h a) node.values.items v node.won node.turns a.left _ (length g.scopes) values node.lines.items a.lines c.put_all.new.self joins c.requires.cuts here c.saturating_sub-walk.ensures comes written (c.goal-found.ensures.all i [] c.clear.ensures.stands)
 
 pub returns-clause-ended : goal.returns-clause-ended
 returns-clause-ended c = node_ends c.args.cuts beats_none _ _ _ _ _ _ _ _ _ _ _ c.requires.cuts refl refl (returns-clause-told c beats_none).written

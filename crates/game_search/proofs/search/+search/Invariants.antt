@@ -3,9 +3,8 @@ use Rattle.qc_model.specs.Domains.{has_value, values_left}
 use Rattle.qc_model.specs.Game.{before}
 use Rattle.qc_model.specs.Verdict.{Seen}
 use Rattle.fd_store.specs.Held.{values_from}
-use Rattle.search_box.specs.Looking.{scope_number}
-use Rattle.game_search.specs.Rivals.{outdoes}
-use Rattle.game_search.specs.Told.{IsReady, IsBack}
+use Rattle.game_search.specs.Here.{here_of}
+use Rattle.game_search.specs.Put.{IsReady, IsBack}
 use Rattle.game_search.proofs.Covering.{ComesAfter}
 use Rattle.game_search.proofs.Here.{Passing}
 use Rattle.game_search.proofs.search.+search.Given as goal
@@ -92,7 +91,7 @@ invariant-cases-values l = record {
   left : has_value (values_left l.fn.walk.remains.store.box l.x.0) l.value ≡ true;
   after : ComesAfter (values_left l.fn.walk.remains.store.box l.x.0) l.before l.value;
   goes : (xs : List Seen) → IsReady l.stage.level.now.problem.now l.stage.level.now.number l.fn.walk.joins (suc (2 * l.fn.walk.left)) xs →
-      Passing l.stage.cuts (outdoes l.stage.level.now.problem.now l.stage.level.now.number l.stage.rival) l.stage.level.now.problem.now l.stage.level.now.number l.fn.walk.remains.store.box (scope_number l.stage.horizon) l.x.0 (values_left l.fn.walk.remains.store.box l.x.0) xs l.fn.walk.left l.fn.walk.lines
+      Passing (here_of l.stage l.fn.walk) l.x.0 (values_left l.fn.walk.remains.store.box l.x.0) xs l.fn.walk.left l.fn.walk.lines
       (values_from l.value (values_left l.fn.walk.remains.store.box l.x.0)) l.walk.left l.walk.lines l.walk.joins;
 }
 
