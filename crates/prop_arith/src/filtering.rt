@@ -7,26 +7,27 @@ ghost use Rattle.prop_base.specs.Pruning.{IsPruning, IsFiltered, is_just};
 use crate::plus::filter_plus;
 use fd_store::Store;
 use proof_tree::StepList;
-use prop_base::{Filtered, filter_by_ends};
+use prop_base::{Asked, Filtered, RuleFilter, filter_by_ends};
 use prop_compare::Table;
-use qc_model::{ConId, Constraint, Pred, Problem};
+use qc_model::{ConId, Pred, Problem};
 use std::alloc::{AllocError, Global};
 
-fn filter_rule(
-    problem: &Problem,
-    c: ConId,
-    rule: &Constraint,
-    store: &mut Store,
-    steps: &mut StepList,
-) -> Result<Filtered, AllocError>
-    requires c { slice_get problem.now.constraints c.0 ≡ Some rule.now }
-    requires asked { IsAsked problem.now rule.now store.old.box }
-    ensures pruning { IsPruning (is_just c.0) problem.now store.old store.new steps.old steps.new }
-    ensures answer { IfOk result (λ f. IsFiltered f rule.now store.new.box steps.old steps.new) }
-{
-    match rule.pred {
-        Pred::IntPlus => filter_plus(problem, c, rule, store, steps),
-        _ => filter_by_ends(&Table {}, problem, c, rule, store, steps),
+// Arithmetic of two or three integers.
+#[derive(Clone, Copy)]
+struct Arith {}
+
+impl RuleFilter for Arith {
+    fn filter_rule(
+        &self,
+        asked: Asked,
+        store: &mut Store,
+        steps: &mut StepList,
+    ) -> Result<Filtered, AllocError> {
+        let rule = asked.rule;
+        match rule.pred {
+            Pred::IntPlus => filter_plus(asked, store, steps),
+            _ => filter_by_ends(&Table {}, asked, store, steps),
+        }
     }
 }
 
@@ -46,6 +47,5 @@ pub fn filter(
     ensures answer { (rule : Rule) → slice_get problem.now.constraints c.0 ≡ Some rule → IfOk result (λ f. IsFiltered f rule store.new.box steps.old steps.new) }
 {
     let _ = alloc;
-    let rule = problem.constraint(c);
-    filter_rule(problem, c, rule, store, steps)
+    prop_base::filter(&Arith {}, problem, c, store, steps)
 }

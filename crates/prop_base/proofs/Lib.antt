@@ -4,3 +4,4 @@ pub mod Widening
 mod OneEnd
 pub mod Whole
 mod SameValues
+pub mod Prunings

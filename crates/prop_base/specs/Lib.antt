@@ -1,3 +1,4 @@
 pub mod Closed
 pub mod Pruning
+pub mod Filtering
 pub mod Wider

@@ -2,19 +2,20 @@
 //!
 //! A filter that finds one cut after another, each in the box that the cuts before it leave, has nothing more to say: the
 //! loop is the same for all of them.
-ghost use Rattle.std.specs.Prelude.{◌≡◌, IsTrue, IfNone, IfSome, IfOk, slice_get, Some};
+ghost use Rattle.std.specs.Prelude.{IsTrue, IfNone, IfSome};
 ghost use Rattle.qc_model.specs.Closed.{keeps_ends};
 ghost use Rattle.qc_model.specs.Content.{Rule};
 ghost use Rattle.qc_arguments.specs.Asked.{IsAsked};
 ghost use Rattle.prop_base.specs.Closed.{IsCut};
-ghost use Rattle.prop_base.specs.Pruning.{IsPruning, IsFiltered, is_just};
+ghost use Rattle.prop_base.specs.Filtering.{Answers, Fits, Prunes};
 
 use crate::answer::Filtered;
+use crate::asked::Asked;
 use crate::cuts::Cut;
 use crate::removal::prune;
 use fd_store::Store;
 use proof_tree::StepList;
-use qc_model::{ConId, Constraint, Problem};
+use qc_model::{Constraint, Problem};
 use std::alloc::AllocError;
 
 /// What finds the next cut of a constraint that it serves.
@@ -34,21 +35,18 @@ pub trait Cutter {
 /// the removals made.
 pub fn filter_by_cuts<C: Cutter>(
     cutter: &C,
-    problem: &Problem,
-    c: ConId,
-    rule: &Constraint,
+    asked: Asked,
     store: &mut Store,
     steps: &mut StepList,
 ) -> Result<Filtered, AllocError>
-    requires serves { C.serves cutter.now rule.now }
-    requires c { slice_get problem.now.constraints c.0 ≡ Some rule.now }
-    requires asked { IsAsked problem.now rule.now store.old.box }
-    ensures pruning { IsPruning (is_just c.0) problem.now store.old store.new steps.old steps.new }
-    ensures answer { IfOk result (λ f. IsFiltered f rule.now store.new.box steps.old steps.new) }
+    requires serves { C.serves cutter.now asked.rule.now }
+    requires fits { Fits asked store.old }
+    ensures pruning { Prunes asked.entry store.old store.new steps.old steps.new }
+    ensures answer { Answers asked.entry store.new steps.old steps.new result }
 {
     let mut changed = false;
-    while let Some(cut) = cutter.next_cut(problem, rule, store) {
-        if prune(problem, c, rule, cut, store, steps)? {
+    while let Some(cut) = cutter.next_cut(asked.problem, asked.rule, store) {
+        if prune(asked, cut, store, steps)? {
             return Ok(Filtered::Emptied);
         }
         changed = true;

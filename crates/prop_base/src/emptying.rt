@@ -1,20 +1,21 @@
 //! A constraint that refutes the whole box.
-ghost use Rattle.std.specs.Prelude.{◌≡◌, [], flat_map, IsTrue, IfNone, IfSome, IfOk, slice_get, Some};
+ghost use Rattle.std.specs.Prelude.{◌≡◌, [], flat_map, IsTrue, IfNone, IfSome, IfOk};
 ghost use Rattle.std.specs.List.{list_all};
 ghost use Rattle.qc_model.specs.declared.problem.Arg.TheVariants.{Var};
 ghost use Rattle.qc_model.specs.Arguments.{arg_variables, argument_variables, variables_of};
 ghost use Rattle.qc_model.specs.Refuted.{refuted_by};
 ghost use Rattle.qc_model.specs.Valid.{arg_sees, argument_sees};
-ghost use Rattle.qc_arguments.specs.Asked.{IsAsked};
-ghost use Rattle.prop_base.specs.Pruning.{IsPruning, IsFiltered, IsAllOrNone, is_just};
+ghost use Rattle.prop_base.specs.Filtering.{Answers, Fits, Prunes};
+ghost use Rattle.prop_base.specs.Pruning.{IsAllOrNone};
 
 use crate::answer::Filtered;
+use crate::asked::Asked;
 use crate::cuts::Cut;
 use crate::removal::prune;
 use fd_store::Store;
 use proof_tree::StepList;
 use qc_arguments::arguments;
-use qc_model::{Arg, Argument, ConId, Constraint, Problem, VarId};
+use qc_model::{Arg, Argument, Constraint, Problem, VarId};
 use std::alloc::AllocError;
 
 fn variable_among(problem: &Problem, rule: &Constraint, items: &[Arg]) -> Option<VarId>
@@ -106,21 +107,18 @@ pub fn last_variable(problem: &Problem, rule: &Constraint) -> Option<VarId>
 /// Takes all values of the last variable of a constraint that refutes the box, where it has one: what is known of variables
 /// further ahead then still holds, so that the same lines stand wherever the constraint sees the same of those before.
 pub fn empty_last(
-    problem: &Problem,
-    c: ConId,
-    rule: &Constraint,
+    asked: Asked,
     store: &mut Store,
     steps: &mut StepList,
 ) -> Result<Filtered, AllocError>
-    requires c { slice_get problem.now.constraints c.0 ≡ Some rule.now }
-    requires asked { IsAsked problem.now rule.now store.old.box }
-    requires refuted { IsTrue (refuted_by rule.now store.old.box) }
-    ensures pruning { IsPruning (is_just c.0) problem.now store.old store.new steps.old steps.new }
-    ensures answer { IfOk result (λ f. IsFiltered f rule.now store.new.box steps.old steps.new) }
+    requires fits { Fits asked store.old }
+    requires refuted { IsTrue (refuted_by asked.rule.now store.old.box) }
+    ensures pruning { Prunes asked.entry store.old store.new steps.old steps.new }
+    ensures answer { Answers asked.entry store.new steps.old steps.new result }
     ensures whole { IfOk result IsAllOrNone }
 {
-    problem.known();
-    let Some(x) = last_variable(problem, rule) else {
+    asked.problem.known();
+    let Some(x) = last_variable(asked.problem, asked.rule) else {
         return Ok(Filtered::Stable);
     };
     let cut = Cut {
@@ -128,6 +126,6 @@ pub fn empty_last(
         lo: -1_000_000_000,
         hi: 1_000_000_000,
     };
-    prune(problem, c, rule, cut, store, steps)?;
+    prune(asked, cut, store, steps)?;
     Ok(Filtered::Emptied)
 }

@@ -2,14 +2,15 @@
 //!
 //! An end of a variable is tried by the refuter. Where it is refuted, it goes with the widest range from there that is
 //! refuted as a whole, so an end that moves by n values takes some 2 log n questions and one step.
-ghost use Rattle.std.specs.Prelude.{◌≡◌, ◌<◌, length, IsTrue, IfNone, IfSome, IfOk, slice_get, Some, ⊤};
+ghost use Rattle.std.specs.Prelude.{◌<◌, length, IsTrue, IfNone, IfSome, ⊤};
 ghost use Rattle.std.specs.List.{list_all};
 ghost use Rattle.qc_model.specs.Valid.{arg_sees, argument_sees};
 ghost use Rattle.qc_arguments.specs.Asked.{IsAsked};
 ghost use Rattle.prop_base.specs.Closed.{IsCut, keeps_at, keeps_arg, keeps_argument};
-ghost use Rattle.prop_base.specs.Pruning.{IsPruning, IsFiltered, is_just};
+ghost use Rattle.prop_base.specs.Filtering.{Answers, Fits, Prunes};
 
 use crate::answer::Filtered;
+use crate::asked::Asked;
 use crate::cuts::Cut;
 use crate::cutting::{Cutter, filter_by_cuts};
 use crate::ranges::widest;
@@ -17,7 +18,7 @@ use crate::refuting::Refuter;
 use fd_store::Store;
 use proof_tree::StepList;
 use qc_arguments::{arguments, width};
-use qc_model::{Arg, Argument, ConId, Constraint, Problem, VarId};
+use qc_model::{Arg, Argument, Constraint, Problem, VarId};
 use std::alloc::AllocError;
 
 // A range from an end of x that is refuted.
@@ -151,17 +152,14 @@ impl<'r, R: Refuter> Cutter for Ends<'r, R> {
 /// of its variables at its least or greatest value.
 pub fn filter_by_ends<R: Refuter>(
     refuter: &R,
-    problem: &Problem,
-    c: ConId,
-    rule: &Constraint,
+    asked: Asked,
     store: &mut Store,
     steps: &mut StepList,
 ) -> Result<Filtered, AllocError>
-    requires c { slice_get problem.now.constraints c.0 ≡ Some rule.now }
-    requires asked { IsAsked problem.now rule.now store.old.box }
-    ensures pruning { IsPruning (is_just c.0) problem.now store.old store.new steps.old steps.new }
-    ensures answer { IfOk result (λ f. IsFiltered f rule.now store.new.box steps.old steps.new) }
+    requires fits { Fits asked store.old }
+    ensures pruning { Prunes asked.entry store.old store.new steps.old steps.new }
+    ensures answer { Answers asked.entry store.new steps.old steps.new result }
 {
     let ends = Ends { refuter };
-    filter_by_cuts(&ends, problem, c, rule, store, steps)
+    filter_by_cuts(&ends, asked, store, steps)
 }

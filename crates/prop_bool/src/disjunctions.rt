@@ -1,8 +1,8 @@
 //! The filter of constraints that say that a head holds where some literal does, and fails where none does.
-ghost use Rattle.std.specs.Prelude.{◌≡◌, ◌≤◌, ◌<◌, ◌+◌, IsTrue, IfOk, OnOk, length, take, slice_get, Some, true, false};
+ghost use Rattle.std.specs.Prelude.{◌≡◌, ◌≤◌, ◌<◌, ◌+◌, IsTrue, IfOk, OnOk, length, take, true, false};
 ghost use Rattle.std.specs.List.{list_all, list_any};
 ghost use Rattle.qc_arguments.specs.Asked.{IsAsked};
-ghost use Rattle.prop_base.specs.Pruning.{IsPruning, IsFiltered, is_just};
+ghost use Rattle.prop_base.specs.Filtering.{Answers, Fits, Prunes};
 ghost use Rattle.prop_bool.specs.Findings.{IsFinding, answer_after};
 ghost use Rattle.prop_bool.specs.Literals.{IsDisjunction, IsUnfixed, literals, surely_fails, surely_holds};
 
@@ -13,8 +13,8 @@ use crate::literals::{Literal, Standing, literal_at, standing_of};
 use crate::outcomes::{is_opposed_by, outcome_of};
 use fd_store::Store;
 use proof_tree::StepList;
-use prop_base::Filtered;
-use qc_model::{Arg, ConId, Constraint, Problem};
+use prop_base::{Asked, Filtered};
+use qc_model::{Arg, Constraint, Problem};
 use std::alloc::AllocError;
 
 // Where the head holds, the last literal that can hold has to.
@@ -76,9 +76,7 @@ fn when_unfixed(
 
 // Makes a literal fail, and answers whether that could be: it can't where the literal holds.
 fn fail_one(
-    problem: &Problem,
-    c: ConId,
-    rule: &Constraint,
+    asked: Asked,
     plain: &[Arg],
     negated: &[Arg],
     head: Literal,
@@ -86,13 +84,12 @@ fn fail_one(
     store: &mut Store,
     steps: &mut StepList,
 ) -> Result<bool, AllocError>
-    requires c { slice_get problem.now.constraints c.0 ≡ Some rule.now }
-    requires asked { IsAsked problem.now rule.now store.old.box }
-    requires says { IsDisjunction problem.now rule.now (literals plain.now negated.now) head }
+    requires fits { Fits asked store.old }
+    requires says { IsDisjunction asked.problem.now asked.rule.now (literals plain.now negated.now) head }
     requires place { k < length plain.now + length negated.now }
     requires fails { IsTrue (surely_fails store.old.box head) }
-    ensures pruning { IsPruning (is_just c.0) problem.now store.old store.new steps.old steps.new }
-    ensures asked { OnOk result (IsAsked problem.now rule.now store.new.box) }
+    ensures pruning { Prunes asked.entry store.old store.new steps.old steps.new }
+    ensures fits { OnOk result (Fits asked.entry store.new) }
     ensures fails { OnOk result (IsTrue (surely_fails store.new.box head)) }
     ensures failed { IfOk result (λ b. b ≡ true → IsTrue (list_all (surely_fails store.old.box) (take k (literals plain.now negated.now))) → IsTrue (list_all (surely_fails store.new.box) (take (k + 1) (literals plain.now negated.now)))) }
     ensures holds { IfOk result (λ b. b ≡ false → IsTrue (list_any (surely_holds store.new.box) (literals plain.now negated.now))) }
@@ -104,7 +101,7 @@ fn fail_one(
         Standing::Unfixed => match literal.arg {
             Arg::Num(_) => Ok(true),
             Arg::Var(x) => {
-                lose(problem, c, rule, x, literal.positive, store, steps)?;
+                lose(asked, x, literal.positive, store, steps)?;
                 Ok(true)
             }
         },
@@ -113,26 +110,23 @@ fn fail_one(
 
 // Makes all literals fail, up to one that holds.
 fn fail_each(
-    problem: &Problem,
-    c: ConId,
-    rule: &Constraint,
+    asked: Asked,
     plain: &[Arg],
     negated: &[Arg],
     head: Literal,
     store: &mut Store,
     steps: &mut StepList,
 ) -> Result<Finding, AllocError>
-    requires c { slice_get problem.now.constraints c.0 ≡ Some rule.now }
-    requires asked { IsAsked problem.now rule.now store.old.box }
-    requires says { IsDisjunction problem.now rule.now (literals plain.now negated.now) head }
+    requires fits { Fits asked store.old }
+    requires says { IsDisjunction asked.problem.now asked.rule.now (literals plain.now negated.now) head }
     requires few { length plain.now + length negated.now ≤ 2000 }
     requires fails { IsTrue (surely_fails store.old.box head) }
-    ensures pruning { IsPruning (is_just c.0) problem.now store.old store.new steps.old steps.new }
-    ensures asked { OnOk result (IsAsked problem.now rule.now store.new.box) }
-    ensures found { IfOk result (λ f. IsFinding f rule.now store.new.box) }
+    ensures pruning { Prunes asked.entry store.old store.new steps.old steps.new }
+    ensures fits { OnOk result (Fits asked.entry store.new) }
+    ensures found { IfOk result (λ f. IsFinding f asked.entry.rule.now store.new.box) }
 {
     for k in 0..plain.len() + negated.len() {
-        if !fail_one(problem, c, rule, plain, negated, head, k, store, steps)? {
+        if !fail_one(asked, plain, negated, head, k, store, steps)? {
             return Ok(Finding::Refuted);
         }
     }
@@ -157,57 +151,51 @@ fn answered(moved: bool, filtered: Filtered) -> Filtered
 
 // Where the head fails, all literals have to.
 fn filter_false(
-    problem: &Problem,
-    c: ConId,
-    rule: &Constraint,
+    asked: Asked,
     plain: &[Arg],
     negated: &[Arg],
     head: Literal,
     store: &mut Store,
     steps: &mut StepList,
 ) -> Result<Filtered, AllocError>
-    requires c { slice_get problem.now.constraints c.0 ≡ Some rule.now }
-    requires asked { IsAsked problem.now rule.now store.old.box }
-    requires says { IsDisjunction problem.now rule.now (literals plain.now negated.now) head }
+    requires fits { Fits asked store.old }
+    requires says { IsDisjunction asked.problem.now asked.rule.now (literals plain.now negated.now) head }
     requires few { length plain.now + length negated.now ≤ 2000 }
     requires fails { IsTrue (surely_fails store.old.box head) }
-    ensures pruning { IsPruning (is_just c.0) problem.now store.old store.new steps.old steps.new }
-    ensures answer { IfOk result (λ f. IsFiltered f rule.now store.new.box steps.old steps.new) }
+    ensures pruning { Prunes asked.entry store.old store.new steps.old steps.new }
+    ensures answer { Answers asked.entry store.new steps.old steps.new result }
 {
     let before = steps.items().len();
-    let finding = fail_each(problem, c, rule, plain, negated, head, store, steps)?;
-    let filtered = act(problem, c, rule, finding, store, steps)?;
+    let finding = fail_each(asked, plain, negated, head, store, steps)?;
+    let filtered = act(asked, finding, store, steps)?;
     let moved = before != steps.items().len();
     Ok(answered(moved, filtered))
 }
 
 /// The literals are the items of the first array and the negated items of the second.
 pub(crate) fn filter_disjunction(
-    problem: &Problem,
-    c: ConId,
-    rule: &Constraint,
+    asked: Asked,
     plain: &[Arg],
     negated: &[Arg],
     head: Literal,
     store: &mut Store,
     steps: &mut StepList,
 ) -> Result<Filtered, AllocError>
-    requires c { slice_get problem.now.constraints c.0 ≡ Some rule.now }
-    requires asked { IsAsked problem.now rule.now store.old.box }
-    requires says { IsDisjunction problem.now rule.now (literals plain.now negated.now) head }
+    requires fits { Fits asked store.old }
+    requires says { IsDisjunction asked.problem.now asked.rule.now (literals plain.now negated.now) head }
     requires few { length plain.now + length negated.now ≤ 2000 }
-    ensures pruning { IsPruning (is_just c.0) problem.now store.old store.new steps.old steps.new }
-    ensures answer { IfOk result (λ f. IsFiltered f rule.now store.new.box steps.old steps.new) }
+    ensures pruning { Prunes asked.entry store.old store.new steps.old steps.new }
+    ensures answer { Answers asked.entry store.new steps.old steps.new result }
 {
     match standing_of(head, store) {
         Standing::Holds => {
-            let finding = when_true(problem, rule, plain, negated, head, store);
-            act(problem, c, rule, finding, store, steps)
+            let finding = when_true(asked.problem, asked.rule, plain, negated, head, store);
+            act(asked, finding, store, steps)
         }
-        Standing::Fails => filter_false(problem, c, rule, plain, negated, head, store, steps),
+        Standing::Fails => filter_false(asked, plain, negated, head, store, steps),
         Standing::Unfixed => {
-            let finding = when_unfixed(problem, rule, plain, negated, head, store);
-            act(problem, c, rule, finding, store, steps)
+            let finding = when_unfixed(asked.problem, asked.rule, plain, negated, head, store);
+            act(asked, finding, store, steps)
         }
     }
 }

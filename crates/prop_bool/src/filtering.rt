@@ -10,41 +10,42 @@ use crate::predicates::{
 };
 use fd_store::Store;
 use proof_tree::StepList;
-use prop_base::{Filtered, filter_by_ends};
+use prop_base::{Asked, Filtered, RuleFilter, filter_by_ends};
 use prop_compare::{Comparison, Table, filter_comparison, filter_reified};
-use qc_model::{ConId, Constraint, Pred, Problem};
+use qc_model::{ConId, Pred, Problem};
 use std::alloc::{AllocError, Global};
 
-fn filter_rule(
-    problem: &Problem,
-    c: ConId,
-    rule: &Constraint,
-    store: &mut Store,
-    steps: &mut StepList,
-) -> Result<Filtered, AllocError>
-    requires c { slice_get problem.now.constraints c.0 ≡ Some rule.now }
-    requires asked { IsAsked problem.now rule.now store.old.box }
-    ensures pruning { IsPruning (is_just c.0) problem.now store.old store.new steps.old steps.new }
-    ensures answer { IfOk result (λ f. IsFiltered f rule.now store.new.box steps.old steps.new) }
-{
-    match rule.pred {
-        Pred::BoolEq => filter_comparison(problem, c, rule, Comparison::Equal, store, steps),
-        Pred::Bool2int => filter_comparison(problem, c, rule, Comparison::Equal, store, steps),
-        Pred::BoolNot => filter_comparison(problem, c, rule, Comparison::Different, store, steps),
-        Pred::BoolLe => filter_comparison(problem, c, rule, Comparison::AtMost, store, steps),
-        Pred::BoolLt => filter_comparison(problem, c, rule, Comparison::Below, store, steps),
-        Pred::BoolClause => filter_clause(problem, c, rule, store, steps),
-        Pred::BoolClauseReif => filter_told_clause(problem, c, rule, store, steps),
-        Pred::ArrayBoolAnd => filter_all_items(problem, c, rule, store, steps),
-        Pred::ArrayBoolOr => filter_some_item(problem, c, rule, store, steps),
-        Pred::BoolAnd => filter_both(problem, c, rule, store, steps),
-        Pred::BoolOr => filter_either(problem, c, rule, store, steps),
-        Pred::BoolXor => filter_exactly_one(problem, c, rule, store, steps),
-        Pred::ArrayBoolXor => filter_odd_items(problem, c, rule, store, steps),
-        Pred::BoolEqReif => filter_reified(problem, c, rule, Comparison::Equal, store, steps),
-        Pred::BoolLeReif => filter_reified(problem, c, rule, Comparison::AtMost, store, steps),
-        Pred::BoolLtReif => filter_reified(problem, c, rule, Comparison::Below, store, steps),
-        _ => filter_by_ends(&Table {}, problem, c, rule, store, steps),
+// Truth values.
+#[derive(Clone, Copy)]
+struct Bools {}
+
+impl RuleFilter for Bools {
+    fn filter_rule(
+        &self,
+        asked: Asked,
+        store: &mut Store,
+        steps: &mut StepList,
+    ) -> Result<Filtered, AllocError> {
+        let rule = asked.rule;
+        match rule.pred {
+            Pred::BoolEq => filter_comparison(asked, Comparison::Equal, store, steps),
+            Pred::Bool2int => filter_comparison(asked, Comparison::Equal, store, steps),
+            Pred::BoolNot => filter_comparison(asked, Comparison::Different, store, steps),
+            Pred::BoolLe => filter_comparison(asked, Comparison::AtMost, store, steps),
+            Pred::BoolLt => filter_comparison(asked, Comparison::Below, store, steps),
+            Pred::BoolClause => filter_clause(asked, store, steps),
+            Pred::BoolClauseReif => filter_told_clause(asked, store, steps),
+            Pred::ArrayBoolAnd => filter_all_items(asked, store, steps),
+            Pred::ArrayBoolOr => filter_some_item(asked, store, steps),
+            Pred::BoolAnd => filter_both(asked, store, steps),
+            Pred::BoolOr => filter_either(asked, store, steps),
+            Pred::BoolXor => filter_exactly_one(asked, store, steps),
+            Pred::ArrayBoolXor => filter_odd_items(asked, store, steps),
+            Pred::BoolEqReif => filter_reified(asked, Comparison::Equal, store, steps),
+            Pred::BoolLeReif => filter_reified(asked, Comparison::AtMost, store, steps),
+            Pred::BoolLtReif => filter_reified(asked, Comparison::Below, store, steps),
+            _ => filter_by_ends(&Table {}, asked, store, steps),
+        }
     }
 }
 
@@ -64,6 +65,5 @@ pub fn filter(
     ensures answer { (rule : Rule) → slice_get problem.now.constraints c.0 ≡ Some rule → IfOk result (λ f. IsFiltered f rule store.new.box steps.old steps.new) }
 {
     let _ = alloc;
-    let rule = problem.constraint(c);
-    filter_rule(problem, c, rule, store, steps)
+    prop_base::filter(&Bools {}, problem, c, store, steps)
 }

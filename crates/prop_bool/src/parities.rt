@@ -1,7 +1,6 @@
 //! The filter of constraints that say whether an odd number of items are 1.
-ghost use Rattle.std.specs.Prelude.{◌≡◌, IfOk, slice_get, Some};
 ghost use Rattle.qc_arguments.specs.Asked.{IsAsked};
-ghost use Rattle.prop_base.specs.Pruning.{IsPruning, IsFiltered, is_just};
+ghost use Rattle.prop_base.specs.Filtering.{Answers, Fits, Prunes};
 ghost use Rattle.prop_bool.specs.Findings.{IsFinding};
 ghost use Rattle.prop_bool.specs.Parities.{IsParity};
 
@@ -10,8 +9,8 @@ use crate::findings::Finding;
 use crate::tallies::{Tally, tally_of};
 use fd_store::Store;
 use proof_tree::StepList;
-use prop_base::Filtered;
-use qc_model::{Arg, ConId, Constraint, Problem};
+use prop_base::{Asked, Filtered};
+use qc_model::{Arg, Constraint, Problem};
 use std::alloc::AllocError;
 
 // Where one variable is unfixed, it has to be what the others leave to it.
@@ -35,20 +34,17 @@ fn look(problem: &Problem, rule: &Constraint, items: &[Arg], odd: bool, store: &
 }
 
 pub(crate) fn filter_parity(
-    problem: &Problem,
-    c: ConId,
-    rule: &Constraint,
+    asked: Asked,
     items: &[Arg],
     odd: bool,
     store: &mut Store,
     steps: &mut StepList,
 ) -> Result<Filtered, AllocError>
-    requires c { slice_get problem.now.constraints c.0 ≡ Some rule.now }
-    requires asked { IsAsked problem.now rule.now store.old.box }
-    requires says { IsParity problem.now rule.now items.now odd }
-    ensures pruning { IsPruning (is_just c.0) problem.now store.old store.new steps.old steps.new }
-    ensures answer { IfOk result (λ f. IsFiltered f rule.now store.new.box steps.old steps.new) }
+    requires fits { Fits asked store.old }
+    requires says { IsParity asked.problem.now asked.rule.now items.now odd }
+    ensures pruning { Prunes asked.entry store.old store.new steps.old steps.new }
+    ensures answer { Answers asked.entry store.new steps.old steps.new result }
 {
-    let finding = look(problem, rule, items, odd, store);
-    act(problem, c, rule, finding, store, steps)
+    let finding = look(asked.problem, asked.rule, items, odd, store);
+    act(asked, finding, store, steps)
 }

@@ -1,13 +1,11 @@
 //! What removals of an argument's values do.
-ghost use Rattle.std.specs.Prelude.{◌≡◌, ◌+◌, ◌<◌, IsTrue, IsFalse, OnOk, IfOk, length, slice_get, Some, true, false, not, pos, negsuc, ◌+ℤ◌, ◌-ℤ◌, ◌≤ℤ◌};
+ghost use Rattle.std.specs.Prelude.{◌≡◌, ◌+◌, ◌<◌, IsTrue, IsFalse, OnOk, IfOk, length, true, false, not, pos, negsuc, ◌+ℤ◌, ◌-ℤ◌, ◌≤ℤ◌};
 ghost use Rattle.qc_model.specs.Closed.{keeps_ends};
 ghost use Rattle.qc_model.specs.Domains.{has_empty, is_none_left, values_left, values_within, values_outside};
 ghost use Rattle.qc_model.specs.Refuted.{left_to, refuted_by};
-ghost use Rattle.qc_model.specs.Valid.{arg_sees, is_number};
-ghost use Rattle.qc_arguments.specs.Asked.{IsAsked};
+ghost use Rattle.qc_model.specs.Valid.{is_number};
 ghost use Rattle.qc_refuter.specs.Met.{is_open};
-ghost use Rattle.prop_base.specs.Closed.{IsCut};
-ghost use Rattle.prop_base.specs.Pruning.{IsPruning, is_just};
+ghost use Rattle.prop_base.specs.Filtering.{Fits, Prunes};
 ghost use Rattle.prop_compare.specs.Compared.{IsNarrowing, IsPair, box_kept, box_with};
 ghost use Rattle.prop_compare.specs.Keeping.{IsReducing};
 ghost use Rattle.qc_model.specs.declared.problem.Arg.TheVariants.{Var};
@@ -16,8 +14,8 @@ use crate::keeping::{Ends, Keeping};
 use crate::reading::{greatest, least};
 use fd_store::Store;
 use proof_tree::StepList;
-use prop_base::{Cut, prune};
-use qc_model::{Arg, ConId, Constraint, Problem, VarId};
+use prop_base::{Asked, Cut, prune};
+use qc_model::{Arg, VarId};
 use std::alloc::AllocError;
 
 // Whether x has a value from lo to hi.
@@ -33,26 +31,23 @@ fn has_some(x: VarId, lo: i64, hi: i64, store: &Store) -> bool
 
 /// Takes the values from lo to hi out of an argument, with a step where it has some. It answers whether it had.
 pub(crate) fn take_out(
-    problem: &Problem,
-    c: ConId,
-    rule: &Constraint,
+    asked: Asked,
     a: Arg,
     lo: i64,
     hi: i64,
     store: &mut Store,
     steps: &mut StepList,
 ) -> Result<bool, AllocError>
-    requires c { slice_get problem.now.constraints c.0 ≡ Some rule.now }
-    requires asked { IsAsked problem.now rule.now store.old.box }
+    requires fits { Fits asked store.old }
     requires open { IsTrue (is_open store.old.box a) }
     requires low { negsuc 999999999 ≤ℤ lo }
     requires high { hi ≤ℤ pos 1000000000 }
-    requires refuted { (x : VarId) → a ≡ Var x → IsFalse (is_none_left (values_within lo hi (left_to store.old.box a))) → IsTrue (refuted_by rule.now (box_with store.old.box a (values_within lo hi (left_to store.old.box a)))) }
-    ensures pruning { IsPruning (is_just c.0) problem.now store.old store.new steps.old steps.new }
+    requires refuted { (x : VarId) → a ≡ Var x → IsFalse (is_none_left (values_within lo hi (left_to store.old.box a))) → IsTrue (refuted_by asked.rule.now (box_with store.old.box a (values_within lo hi (left_to store.old.box a)))) }
+    ensures pruning { Prunes asked.entry store.old store.new steps.old steps.new }
     ensures content { OnOk result (store.new.box ≡ box_with store.old.box a (values_outside lo hi (left_to store.old.box a))) }
     ensures grown { IfOk result (λ b. (b ≡ true → length steps.new ≡ length steps.old + 1) × (b ≡ false → steps.new ≡ steps.old)) }
 {
-    problem.known();
+    asked.problem.known();
     match a {
         Arg::Num(_) => Ok(false),
         Arg::Var(x) => {
@@ -60,7 +55,7 @@ pub(crate) fn take_out(
                 return Ok(false);
             }
             let cut = Cut { x, lo, hi };
-            prune(problem, c, rule, cut, store, steps)?;
+            prune(asked, cut, store, steps)?;
             Ok(true)
         }
     }
@@ -83,19 +78,16 @@ fn after(v: i64) -> i64
 
 /// Takes out the values that don't lie within the ends. It answers whether there were some.
 pub(crate) fn narrow(
-    problem: &Problem,
-    c: ConId,
-    rule: &Constraint,
+    asked: Asked,
     a: Arg,
     keep: Ends,
     store: &mut Store,
     steps: &mut StepList,
 ) -> Result<bool, AllocError>
-    requires c { slice_get problem.now.constraints c.0 ≡ Some rule.now }
-    requires asked { IsAsked problem.now rule.now store.old.box }
+    requires fits { Fits asked store.old }
     requires open { IsTrue (is_open store.old.box a) }
-    requires narrowing { IsNarrowing rule.now store.old.box a keep.lo keep.hi }
-    ensures pruning { IsPruning (is_just c.0) problem.now store.old store.new steps.old steps.new }
+    requires narrowing { IsNarrowing asked.rule.now store.old.box a keep.lo keep.hi }
+    ensures pruning { Prunes asked.entry store.old store.new steps.old steps.new }
     ensures content { OnOk result (store.new.box ≡ box_kept store.old.box a keep.lo keep.hi) }
     ensures grown { IfOk result (λ b. (b ≡ true → length steps.old < length steps.new) × (b ≡ false → steps.new ≡ steps.old)) }
 {
@@ -103,32 +95,29 @@ pub(crate) fn narrow(
     let high = greatest(a, store);
     let under = before(keep.lo);
     let over = after(keep.hi);
-    let some_under = take_out(problem, c, rule, a, low, under, store, steps)?;
-    let some_over = take_out(problem, c, rule, a, over, high, store, steps)?;
+    let some_under = take_out(asked, a, low, under, store, steps)?;
+    let some_over = take_out(asked, a, over, high, store, steps)?;
     Ok(some_under || some_over)
 }
 
 /// Takes out of both what is not to be kept. It answers whether there was something.
 pub(crate) fn narrow_both(
-    problem: &Problem,
-    c: ConId,
-    rule: &Constraint,
+    asked: Asked,
     a: Arg,
     b: Arg,
     keep: Keeping,
     store: &mut Store,
     steps: &mut StepList,
 ) -> Result<bool, AllocError>
-    requires c { slice_get problem.now.constraints c.0 ≡ Some rule.now }
-    requires asked { IsAsked problem.now rule.now store.old.box }
-    requires pair { IsPair problem.now rule.now store.old.box a b }
-    requires reducing { IsReducing rule.now store.old.box a b keep }
-    ensures pruning { IsPruning (is_just c.0) problem.now store.old store.new steps.old steps.new }
+    requires fits { Fits asked store.old }
+    requires pair { IsPair asked.problem.now asked.rule.now store.old.box a b }
+    requires reducing { IsReducing asked.rule.now store.old.box a b keep }
+    ensures pruning { Prunes asked.entry store.old store.new steps.old steps.new }
     ensures full { OnOk result (IsFalse (has_empty store.new.box)) }
-    ensures keeps { OnOk result (IsTrue (keeps_ends store.new.box rule.now)) }
+    ensures keeps { OnOk result (IsTrue (keeps_ends store.new.box asked.entry.rule.now)) }
     ensures grown { IfOk result (λ b. (b ≡ true → length steps.old < length steps.new) × (b ≡ false → steps.new ≡ steps.old)) }
 {
-    let first = narrow(problem, c, rule, a, keep.first, store, steps)?;
-    let second = narrow(problem, c, rule, b, keep.second, store, steps)?;
+    let first = narrow(asked, a, keep.first, store, steps)?;
+    let second = narrow(asked, b, keep.second, store, steps)?;
     Ok(first || second)
 }

@@ -1,11 +1,10 @@
 //! The filter of a comparison with a third argument that tells whether it holds.
-ghost use Rattle.std.specs.Prelude.{◌≡◌, IsTrue, IsFalse, IfOk, slice_get, Some};
+ghost use Rattle.std.specs.Prelude.{◌≡◌, IsTrue, IsFalse};
 ghost use Rattle.qc_model.specs.declared.problem.Arg.TheVariants.{Var};
 ghost use Rattle.qc_model.specs.Domains.{is_single, values_left};
 ghost use Rattle.qc_model.specs.Meaning.{meaning_of, reified};
 ghost use Rattle.qc_model.specs.Refuted.{left_to};
-ghost use Rattle.qc_arguments.specs.Asked.{IsAsked};
-ghost use Rattle.prop_base.specs.Pruning.{IsPruning, IsFiltered, is_just};
+ghost use Rattle.prop_base.specs.Filtering.{Answers, Fits, Prunes};
 ghost use Rattle.prop_compare.specs.Compared.{is_literal_arg, meant_by};
 ghost use Rattle.prop_compare.specs.Telling.{IsTelling, are_tangled, refuting_as};
 
@@ -16,9 +15,9 @@ use crate::table::Table;
 use crate::truths::{loose, truth_cut};
 use fd_store::Store;
 use proof_tree::StepList;
-use prop_base::{Filtered, filter_by_ends, prune};
+use prop_base::{Asked, Filtered, filter_by_ends, prune};
 use qc_arguments::{arguments, is_same, one_at};
-use qc_model::{Arg, ConId, Constraint, Problem, VarId};
+use qc_model::{Arg, VarId};
 use std::alloc::AllocError;
 
 fn is_literal(a: Arg) -> bool
@@ -39,9 +38,7 @@ fn is_tangled(a: Arg, b: Arg, r: Arg) -> bool
 
 // The variable that tells can't tell this.
 fn lose_truth(
-    problem: &Problem,
-    c: ConId,
-    rule: &Constraint,
+    asked: Asked,
     comparison: Comparison,
     a: Arg,
     b: Arg,
@@ -50,24 +47,21 @@ fn lose_truth(
     store: &mut Store,
     steps: &mut StepList,
 ) -> Result<Filtered, AllocError>
-    requires c { slice_get problem.now.constraints c.0 ≡ Some rule.now }
-    requires asked { IsAsked problem.now rule.now store.old.box }
-    requires telling { IsTelling problem.now rule.now store.old.box comparison a b (Var x) }
+    requires fits { Fits asked store.old }
+    requires telling { IsTelling asked.problem.now asked.rule.now store.old.box comparison a b (Var x) }
     requires both { IsFalse (is_single (values_left store.old.box x.0)) }
     requires refuted { IsTrue (refuting_as comparison told (left_to store.old.box a) (left_to store.old.box b)) }
-    ensures pruning { IsPruning (is_just c.0) problem.now store.old store.new steps.old steps.new }
-    ensures answer { IfOk result (λ f. IsFiltered f rule.now store.new.box steps.old steps.new) }
+    ensures pruning { Prunes asked.entry store.old store.new steps.old steps.new }
+    ensures answer { Answers asked.entry store.new steps.old steps.new result }
 {
     let cut = truth_cut(x, told);
-    prune(problem, c, rule, cut, store, steps)?;
+    prune(asked, cut, store, steps)?;
     Ok(Filtered::Changed)
 }
 
 // Both truth values are left to the variable that tells.
 fn settle(
-    problem: &Problem,
-    c: ConId,
-    rule: &Constraint,
+    asked: Asked,
     comparison: Comparison,
     a: Arg,
     b: Arg,
@@ -75,27 +69,24 @@ fn settle(
     store: &mut Store,
     steps: &mut StepList,
 ) -> Result<Filtered, AllocError>
-    requires c { slice_get problem.now.constraints c.0 ≡ Some rule.now }
-    requires asked { IsAsked problem.now rule.now store.old.box }
-    requires telling { IsTelling problem.now rule.now store.old.box comparison a b (Var x) }
+    requires fits { Fits asked store.old }
+    requires telling { IsTelling asked.problem.now asked.rule.now store.old.box comparison a b (Var x) }
     requires both { IsFalse (is_single (values_left store.old.box x.0)) }
-    ensures pruning { IsPruning (is_just c.0) problem.now store.old store.new steps.old steps.new }
-    ensures answer { IfOk result (λ f. IsFiltered f rule.now store.new.box steps.old steps.new) }
+    ensures pruning { Prunes asked.entry store.old store.new steps.old steps.new }
+    ensures answer { Answers asked.entry store.new steps.old steps.new result }
 {
     if is_refuted(comparison, a, b, store) {
-        return lose_truth(problem, c, rule, comparison, a, b, x, true, store, steps);
+        return lose_truth(asked, comparison, a, b, x, true, store, steps);
     }
     if is_entailed(comparison, a, b, store) {
-        return lose_truth(problem, c, rule, comparison, a, b, x, false, store, steps);
+        return lose_truth(asked, comparison, a, b, x, false, store, steps);
     }
     Ok(Filtered::Stable)
 }
 
 // The three aren't tangled.
 fn filter_told(
-    problem: &Problem,
-    c: ConId,
-    rule: &Constraint,
+    asked: Asked,
     comparison: Comparison,
     a: Arg,
     b: Arg,
@@ -103,19 +94,18 @@ fn filter_told(
     store: &mut Store,
     steps: &mut StepList,
 ) -> Result<Filtered, AllocError>
-    requires c { slice_get problem.now.constraints c.0 ≡ Some rule.now }
-    requires asked { IsAsked problem.now rule.now store.old.box }
-    requires telling { IsTelling problem.now rule.now store.old.box comparison a b r }
-    ensures pruning { IsPruning (is_just c.0) problem.now store.old store.new steps.old steps.new }
-    ensures answer { IfOk result (λ f. IsFiltered f rule.now store.new.box steps.old steps.new) }
+    requires fits { Fits asked store.old }
+    requires telling { IsTelling asked.problem.now asked.rule.now store.old.box comparison a b r }
+    ensures pruning { Prunes asked.entry store.old store.new steps.old steps.new }
+    ensures answer { Answers asked.entry store.new steps.old steps.new result }
 {
     if let Some(x) = loose(r, store) {
-        return settle(problem, c, rule, comparison, a, b, x, store, steps);
+        return settle(asked, comparison, a, b, x, store, steps);
     }
     if least(r, store) > 0 {
-        compare(problem, c, rule, comparison, a, b, store, steps)
+        compare(asked, comparison, a, b, store, steps)
     } else {
-        contrast(problem, c, rule, comparison, a, b, store, steps)
+        contrast(asked, comparison, a, b, store, steps)
     }
 }
 
@@ -123,26 +113,23 @@ fn filter_told(
 /// holds, until a domain is empty or the constraint refutes the box with none of its own variables at its least or
 /// greatest value. After a refusal the steps appended are exactly the removals made.
 pub fn filter_reified(
-    problem: &Problem,
-    c: ConId,
-    rule: &Constraint,
+    asked: Asked,
     comparison: Comparison,
     store: &mut Store,
     steps: &mut StepList,
 ) -> Result<Filtered, AllocError>
-    requires meaning { meaning_of rule.now.pred ≡ reified (meant_by comparison) }
-    requires c { slice_get problem.now.constraints c.0 ≡ Some rule.now }
-    requires asked { IsAsked problem.now rule.now store.old.box }
-    ensures pruning { IsPruning (is_just c.0) problem.now store.old store.new steps.old steps.new }
-    ensures answer { IfOk result (λ f. IsFiltered f rule.now store.new.box steps.old steps.new) }
+    requires meaning { meaning_of asked.rule.now.pred ≡ reified (meant_by comparison) }
+    requires fits { Fits asked store.old }
+    ensures pruning { Prunes asked.entry store.old store.new steps.old steps.new }
+    ensures answer { Answers asked.entry store.new steps.old steps.new result }
 {
-    problem.known();
-    let args = arguments(rule);
+    asked.problem.known();
+    let args = arguments(asked.rule);
     let a = one_at(args, 0);
     let b = one_at(args, 1);
     let r = one_at(args, 2);
     if is_tangled(a, b, r) {
-        return filter_by_ends(&Table {}, problem, c, rule, store, steps);
+        return filter_by_ends(&Table {}, asked, store, steps);
     }
-    filter_told(problem, c, rule, comparison, a, b, r, store, steps)
+    filter_told(asked, comparison, a, b, r, store, steps)
 }

@@ -2,51 +2,50 @@
 ghost use Rattle.std.specs.Prelude.{◌≡◌, ◌<◌, length, IfOk, slice_get, Some};
 ghost use Rattle.qc_model.specs.Content.{Rule};
 ghost use Rattle.qc_arguments.specs.Asked.{IsAsked};
+ghost use Rattle.prop_base.specs.Filtering.{Answers, Fits, Prunes};
 ghost use Rattle.prop_base.specs.Pruning.{IsPruning, IsFiltered, is_just};
 
 use crate::forms::form_of;
 use fd_store::Store;
 use proof_tree::StepList;
-use prop_base::{Filtered, filter_by_cuts, filter_by_ends};
+use prop_base::{Asked, Filtered, RuleFilter, filter_by_cuts, filter_by_ends};
 use prop_compare::Table;
 use prop_different::filter_different;
-use qc_model::{ConId, Constraint, Pred, Problem};
+use qc_model::{ConId, Pred, Problem};
 use std::alloc::{AllocError, Global};
 
 // No range says what to keep.
 fn filter_other(
-    problem: &Problem,
-    c: ConId,
-    rule: &Constraint,
+    asked: Asked,
     store: &mut Store,
     steps: &mut StepList,
 ) -> Result<Filtered, AllocError>
-    requires c { slice_get problem.now.constraints c.0 ≡ Some rule.now }
-    requires asked { IsAsked problem.now rule.now store.old.box }
-    ensures pruning { IsPruning (is_just c.0) problem.now store.old store.new steps.old steps.new }
-    ensures answer { IfOk result (λ f. IsFiltered f rule.now store.new.box steps.old steps.new) }
+    requires fits { Fits asked store.old }
+    ensures pruning { Prunes asked.entry store.old store.new steps.old steps.new }
+    ensures answer { Answers asked.entry store.new steps.old steps.new result }
 {
+    let rule = asked.rule;
     match rule.pred {
-        Pred::AllDifferentInt => filter_different(problem, c, rule, store, steps),
-        _ => filter_by_ends(&Table {}, problem, c, rule, store, steps),
+        Pred::AllDifferentInt => filter_different(asked, store, steps),
+        _ => filter_by_ends(&Table {}, asked, store, steps),
     }
 }
 
-fn filter_rule(
-    problem: &Problem,
-    c: ConId,
-    rule: &Constraint,
-    store: &mut Store,
-    steps: &mut StepList,
-) -> Result<Filtered, AllocError>
-    requires c { slice_get problem.now.constraints c.0 ≡ Some rule.now }
-    requires asked { IsAsked problem.now rule.now store.old.box }
-    ensures pruning { IsPruning (is_just c.0) problem.now store.old store.new steps.old steps.new }
-    ensures answer { IfOk result (λ f. IsFiltered f rule.now store.new.box steps.old steps.new) }
-{
-    match form_of(rule) {
-        Some(form) => filter_by_cuts(&form, problem, c, rule, store, steps),
-        None => filter_other(problem, c, rule, store, steps),
+// Arrays, sets and tables.
+#[derive(Clone, Copy)]
+struct Element {}
+
+impl RuleFilter for Element {
+    fn filter_rule(
+        &self,
+        asked: Asked,
+        store: &mut Store,
+        steps: &mut StepList,
+    ) -> Result<Filtered, AllocError> {
+        match form_of(asked.rule) {
+            Some(form) => filter_by_cuts(&form, asked, store, steps),
+            None => filter_other(asked, store, steps),
+        }
     }
 }
 
@@ -66,6 +65,5 @@ pub fn filter(
     ensures answer { (rule : Rule) → slice_get problem.now.constraints c.0 ≡ Some rule → IfOk result (λ f. IsFiltered f rule store.new.box steps.old steps.new) }
 {
     let _ = alloc;
-    let rule = problem.constraint(c);
-    filter_rule(problem, c, rule, store, steps)
+    prop_base::filter(&Element {}, problem, c, store, steps)
 }

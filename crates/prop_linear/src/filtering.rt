@@ -5,6 +5,7 @@ ghost use Rattle.qc_model.specs.Content.{Rule};
 ghost use Rattle.qc_model.specs.Valid.{arg_sees, is_number};
 ghost use Rattle.qc_arguments.specs.Asked.{IsAsked};
 ghost use Rattle.qc_refuter.specs.Met.{is_open};
+ghost use Rattle.prop_base.specs.Filtering.{Answers, Fits, Prunes};
 ghost use Rattle.prop_base.specs.Pruning.{IsPruning, IsFiltered, is_just};
 ghost use Rattle.prop_linear.specs.Demands.{IsDemanded, IsSaid};
 ghost use Rattle.prop_linear.specs.Relations.{sum_pred, told_pred};
@@ -17,17 +18,15 @@ use crate::signs::under_opposite;
 use crate::telling::tell_sum;
 use fd_store::Store;
 use proof_tree::StepList;
-use prop_base::{Filtered, filter_by_ends};
+use prop_base::{Asked, Filtered, RuleFilter, filter_by_ends};
 use prop_compare::{Comparison, Table, filter_comparison, filter_reified, joined, what_is_told};
 use qc_arguments::{arguments, items_at, last_one, numbers_at, one_at};
-use qc_model::{Arg, ConId, Constraint, Pred, Problem};
+use qc_model::{Arg, ConId, Pred, Problem};
 use std::alloc::{AllocError, Global};
 
 // The sum is to be what is demanded, and the constraint says no more.
 fn filter_demanded(
-    problem: &Problem,
-    c: ConId,
-    rule: &Constraint,
+    asked: Asked,
     demand: Demand,
     factors: &[i64],
     items: &[Arg],
@@ -35,132 +34,119 @@ fn filter_demanded(
     store: &mut Store,
     steps: &mut StepList,
 ) -> Result<Filtered, AllocError>
-    requires c { slice_get problem.now.constraints c.0 ≡ Some rule.now }
-    requires asked { IsAsked problem.now rule.now store.old.box }
-    requires demanded { IsDemanded demand rule.now store.old.box factors.now items.now bound }
+    requires fits { Fits asked store.old }
+    requires demanded { IsDemanded demand asked.rule.now store.old.box factors.now items.now bound }
     requires bound { IsTrue (is_number bound) }
     requires equal { length factors.now ≡ length items.now }
     requires few { length items.now ≤ 1000 }
     requires factors { IsTrue (list_all is_number factors.now) }
-    requires sees { IsTrue (list_all (arg_sees problem.now.variables rule.now.owner.0) items.now) }
+    requires sees { IsTrue (list_all (arg_sees asked.problem.now.variables asked.rule.now.owner.0) items.now) }
     requires open { IsTrue (list_all (is_open store.old.box) items.now) }
-    ensures pruning { IsPruning (is_just c.0) problem.now store.old store.new steps.old steps.new }
-    ensures answer { IfOk result (λ f. IsFiltered f rule.now store.new.box steps.old steps.new) }
+    ensures pruning { Prunes asked.entry store.old store.new steps.old steps.new }
+    ensures answer { Answers asked.entry store.new steps.old steps.new result }
 {
     match demand {
-        Demand::UpTo => filter_at_most(
-            problem, c, rule, factors, items, false, bound, store, steps,
-        ),
+        Demand::UpTo => filter_at_most(asked, factors, items, false, bound, store, steps),
         Demand::Over => {
             let most = under_opposite(bound);
-            filter_at_most(problem, c, rule, factors, items, true, most, store, steps)
+            filter_at_most(asked, factors, items, true, most, store, steps)
         }
-        Demand::Exactly => filter_sum_equal(problem, c, rule, factors, items, bound, store, steps),
-        Demand::Off => filter_sum_different(problem, c, rule, factors, items, bound, store, steps),
+        Demand::Exactly => filter_sum_equal(asked, factors, items, bound, store, steps),
+        Demand::Off => filter_sum_different(asked, factors, items, bound, store, steps),
     }
 }
 
 // It is said whether the relation holds.
 fn filter_said(
-    problem: &Problem,
-    c: ConId,
-    rule: &Constraint,
+    asked: Asked,
     relation: Relation,
     holds: bool,
     store: &mut Store,
     steps: &mut StepList,
 ) -> Result<Filtered, AllocError>
-    requires said { IsSaid relation holds rule.now store.old.box }
-    requires c { slice_get problem.now.constraints c.0 ≡ Some rule.now }
-    requires asked { IsAsked problem.now rule.now store.old.box }
-    ensures pruning { IsPruning (is_just c.0) problem.now store.old store.new steps.old steps.new }
-    ensures answer { IfOk result (λ f. IsFiltered f rule.now store.new.box steps.old steps.new) }
+    requires said { IsSaid relation holds asked.rule.now store.old.box }
+    requires fits { Fits asked store.old }
+    ensures pruning { Prunes asked.entry store.old store.new steps.old steps.new }
+    ensures answer { Answers asked.entry store.new steps.old steps.new result }
 {
-    problem.known();
-    let args = arguments(rule);
+    asked.problem.known();
+    let args = arguments(asked.rule);
     let factors = numbers_at(args, 0);
     let items = items_at(args, 1);
     let Arg::Num(bound) = one_at(args, 2) else {
-        return filter_by_ends(&Table {}, problem, c, rule, store, steps);
+        return filter_by_ends(&Table {}, asked, store, steps);
     };
     let demand = demanded(relation, holds);
-    filter_demanded(
-        problem, c, rule, demand, factors, items, bound, store, steps,
-    )
+    filter_demanded(asked, demand, factors, items, bound, store, steps)
 }
 
 // The relation holds.
 fn filter_sum(
-    problem: &Problem,
-    c: ConId,
-    rule: &Constraint,
+    asked: Asked,
     relation: Relation,
     store: &mut Store,
     steps: &mut StepList,
 ) -> Result<Filtered, AllocError>
-    requires pred { rule.now.pred ≡ sum_pred relation }
-    requires c { slice_get problem.now.constraints c.0 ≡ Some rule.now }
-    requires asked { IsAsked problem.now rule.now store.old.box }
-    ensures pruning { IsPruning (is_just c.0) problem.now store.old store.new steps.old steps.new }
-    ensures answer { IfOk result (λ f. IsFiltered f rule.now store.new.box steps.old steps.new) }
+    requires pred { asked.rule.now.pred ≡ sum_pred relation }
+    requires fits { Fits asked store.old }
+    ensures pruning { Prunes asked.entry store.old store.new steps.old steps.new }
+    ensures answer { Answers asked.entry store.new steps.old steps.new result }
 {
-    filter_said(problem, c, rule, relation, true, store, steps)
+    filter_said(asked, relation, true, store, steps)
 }
 
 // The last argument tells whether the relation holds.
 fn filter_told_sum(
-    problem: &Problem,
-    c: ConId,
-    rule: &Constraint,
+    asked: Asked,
     relation: Relation,
     store: &mut Store,
     steps: &mut StepList,
 ) -> Result<Filtered, AllocError>
-    requires pred { rule.now.pred ≡ told_pred relation }
-    requires c { slice_get problem.now.constraints c.0 ≡ Some rule.now }
-    requires asked { IsAsked problem.now rule.now store.old.box }
-    ensures pruning { IsPruning (is_just c.0) problem.now store.old store.new steps.old steps.new }
-    ensures answer { IfOk result (λ f. IsFiltered f rule.now store.new.box steps.old steps.new) }
+    requires pred { asked.rule.now.pred ≡ told_pred relation }
+    requires fits { Fits asked store.old }
+    ensures pruning { Prunes asked.entry store.old store.new steps.old steps.new }
+    ensures answer { Answers asked.entry store.new steps.old steps.new result }
 {
-    problem.known();
-    let changed = tell_sum(problem, c, rule, relation, store, steps)?;
-    match what_is_told(last_one(arguments(rule)), store) {
+    asked.problem.known();
+    let changed = tell_sum(asked, relation, store, steps)?;
+    match what_is_told(last_one(arguments(asked.rule)), store) {
         None => Ok(Filtered::Stable),
         Some(holds) => {
-            let later = filter_said(problem, c, rule, relation, holds, store, steps)?;
+            let later = filter_said(asked, relation, holds, store, steps)?;
             Ok(joined(changed, later))
         }
     }
 }
 
-fn filter_rule(
-    problem: &Problem,
-    c: ConId,
-    rule: &Constraint,
-    store: &mut Store,
-    steps: &mut StepList,
-) -> Result<Filtered, AllocError>
-    requires c { slice_get problem.now.constraints c.0 ≡ Some rule.now }
-    requires asked { IsAsked problem.now rule.now store.old.box }
-    ensures pruning { IsPruning (is_just c.0) problem.now store.old store.new steps.old steps.new }
-    ensures answer { IfOk result (λ f. IsFiltered f rule.now store.new.box steps.old steps.new) }
-{
-    match rule.pred {
-        Pred::IntEq => filter_comparison(problem, c, rule, Comparison::Equal, store, steps),
-        Pred::IntNe => filter_comparison(problem, c, rule, Comparison::Different, store, steps),
-        Pred::IntLe => filter_comparison(problem, c, rule, Comparison::AtMost, store, steps),
-        Pred::IntLt => filter_comparison(problem, c, rule, Comparison::Below, store, steps),
-        Pred::IntLinLe => filter_sum(problem, c, rule, Relation::AtMost, store, steps),
-        Pred::IntLinEq => filter_sum(problem, c, rule, Relation::Equal, store, steps),
-        Pred::IntLinNe => filter_sum(problem, c, rule, Relation::Different, store, steps),
-        Pred::IntEqReif => filter_reified(problem, c, rule, Comparison::Equal, store, steps),
-        Pred::IntNeReif => filter_reified(problem, c, rule, Comparison::Different, store, steps),
-        Pred::IntLeReif => filter_reified(problem, c, rule, Comparison::AtMost, store, steps),
-        Pred::IntLtReif => filter_reified(problem, c, rule, Comparison::Below, store, steps),
-        Pred::IntLinLeReif => filter_told_sum(problem, c, rule, Relation::AtMost, store, steps),
-        Pred::IntLinEqReif => filter_told_sum(problem, c, rule, Relation::Equal, store, steps),
-        Pred::IntLinNeReif => filter_told_sum(problem, c, rule, Relation::Different, store, steps),
-        _ => filter_by_ends(&Table {}, problem, c, rule, store, steps),
+// Comparisons and sums of integers.
+#[derive(Clone, Copy)]
+struct Linear {}
+
+impl RuleFilter for Linear {
+    fn filter_rule(
+        &self,
+        asked: Asked,
+        store: &mut Store,
+        steps: &mut StepList,
+    ) -> Result<Filtered, AllocError> {
+        let rule = asked.rule;
+        match rule.pred {
+            Pred::IntEq => filter_comparison(asked, Comparison::Equal, store, steps),
+            Pred::IntNe => filter_comparison(asked, Comparison::Different, store, steps),
+            Pred::IntLe => filter_comparison(asked, Comparison::AtMost, store, steps),
+            Pred::IntLt => filter_comparison(asked, Comparison::Below, store, steps),
+            Pred::IntLinLe => filter_sum(asked, Relation::AtMost, store, steps),
+            Pred::IntLinEq => filter_sum(asked, Relation::Equal, store, steps),
+            Pred::IntLinNe => filter_sum(asked, Relation::Different, store, steps),
+            Pred::IntEqReif => filter_reified(asked, Comparison::Equal, store, steps),
+            Pred::IntNeReif => filter_reified(asked, Comparison::Different, store, steps),
+            Pred::IntLeReif => filter_reified(asked, Comparison::AtMost, store, steps),
+            Pred::IntLtReif => filter_reified(asked, Comparison::Below, store, steps),
+            Pred::IntLinLeReif => filter_told_sum(asked, Relation::AtMost, store, steps),
+            Pred::IntLinEqReif => filter_told_sum(asked, Relation::Equal, store, steps),
+            Pred::IntLinNeReif => filter_told_sum(asked, Relation::Different, store, steps),
+            _ => filter_by_ends(&Table {}, asked, store, steps),
+        }
     }
 }
 
@@ -180,6 +166,5 @@ pub fn filter(
     ensures answer { (rule : Rule) → slice_get problem.now.constraints c.0 ≡ Some rule → IfOk result (λ f. IsFiltered f rule store.new.box steps.old steps.new) }
 {
     let _ = alloc;
-    let rule = problem.constraint(c);
-    filter_rule(problem, c, rule, store, steps)
+    prop_base::filter(&Linear {}, problem, c, store, steps)
 }

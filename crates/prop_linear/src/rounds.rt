@@ -2,13 +2,12 @@
 //!
 //! The slacks on both sides are those at the start of the round. The least of a sum only rises while values go, and its
 //! greatest only falls, so what is too far by these slacks is too far at each later moment too.
-ghost use Rattle.std.specs.Prelude.{◌≡◌, ◌<◌, ◌+◌, IsTrue, IsFalse, OnOk, IfOk, IfSome, length, slice_get, Some, pos, ◌+ℤ◌, ◌≤ℤ◌, Bool, true, false};
+ghost use Rattle.std.specs.Prelude.{◌≡◌, ◌<◌, ◌+◌, IsTrue, IsFalse, OnOk, IfOk, IfSome, length, pos, ◌+ℤ◌, ◌≤ℤ◌, Bool, true, false};
 ghost use Rattle.std.specs.List.{list_all};
 ghost use Rattle.qc_model.specs.Domains.{has_empty, values_left};
 ghost use Rattle.qc_model.specs.Valid.{arg_sees, is_number};
-ghost use Rattle.qc_arguments.specs.Asked.{IsAsked};
 ghost use Rattle.qc_refuter.specs.Met.{is_domain_left};
-ghost use Rattle.prop_base.specs.Pruning.{IsPruning, is_just};
+ghost use Rattle.prop_base.specs.Filtering.{Fits, Prunes};
 ghost use Rattle.prop_linear.specs.Sides.{IsPast, AreNear, signed};
 ghost use Rattle.qc_arguments.specs.Repeats.{has_repeat};
 ghost use Rattle.prop_linear.specs.Tightening.{AlikeOutside, IsNear, least_sum};
@@ -18,8 +17,9 @@ use crate::sums::Widest;
 use crate::tighten::tighten_place;
 use fd_store::Store;
 use proof_tree::StepList;
+use prop_base::Asked;
 use qc_arguments::width;
-use qc_model::{Arg, ConId, Constraint, Problem, VarId};
+use qc_model::{Arg, VarId};
 use std::alloc::AllocError;
 
 // Whether a term of x moves by at most s, and at most t.
@@ -39,9 +39,7 @@ fn is_near_both(factor: i64, x: VarId, s: u128, t: u128, store: &Store) -> bool
 // What is too far at place k, on both sides, goes. Mostly nothing is, and one look at the place's two ends tells it.
 #[inline(always)]
 fn tighten_both(
-    problem: &Problem,
-    c: ConId,
-    rule: &Constraint,
+    asked: Asked,
     factors: &[i64],
     items: &[Arg],
     k: usize,
@@ -50,31 +48,30 @@ fn tighten_both(
     store: &mut Store,
     steps: &mut StepList,
 ) -> Result<bool, AllocError>
-    requires c { slice_get problem.now.constraints c.0 ≡ Some rule.now }
-    requires asked { IsAsked problem.now rule.now store.old.box }
-    requires over { IsPast rule.now store.old.box factors.now items.now (least_sum factors.now items.now store.old.box +ℤ pos s) }
-    requires under { IsPast rule.now store.old.box (signed true factors.now) items.now (least_sum (signed true factors.now) items.now store.old.box +ℤ pos t) }
+    requires fits { Fits asked store.old }
+    requires over { IsPast asked.rule.now store.old.box factors.now items.now (least_sum factors.now items.now store.old.box +ℤ pos s) }
+    requires under { IsPast asked.rule.now store.old.box (signed true factors.now) items.now (least_sum (signed true factors.now) items.now store.old.box +ℤ pos t) }
     requires once { IsFalse (has_repeat items.now) }
     requires equal { length factors.now ≡ length items.now }
     requires factors { IsTrue (list_all is_number factors.now) }
-    requires sees { IsTrue (list_all (arg_sees problem.now.variables rule.now.owner.0) items.now) }
+    requires sees { IsTrue (list_all (arg_sees asked.problem.now.variables asked.rule.now.owner.0) items.now) }
     requires place { k < length items.now }
-    ensures pruning { IsPruning (is_just c.0) problem.now store.old store.new steps.old steps.new }
+    ensures pruning { Prunes asked.entry store.old store.new steps.old steps.new }
     ensures full { OnOk result (IsFalse (has_empty store.new.box)) }
     ensures rises { OnOk result ((b : Bool) → least_sum (signed b factors.now) items.now store.old.box ≤ℤ least_sum (signed b factors.now) items.now store.new.box) }
     ensures alike { OnOk result (AlikeOutside items.now store.old.box store.new.box) }
     ensures near { IfOk result (λ b. b ≡ false → AreNear k s t factors.now items.now store.old.box → AreNear (k + 1) s t factors.now items.now store.old.box) }
     ensures grown { IfOk result (λ b. (b ≡ true → length steps.old < length steps.new) × (b ≡ false → steps.new ≡ steps.old)) }
 {
-    problem.known();
+    asked.problem.known();
     let Arg::Var(x) = items[k] else {
         return Ok(false);
     };
     if is_near_both(factors[k], x, s, t, store) {
         return Ok(false);
     }
-    let over = tighten_place(problem, c, rule, factors, items, k, false, s, store, steps)?;
-    let under = tighten_place(problem, c, rule, factors, items, k, true, t, store, steps)?;
+    let over = tighten_place(asked, factors, items, k, false, s, store, steps)?;
+    let under = tighten_place(asked, factors, items, k, true, t, store, steps)?;
     Ok(over || under)
 }
 
@@ -82,9 +79,7 @@ fn tighten_both(
 // t. It answers whether something was removed. No domain is emptied.
 #[inline(never)]
 fn tighten_round(
-    problem: &Problem,
-    c: ConId,
-    rule: &Constraint,
+    asked: Asked,
     factors: &[i64],
     items: &[Arg],
     s: u128,
@@ -92,15 +87,14 @@ fn tighten_round(
     store: &mut Store,
     steps: &mut StepList,
 ) -> Result<bool, AllocError>
-    requires c { slice_get problem.now.constraints c.0 ≡ Some rule.now }
-    requires asked { IsAsked problem.now rule.now store.old.box }
-    requires over { IsPast rule.now store.old.box factors.now items.now (least_sum factors.now items.now store.old.box +ℤ pos s) }
-    requires under { IsPast rule.now store.old.box (signed true factors.now) items.now (least_sum (signed true factors.now) items.now store.old.box +ℤ pos t) }
+    requires fits { Fits asked store.old }
+    requires over { IsPast asked.rule.now store.old.box factors.now items.now (least_sum factors.now items.now store.old.box +ℤ pos s) }
+    requires under { IsPast asked.rule.now store.old.box (signed true factors.now) items.now (least_sum (signed true factors.now) items.now store.old.box +ℤ pos t) }
     requires once { IsFalse (has_repeat items.now) }
     requires equal { length factors.now ≡ length items.now }
     requires factors { IsTrue (list_all is_number factors.now) }
-    requires sees { IsTrue (list_all (arg_sees problem.now.variables rule.now.owner.0) items.now) }
-    ensures pruning { IsPruning (is_just c.0) problem.now store.old store.new steps.old steps.new }
+    requires sees { IsTrue (list_all (arg_sees asked.problem.now.variables asked.rule.now.owner.0) items.now) }
+    ensures pruning { Prunes asked.entry store.old store.new steps.old steps.new }
     ensures full { OnOk result (IsFalse (has_empty store.new.box)) }
     ensures alike { OnOk result (AlikeOutside items.now store.old.box store.new.box) }
     ensures near { IfOk result (λ b. b ≡ false → AreNear (length items.now) s t factors.now items.now store.old.box) }
@@ -108,7 +102,7 @@ fn tighten_round(
 {
     let mut changed = false;
     for k in 0..items.len() {
-        if tighten_both(problem, c, rule, factors, items, k, s, t, store, steps)? {
+        if tighten_both(asked, factors, items, k, s, t, store, steps)? {
             changed = true;
         }
     }
@@ -118,9 +112,7 @@ fn tighten_round(
 // Goes over the places, the k-th first: where something goes there, the sum is to be looked at anew.
 #[inline(always)]
 fn tighten_first(
-    problem: &Problem,
-    c: ConId,
-    rule: &Constraint,
+    asked: Asked,
     factors: &[i64],
     items: &[Arg],
     k: usize,
@@ -129,25 +121,24 @@ fn tighten_first(
     store: &mut Store,
     steps: &mut StepList,
 ) -> Result<bool, AllocError>
-    requires c { slice_get problem.now.constraints c.0 ≡ Some rule.now }
-    requires asked { IsAsked problem.now rule.now store.old.box }
-    requires over { IsPast rule.now store.old.box factors.now items.now (least_sum factors.now items.now store.old.box +ℤ pos s) }
-    requires under { IsPast rule.now store.old.box (signed true factors.now) items.now (least_sum (signed true factors.now) items.now store.old.box +ℤ pos t) }
+    requires fits { Fits asked store.old }
+    requires over { IsPast asked.rule.now store.old.box factors.now items.now (least_sum factors.now items.now store.old.box +ℤ pos s) }
+    requires under { IsPast asked.rule.now store.old.box (signed true factors.now) items.now (least_sum (signed true factors.now) items.now store.old.box +ℤ pos t) }
     requires once { IsFalse (has_repeat items.now) }
     requires equal { length factors.now ≡ length items.now }
     requires factors { IsTrue (list_all is_number factors.now) }
-    requires sees { IsTrue (list_all (arg_sees problem.now.variables rule.now.owner.0) items.now) }
+    requires sees { IsTrue (list_all (arg_sees asked.problem.now.variables asked.rule.now.owner.0) items.now) }
     requires place { k < length items.now }
-    ensures pruning { IsPruning (is_just c.0) problem.now store.old store.new steps.old steps.new }
+    ensures pruning { Prunes asked.entry store.old store.new steps.old steps.new }
     ensures full { OnOk result (IsFalse (has_empty store.new.box)) }
     ensures alike { OnOk result (AlikeOutside items.now store.old.box store.new.box) }
     ensures near { IfOk result (λ b. b ≡ false → AreNear (length items.now) s t factors.now items.now store.old.box) }
     ensures grown { IfOk result (λ b. (b ≡ true → length steps.old < length steps.new) × (b ≡ false → steps.new ≡ steps.old)) }
 {
-    if tighten_both(problem, c, rule, factors, items, k, s, t, store, steps)? {
+    if tighten_both(asked, factors, items, k, s, t, store, steps)? {
         return Ok(true);
     }
-    tighten_round(problem, c, rule, factors, items, s, t, store, steps)
+    tighten_round(asked, factors, items, s, t, store, steps)
 }
 
 // The place of the widest term, where the others move by at most s, and at most t.
@@ -171,9 +162,7 @@ fn lone_place(widest: Widest, count: usize, s: u128, t: u128) -> Option<usize>
 /// others are near, its place is all there is to do.
 #[inline(always)]
 pub(crate) fn tighten_places(
-    problem: &Problem,
-    c: ConId,
-    rule: &Constraint,
+    asked: Asked,
     factors: &[i64],
     items: &[Arg],
     widest: Widest,
@@ -182,22 +171,21 @@ pub(crate) fn tighten_places(
     store: &mut Store,
     steps: &mut StepList,
 ) -> Result<bool, AllocError>
-    requires c { slice_get problem.now.constraints c.0 ≡ Some rule.now }
-    requires asked { IsAsked problem.now rule.now store.old.box }
-    requires over { IsPast rule.now store.old.box factors.now items.now (least_sum factors.now items.now store.old.box +ℤ pos s) }
-    requires under { IsPast rule.now store.old.box (signed true factors.now) items.now (least_sum (signed true factors.now) items.now store.old.box +ℤ pos t) }
+    requires fits { Fits asked store.old }
+    requires over { IsPast asked.rule.now store.old.box factors.now items.now (least_sum factors.now items.now store.old.box +ℤ pos s) }
+    requires under { IsPast asked.rule.now store.old.box (signed true factors.now) items.now (least_sum (signed true factors.now) items.now store.old.box +ℤ pos t) }
     requires once { IsFalse (has_repeat items.now) }
     requires equal { length factors.now ≡ length items.now }
     requires factors { IsTrue (list_all is_number factors.now) }
-    requires sees { IsTrue (list_all (arg_sees problem.now.variables rule.now.owner.0) items.now) }
-    ensures pruning { IsPruning (is_just c.0) problem.now store.old store.new steps.old steps.new }
+    requires sees { IsTrue (list_all (arg_sees asked.problem.now.variables asked.rule.now.owner.0) items.now) }
+    ensures pruning { Prunes asked.entry store.old store.new steps.old steps.new }
     ensures full { OnOk result (IsFalse (has_empty store.new.box)) }
     ensures alike { OnOk result (AlikeOutside items.now store.old.box store.new.box) }
     ensures near { IfOk result (λ b. b ≡ false → AreNear (length items.now) s t factors.now items.now store.old.box) }
     ensures grown { IfOk result (λ b. (b ≡ true → length steps.old < length steps.new) × (b ≡ false → steps.new ≡ steps.old)) }
 {
     match lone_place(widest, items.len(), s, t) {
-        None => tighten_round(problem, c, rule, factors, items, s, t, store, steps),
-        Some(k) => tighten_first(problem, c, rule, factors, items, k, s, t, store, steps),
+        None => tighten_round(asked, factors, items, s, t, store, steps),
+        Some(k) => tighten_first(asked, factors, items, k, s, t, store, steps),
     }
 }

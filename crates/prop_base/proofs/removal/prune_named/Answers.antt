@@ -16,7 +16,7 @@ returns-clause-pruning c =
     let f = e ∙ ap (λ b. box_without b k.x.0 k.lo k.hi) same in
     let w = follows_more c.args.store.now c.reserve_trail.new.self c.remove.new.self (follows_same c.args.store.now c.reserve_trail.new.self same c.reserve_trail.ensures.past) c.remove.ensures.past in
     let pushed = simp to_z-of_z at c.in_ok-push.ensures.ok in
-    pruning_cut c.args.problem.now c.args.rule.now c.args.store.now c.remove.new.self c.args.steps.now c.push.new.self k c.args.c c.requires.c c.requires.full c.requires.cut f w pushed
+    pruning_cut c.args.asked.problem.now c.args.asked.rule.now c.args.store.now c.remove.new.self c.args.steps.now c.push.new.self k c.args.asked.c c.args.asked.listed c.requires.full c.requires.cut f w pushed
 
 pub returns-clause-emptied : goal.returns-clause-emptied
 returns-clause-emptied c =

@@ -5,8 +5,8 @@ use Rattle.prop_bool.proofs.acting.act.Goals as goal
 
 pub returns-in_ok-lose-in-Loses-clause-answer : goal.returns-in_ok-lose-in-Loses-clause-answer
 returns-in_ok-lose-in-Loses-clause-answer c =
-    let r = c.args.rule.now in
+    let r = c.args.asked.rule.now in
     let box = c.args.store.now.box in
     let f = subst (λ f. IsFinding f r box) c.in-Loses.is c.requires.found in
     let e = c.in_ok-lose-in-Loses.ensures in
-    lost_one r box c.lose.new.store.box c.in-Loses.x (not c.in-Loses.value) c.args.steps.now c.lose.new.steps c.requires.asked.full f.2 e.content e.grown
+    lost_one r box c.lose.new.store.box c.in-Loses.x (not c.in-Loses.value) c.args.steps.now c.lose.new.steps c.requires.fits.full f.2 e.content e.grown

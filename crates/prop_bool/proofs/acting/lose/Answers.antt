@@ -4,7 +4,7 @@ use Rattle.prop_bool.proofs.acting.lose.Goals as goal
 pub prune-requires-clause-cut : goal.prune-requires-clause-cut
 prune-requires-clause-cut c =
     let e = c.value_cut-cut.ensures in
-    cut_given c.args.rule.now c.args.store.now.box c.args.x c.args.value c.value_cut-cut.result c.requires.both c.requires.refuted e.x e.lo e.hi
+    cut_given c.args.asked.rule.now c.args.store.now.box c.args.x c.args.value c.value_cut-cut.result c.requires.both c.requires.refuted e.x e.lo e.hi
 
 pub returns-clause-content : goal.returns-clause-content
 returns-clause-content c =

@@ -7,10 +7,10 @@ use Rattle.prop_bool.proofs.predicates.filter_all_items.Goals as goal
 
 pub filter_disjunction-requires-clause-says : goal.filter_disjunction-requires-clause-says
 filter_disjunction-requires-clause-says c =
-    let g = c.args.problem.now in
-    let r = c.args.rule.now in
+    let g = c.args.asked.problem.now in
+    let r = c.args.asked.rule.now in
     let xs = c.items_at-items.ensures ∙ ap (λ a. args_at a 0) c.arguments-args.ensures in
     let h = c.one_at.ensures ∙ ap (λ a. arg_at a 1) c.arguments-args.ensures in
     let A : List Arg → Type 0 = λ z. IsDisjunction g r (literals [] z) (negated c.one_at.result) in
     let B : Arg → Type 0 = λ z. IsDisjunction g r (literals [] (args_at r.args 0)) (negated z) in
-    subst A (sym xs) (subst B (sym h) (all_items_say g r c.args.store.now.box c.requires.asked c.requires.pred))
+    subst A (sym xs) (subst B (sym h) (all_items_say g r c.args.store.now.box c.requires.fits c.requires.pred))

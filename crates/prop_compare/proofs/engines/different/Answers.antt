@@ -16,10 +16,10 @@ pub lose_value-requires-clause-differ : goal.lose_value-requires-clause-differ
 lose_value-requires-clause-differ c = sym c.are_one.ensures ∙ c.if-are_one.false
 
 pub lose_value-requires-then-is_fixed-2-clause-pair : goal.lose_value-requires-then-is_fixed-2-clause-pair
-lose_value-requires-then-is_fixed-2-clause-pair c = pair_flipped c.args.problem.now c.args.rule.now c.args.store.now.box c.args.a c.args.b c.requires.pair
+lose_value-requires-then-is_fixed-2-clause-pair c = pair_flipped c.args.asked.problem.now c.args.asked.rule.now c.args.store.now.box c.args.a c.args.b c.requires.pair
 
 pub lose_value-requires-then-is_fixed-2-clause-tested : goal.lose_value-requires-then-is_fixed-2-clause-tested
-lose_value-requires-then-is_fixed-2-clause-tested c = tested_swapped c.args.rule.now c.args.store.now.box c.args.a c.args.b c.requires.tested
+lose_value-requires-then-is_fixed-2-clause-tested c = tested_swapped c.args.asked.rule.now c.args.store.now.box c.args.a c.args.b c.requires.tested
 
 pub lose_value-requires-then-is_fixed-2-clause-fixed : goal.lose_value-requires-then-is_fixed-2-clause-fixed
 lose_value-requires-then-is_fixed-2-clause-fixed c = sym c.is_fixed-2.ensures ∙ c.if-is_fixed-2.true
@@ -32,7 +32,7 @@ lose_value-requires-then-is_fixed-2-clause-differ c =
 pub returns-clause-answer : goal.returns-clause-answer
 returns-clause-answer c =
     let box = c.args.store.now.box in (
-      c.requires.asked.full,
+      c.requires.fits.full,
       refl,
-      unfixed_keeps c.args.problem.now c.args.rule.now box c.args.a c.args.b c.requires.pair c.requires.tested (sym c.is_fixed.ensures ∙ c.if-is_fixed.false) (sym c.is_fixed-2.ensures ∙ c.if-is_fixed-2.false),
+      unfixed_keeps c.args.asked.problem.now c.args.asked.rule.now box c.args.a c.args.b c.requires.pair c.requires.tested (sym c.is_fixed.ensures ∙ c.if-is_fixed.false) (sym c.is_fixed-2.ensures ∙ c.if-is_fixed-2.false),
     )

@@ -21,17 +21,17 @@ pub take_out-requires-clause-refuted : goal.take_out-requires-clause-refuted
 take_out-requires-clause-refuted c x q s =
     let v_fits : SFits w64 c.least-v.result = search rules in
     let t = simp to_z-of_z at s in
-    simp to_z-of_z (value_refuted c.args.problem.now c.args.rule.now c.args.store.now.box c.args.a c.args.b c.least-v.result c.requires.pair c.requires.tested c.requires.fixed c.least-v.ensures x q t)
+    simp to_z-of_z (value_refuted c.args.asked.problem.now c.args.asked.rule.now c.args.store.now.box c.args.a c.args.b c.least-v.result c.requires.pair c.requires.tested c.requires.fixed c.least-v.ensures x q t)
 
 pub returns-then-taken-clause-answer : goal.returns-then-taken-clause-answer
 returns-then-taken-clause-answer c =
     let v_fits : SFits w64 c.least-v.result = search rules in
-    let g = c.args.problem.now in
-    let r = c.args.rule.now in
+    let g = c.args.asked.problem.now in
+    let r = c.args.asked.rule.now in
     let box = c.args.store.now.box in
     let new = simp to_z-of_z at c.in_ok-taken.ensures.content in
     let grown = c.in_ok-taken.ensures.grown.0 c.if-taken.true in (
-      lost_full g r box c.take_out.new.store.box c.args.a c.args.b c.least-v.result c.requires.pair c.requires.asked.full c.requires.fixed c.least-v.ensures c.requires.differ new,
+      lost_full g r box c.take_out.new.store.box c.args.a c.args.b c.least-v.result c.requires.pair c.requires.fits.full c.requires.fixed c.least-v.ensures c.requires.differ new,
       λ e. omega (arith, grown, ap length e),
       lost_keeps g r box c.take_out.new.store.box c.args.a c.args.b c.least-v.result c.requires.pair c.requires.tested c.requires.fixed c.least-v.ensures c.requires.differ new,
     )
@@ -39,11 +39,11 @@ returns-then-taken-clause-answer c =
 pub returns-else-taken-clause-answer : goal.returns-else-taken-clause-answer
 returns-else-taken-clause-answer c =
     let v_fits : SFits w64 c.least-v.result = search rules in
-    let g = c.args.problem.now in
-    let r = c.args.rule.now in
+    let g = c.args.asked.problem.now in
+    let r = c.args.asked.rule.now in
     let box = c.args.store.now.box in
     let new = simp to_z-of_z at c.in_ok-taken.ensures.content in (
-      lost_full g r box c.take_out.new.store.box c.args.a c.args.b c.least-v.result c.requires.pair c.requires.asked.full c.requires.fixed c.least-v.ensures c.requires.differ new,
+      lost_full g r box c.take_out.new.store.box c.args.a c.args.b c.least-v.result c.requires.pair c.requires.fits.full c.requires.fixed c.least-v.ensures c.requires.differ new,
       c.in_ok-taken.ensures.grown.1 c.if-taken.false,
       lost_keeps g r box c.take_out.new.store.box c.args.a c.args.b c.least-v.result c.requires.pair c.requires.tested c.requires.fixed c.least-v.ensures c.requires.differ new,
     )

@@ -2,11 +2,9 @@ use Rattle.std.proofs.Common.{rules}
 use Rattle.std.proofs.lemmas.Int.{to_z-of_z}
 use mir.Val.{SFits}
 use mir.Syntax.{w64}
-use Rattle.qc_model.specs.Domains.{declared_box}
 use Rattle.qc_model.specs.Refuted.{left_to}
-use Rattle.prop_base.specs.Pruning.{is_just}
-use Rattle.prop_base.proofs.Steps.{pruning_more, pruning_sub}
 use Rattle.prop_compare.proofs.Narrowed.{least_reach, greatest_reach, before_reach, after_reach, under_refuted, over_refuted, open_after, full_after, narrowed, grown_last, step_grown}
+use Rattle.prop_base.proofs.Prunings.{prunes_more, fits_after}
 use Rattle.prop_compare.proofs.narrowing.narrow.Goals as goal
 
 pub take_out-requires-clause-low : goal.take_out-requires-clause-low
@@ -44,10 +42,10 @@ take_out-requires-clause-refuted c x q s =
     let u = simp to_z-of_z at c.before-under.ensures in
     let n = c.requires.narrowing in
     let t = simp to_z-of_z at s in
-    simp to_z-of_z (under_refuted c.args.rule.now box c.args.a c.args.keep.lo c.args.keep.hi c.least-low.result c.before-under.result n u x q t)
+    simp to_z-of_z (under_refuted c.args.asked.rule.now box c.args.a c.args.keep.lo c.args.keep.hi c.least-low.result c.before-under.result n u x q t)
 
-pub take_out-requires-2-clause-asked : goal.take_out-requires-2-clause-asked
-take_out-requires-2-clause-asked c =
+pub take_out-requires-2-clause-fits : goal.take_out-requires-2-clause-fits
+take_out-requires-2-clause-fits c =
     let low_fits : SFits w64 c.least-low.result = search rules in
     let high_fits : SFits w64 c.greatest-high.result = search rules in
     let u_fits : SFits w64 c.before-under.result = search rules in
@@ -58,11 +56,7 @@ take_out-requires-2-clause-asked c =
     let u = simp to_z-of_z at c.before-under.ensures in
     let n = c.requires.narrowing in
     let one = simp to_z-of_z at c.in_ok-some_under.ensures.content in
-    record {
-      rule = c.requires.asked.rule;
-      declared = pruning_sub (is_just c.args.c.0) c.args.problem.now _ _ _ _ (declared_box c.args.problem.now) c.take_out.ensures.pruning c.requires.asked.declared;
-      full = full_after c.args.rule.now box c.take_out.new.store.box c.args.a c.args.keep.lo c.args.keep.hi c.least-low.result c.before-under.result n c.requires.asked.full u one;
-    }
+    fits_after c.args.asked c.requires.fits c.take_out.ensures.pruning (full_after c.args.asked.rule.now box c.take_out.new.store.box c.args.a c.args.keep.lo c.args.keep.hi c.least-low.result c.before-under.result n c.requires.fits.full u one)
 
 pub take_out-requires-2-clause-open : goal.take_out-requires-2-clause-open
 take_out-requires-2-clause-open c =
@@ -76,7 +70,7 @@ take_out-requires-2-clause-open c =
     let u = simp to_z-of_z at c.before-under.ensures in
     let n = c.requires.narrowing in
     let one = simp to_z-of_z at c.in_ok-some_under.ensures.content in
-    open_after c.args.rule.now box c.take_out.new.store.box c.args.a c.args.keep.lo c.args.keep.hi c.least-low.result c.before-under.result n c.requires.open u one
+    open_after c.args.asked.rule.now box c.take_out.new.store.box c.args.a c.args.keep.lo c.args.keep.hi c.least-low.result c.before-under.result n c.requires.open u one
 
 pub take_out-requires-2-clause-low : goal.take_out-requires-2-clause-low
 take_out-requires-2-clause-low c =
@@ -115,19 +109,19 @@ take_out-requires-2-clause-refuted c x q s =
     let n = c.requires.narrowing in
     let one = simp to_z-of_z at c.in_ok-some_under.ensures.content in
     let t = simp to_z-of_z at s in
-    simp to_z-of_z (over_refuted c.args.rule.now box c.take_out.new.store.box c.args.a c.args.keep.lo c.args.keep.hi c.least-low.result c.before-under.result c.after-over.result c.greatest-high.result n c.requires.open u o one x q t)
+    simp to_z-of_z (over_refuted c.args.asked.rule.now box c.take_out.new.store.box c.args.a c.args.keep.lo c.args.keep.hi c.least-low.result c.before-under.result c.after-over.result c.greatest-high.result n c.requires.open u o one x q t)
 
 pub returns-in_err-some_over-clause-pruning : goal.returns-in_err-some_over-clause-pruning
 returns-in_err-some_over-clause-pruning c =
-    pruning_more (is_just c.args.c.0) c.args.problem.now _ _ _ _ _ _ c.take_out.ensures.pruning c.take_out-2.ensures.pruning
+    prunes_more c.args.asked c.take_out.ensures.pruning c.take_out-2.ensures.pruning
 
 pub returns-then-some_under-clause-pruning : goal.returns-then-some_under-clause-pruning
 returns-then-some_under-clause-pruning c =
-    pruning_more (is_just c.args.c.0) c.args.problem.now _ _ _ _ _ _ c.take_out.ensures.pruning c.take_out-2.ensures.pruning
+    prunes_more c.args.asked c.take_out.ensures.pruning c.take_out-2.ensures.pruning
 
 pub returns-else-some_under-clause-pruning : goal.returns-else-some_under-clause-pruning
 returns-else-some_under-clause-pruning c =
-    pruning_more (is_just c.args.c.0) c.args.problem.now _ _ _ _ _ _ c.take_out.ensures.pruning c.take_out-2.ensures.pruning
+    prunes_more c.args.asked c.take_out.ensures.pruning c.take_out-2.ensures.pruning
 
 pub returns-then-some_under-clause-content : goal.returns-then-some_under-clause-content
 returns-then-some_under-clause-content c =
@@ -143,7 +137,7 @@ returns-then-some_under-clause-content c =
     let n = c.requires.narrowing in
     let one = simp to_z-of_z at c.in_ok-some_under.ensures.content in
     let two = simp to_z-of_z at c.in_ok-some_over.ensures.content in
-    narrowed c.args.rule.now box c.take_out.new.store.box c.take_out-2.new.store.box c.args.a c.args.keep.lo c.args.keep.hi c.least-low.result c.before-under.result c.after-over.result c.greatest-high.result n c.requires.open u o c.least-low.ensures c.greatest-high.ensures one two
+    narrowed c.args.asked.rule.now box c.take_out.new.store.box c.take_out-2.new.store.box c.args.a c.args.keep.lo c.args.keep.hi c.least-low.result c.before-under.result c.after-over.result c.greatest-high.result n c.requires.open u o c.least-low.ensures c.greatest-high.ensures one two
 
 pub returns-else-some_under-clause-content : goal.returns-else-some_under-clause-content
 returns-else-some_under-clause-content c =
@@ -159,7 +153,7 @@ returns-else-some_under-clause-content c =
     let n = c.requires.narrowing in
     let one = simp to_z-of_z at c.in_ok-some_under.ensures.content in
     let two = simp to_z-of_z at c.in_ok-some_over.ensures.content in
-    narrowed c.args.rule.now box c.take_out.new.store.box c.take_out-2.new.store.box c.args.a c.args.keep.lo c.args.keep.hi c.least-low.result c.before-under.result c.after-over.result c.greatest-high.result n c.requires.open u o c.least-low.ensures c.greatest-high.ensures one two
+    narrowed c.args.asked.rule.now box c.take_out.new.store.box c.take_out-2.new.store.box c.args.a c.args.keep.lo c.args.keep.hi c.least-low.result c.before-under.result c.after-over.result c.greatest-high.result n c.requires.open u o c.least-low.ensures c.greatest-high.ensures one two
 
 pub returns-else-some_under-clause-grown : goal.returns-else-some_under-clause-grown
 returns-else-some_under-clause-grown c =

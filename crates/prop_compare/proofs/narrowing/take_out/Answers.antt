@@ -30,7 +30,7 @@ prune-requires-clause-cut c =
     let hi_fits : SFits w64 c.args.hi = search rules in
     let e = simp to_z-of_z at c.has_some.ensures in
     simp to_z-of_z
-    (cut_of c.args.rule.now c.args.store.now.box c.args.a c.in-Var.x c.args.lo c.args.hi c.in-Var.is c.requires.open c.requires.low c.requires.high c.requires.refuted (sym e ∙ c.if-not-has_some.false))
+    (cut_of c.args.asked.rule.now c.args.store.now.box c.args.a c.in-Var.x c.args.lo c.args.hi c.in-Var.is c.requires.open c.requires.low c.requires.high c.requires.refuted (sym e ∙ c.if-not-has_some.false))
 
 pub returns-in_ok-prune-in-Var-clause-content : goal.returns-in_ok-prune-in-Var-clause-content
 returns-in_ok-prune-in-Var-clause-content c =

@@ -9,5 +9,5 @@ filter_told-requires-clause-telling c =
     let a = c.one_at-a.ensures ∙ ap (λ l. arg_at l 0) args in
     let b = c.one_at-b.ensures ∙ ap (λ l. arg_at l 1) args in
     let r = c.one_at-r.ensures ∙ ap (λ l. arg_at l 2) args in
-    telling_at c.args.problem.now c.args.rule.now c.args.store.now.box c.one_at-a.result c.one_at-b.result c.one_at-r.result c.args.comparison a b r c.known.ensures.domains c.requires.asked c.requires.meaning
+    telling_at c.args.asked.problem.now c.args.asked.rule.now c.args.store.now.box c.one_at-a.result c.one_at-b.result c.one_at-r.result c.args.comparison a b r c.known.ensures.domains c.requires.fits c.requires.meaning
     (sym c.is_tangled.ensures ∙ c.if-is_tangled.false)

@@ -13,7 +13,7 @@ compare-requires-clause-pair c =
     let t = c.requires.telling in
     let low_fits : SFits w64 c.least.result = search rules in
     let told = one_truth (left_to box c.args.r) c.least.result true c.in_default.ensures.none t.truth c.least.ensures (simp to_z-of_z at c.if-least-gt0.true) in
-    fixed_pair c.args.problem.now c.args.rule.now box c.args.comparison c.args.a c.args.b c.args.r true t told
+    fixed_pair c.args.asked.problem.now c.args.asked.rule.now box c.args.comparison c.args.a c.args.b c.args.r true t told
 
 pub compare-requires-clause-tested : goal.compare-requires-clause-tested
 compare-requires-clause-tested c =
@@ -21,7 +21,7 @@ compare-requires-clause-tested c =
     let t = c.requires.telling in
     let low_fits : SFits w64 c.least.result = search rules in
     let told = one_truth (left_to box c.args.r) c.least.result true c.in_default.ensures.none t.truth c.least.ensures (simp to_z-of_z at c.if-least-gt0.true) in
-    fixed_tested c.args.problem.now c.args.rule.now box c.args.comparison c.args.a c.args.b c.args.r true t told
+    fixed_tested c.args.asked.problem.now c.args.asked.rule.now box c.args.comparison c.args.a c.args.b c.args.r true t told
 
 pub contrast-requires-clause-pair : goal.contrast-requires-clause-pair
 contrast-requires-clause-pair c =
@@ -29,7 +29,7 @@ contrast-requires-clause-pair c =
     let t = c.requires.telling in
     let low_fits : SFits w64 c.least.result = search rules in
     let told = one_truth (left_to box c.args.r) c.least.result false c.in_default.ensures.none t.truth c.least.ensures (simp to_z-of_z at c.if-least-gt0.false) in
-    fixed_pair c.args.problem.now c.args.rule.now box c.args.comparison c.args.a c.args.b c.args.r false t told
+    fixed_pair c.args.asked.problem.now c.args.asked.rule.now box c.args.comparison c.args.a c.args.b c.args.r false t told
 
 pub contrast-requires-clause-tested : goal.contrast-requires-clause-tested
 contrast-requires-clause-tested c =
@@ -37,4 +37,4 @@ contrast-requires-clause-tested c =
     let t = c.requires.telling in
     let low_fits : SFits w64 c.least.result = search rules in
     let told = one_truth (left_to box c.args.r) c.least.result false c.in_default.ensures.none t.truth c.least.ensures (simp to_z-of_z at c.if-least-gt0.false) in
-    fixed_tested c.args.problem.now c.args.rule.now box c.args.comparison c.args.a c.args.b c.args.r false t told
+    fixed_tested c.args.asked.problem.now c.args.asked.rule.now box c.args.comparison c.args.a c.args.b c.args.r false t told

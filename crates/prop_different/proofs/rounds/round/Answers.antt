@@ -1,10 +1,9 @@
 use Rattle.std.proofs.Common.{◌≡◌, ◌∙◌, ℕ, ◌<◌, sym, ap, subst, length, map, get_or, [], true, false, arith, Bool, refl}
 use Rattle.std.proofs.lemmas.List.{length-map}
-use Rattle.qc_model.specs.Domains.{Box, declared_box, least_value, has_empty}
+use Rattle.qc_model.specs.Domains.{Box, least_value, has_empty}
 use Rattle.qc_model.specs.Refuted.{left_to}
 use Rattle.prop_base.specs.declared.answer.Filtered.{Filtered}
-use Rattle.prop_base.specs.Pruning.{is_just}
-use Rattle.prop_base.proofs.Steps.{pruning_more, pruning_sub}
+use Rattle.prop_base.proofs.Prunings.{prunes_more, fits_after}
 use Rattle.prop_different.specs.Parts.{IsPart}
 use Rattle.prop_different.specs.Quiet.{IsQuiet}
 use Rattle.qc_refuter.proofs.Fill.{one_more}
@@ -13,11 +12,10 @@ use Rattle.prop_different.proofs.rounds.round.Goals as goal
 
 pub returns-in_err-take_turn-clause-pruning : goal.returns-in_err-take_turn-clause-pruning
 returns-in_err-take_turn-clause-pruning c =
-    pruning_more (is_just c.args.c.0) c.args.problem.now _ _ _ _ _ _ c.loop-k.invariant.pruning c.take_turn.ensures.pruning
+    prunes_more c.args.asked c.loop-k.invariant.pruning c.take_turn.ensures.pruning
 
 pub returns-in-Emptied-clause-pruning : goal.returns-in-Emptied-clause-pruning
-returns-in-Emptied-clause-pruning c =
-    pruning_more (is_just c.args.c.0) c.args.problem.now _ _ _ _ _ _ c.loop-k.invariant.pruning c.take_turn.ensures.pruning
+returns-in-Emptied-clause-pruning c = prunes_more c.args.asked c.loop-k.invariant.pruning c.take_turn.ensures.pruning
 
 -- steps were appended before, or none
 longer : (b : Bool) (n m k : ℕ) → (b ≡ false → m ≡ n) → (b ≡ true → n < m) → m < k → n < k
@@ -33,8 +31,7 @@ loop-k-preserved c =
     let i = c.loop-k.invariant in
     let xs = c.args.items.now in
     let k = c.loop-k.k in
-    let pruned = pruning_more (is_just c.args.c.0) c.args.problem.now _ _ _ _ _ _ i.pruning c.take_turn.ensures.pruning in
-    let declared = pruning_sub (is_just c.args.c.0) c.args.problem.now _ _ _ _ (declared_box c.args.problem.now) c.take_turn.ensures.pruning i.declared in
+    let pruned = prunes_more c.args.asked i.pruning c.take_turn.ensures.pruning in
     let Q : Box → ℕ → Type 0 = λ box j. IsQuiet (map (left_to box) xs) (least_value (get_or (map (left_to box) xs) j [])) in
     let A : Filtered → Type 0 = λ f. IsPart f (λ box. ((j : ℕ) → j < k → Q box j) → Q box k) c.loop-k.store.box c.take_turn.new.store.box c.loop-k.steps c.take_turn.new.steps in
     elim c.match-branch-2.branch [
@@ -42,8 +39,7 @@ loop-k-preserved c =
           (let a = subst A w.in-Stable.is c.in_ok-take_turn.ensures.answer in
           record {
             pruning = pruned;
-            declared = declared;
-            full = ap has_empty a.0 ∙ i.full;
+            fits = fits_after c.args.asked i.fits c.take_turn.ensures.pruning (ap has_empty a.0 ∙ i.fits.full);
             kept = λ e. a.0 ∙ i.kept (sym w.changed-is ∙ e);
             same = λ e. a.1 ∙ i.same (sym w.changed-is ∙ e);
             grown = λ e. omega (arith, i.grown (sym w.changed-is ∙ e), ap length a.1);
@@ -56,8 +52,7 @@ loop-k-preserved c =
           (let a = subst A w.in-Changed.is c.in_ok-take_turn.ensures.answer in
           record {
             pruning = pruned;
-            declared = declared;
-            full = a.0;
+            fits = fits_after c.args.asked i.fits c.take_turn.ensures.pruning a.0;
             kept = λ e. absurd (not_both c.match-branch-2.changed w.changed-is e);
             same = λ e. absurd (not_both c.match-branch-2.changed w.changed-is e);
             grown = λ e. longer c.loop-k.changed _ _ _ (λ f. ap length (i.same f)) i.grown a.1;

@@ -1,15 +1,14 @@
 use Rattle.std.proofs.Common.{◌≡◌, ℕ, ◌<◌, [], length, map, get_or, true, false}
-use Rattle.qc_model.specs.Domains.{has_empty, declared_box, is_sub_box, least_value}
+use Rattle.qc_model.specs.Domains.{least_value}
 use Rattle.qc_model.specs.Refuted.{left_to}
-use Rattle.prop_base.specs.Pruning.{IsPruning, is_just}
+use Rattle.prop_base.specs.Filtering.{Fits, Prunes}
 use Rattle.prop_different.specs.Quiet.{IsQuiet}
 use Rattle.prop_different.proofs.rounds.round.Given as goal
 
 abbrev pub invariant-loop-k : goal.invariant-loop-k
 invariant-loop-k l = record {
-  pruning : IsPruning (is_just l.c.0) l.problem l.initial.store l.store l.initial.steps l.steps;
-  declared : is_sub_box l.store.box (declared_box l.problem) ≡ true;
-  full : has_empty l.store.box ≡ false;
+  pruning : Prunes l.asked l.initial.store l.store l.initial.steps l.steps;
+  fits : Fits l.asked l.store;
   kept : l.changed ≡ false → l.store.box ≡ l.initial.store.box;
   same : l.changed ≡ false → l.steps ≡ l.initial.steps;
   grown : l.changed ≡ true → length l.initial.steps < length l.steps;

@@ -26,8 +26,8 @@ pub returns-then-least-s-clause-answer : goal.returns-then-least-s-clause-answer
 returns-then-least-s-clause-answer c =
     let b_fits : SFits w64 c.args.bound = search rules in
     let l_fits : SFits w128 c.least_of-least.result.sum = search rules in
-    let g = c.args.problem.now in
-    let r = c.args.rule.now in
+    let g = c.args.asked.problem.now in
+    let r = c.args.asked.rule.now in
     let ns = signed c.args.negative c.args.factors.now in
     let xs = c.args.items.now in
     let box = c.args.store.now.box in
@@ -38,9 +38,9 @@ returns-then-least-s-clause-answer c =
     let all_xs : take (length xs) xs ≡ xs = take_all (length xs) xs (omega arith) in
     let near : AllNear s ns xs box =
     subst (λ z. AllNear s z xs box) all_ns (subst (λ z. AllNear s (take (length xs) ns) z box) all_xs (c.least_of-least.ensures.near s c.if-least-s.true)) in (
-      c.requires.asked.full,
+      c.requires.fits.full,
       refl,
       keeps_items r ns xs c.args.bound s box c.requires.bounded (sym c.stands_twice.ensures ∙ c.if-stands_twice.false) (signed_length c.args.negative c.args.factors.now ∙ c.requires.equal)
-          (λ j x h q. placed g r box xs j x (Num (pos 0)) c.requires.asked c.requires.sees h q)
+          (λ j x h q. placed g r box xs j x (Num (pos 0)) c.requires.fits c.requires.sees h q)
           (e ∙ ap (λ z. z +ℤ pos s) l) near,
     )

@@ -24,8 +24,8 @@ returns-else-is_only-clause-answer c =
     let f_fits : SFits w128 c.sum_extent-sum.result.from = search rules in
     let t_fits : SFits w128 c.sum_extent-sum.result.to = search rules in
     let e = simp to_z-of_z at c.is_only.ensures in
-    let r = c.args.rule.now in
+    let r = c.args.asked.rule.now in
     let xs = c.args.items.now in
     let box = c.args.store.now.box in
     let off = ap (is_point c.args.bound) (sym c.sum_extent-sum.ensures.value) ∙ (sym e ∙ c.if-is_only.false) in
-    (c.requires.asked.full, refl, none_loose r c.args.factors.now xs c.args.bound box (Num (pos 0)) c.requires.unequal c.requires.open c.requires.equal (λ j x h q. placed c.args.problem.now r box xs j x (Num (pos 0)) c.requires.asked c.requires.sees h q) c.requires.tight off)
+    (c.requires.fits.full, refl, none_loose r c.args.factors.now xs c.args.bound box (Num (pos 0)) c.requires.unequal c.requires.open c.requires.equal (λ j x h q. placed c.args.asked.problem.now r box xs j x (Num (pos 0)) c.requires.fits c.requires.sees h q) c.requires.tight off)

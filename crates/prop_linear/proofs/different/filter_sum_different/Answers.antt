@@ -17,4 +17,4 @@ returns-then-q-items-clause-answer c =
     let b = any_default xs q (Num (pos 0)) (Var (record { 0 = 0 })) k in
     let differ : same_variable (get_or xs p (Num (pos 0))) (get_or xs q (Num (pos 0))) ≡ false =
     ap (λ z. same_variable z (get_or xs q (Num (pos 0)))) a ∙ (ap (same_variable (get_or xs p (Var (record { 0 = 0 })))) b ∙ (sym c.is_same.ensures ∙ c.if-is_same.false)) in
-    (c.requires.asked.full, refl, two_loose c.args.rule.now c.args.factors.now xs c.args.bound c.args.store.now.box p q (Num (pos 0)) c.requires.unequal c.requires.open c.requires.equal l k (c.first_loose-p.ensures.found l) (c.first_loose-q.ensures.found k) differ)
+    (c.requires.fits.full, refl, two_loose c.args.asked.rule.now c.args.factors.now xs c.args.bound c.args.store.now.box p q (Num (pos 0)) c.requires.unequal c.requires.open c.requires.equal l k (c.first_loose-p.ensures.found l) (c.first_loose-q.ensures.found k) differ)

@@ -1,16 +1,15 @@
 use Rattle.std.proofs.Common.{◌≡◌, ◌<◌, length, true, false}
 use Rattle.std.specs.List.{list_all}
-use Rattle.qc_model.specs.Domains.{has_empty, declared_box, is_sub_box}
 use Rattle.qc_refuter.specs.Met.{is_open}
-use Rattle.prop_base.specs.Pruning.{IsPruning, is_just, total}
+use Rattle.prop_base.specs.Filtering.{Fits, Prunes}
+use Rattle.prop_base.specs.Pruning.{total}
 use Rattle.prop_linear.specs.Tightening.{AlikeOutside}
 use Rattle.prop_linear.proofs.equal.filter_sum_equal.Given as goal
 
 abbrev pub invariant-loop-changed : goal.invariant-loop-changed
 invariant-loop-changed l = record {
-  pruning : IsPruning (is_just l.c.0) l.problem l.initial.store l.store l.initial.steps l.steps;
-  declared : is_sub_box l.store.box (declared_box l.problem) ≡ true;
-  full : has_empty l.store.box ≡ false;
+  pruning : Prunes l.asked l.initial.store l.store l.initial.steps l.steps;
+  fits : Fits l.asked l.store;
   alike : AlikeOutside l.items l.initial.store.box l.store.box;
   opened : list_all (is_open l.store.box) l.items ≡ true;
   same : l.changed ≡ false → l.steps ≡ l.initial.steps;

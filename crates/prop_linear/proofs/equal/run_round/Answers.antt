@@ -33,7 +33,7 @@ empty_last-requires-clause-refuted c =
     let f_fits : SFits w128 c.spread_of-sum.result.from = search rules in
     let t_fits : SFits w128 c.spread_of-sum.result.to = search rules in
     let t = simp to_z-of_z at c.if-bound-sum.true in
-    balanced_over c.args.rule.now c.args.factors.now c.args.items.now c.args.bound c.args.store.now.box (range_of c.spread_of-sum.result.from c.spread_of-sum.result.to) c.requires.balanced c.spread_of-sum.ensures.value t
+    balanced_over c.args.asked.rule.now c.args.factors.now c.args.items.now c.args.bound c.args.store.now.box (range_of c.spread_of-sum.result.from c.spread_of-sum.result.to) c.requires.balanced c.spread_of-sum.ensures.value t
 
 pub empty_last-requires-then-sum-bound-clause-refuted : goal.empty_last-requires-then-sum-bound-clause-refuted
 empty_last-requires-then-sum-bound-clause-refuted c =
@@ -42,11 +42,11 @@ empty_last-requires-then-sum-bound-clause-refuted c =
     let f_fits : SFits w128 c.spread_of-sum.result.from = search rules in
     let t_fits : SFits w128 c.spread_of-sum.result.to = search rules in
     let t = simp to_z-of_z at c.if-sum-bound.true in
-    balanced_under c.args.rule.now c.args.factors.now c.args.items.now c.args.bound c.args.store.now.box (range_of c.spread_of-sum.result.from c.spread_of-sum.result.to) c.requires.balanced c.spread_of-sum.ensures.value t
+    balanced_under c.args.asked.rule.now c.args.factors.now c.args.items.now c.args.bound c.args.store.now.box (range_of c.spread_of-sum.result.from c.spread_of-sum.result.to) c.requires.balanced c.spread_of-sum.ensures.value t
 
 pub returns-then-sum-bound-clause-answer : goal.returns-then-sum-bound-clause-answer
 returns-then-sum-bound-clause-answer c =
-    rounded (is_just c.args.c.0) c.args.problem.now c.args.rule.now _ _ _ _ _ c.empty_last-then-sum-bound.ensures.pruning c.empty_last-then-sum-bound.ensures.answer
+    rounded (is_just c.args.asked.c.0) c.args.asked.problem.now c.args.asked.rule.now _ _ _ _ _ c.empty_last-then-sum-bound.ensures.pruning c.empty_last-then-sum-bound.ensures.answer
 
 pub excess-t-requires-clause-greatest : goal.excess-t-requires-clause-greatest
 excess-t-requires-clause-greatest c =
@@ -63,7 +63,7 @@ tighten_places-requires-clause-over c =
     let t_fits : SFits w128 c.spread_of-sum.result.to = search rules in
     let v = ap (λ (r : Range). r.from) c.spread_of-sum.ensures.value in
     let s = simp to_z-of_z at c.slack-s.ensures in
-    over_past c.args.rule.now c.args.factors.now c.args.items.now c.args.bound c.slack-s.result c.args.store.now.box c.requires.balanced (s ∙ ap (λ z. z +ℤ pos c.slack-s.result) v)
+    over_past c.args.asked.rule.now c.args.factors.now c.args.items.now c.args.bound c.slack-s.result c.args.store.now.box c.requires.balanced (s ∙ ap (λ z. z +ℤ pos c.slack-s.result) v)
 
 pub tighten_places-requires-clause-under : goal.tighten_places-requires-clause-under
 tighten_places-requires-clause-under c =
@@ -72,7 +72,7 @@ tighten_places-requires-clause-under c =
     let t_fits : SFits w128 c.spread_of-sum.result.to = search rules in
     let v = ap (λ (r : Range). r.to) c.spread_of-sum.ensures.value in
     let t = simp to_z-of_z at c.excess-t.ensures in
-    under_past c.args.rule.now c.args.factors.now c.args.items.now c.args.bound c.excess-t.result c.args.store.now.box c.requires.balanced (sym v ∙ t)
+    under_past c.args.asked.rule.now c.args.factors.now c.args.items.now c.args.bound c.excess-t.result c.args.store.now.box c.requires.balanced (sym v ∙ t)
 
 -- places near on both sides
 keeps : (g : Game) (r : Rule) (ns : List ℤ) (xs : List Arg) (bound : ℤ) (s t : ℕ) (box : Box) (from to : ℤ) → IsAsked g r box → IsBalanced r box ns xs bound → has_repeat xs ≡ false → length ns ≡ length xs → list_all (arg_sees g.variables r.owner.0) xs ≡ true →
@@ -98,20 +98,20 @@ returns-then-is_within-clause-answer c =
     let s = simp to_z-of_z at c.slack-s.ensures in
     let t = simp to_z-of_z at c.excess-t.ensures in
     let near = c.spread_of-sum.ensures.widest c.slack-s.result c.excess-t.result (c.is_within.ensures.over c.if-is_within.true) (c.is_within.ensures.under c.if-is_within.true) in
-    (c.requires.asked.full, refl, keeps c.args.problem.now c.args.rule.now c.args.factors.now c.args.items.now c.args.bound c.slack-s.result c.excess-t.result c.args.store.now.box c.spread_of-sum.result.from c.spread_of-sum.result.to c.requires.asked c.requires.balanced c.requires.once c.requires.equal c.requires.sees c.spread_of-sum.ensures.value s t near)
+    (c.requires.fits.full, refl, keeps c.args.asked.problem.now c.args.asked.rule.now c.args.factors.now c.args.items.now c.args.bound c.slack-s.result c.excess-t.result c.args.store.now.box c.spread_of-sum.result.from c.spread_of-sum.result.to c.requires.fits c.requires.balanced c.requires.once c.requires.equal c.requires.sees c.spread_of-sum.ensures.value s t near)
 
 pub returns-else-branch-clause-answer : goal.returns-else-branch-clause-answer
 returns-else-branch-clause-answer c =
     let b_fits : SFits w64 c.args.bound = search rules in
     let f_fits : SFits w128 c.spread_of-sum.result.from = search rules in
     let t_fits : SFits w128 c.spread_of-sum.result.to = search rules in
-    let g = c.args.problem.now in
-    let r = c.args.rule.now in
+    let g = c.args.asked.problem.now in
+    let r = c.args.asked.rule.now in
     let s = simp to_z-of_z at c.slack-s.ensures in
     let t = simp to_z-of_z at c.excess-t.ensures in
     let same = c.in_ok-tighten_places.ensures.grown.1 c.if-branch.false in
-    let still = same_box (is_just c.args.c.0) g _ _ _ _ c.tighten_places.ensures.pruning same in
-    let kept = keeps g r c.args.factors.now c.args.items.now c.args.bound c.slack-s.result c.excess-t.result c.args.store.now.box c.spread_of-sum.result.from c.spread_of-sum.result.to c.requires.asked c.requires.balanced c.requires.once c.requires.equal c.requires.sees c.spread_of-sum.ensures.value s t (c.in_ok-tighten_places.ensures.near c.if-branch.false) in
+    let still = same_box (is_just c.args.asked.c.0) g _ _ _ _ c.tighten_places.ensures.pruning same in
+    let kept = keeps g r c.args.factors.now c.args.items.now c.args.bound c.slack-s.result c.excess-t.result c.args.store.now.box c.spread_of-sum.result.from c.spread_of-sum.result.to c.requires.fits c.requires.balanced c.requires.once c.requires.equal c.requires.sees c.spread_of-sum.ensures.value s t (c.in_ok-tighten_places.ensures.near c.if-branch.false) in
     (c.in_ok-tighten_places.ensures.full, same, ap (λ b. keeps_ends b r) still ∙ kept)
 
 pub returns-then-bound-sum-clause-alike : goal.returns-then-bound-sum-clause-alike

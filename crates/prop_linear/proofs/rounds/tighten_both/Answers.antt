@@ -4,9 +4,9 @@ use Rattle.std.proofs.lemmas.Int.{ints, to_z-of_z}
 use mir.Val.{SFits}
 use mir.Syntax.{w64}
 use Rattle.qc_model.specs.declared.problem.Arg.TheVariants.{Var}
-use Rattle.qc_model.specs.Domains.{Box, declared_box}
+use Rattle.qc_model.specs.Domains.{Box}
 use Rattle.prop_base.specs.Pruning.{is_just}
-use Rattle.prop_base.proofs.Steps.{pruning_more, pruning_sub}
+use Rattle.prop_base.proofs.Prunings.{prunes_more, fits_after}
 use Rattle.prop_linear.specs.Tightening.{AllNear, least_sum}
 use Rattle.prop_linear.specs.Sides.{signed}
 use Rattle.prop_linear.proofs.Alike.{alike_more}
@@ -21,11 +21,11 @@ no_less a = omega (arith, ints)
 
 pub is_near_both-requires-clause-x : goal.is_near_both-requires-clause-x
 is_near_both-requires-clause-x c =
-    placed c.args.problem.now c.args.rule.now c.args.store.now.box c.args.items.now c.args.k c.in-Var.x (Var (record { 0 = 0 })) c.requires.asked c.requires.sees c.requires.place c.in-Var.is
+    placed c.args.asked.problem.now c.args.asked.rule.now c.args.store.now.box c.args.items.now c.args.k c.in-Var.x (Var (record { 0 = 0 })) c.requires.fits c.requires.sees c.requires.place c.in-Var.is
 
 pub is_near_both-requires-clause-open : goal.is_near_both-requires-clause-open
 is_near_both-requires-clause-open c =
-    open_there c.args.problem.now c.args.rule.now c.args.store.now.box c.args.items.now c.args.k c.in-Var.x (Var (record { 0 = 0 })) c.known.ensures.domains c.requires.asked c.requires.sees c.requires.place c.in-Var.is
+    open_there c.args.asked.problem.now c.args.asked.rule.now c.args.store.now.box c.args.items.now c.args.k c.in-Var.x (Var (record { 0 = 0 })) c.known.ensures.domains c.requires.fits c.requires.sees c.requires.place c.in-Var.is
 
 pub returns-in_default-clause-rises : goal.returns-in_default-clause-rises
 returns-in_default-clause-rises c b = no_less (least_sum (signed b c.args.factors.now) c.args.items.now c.args.store.now.box)
@@ -48,12 +48,8 @@ returns-then-is_near_both-clause-near c e a =
     let under = simp to_z-of_z at c.is_near_both.ensures.under c.if-is_near_both.true in
     near_both ns xs k c.args.s c.args.t box c.in-Var.x (Var (record { 0 = 0 })) c.requires.equal c.requires.place c.in-Var.is over under a
 
-pub tighten_place-requires-2-clause-asked : goal.tighten_place-requires-2-clause-asked
-tighten_place-requires-2-clause-asked c = record {
-  rule = c.requires.asked.rule;
-  declared = pruning_sub (is_just c.args.c.0) c.args.problem.now _ _ _ _ (declared_box c.args.problem.now) c.tighten_place.ensures.pruning c.requires.asked.declared;
-  full = c.in_ok-over.ensures.full;
-}
+pub tighten_place-requires-2-clause-fits : goal.tighten_place-requires-2-clause-fits
+tighten_place-requires-2-clause-fits c = fits_after c.args.asked c.requires.fits c.tighten_place.ensures.pruning c.in_ok-over.ensures.full
 
 pub tighten_place-requires-2-clause-past : goal.tighten_place-requires-2-clause-past
 tighten_place-requires-2-clause-past c =
@@ -62,15 +58,15 @@ tighten_place-requires-2-clause-past c =
     let old = least_sum ms xs c.args.store.now.box in
     let new = least_sum ms xs c.tighten_place.new.store.box in
     let r = c.in_ok-over.ensures.rises true in
-    past_more c.args.rule.now c.args.store.now.box c.tighten_place.new.store.box ms xs (old +ℤ pos c.args.t) (new +ℤ pos c.args.t) c.in_ok-over.ensures.alike (omega (arith, ints, r)) c.requires.under
+    past_more c.args.asked.rule.now c.args.store.now.box c.tighten_place.new.store.box ms xs (old +ℤ pos c.args.t) (new +ℤ pos c.args.t) c.in_ok-over.ensures.alike (omega (arith, ints, r)) c.requires.under
 
 pub returns-in_err-under-clause-pruning : goal.returns-in_err-under-clause-pruning
 returns-in_err-under-clause-pruning c =
-    pruning_more (is_just c.args.c.0) c.args.problem.now _ _ _ _ _ _ c.tighten_place.ensures.pruning c.tighten_place-2.ensures.pruning
+    prunes_more c.args.asked c.tighten_place.ensures.pruning c.tighten_place-2.ensures.pruning
 
 pub returns-then-over-clause-pruning : goal.returns-then-over-clause-pruning
 returns-then-over-clause-pruning c =
-    pruning_more (is_just c.args.c.0) c.args.problem.now _ _ _ _ _ _ c.tighten_place.ensures.pruning c.tighten_place-2.ensures.pruning
+    prunes_more c.args.asked c.tighten_place.ensures.pruning c.tighten_place-2.ensures.pruning
 
 pub returns-else-over-clause-near : goal.returns-else-over-clause-near
 returns-else-over-clause-near c e a =
@@ -78,8 +74,8 @@ returns-else-over-clause-near c e a =
     let ms = signed true ns in
     let xs = c.args.items.now in
     let k = c.args.k in
-    let mid = same_box (is_just c.args.c.0) c.args.problem.now _ _ _ _ c.tighten_place.ensures.pruning (c.in_ok-over.ensures.grown.1 c.if-over.false) in
-    let end = same_box (is_just c.args.c.0) c.args.problem.now _ _ _ _ c.tighten_place-2.ensures.pruning (c.in_ok-under.ensures.grown.1 e) in
+    let mid = same_box (is_just c.args.asked.c.0) c.args.asked.problem.now _ _ _ _ c.tighten_place.ensures.pruning (c.in_ok-over.ensures.grown.1 c.if-over.false) in
+    let end = same_box (is_just c.args.asked.c.0) c.args.asked.problem.now _ _ _ _ c.tighten_place-2.ensures.pruning (c.in_ok-under.ensures.grown.1 e) in
     let S : Box → Type 0 = λ b. AllNear c.args.s (take (k + 1) ns) (take (k + 1) xs) b in
     let T : Box → Type 0 = λ b. AllNear c.args.t (take (k + 1) ms) (take (k + 1) xs) b in
     let U : Box → Type 0 = λ b. AllNear c.args.t (take k ms) (take k xs) b in

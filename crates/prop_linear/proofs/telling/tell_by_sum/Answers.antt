@@ -19,14 +19,14 @@ use Rattle.prop_linear.proofs.telling.tell_by_sum.Goals as goal
 
 pub sum_extent-sum-requires-clause-items : goal.sum_extent-sum-requires-clause-items
 sum_extent-sum-requires-clause-items c =
-    let r = c.args.rule.now in
+    let r = c.args.asked.rule.now in
     let box = c.args.store.now.box in
     let xs = c.items_at.ensures ∙ ap (λ a. args_at a 1) c.arguments-args.ensures in
-    ap (list_all (is_open box)) xs ∙ sum_open c.args.problem.now r box c.known.ensures.domains c.requires.asked (told_linear r.pred c.args.relation c.requires.pred)
+    ap (list_all (is_open box)) xs ∙ sum_open c.args.asked.problem.now r box c.known.ensures.domains c.requires.fits (told_linear r.pred c.args.relation c.requires.pred)
 
 pub tell_other-requires-clause-refuted : goal.tell_other-requires-clause-refuted
 tell_other-requires-clause-refuted c =
-    let r = c.args.rule.now in
+    let r = c.args.asked.rule.now in
     let box = c.args.store.now.box in
     let sum = c.sum_extent-sum.result in
     let n_fits : SFits w64 c.args.bound = search rules in
@@ -36,12 +36,12 @@ tell_other-requires-clause-refuted c =
     let xs = c.items_at.ensures ∙ ap (λ a. args_at a 1) c.arguments-args.ensures in
     let value = c.sum_extent-sum.ensures.value in
     let missed = simp to_z-of_z at c.in-Some.ensures.some in
-    read_missed c.args.problem.now.variables r box c.args.x c.args.bound c.args.relation c.in-Some.told c.numbers_at.result.now c.items_at.result.now (range_of sum.from sum.to) c.requires.asked.rule c.requires.pred c.requires.last c.requires.number (place box c.args.x.0 c.requires.both) ns xs value
+    read_missed c.args.asked.problem.now.variables r box c.args.x c.args.bound c.args.relation c.in-Some.told c.numbers_at.result.now c.items_at.result.now (range_of sum.from sum.to) c.requires.fits.rule c.requires.pred c.requires.last c.requires.number (place box c.args.x.0 c.requires.both) ns xs value
     ∙ missed
 
 pub returns-in-None-clause-open : goal.returns-in-None-clause-open
 returns-in-None-clause-open c =
-    let r = c.args.rule.now in
+    let r = c.args.asked.rule.now in
     let box = c.args.store.now.box in
     let x = c.args.x in
     let sum = c.sum_extent-sum.result in
@@ -53,6 +53,6 @@ returns-in-None-clause-open c =
     let value = c.sum_extent-sum.ensures.value in
     let holds = simp to_z-of_z at c.in-None.ensures.holds in
     let fails = simp to_z-of_z at c.in-None.ensures.fails in
-    let told : (t : Bool) → refuted_by r (box_at box x.0 (truth_of t)) ≡ is_missed (demand_of c.args.relation t) (range_of sum.from sum.to) c.args.bound = λ t. read_missed c.args.problem.now.variables r box x c.args.bound c.args.relation t c.numbers_at.result.now c.items_at.result.now (range_of sum.from sum.to) c.requires.asked.rule c.requires.pred c.requires.last c.requires.number (place box x.0 c.requires.both) ns xs value in
+    let told : (t : Bool) → refuted_by r (box_at box x.0 (truth_of t)) ≡ is_missed (demand_of c.args.relation t) (range_of sum.from sum.to) c.args.bound = λ t. read_missed c.args.asked.problem.now.variables r box x c.args.bound c.args.relation t c.numbers_at.result.now c.items_at.result.now (range_of sum.from sum.to) c.requires.fits.rule c.requires.pred c.requires.last c.requires.number (place box x.0 c.requires.both) ns xs value in
     let none = subst (RefutesNone r box) c.requires.last (told_none r box c.args.relation c.requires.pred) in
-    λ e. (refl, untold_keeps r box x c.requires.asked.full c.requires.both none (told true ∙ holds) (told false ∙ fails))
+    λ e. (refl, untold_keeps r box x c.requires.fits.full c.requires.both none (told true ∙ holds) (told false ∙ fails))

@@ -8,15 +8,15 @@ use Rattle.prop_linear.proofs.telling.tell_sum.Goals as goal
 
 pub loose-requires : goal.loose-requires
 loose-requires c =
-    let r = c.args.rule.now in
+    let r = c.args.asked.rule.now in
     let box = c.args.store.now.box in
     let last = c.last_one.ensures ∙ ap last_arg c.arguments-args.ensures in
-    (subst (IsTruthLast box) (sym last) (truth_last c.args.problem.now r box c.known.ensures.domains c.requires.asked (told_truth r c.args.relation c.requires.pred))).met
+    (subst (IsTruthLast box) (sym last) (truth_last c.args.asked.problem.now r box c.known.ensures.domains c.requires.fits (told_truth r c.args.relation c.requires.pred))).met
 
 pub tell_by_sum-requires-clause-both : goal.tell_by_sum-requires-clause-both
 tell_by_sum-requires-clause-both c =
-    let r = c.args.rule.now in
+    let r = c.args.asked.rule.now in
     let box = c.args.store.now.box in
     let last = sym (c.last_one.ensures ∙ ap last_arg c.arguments-args.ensures) ∙ c.in-Some.ensures.variable in
-    let t = subst (IsTruthLast box) last (truth_last c.args.problem.now r box c.known.ensures.domains c.requires.asked (told_truth r c.args.relation c.requires.pred)) in
+    let t = subst (IsTruthLast box) last (truth_last c.args.asked.problem.now r box c.known.ensures.domains c.requires.fits (told_truth r c.args.relation c.requires.pred)) in
     both_truths (values_left box c.in-Some.x.0) t.met t.truth c.in-Some.ensures.some

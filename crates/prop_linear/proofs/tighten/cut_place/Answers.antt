@@ -20,11 +20,11 @@ no_less a = omega (arith, ints)
 
 pub place_cut-requires-clause-x : goal.place_cut-requires-clause-x
 place_cut-requires-clause-x c =
-    placed c.args.problem.now c.args.rule.now c.args.store.now.box c.args.items.now c.args.k c.in-Var.x (Var (record { 0 = 0 })) c.requires.asked c.requires.sees c.requires.place c.in-Var.is
+    placed c.args.asked.problem.now c.args.asked.rule.now c.args.store.now.box c.args.items.now c.args.k c.in-Var.x (Var (record { 0 = 0 })) c.requires.fits c.requires.sees c.requires.place c.in-Var.is
 
 pub place_cut-requires-clause-open : goal.place_cut-requires-clause-open
 place_cut-requires-clause-open c =
-    open_there c.args.problem.now c.args.rule.now c.args.store.now.box c.args.items.now c.args.k c.in-Var.x (Var (record { 0 = 0 })) c.known.ensures.domains c.requires.asked c.requires.sees c.requires.place c.in-Var.is
+    open_there c.args.asked.problem.now c.args.asked.rule.now c.args.store.now.box c.args.items.now c.args.k c.in-Var.x (Var (record { 0 = 0 })) c.known.ensures.domains c.requires.fits c.requires.sees c.requires.place c.in-Var.is
 
 pub prune-requires-clause-cut : goal.prune-requires-clause-cut
 prune-requires-clause-cut c =
@@ -34,11 +34,11 @@ prune-requires-clause-cut c =
     let box = c.args.store.now.box in
     let k = c.args.k in
     let cut = c.in-Some.cut in
-    let m = placed c.args.problem.now c.args.rule.now box xs k c.in-Var.x (Var (record { 0 = 0 })) c.requires.asked c.requires.sees c.requires.place c.in-Var.is in
+    let m = placed c.args.asked.problem.now c.args.asked.rule.now box xs k c.in-Var.x (Var (record { 0 = 0 })) c.requires.fits c.requires.sees c.requires.place c.in-Var.is in
     let t = simp to_z-of_z at c.in-Some.ensures.some in
     let T : ℤ → Type 0 = λ n. IsTightening n c.args.s (values_left box c.in-Var.x.0) cut.lo cut.hi in
     let u = subst T c.factor_at-factor.ensures t.1 in
-    cut_of c.args.rule.now ns xs c.args.s box k c.in-Var.x cut (Var (record { 0 = 0 })) c.requires.past c.requires.once (omega (arith, signed_length c.args.negative c.args.factors.now, c.requires.equal, c.requires.place)) c.requires.place c.in-Var.is m t.0 u
+    cut_of c.args.asked.rule.now ns xs c.args.s box k c.in-Var.x cut (Var (record { 0 = 0 })) c.requires.past c.requires.once (omega (arith, signed_length c.args.negative c.args.factors.now, c.requires.equal, c.requires.place)) c.requires.place c.in-Var.is m t.0 u
 
 pub returns-in-Num-clause-near : goal.returns-in-Num-clause-near
 returns-in-Num-clause-near c a =
@@ -76,7 +76,7 @@ returns-in_ok-prune-in-Some-clause-full c =
     let box = c.args.store.now.box in
     let t = simp to_z-of_z at c.in-Some.ensures.some in
     let e = cut_left box c.prune.new.store.box c.in-Var.x c.in-Some.cut t.0 c.in_ok-prune-in-Some.ensures.content in
-    ap has_empty e ∙ set_full box c.in-Var.x.0 (values_outside c.in-Some.cut.lo c.in-Some.cut.hi (values_left box c.in-Var.x.0)) c.requires.asked.full t.1.left
+    ap has_empty e ∙ set_full box c.in-Var.x.0 (values_outside c.in-Some.cut.lo c.in-Some.cut.hi (values_left box c.in-Var.x.0)) c.requires.fits.full t.1.left
 
 pub returns-in_ok-prune-in-Some-clause-rises : goal.returns-in_ok-prune-in-Some-clause-rises
 returns-in_ok-prune-in-Some-clause-rises c b =
@@ -87,7 +87,7 @@ returns-in_ok-prune-in-Some-clause-rises c b =
     let cut = c.in-Some.cut in
     let t = simp to_z-of_z at c.in-Some.ensures.some in
     let e = cut_left box c.prune.new.store.box c.in-Var.x cut t.0 c.in_ok-prune-in-Some.ensures.content in
-    let m = placed c.args.problem.now c.args.rule.now box xs c.args.k c.in-Var.x (Var (record { 0 = 0 })) c.requires.asked c.requires.sees c.requires.place c.in-Var.is in
+    let m = placed c.args.asked.problem.now c.args.asked.rule.now box xs c.args.k c.in-Var.x (Var (record { 0 = 0 })) c.requires.fits c.requires.sees c.requires.place c.in-Var.is in
     let R : Box → Type 0 = λ z. least_sum (signed b ns) xs box ≤ℤ least_sum (signed b ns) xs z in
     subst R (sym e) (sides_rise ns xs c.args.k box c.in-Var.x cut.lo cut.hi (Var (record { 0 = 0 })) c.requires.once (omega (arith, c.requires.equal, c.requires.place)) c.requires.place c.in-Var.is m t.1.left b)
 
@@ -102,7 +102,7 @@ returns-in_ok-prune-in-Some-clause-sum c =
     let T : ℤ → Type 0 = λ n. IsTightening n c.args.s (values_left box c.in-Var.x.0) cut.lo cut.hi in
     let u = subst T c.factor_at-factor.ensures t.1 in
     let e = cut_left box c.prune.new.store.box c.in-Var.x cut t.0 c.in_ok-prune-in-Some.ensures.content in
-    let m = placed c.args.problem.now c.args.rule.now box xs c.args.k c.in-Var.x (Var (record { 0 = 0 })) c.requires.asked c.requires.sees c.requires.place c.in-Var.is in
+    let m = placed c.args.asked.problem.now c.args.asked.rule.now box xs c.args.k c.in-Var.x (Var (record { 0 = 0 })) c.requires.fits c.requires.sees c.requires.place c.in-Var.is in
     ap (least_sum ns xs) e
     ∙ sum_kept ns xs c.args.s box c.args.k c.in-Var.x cut.lo cut.hi (Var (record { 0 = 0 })) c.requires.once (omega (arith, signed_length c.args.negative c.args.factors.now, c.requires.equal, c.requires.place)) c.requires.place c.in-Var.is m u
 
@@ -117,7 +117,7 @@ returns-in_ok-prune-in-Some-clause-near c a =
     let T : ℤ → Type 0 = λ n. IsTightening n c.args.s (values_left box c.in-Var.x.0) cut.lo cut.hi in
     let u = subst T c.factor_at-factor.ensures t.1 in
     let e = cut_left box c.prune.new.store.box c.in-Var.x cut t.0 c.in_ok-prune-in-Some.ensures.content in
-    let m = placed c.args.problem.now c.args.rule.now box xs c.args.k c.in-Var.x (Var (record { 0 = 0 })) c.requires.asked c.requires.sees c.requires.place c.in-Var.is in
+    let m = placed c.args.asked.problem.now c.args.asked.rule.now box xs c.args.k c.in-Var.x (Var (record { 0 = 0 })) c.requires.fits c.requires.sees c.requires.place c.in-Var.is in
     let N : Box → Type 0 = λ b. AllNear c.args.s (take (c.args.k + 1) ns) (take (c.args.k + 1) xs) b in
     subst N (sym e)
     (rw add-one

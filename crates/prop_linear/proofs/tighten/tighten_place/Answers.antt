@@ -17,14 +17,14 @@ use Rattle.prop_linear.proofs.tighten.tighten_place.Goals as goal
 
 pub is_near-requires-clause-x : goal.is_near-requires-clause-x
 is_near-requires-clause-x c =
-    placed c.args.problem.now c.args.rule.now c.args.store.now.box c.args.items.now c.args.k c.in-Var.x (Var (record { 0 = 0 })) c.requires.asked c.requires.sees c.requires.place c.in-Var.is
+    placed c.args.asked.problem.now c.args.asked.rule.now c.args.store.now.box c.args.items.now c.args.k c.in-Var.x (Var (record { 0 = 0 })) c.requires.fits c.requires.sees c.requires.place c.in-Var.is
 
 pub is_near-requires-clause-open : goal.is_near-requires-clause-open
 is_near-requires-clause-open c =
-    open_there c.args.problem.now c.args.rule.now c.args.store.now.box c.args.items.now c.args.k c.in-Var.x (Var (record { 0 = 0 })) c.known.ensures.domains c.requires.asked c.requires.sees c.requires.place c.in-Var.is
+    open_there c.args.asked.problem.now c.args.asked.rule.now c.args.store.now.box c.args.items.now c.args.k c.in-Var.x (Var (record { 0 = 0 })) c.known.ensures.domains c.requires.fits c.requires.sees c.requires.place c.in-Var.is
 
 pub returns-clause-pruning : goal.returns-clause-pruning
-returns-clause-pruning c = pruning_same (is_just c.args.c.0) c.args.problem.now _ _ _ _ refl refl refl
+returns-clause-pruning c = pruning_same (is_just c.args.asked.c.0) c.args.asked.problem.now _ _ _ _ refl refl refl
 
 pub returns-clause-near : goal.returns-clause-near
 returns-clause-near c a =
