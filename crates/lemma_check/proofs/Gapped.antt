@@ -9,8 +9,7 @@ use Rattle.qc_model.specs.Domains.{Box, Values, values_left, is_within}
 use Rattle.qc_model.proofs.Conjunctions.{first, second}
 use Rattle.lemma_list.specs.declared.lemma.Literal.{Literal}
 use Rattle.lemma_list.specs.Literals.{meets, cut_to, box_to, comes_after, are_in_order}
-use Rattle.line_check.proofs.Cuts.{filter_same}
-use Rattle.line_check.proofs.Emptying.{filter_two}
+use Rattle.box_laws.proofs.Filters.{filter_same, filter_two}
 use Rattle.lemma_check.specs.Gaps.{narrowed, kept_up_to, kept_from, without_gap, cut_before, without_gaps}
 
 -- what is left to x of a narrowed box

@@ -14,8 +14,8 @@ use Rattle.qc_arguments.proofs.Values.{only_within}
 use Rattle.qc_arguments.proofs.Boxes.{sub_ascending}
 use Rattle.fd_store.specs.Held.{Held, trail_len, past_box, Follows, IsUndone}
 use Rattle.qc_model.proofs.Conjunctions.{first, second}
-use Rattle.line_check.proofs.Emptying.{filter_two}
-use Rattle.line_check.proofs.Cuts.{filter_same}
+use Rattle.box_laws.proofs.Sides.{set_twice}
+use Rattle.box_laws.proofs.Filters.{filter_two, filter_same}
 use Rattle.lemma_list.specs.declared.lemma.Literal.{Literal}
 use Rattle.lemma_list.specs.Places.{is_chosen_before, of_its_scope, place}
 use Rattle.lemma_list.specs.Lemmas.{Lemma}
@@ -38,18 +38,13 @@ past_now s = get_or_past s.past (trail_len s) s.box (omega arith)
 pub past_after : (s t : Held) → Follows s t → past_box t (trail_len s) ≡ s.box
 past_after s t f = f.boxes (trail_len s) (omega arith) ∙ past_now s
 
--- values up to one number and from another
-set_twice : (box : Box) (x : ℕ) (us ws : Values) → set (set box x us) x ws ≡ set box x ws
-set_twice [] x us ws = refl
-set_twice (d ∷ box) zero us ws = refl
-set_twice (d ∷ box) (suc x) us ws = ap (λ (b : Box). d ∷ b) (set_twice box x us ws)
-
 swapped : (a b : Bool) → (b && a) ≡ (a && b)
 swapped true true = refl
 swapped true false = refl
 swapped false true = refl
 swapped false false = refl
 
+-- values up to one number and from another
 pub both_ends : (box : Box) (x : ℕ) (lo hi : ℤ) → x < length box → kept_from (kept_up_to box x hi) x lo ≡ box_within box x lo hi
 both_ends box x lo hi h =
     let us : Values = filter (λ v. int_le v hi) (values_left box x) in
@@ -75,17 +70,6 @@ all_inside g i n (l ∷ ls) e h =
 
 pub box_count : (g : Game) → length (declared_box g) ≡ length g.variables
 box_count g = length-map g.variables (λ x. domain_values x.domain)
-
--- a variable with a value in a range is one of the box
-pub within_inside : (box : Box) (x : ℕ) (lo hi : ℤ) → not (is_none_left (values_within lo hi (values_left box x))) ≡ true → x < length box
-within_inside box x lo hi h = by (nat_lt x (length box)) refl
-  where
-    by : (b : Bool) → nat_lt x (length box) ≡ b → x < length box
-    by true e = grind (arith, nat_tests)
-    by false e =
-        let past : length box ≤ x = grind (arith, nat_tests) in
-        let none : not (is_none_left (values_within lo hi (values_left box x))) ≡ false = ap (λ (vs : Values). not (is_none_left (values_within lo hi vs))) (get_or_past box x [] past) in
-        absurd (let q : true ≡ false = sym h ∙ none in cc)
 
 -- a value is left where the range of it alone isn't empty
 some_kept : (p : ℤ → Bool) (vs : Values) → list_any p vs ≡ not (is_none_left (filter p vs))

@@ -7,7 +7,7 @@ use Rattle.std.proofs.lemmas.Bool.Decides.{nat_tests}
 use Rattle.std.proofs.lemmas.List.{set-get_or}
 use Rattle.qc_model.specs.Domains.{Box, Values, values_left, is_within, box_without}
 use Rattle.qc_model.specs.Valid.{is_number}
-use Rattle.line_check.proofs.Cuts.{filter_agree}
+use Rattle.box_laws.proofs.Filters.{filter_same, filter_agree}
 use Rattle.lemma_check.specs.Gaps.{narrowed, kept_up_to, kept_from, without_gap}
 
 abbrev AreNumbers : Box → ℕ → Type 0
@@ -46,13 +46,6 @@ none_below box x l n g = unchanged box x (int_le l) n (λ v k. above v k g)
   where
     above : (v : ℤ) → is_number v ≡ true → int_lt (negsuc 999999999) l ≡ false → int_le l v ≡ true
     above v k g = grind (arith, ints, nat_tests)
-
-filter_same : (p q : ℤ → Bool) → ((v : ℤ) → p v ≡ q v) → (vs : Values) → filter p vs ≡ filter q vs
-filter_same p q f vs = filter_agree (λ v. true) p q (λ v _. f v) vs (all vs)
-  where
-    all : (vs : Values) → list_all (λ v. true) vs ≡ true
-    all [] = refl
-    all (v ∷ vs) = all vs
 
 pub cut_between : (box : Box) (x : ℕ) (h l : ℤ) → box_without box x (h +ℤ pos 1) (l -ℤ pos 1) ≡ without_gap box x h l
 cut_between box x h l = ap (set box x) (filter_same (λ v. not (is_within (h +ℤ pos 1) (l -ℤ pos 1) v)) (λ v. int_le v h || int_le l v) same (values_left box x))

@@ -7,8 +7,8 @@ ghost use Rattle.lemma_list.specs.InPlace.{is_lemma};
 ghost use Rattle.lemma_check.specs.Held.{IsHeldOf};
 ghost use Rattle.lemma_check.specs.Gaps.{kept_up_to, kept_from, without_gap, cut_before as cut_before_in, without_gaps, are_inside, IsInside, IsEarlier};
 
+use check_box::Remains;
 use lemma_list::{Lemma, Literal};
-use line_check::Remains;
 use qc_model::{Problem, VarId};
 
 /// The greatest number that there is, and the least.

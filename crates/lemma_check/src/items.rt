@@ -6,9 +6,9 @@ ghost use Rattle.lemma_check.specs.Machine.{game_of, book_of, IsReady};
 
 use crate::endings::{game_loser, is_loser};
 use crate::machine::{LemmaMachine, Stage};
+use check_box::Remains;
 use lemma_list::{Ending, Lemma};
 use lemma_text::Item;
-use line_check::Remains;
 use qc_model::{Kind, Problem};
 use qc_rules::Levels;
 use std::alloc::{AllocError, Global};

@@ -1,6 +1,6 @@
 //! The machine: it takes the items of a list one by one, and says at the end what the list proves.
+use check_box::Remains;
 use lemma_list::Lemma;
-use line_check::Remains;
 use qc_model::Kind;
 use qc_rules::Levels;
 use std::alloc::Global;

@@ -8,11 +8,11 @@ ghost use Rattle.lemma_list.specs.InPlace.{may_step, ends};
 ghost use Rattle.lemma_check.specs.Held.{IsHeldOf};
 
 use crate::cuts::keep_within;
+use check_box::Remains;
 use lemma_list::{Ending, Lemma, Reason};
 use lemma_reasons::{
     Aim, Answers, answers_to, goal_shows, goes_on, is_winners, reason_place, reason_shows, shows,
 };
-use line_check::Remains;
 use qc_model::VarId;
 use qc_rules::Levels;
 

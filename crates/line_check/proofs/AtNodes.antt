@@ -1,9 +1,8 @@
 -- What the machine tells after a line of a node.
-use Rattle.std.proofs.Common.{◌≡◌, ℕ, zero, suc, ◌<◌, ◌≤◌, ◌+◌, Bool, true, false, not, ◌&&◌, cond, List, [], ◌∷◌, length, drop, take, refl, sym, ap, ◌∙◌, subst, arith, ℤ, Option, Some, None}
+use Rattle.std.proofs.Common.{◌≡◌, ℕ, zero, suc, ◌<◌, ◌≤◌, ◌+◌, Bool, true, false, not, ◌&&◌, cond, List, [], ◌∷◌, length, drop, take, refl, sym, ap, ◌∙◌, subst, arith, ℤ, Option, Some, None, length-drop}
 use Rattle.std.specs.Prelude.{nat_le}
 use Rattle.std.specs.List.{list_all}
 use Rattle.std.proofs.lemmas.Bool.Decides.{nat_tests}
-use Rattle.std.proofs.Common.{length-drop}
 use Rattle.qc_model.specs.declared.problem.VarId.{VarId}
 use Rattle.qc_model.specs.declared.problem.ConId.{ConId}
 use Rattle.qc_model.specs.declared.problem.Scope.{Scope}
@@ -36,10 +35,12 @@ use Rattle.line_check.specs.State.{may_see}
 use Rattle.line_check.specs.Awaited.{Awaited, prune_awaited, body_awaited}
 use Rattle.line_check.specs.Ledger.{Ledger, Entry, next_entry, branch_entry, node_closed, only_ledger, place_at, begins, begun, ledger_end, ledger_body, ledger_node, ledger_prune, no_scope_left}
 use Rattle.line_check.specs.LedgerSizes.{EntriesKeep}
-use Rattle.line_check.specs.Machine.{game_of, values_to, before_of, IsAt, IsFull, IsSound, IsAtNode, IsWithin, IsSeeing}
+use Rattle.line_check.specs.Machine.{game_of, before_of, IsFull, IsSound, IsAtNode, IsWithin, IsSeeing}
+use Rattle.check_box.specs.Placed.{values_to, IsAt}
 use Rattle.line_check.specs.Telling.{IsNode, IsNodeEnd, GoesUp, came, node_at, node_ended, stuck_ended, Tells, NodeTells, PartTells}
-use Rattle.line_check.proofs.Frames.{past_now, frames_same, entries_same, entries_joins}
-use Rattle.line_check.proofs.Placing.{position_placed, numbers_to}
+use Rattle.line_check.proofs.Frames.{frames_same, entries_same, entries_joins}
+use Rattle.box_laws.proofs.Trails.{past_now}
+use Rattle.check_box.proofs.Placing.{position_placed, numbers_to}
 use Rattle.line_check.proofs.Known.{read_here, reads_back}
 use Rattle.line_check.specs.Known.{ReadBy}
 use Rattle.line_check.proofs.LedgerSizes.{one_node}

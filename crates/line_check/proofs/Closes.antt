@@ -21,9 +21,11 @@ use Rattle.line_check.specs.Awaited.{case_awaited}
 use Rattle.line_check.specs.Ledger.{Ledger, Entry, next_entry, branch_entry, part_closed}
 use Rattle.line_check.specs.LedgerSizes.{ClosesKeep, NodeFits}
 use Rattle.qc_joins.specs.Sizes.{HasSizes}
-use Rattle.line_check.specs.Machine.{game_of, fork_at, values_to, before_of, IsAt, IsFork, AreFrames, IsSound, IsWithin, IsBack, IsAtFork}
+use Rattle.line_check.specs.Machine.{game_of, fork_at, before_of, IsFork, AreFrames, IsSound, IsWithin, IsBack, IsAtFork}
+use Rattle.check_box.specs.Placed.{values_to, IsAt}
 use Rattle.line_check.specs.Telling.{AreEntries, AreOpen, IsPartEnd, IsNodeEnd, GoesUp, IsLeft, part_at, part_ended, node_ended, came, TellsPart}
-use Rattle.line_check.proofs.Frames.{at_fewer, frames_same, entries_same, entries_joins}
+use Rattle.line_check.proofs.Frames.{frames_same, entries_same, entries_joins}
+use Rattle.check_box.proofs.Fewer.{at_fewer}
 use Rattle.line_check.proofs.LedgerSizes.{closes_up}
 use Rattle.line_check.proofs.Known.{reads_back, reads_open}
 use Rattle.line_check.specs.Known.{mark_of, ReadBy, AreBranchesRead}

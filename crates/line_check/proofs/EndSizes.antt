@@ -29,7 +29,8 @@ use Rattle.line_check.specs.LedgerSizes.{HasNumbers, VerdictLaws, ScopeKeeps, En
 use Rattle.line_check.specs.EndSizes.{ends_after, ends_through, IsWide, EntriesEnds, PartEnds, HasTried, CaseEnds, AwaitedEnds, EndsSoFar, EndsAt}
 use Rattle.line_check.proofs.Facts.{both}
 use Rattle.line_check.proofs.Parts.{branch_inside, branch_full}
-use Rattle.line_check.proofs.LedgerSizes.{all_take, all_drop, all_set, left_numbers, step_numbers, position_numbers, OneMark, one_mark, sized_more, keeps_one}
+use Rattle.line_check.proofs.LedgerSizes.{all_set, left_numbers, step_numbers, position_numbers, OneMark, one_mark, sized_more, keeps_one}
+use Rattle.box_laws.proofs.Filters.{all_take, all_drop}
 
 -- ---- boxes
 set_wide : (g : Game) (box : Box) (x : ℕ) (vs : Values) → IsWide g box → IsWide g (set box x vs)

@@ -19,20 +19,21 @@ use Rattle.line_check.specs.declared.open.Open.TheVariants.{Branch}
 use Rattle.line_check.specs.declared.open.Due.{Due}
 use Rattle.line_check.specs.declared.open.Due.TheVariants as due
 use Rattle.line_check.specs.declared.machine.Machine.{Machine}
-use Rattle.line_check.specs.Cases.{IsCase}
+use Rattle.check_box.specs.Cases.{IsCase}
 use Rattle.line_check.specs.State.{Fork, fork_after, may_take}
 use Rattle.line_check.specs.Awaited.{Awaited, case_awaited, one_more}
 use Rattle.line_check.specs.Ledger.{Ledger, Entry, branch_entry, at_entry, part_closed, ledger_end, ledger_fork, gone_into}
 use Rattle.line_check.specs.LedgerSizes.{PartKeeps}
 use Rattle.line_check.specs.Machine.{game_of, fork_at, before_of, IsFull, IsFork, AreFrames, IsWithin, IsBack, IsAtFork}
 use Rattle.line_check.specs.Telling.{AreEntries, AreOpen, IsPart, IsPartEnd, GoesInto, part_at, part_ended, skips, takes, Tells, PartTells}
-use Rattle.line_check.proofs.Cuts.{fewer, not_fewer}
+use Rattle.check_box.proofs.Cuts.{fewer, not_fewer}
 use Rattle.line_check.proofs.Frames.{frames_same, entries_same, entries_joins}
-use Rattle.line_check.proofs.Placing.{at_filtered}
+use Rattle.check_box.proofs.Placing.{at_filtered}
 use Rattle.line_check.proofs.Known.{reads_open, reads_followed}
 use Rattle.line_check.specs.Known.{ReadBy, AreBranchesRead}
-use Rattle.line_check.proofs.Readings.{box_size}
-use Rattle.line_check.proofs.LedgerSizes.{all_drop, part_also, none_seen}
+use Rattle.box_laws.proofs.Readings.{box_size}
+use Rattle.line_check.proofs.LedgerSizes.{part_also, none_seen}
+use Rattle.box_laws.proofs.Filters.{all_drop}
 use Rattle.line_check.proofs.Closes.{top_is, top_fork}
 use Rattle.line_check.proofs.Parts.{a_ledger, no_ledger}
 

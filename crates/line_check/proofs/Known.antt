@@ -11,8 +11,9 @@ use Rattle.line_check.specs.declared.open.Open.{Open}
 use Rattle.line_check.specs.declared.open.Open.TheVariants.{Next, Branch}
 use Rattle.line_check.specs.declared.reads.Reads.{Reads}
 use Rattle.line_check.specs.Known.{mark_of, Rises, ReadBy, HasRead, AreBranchesRead, HasReads}
-use Rattle.line_check.specs.Machine.{only, AreFrames}
-use Rattle.line_check.proofs.Placing.{or_first, or_second, full_before}
+use Rattle.line_check.specs.Machine.{AreFrames}
+use Rattle.check_box.specs.Placed.{only}
+use Rattle.check_box.proofs.Placing.{or_first, or_second, full_before}
 
 heads : (d e : Values) (ds es : Box) → ◌≡◌ {A = Box} (d ∷ ds) (e ∷ es) → (d ≡ e) × (ds ≡ es)
 heads d e ds es q = (cc, cc)

@@ -29,30 +29,13 @@ use Rattle.qc_joins.proofs.Lengths.{long_join, verdict_long, stuck_long, goal_lo
 use Rattle.qc_joins.proofs.Sizing.{sizes_both, verdict_sized, stuck_sized, goal_sized}
 use Rattle.line_check.specs.LedgerSizes.{HasNumbers, VerdictLaws, ScopeKeeps, EntriesKeep, PartKeeps, ClosesKeep, NodeKeeps, AwaitedKeeps, KeepsSizes, KeepsSizesAt, NodeFits}
 use Rattle.qc_arguments.proofs.Boxes.{left_small}
+use Rattle.box_laws.proofs.Filters.{all_filter, all_take}
 use Rattle.line_check.proofs.Facts.{both}
-use Rattle.line_check.proofs.Declared.{declared_is}
+use Rattle.box_laws.proofs.Declared.{declared_is}
 
 -- numbers
 two : (a b : Bool) → a ≡ true → b ≡ true → (a && b) ≡ true
 two a b e f = ap (λ c. c && b) e ∙ f
-
-all_filter : {X : Type 0} (p q : X → Bool) (xs : List X) → list_all p xs ≡ true → list_all p (filter q xs) ≡ true
-all_filter p q [] h = refl
-all_filter p q (x ∷ xs) h = let r = both (p x) (list_all p xs) h in kept (q x) r.0 (all_filter p q xs r.1)
-  where
-    kept : (b : Bool) → p x ≡ true → list_all p (filter q xs) ≡ true → list_all p (cond b (x ∷ filter q xs) (filter q xs)) ≡ true
-    kept true e f = two (p x) (list_all p (filter q xs)) e f
-    kept false e f = f
-
-pub all_take : {X : Type 0} (p : X → Bool) (n : ℕ) (xs : List X) → list_all p xs ≡ true → list_all p (take n xs) ≡ true
-all_take p zero xs h = refl
-all_take p (suc n) [] h = refl
-all_take p (suc n) (x ∷ xs) h = let r = both (p x) (list_all p xs) h in two (p x) (list_all p (take n xs)) r.0 (all_take p n xs r.1)
-
-pub all_drop : {X : Type 0} (p : X → Bool) (n : ℕ) (xs : List X) → list_all p xs ≡ true → list_all p (drop n xs) ≡ true
-all_drop p zero xs h = h
-all_drop p (suc n) [] h = refl
-all_drop p (suc n) (x ∷ xs) h = all_drop p n xs (both (p x) (list_all p xs) h).1
 
 pub all_set : {X : Type 0} (p : X → Bool) (xs : List X) (n : ℕ) (x : X) → list_all p xs ≡ true → p x ≡ true → list_all p (set xs n x) ≡ true
 all_set p [] n x h e = refl

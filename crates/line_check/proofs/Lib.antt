@@ -7,11 +7,7 @@ pub mod Offs
 pub mod Leaves
 pub mod Facts
 pub mod Stacks
-pub mod Emptying
-pub mod Cuts
-pub mod Declared
-pub mod Readings
-pub mod Rooms
+pub mod Removals
 pub mod Frames
 pub mod LedgerClosing
 pub mod LedgerTurns
@@ -23,7 +19,6 @@ pub mod Under
 pub mod LedgerSizes
 pub mod EndSizes
 pub mod Closes
-pub mod Placing
 pub mod Known
 pub mod Prefixes
 pub mod Parts
@@ -33,10 +28,8 @@ pub mod Forks
 pub mod Turning
 pub mod Answering
 pub mod Showing
-pub mod Depths
 pub mod OneLedger
 pub mod Passes
 pub mod SameTold
-pub mod Fresh
 pub mod Passed
 pub mod Bases

@@ -38,10 +38,14 @@ use Rattle.line_check.specs.Awaited.{Awaited, node_awaited, part_awaited, case_a
 use Rattle.line_check.specs.Ledger.{Ledger, Entry, next_entry, branch_entry, only_ledger, ledger_end, part_closed, place_at, marks_of, space_left}
 use Rattle.line_check.specs.LedgerSizes.{ClosesKeep, PartKeeps}
 use Rattle.line_check.specs.Tracking.{BoundShows}
-use Rattle.line_check.specs.Machine.{game_of, fork_at, values_to, before_of, IsAt, IsFull, AreFrames, IsSound, IsAtNode, IsWithin, IsBack, IsAtFork}
+use Rattle.line_check.specs.Machine.{game_of, fork_at, before_of, IsFull, AreFrames, IsSound, IsAtNode, IsWithin, IsBack, IsAtFork}
+use Rattle.check_box.specs.Placed.{values_to, IsAt}
 use Rattle.line_check.specs.Telling.{AreEntries, AreOpen, IsPart, IsPartEnd, node_at, part_at, part_ended, Tells, PartTells}
-use Rattle.line_check.proofs.Frames.{past_now, at_values, frames_same, entries_same, entries_joins, frames_values, entries_values}
-use Rattle.line_check.proofs.Placing.{at_filtered}
+use Rattle.box_laws.proofs.Firsts.{from_least}
+use Rattle.line_check.proofs.Frames.{frames_same, entries_same, entries_joins, frames_values, entries_values}
+use Rattle.box_laws.proofs.Trails.{past_now}
+use Rattle.check_box.proofs.Fewer.{at_values}
+use Rattle.check_box.proofs.Placing.{at_filtered}
 use Rattle.line_check.proofs.Known.{reads_open, read_here, reads_followed}
 use Rattle.line_check.proofs.LedgerSizes.{OneMark, part_also, none_seen}
 
@@ -258,14 +262,6 @@ module _ (m : Machine) (v : Assigned) (q : Reads) (found : Option Bool) (w : IsW
 pub no_room : (m : Machine) (d : Ledger) (es : List Entry) (xs : List Seen) (u : Awaited) (a : Bool) (e : Ledger) → IsPart m d es xs → nat_lt (length m.nesting) 1000 ≡ false → only_ledger (a && space_left (part_at m d es xs u)) e ≡ None
 no_room m d es xs u a e p room =
     not_second a (space_left (part_at m d es xs u)) e (ap (λ l. nat_lt l 1000) (open_count (game_of m) m.remains m.values.items m.joins m.number m.nesting es p.entries) ∙ room)
-
--- all numbers are from the least on
-pub from_least : (vs : Values) → list_all is_number vs ≡ true → values_from (negsuc 999999999) vs ≡ vs
-from_least [] h = refl
-from_least (v ∷ vs) h = ap (λ b. cond b (v ∷ filter (int_le (negsuc 999999999)) vs) (filter (int_le (negsuc 999999999)) vs)) (low v (first (is_number v) (list_all is_number vs) h)) ∙ ap (λ us. v ∷ us) (from_least vs (second (is_number v) (list_all is_number vs) h))
-  where
-    low : (v : ℤ) → is_number v ≡ true → int_le (negsuc 999999999) v ≡ true
-    low v e = grind (arith, nat_tests, ints)
 
 -- a branch that begins
 fork_begins : (s : Held) (x : VarId) (mark : Mark) → mark.at ≡ trail_len s → list_all is_number (values_left s.box x.0) ≡ true → fork_at s x mark (negsuc 999999999) ≡ fork_on x.0 s.box

@@ -12,7 +12,8 @@ use Rattle.line_check.specs.Awaited.{Awaited, node_awaited, prune_awaited, body_
 use Rattle.line_check.specs.Ledger.{Ledger, Entry, goes, ledger_node, ledger_prune, ledger_body, ledger_end, ledger_fork, ledger_case, at_entry}
 use Rattle.line_check.specs.LedgerHeld.{first_ledger, goes_through}
 use Rattle.line_check.specs.LedgerSizes.{VerdictLaws, KeepsSizes, KeepsSizesAt}
-use Rattle.line_check.specs.Machine.{game_of, only, IsAt}
+use Rattle.line_check.specs.Machine.{game_of}
+use Rattle.check_box.specs.Placed.{only, IsAt}
 use Rattle.line_check.specs.Telling.{AreEntries, IsNode, node_at, part_at, Tells, TellsNode, TellsPart, TellsAfter, NodeTells, PartTells}
 use Rattle.line_check.proofs.LedgerSizes.{keeps_one, first_keeps}
 
@@ -87,14 +88,6 @@ none_dropped [] zero h = refl
 none_dropped [] (suc i) h = refl
 none_dropped (l ∷ ls) zero h = absurd (omega arith)
 none_dropped (l ∷ ls) (suc i) h = none_dropped ls i (omega arith)
-
--- no variable stands before the first scope
-pub at_first : (g : Game) (vs : List ℤ) (box : Box) → IsAt g 0 vs box
-at_first g vs box = subst (λ n. take n box ≡ map only (take n vs)) (sym (before-zero g)) refl
-
-pub numbers_none : (n : ℕ) → list_all is_number (replicate n (pos 0)) ≡ true
-numbers_none zero = refl
-numbers_none (suc n) = numbers_none n
 
 -- after one line of several
 pub line_taken : (new : Machine) (g u : Game) (ls : List Line) (i : ℕ) (d : Line) (n : ℕ) (q p : Option Ledger) → i < length ls → u ≡ g → TellsAfter (suc (n + i)) new (goes u q (get_or ls i d)) → goes_through g q (drop i ls) ≡ goes_through g p ls →

@@ -3,9 +3,7 @@ pub mod Tally
 pub mod State
 pub mod Awaited
 pub mod Nests
-pub mod Cases
 pub mod Tuples
-pub mod Room
 pub mod Ledger
 pub mod LedgerHeld
 pub mod Under

@@ -1,15 +1,15 @@
 -- What a machine keeps, whatever lines it takes.
-use Rattle.std.specs.Prelude.{◌≡◌, ◌<◌, ◌≤◌, ◌-◌, ℕ, suc, true, false, List, [], ◌∷◌, length, map, take, ℤ}
+use Rattle.std.specs.Prelude.{◌≡◌, ◌<◌, ◌≤◌, ◌-◌, ℕ, suc, true, false, List, [], ◌∷◌, length, ℤ}
 use Rattle.std.specs.List.{list_all}
 use Rattle.qc_model.specs.declared.problem.VarId.{VarId}
 use Rattle.qc_model.specs.Content.{Game}
-use Rattle.qc_model.specs.Domains.{Box, Values, values_left, has_empty, declared_box}
-use Rattle.qc_model.specs.Game.{before}
+use Rattle.qc_model.specs.Domains.{Box, values_left, has_empty, declared_box}
 use Rattle.qc_model.specs.Valid.{is_number}
 use Rattle.qc_arguments.specs.Asked.{is_box_of}
 use Rattle.qc_joins.specs.Joins.{game_of as game_joined}
 use Rattle.fd_store.specs.declared.store.Mark.{Mark}
 use Rattle.fd_store.specs.Held.{Held, trail_len, past_box, values_from}
+use Rattle.check_box.specs.Placed.{values_to, IsAt}
 use Rattle.line_check.specs.declared.open.Open.{Open}
 use Rattle.line_check.specs.declared.open.Open.TheVariants.{Next, Branch}
 use Rattle.line_check.specs.declared.open.Due.{Due}
@@ -51,19 +51,8 @@ CanBegin m = IsBaseOf (game_of m) (base_of m)
 abbrev pub fork_at : Held → VarId → Mark → ℤ → Fork
 fork_at s x mark from = record { variable = x.0; box = past_box s mark.at; left = values_from from (values_left (past_box s mark.at) x.0) }
 
--- the values of the variables before scope i, which are the first of these
-abbrev pub values_to : Game → ℕ → List ℤ → List ℤ
-values_to g i vs = take (before g i) vs
-
 abbrev pub before_of : Machine → List ℤ
 before_of m = values_to (game_of m) m.number m.values.items
-
-abbrev pub only : ℤ → Values
-only v = v ∷ []
-
--- in the box each variable before scope i has the one value that it has among these
-abbrev pub IsAt : Game → ℕ → List ℤ → Box → Type 0
-IsAt g i vs box = take (before g i) box ≡ map only (values_to g i vs)
 
 -- a box of the problem in which each variable has a value, and those before scope i have these
 pub record IsFull (g : Game) (i : ℕ) (vs : List ℤ) (box : Box) : Type 0 where

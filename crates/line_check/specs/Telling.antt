@@ -20,7 +20,8 @@ use Rattle.proof_tree.specs.declared.line.Line.{Line}
 use Rattle.line_check.specs.State.{Fork, may_take}
 use Rattle.line_check.specs.Awaited.{Awaited, node_awaited, prune_awaited, body_awaited, part_awaited, case_awaited, ranged_awaited, none_awaited}
 use Rattle.line_check.specs.Ledger.{Ledger, Entry, next_entry, branch_entry, ends_with, part_closed, only_ledger, passed_over, gone_into, ledger_end, node_close}
-use Rattle.line_check.specs.Machine.{game_of, fork_at, values_to, before_of}
+use Rattle.line_check.specs.Machine.{game_of, fork_at, before_of}
+use Rattle.check_box.specs.Placed.{values_to}
 use Rattle.line_check.specs.LedgerSizes.{EntriesKeep, PartKeeps, ClosesKeep, NodeFits, KeepsSizesAt}
 use Rattle.line_check.specs.Passing.{IsSame}
 

@@ -10,7 +10,7 @@ use crate::machine::Machine;
 use crate::nesting::Nesting;
 use crate::open::Due;
 use crate::reads::Reads;
-use crate::remains::Remains;
+use check_box::Remains;
 use proof_tree::Line;
 use qc_assignment::Assignment;
 use qc_joins::Joins;

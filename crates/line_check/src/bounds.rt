@@ -12,7 +12,7 @@ ghost use Rattle.line_check.specs.State.{is_own_step};
 ghost use Rattle.line_check.specs.Ledger.{place_at};
 ghost use Rattle.line_check.specs.Tracking.{told, tracked_at, TracksAll, BoundShows};
 
-use crate::remains::Remains;
+use check_box::Remains;
 use qc_levels::Demands;
 use qc_model::{Condition, Kind, Problem, ScopeId, Sense, Target, VarId};
 use std::alloc::{AllocError, Global};

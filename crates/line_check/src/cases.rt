@@ -8,9 +8,9 @@ ghost use Rattle.line_check.specs.Telling.{PartTells, GoesInto, skips, takes};
 ghost use Rattle.line_check.specs.declared.open.Open.TheVariants as open_as;
 ghost use Rattle.proof_tree.specs.declared.line.Line.TheVariants as line_of;
 
-use crate::cover::case_ends;
 use crate::machine::Machine;
 use crate::open::{Due, Open};
+use check_box::case_ends;
 use fd_store::Mark;
 use proof_tree::Line;
 use qc_model::{ScopeId, VarId};

@@ -7,7 +7,7 @@ ghost use Rattle.qc_arguments.specs.Asked.{is_box_of};
 ghost use Rattle.proof_tree.specs.Steps.{is_legal};
 ghost use Rattle.proof_tree.specs.declared.tree.Step.TheVariants.{Prune as PruneStep};
 
-use crate::remains::Remains;
+use check_box::Remains;
 use qc_arguments::Span;
 use qc_model::{ConId, Problem, VarId};
 use qc_refuter::refutes_in;

@@ -1,8 +1,5 @@
 //! Checks certificates line by line, with memory that doesn't grow with their number. What a machine answers is held
-//! against what a certificate states by `shows`.
-//!
-//! What the machine keeps of a box, and what it asks of it, is there for others who walk a tree too: `Remains`,
-//! `case_ends`, `read_values`, `goal_holds`.
+//! against what a certificate states by `shows`. What is left to each variable it keeps in a `Remains` of `check_box`.
 #![tactic(auto)]
 
 mod answer;
@@ -10,7 +7,6 @@ mod begin;
 mod bounds;
 mod cases;
 mod closing;
-mod cover;
 mod ends;
 mod judge;
 mod kinds;
@@ -23,19 +19,15 @@ mod nodes;
 mod open;
 mod passing;
 mod reads;
-mod remains;
 mod shown;
 mod tuple;
 mod turn;
 
 pub use answer::Answer;
-pub use cover::{Ends, case_ends};
 pub use judge::judge_lines;
 pub use laws::answers_are_right;
 pub use ledgers::{ledgers_are_right, ledgers_keep_ends, ledgers_keep_sizes};
 pub use machine::Machine;
 pub use passing::{NodeDue, NodeEnded};
 pub use qc_levels::Found;
-pub use remains::Remains;
 pub use shown::shows;
-pub use tuple::{goal_holds, read_values};

@@ -4,7 +4,7 @@ use crate::bounds::Bounds;
 use crate::nesting::Nesting;
 use crate::open::Due;
 use crate::reads::Reads;
-use crate::remains::Remains;
+use check_box::Remains;
 use qc_assignment::Assignment;
 use qc_joins::Joins;
 use qc_levels::Found;

@@ -5,7 +5,7 @@ ghost use Rattle.qc_model.specs.Domains.{has_empty, is_single};
 ghost use Rattle.qc_model.specs.Valid.{is_number};
 ghost use Rattle.line_check.specs.declared.open.Open.{Open};
 ghost use Rattle.line_check.specs.Known.{mark_of, Rises, HasRead, AreBranchesRead};
-ghost use Rattle.line_check.specs.Machine.{only};
+ghost use Rattle.check_box.specs.Placed.{only};
 
 use fd_store::{Mark, Store};
 use qc_assignment::Assignment;

@@ -1,23 +1,22 @@
 //! Whether the tuple of a scope is allowed, and whether the goal holds.
-ghost use Rattle.std.specs.Prelude.{◌≡◌, ◌≤◌, ◌-◌, true, false, suc, length, map, take, drop, List, IsSome};
+ghost use Rattle.std.specs.Prelude.{◌≡◌, ◌≤◌, ◌-◌, true, false, suc, length, take, drop, List, IsSome};
 ghost use Rattle.std.specs.List.{list_all};
-ghost use Rattle.qc_model.specs.Domains.{has_empty, is_single};
+ghost use Rattle.qc_model.specs.Domains.{has_empty};
 ghost use Rattle.qc_model.specs.Game.{allows};
 ghost use Rattle.qc_model.specs.Holds.{holds_on};
 ghost use Rattle.qc_model.specs.Valid.{is_number};
 ghost use Rattle.qc_arguments.specs.Asked.{is_box_of};
 ghost use Rattle.line_check.specs.declared.open.Open.{Open};
 ghost use Rattle.line_check.specs.Known.{HasRead, AreBranchesRead};
-ghost use Rattle.line_check.specs.Machine.{only, IsAt, values_to};
+ghost use Rattle.check_box.specs.Placed.{IsAt, values_to};
 ghost use Rattle.line_check.specs.Tuples.{tuple_of, is_tuple};
 
 use crate::reads::Reads;
-use crate::remains::Remains;
-use fd_store::Store;
+use check_box::Remains;
 use qc_arguments::Span;
 use qc_assignment::Assignment;
-use qc_model::{ScopeId, VarId};
-use qc_rules::{Level, Levels, all_hold};
+use qc_model::ScopeId;
+use qc_rules::{Level, Levels};
 
 /// Whether the constraints of the span all hold on the values. Many scopes have none, so that this is told at once.
 #[inline(always)]
@@ -30,28 +29,6 @@ fn span_holds(values: &mut Assignment, span: Span) -> bool
         return true;
     }
     values.all_hold(span)
-}
-
-/// Reads the one value left to each variable from `from` to the one before `stop` into its place. Those before stand
-/// there already.
-pub fn read_values(store: &Store, from: usize, stop: usize, values: &mut [i64])
-    requires order { from ≤ stop }
-    requires bound { stop ≤ length store.now.box }
-    requires few { length store.now.box ≤ 500 }
-    requires each { length values.old ≡ length store.now.box }
-    requires fixed { list_all is_single (drop from (take stop store.now.box)) ≡ true }
-    requires placed { take from store.now.box ≡ map only (take from values.old) }
-    requires numbers { list_all is_number values.old ≡ true }
-    ensures read { take stop store.now.box ≡ map only (take stop values.new) }
-    ensures kept { take from values.new ≡ take from values.old }
-    ensures each { length values.new ≡ length values.old }
-    ensures numbers { list_all is_number values.new ≡ true }
-{
-    for k in from..stop {
-        let x = VarId(k as u16);
-        store.known(x);
-        values[k] = store.min(x);
-    }
 }
 
 /// Whether the tuple of the scope is allowed; None where a variable has no value, or one of the scope has several. The
@@ -101,15 +78,6 @@ pub(crate) fn goal_is_met(levels: &Levels, values: &mut Assignment) -> bool
     levels.problem.known();
     let goal = ScopeId(levels.problem.scopes() as u8);
     values.all_hold(levels.constraints_between(goal, goal))
-}
-
-/// Whether the goal holds on these values, one for each variable.
-pub fn goal_holds(levels: &Levels, values: &[i64]) -> bool
-    requires numbers { list_all is_number values.now ≡ true }
-    ensures { result ≡ allows levels.now.problem.now (length levels.now.problem.now.scopes) values.now }
-{
-    levels.problem.known();
-    all_hold(levels.problem, levels.goal_rules, values)
 }
 
 /// Whether it is known that the tuple is allowed, or that it isn't.

@@ -22,7 +22,7 @@ use Rattle.line_check.specs.Telling.{Tells}
 use Rattle.line_check.specs.Under.{IsUnder}
 use Rattle.line_check.proofs.LedgerRight.{Follows, follows}
 use Rattle.line_check.proofs.Passed.{due_told}
-use Rattle.line_check.proofs.Readings.{box_size}
+use Rattle.box_laws.proofs.Readings.{box_size}
 use Rattle.line_check.proofs.SameTold.{the_same}
 use Rattle.line_check.proofs.Under.{under_here}
 use Rattle.qc_check.specs.Checking.{lines_told}

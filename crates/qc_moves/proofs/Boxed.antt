@@ -12,9 +12,9 @@ use Rattle.qc_arguments.specs.Asked.{is_box_of}
 use Rattle.qc_arguments.proofs.Bools.{neither}
 use Rattle.qc_arguments.proofs.Boxes.{sub_ascending, sub_length, left_small}
 use Rattle.qc_arguments.proofs.Kept.{among_of}
-use Rattle.line_check.proofs.Declared.{declared_is}
+use Rattle.box_laws.proofs.Declared.{declared_is}
 use Rattle.qc_moves.specs.Stands.{singles, StandsIn}
-use Rattle.qc_moves.proofs.Stepping.{one_within}
+use Rattle.qc_arguments.proofs.Values.{only_within}
 
 -- its values are declared
 sub_front : (w : List ℤ) (ds : Box) → InBox w ds → is_sub_box ds ds ≡ true → is_sub_box (singles w ++ drop (length w) ds) ds ≡ true
@@ -86,7 +86,7 @@ module _ (g : Game) (valid : IsValid g) where
     pub next_one : (v : ℤ) → has_value (values_left (declared_box g) (length w)) v ≡ true → values_within v v (values_left box (length w)) ≡ v ∷ []
     next_one v h =
         let d = values_left (declared_box g) (length w) in
-        ap (values_within v v) as_declared ∙ one_within v d (sub_ascending (declared_box g) (declared_box g) (length w) declared_asked) h
+        ap (values_within v v) as_declared ∙ only_within v d (sub_ascending (declared_box g) (declared_box g) (length w) declared_asked) h
 
     -- the next variable has the value v
     pub stands_on : (v : ℤ) (new : Box) → length w < length (declared_box g) → has_value (values_left (declared_box g) (length w)) v ≡ true →

@@ -21,7 +21,8 @@ use Rattle.qc_moves.proofs.Boxed.{as_declared, next_ascends, next_small, stands_
 use Rattle.qc_moves.proofs.Finding.{found_none}
 use Rattle.qc_moves.proofs.NoTuples.{refuted_none}
 use Rattle.qc_moves.proofs.Putting.{puts-append, puts_more}
-use Rattle.qc_moves.proofs.Stepping.{IsNext, from_least, next_is, none_next}
+use Rattle.qc_moves.proofs.Stepping.{IsNext, next_is, none_next}
+use Rattle.box_laws.proofs.Firsts.{from_least}
 
 -- declared values are numbers
 pub in_numbers : (w : List ℤ) (ds : Box) → InBox w ds → ((n : ℕ) → list_all is_number (values_left ds n) ≡ true) → list_all is_number w ≡ true

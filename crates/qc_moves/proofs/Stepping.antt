@@ -10,46 +10,9 @@ use Rattle.qc_model.proofs.Readable.{first, second}
 use Rattle.qc_arguments.proofs.Values.{above_first, ascending_rest, value_passes}
 use Rattle.qc_arguments.proofs.Kept.{was_left}
 use Rattle.fd_store.specs.Held.{values_from, least_of}
-use Rattle.line_check.specs.Cases.{IsCase}
-use Rattle.line_check.proofs.Cuts.{one_case}
-
--- no other of them is v
-none_within : (v : ℤ) (vs : Values) → list_all (int_lt v) vs ≡ true → filter (is_within v v) vs ≡ []
-none_within v [] h = refl
-none_within v (w ∷ vs) h = ap (λ b. cond b (w ∷ filter (is_within v v) vs) (filter (is_within v v) vs)) (out v w (first (int_lt v w) (list_all (int_lt v) vs) h)) ∙ none_within v vs (second (int_lt v w) (list_all (int_lt v) vs) h)
-  where
-    out : (v w : ℤ) → int_lt v w ≡ true → is_within v v w ≡ false
-    out v w h = grind (arith, ints)
-
-pub one_within : (v : ℤ) (vs : Values) → is_ascending vs ≡ true → has_value vs v ≡ true → values_within v v vs ≡ v ∷ []
-one_within v [] a h = cc
-one_within v (w ∷ vs) a h = by (int_eq v w) (Decides-int_eq v w).0 h (one_within v vs (ascending_rest w vs a))
-  where
-    self : (v : ℤ) → is_within v v v ≡ true
-    self v = grind (arith, ints)
-
-    out : (v w : ℤ) → int_lt w v ≡ true → is_within v v w ≡ false
-    out v w h = grind (arith, ints)
-
-    by : (b : Bool) → (b ≡ true → v ≡ w) → (b || has_value vs v) ≡ true → (has_value vs v ≡ true → values_within v v vs ≡ v ∷ []) → filter (is_within v v) (w ∷ vs) ≡ v ∷ []
-    by true e k r =
-        let same : v ≡ w = e refl in
-        let in_it : is_within v v w ≡ true = subst (λ z. is_within v v z ≡ true) same (self v) in
-        ap (λ b. cond b (w ∷ filter (is_within v v) vs) (filter (is_within v v) vs)) in_it
-        ∙ (ap (λ us. w ∷ us) (none_within v vs (subst (λ z. list_all (int_lt z) vs ≡ true) (sym same) (above_first w vs a)))
-        ∙ ap (λ (z : ℤ). z ∷ []) (sym same))
-    by false e k r =
-        ap (λ b. cond b (w ∷ filter (is_within v v) vs) (filter (is_within v v) vs)) (out v w (value_passes (int_lt w) vs v (above_first w vs a) k))
-        ∙ r k
-
--- what is left first by a test passes it
-first_passes : (p : ℤ → Bool) (vs : Values) (u : ℤ) (us : Values) → filter p vs ≡ u ∷ us → p u ≡ true
-first_passes p [] u us e = cc
-first_passes p (w ∷ vs) u us e = by (p w) refl e (first_passes p vs u us)
-  where
-    by : (b : Bool) → p w ≡ b → cond b (w ∷ filter p vs) (filter p vs) ≡ u ∷ us → (filter p vs ≡ u ∷ us → p u ≡ true) → p u ≡ true
-    by true f e r = let same : w ≡ u = cc in subst (λ z. p z ≡ true) same f
-    by false f e r = r e
+use Rattle.box_laws.proofs.Firsts.{passes}
+use Rattle.check_box.specs.Cases.{IsCase}
+use Rattle.check_box.proofs.Cuts.{one_case}
 
 -- the first of the values from a number on, and those after it
 pub record IsNext (vs : Values) (at v : ℤ) : Type 0 where
@@ -75,12 +38,12 @@ next_is vs at v a n e = by (values_from at vs) refl
     by [] f = let h : not (is_none_left (values_from at vs)) ≡ true = one.is in let k : not (is_none_left []) ≡ true = sym (ap (λ us. not (is_none_left us)) f) ∙ h in cc
     by (u ∷ us) f =
         let only : u ∷ [] ≡ values_within v v vs = sym (ap (λ (ws : Values). take 1 ws) f) ∙ one.covers in
-        let same : v ≡ u = inside v u (first_passes (is_within v v) vs u [] (sym only)) in
+        let same : v ≡ u = inside v u (passes (is_within v v) vs u [] (sym only)) in
         let here : has_value vs v ≡ true = was_left (is_within v v) vs v (ap (λ ws. has_value ws v) (sym only) ∙ (yes (int_eq v u) ∙ (Decides-int_eq v u).1 same)) in
         record {
           has = here;
           number = value_passes is_number vs v n here;
-          from = subst (λ z. int_le at z ≡ true) (sym same) (first_passes (int_le at) vs u us f);
+          from = subst (λ z. int_le at z ≡ true) (sym same) (passes (int_le at) vs u us f);
           rest = f ∙ (ap (λ (z : ℤ). z ∷ us) (sym same) ∙ ap (λ ws. v ∷ ws) (sym (ap (λ (ws : Values). drop 1 ws) f) ∙ one.leaves));
         }
 
@@ -104,13 +67,3 @@ none_next vs at e = by (values_from at vs) refl e
     by : (us : Values) → values_from at vs ≡ us → None ≡ least_of us → values_from at vs ≡ []
     by [] f e = f
     by (u ∷ us) f e = cc
-
--- from the least on all of them
-pub from_least : (vs : Values) → list_all is_number vs ≡ true → values_from (negsuc 999999999) vs ≡ vs
-from_least [] h = refl
-from_least (v ∷ vs) h =
-    ap (λ b. cond b (v ∷ values_from (negsuc 999999999) vs) (values_from (negsuc 999999999) vs)) (low v (first (is_number v) (list_all is_number vs) h))
-    ∙ ap (λ us. v ∷ us) (from_least vs (second (is_number v) (list_all is_number vs) h))
-  where
-    low : (v : ℤ) → is_number v ≡ true → int_le (negsuc 999999999) v ≡ true
-    low v n = grind (arith, nat_tests, ints)

@@ -7,7 +7,7 @@ ghost use Rattle.qc_moves.specs.Stands.{StandsIn, IsBefore};
 
 use crate::listing::Listing;
 use crate::search::{Walk, list};
-use line_check::Remains;
+use check_box::Remains;
 use qc_model::{Problem, ScopeId, VarId};
 use qc_rules::Levels;
 use std::alloc::{AllocError, Global};

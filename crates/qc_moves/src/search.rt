@@ -7,7 +7,7 @@ ghost use Rattle.qc_moves.specs.Stands.{StandsIn, IsBack};
 
 use crate::listing::{Listing, put};
 use crate::refuting::is_refuted;
-use line_check::Remains;
+use check_box::Remains;
 use qc_model::VarId;
 use qc_rules::{Level, all_hold};
 use std::alloc::AllocError;

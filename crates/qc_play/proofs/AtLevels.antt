@@ -9,7 +9,7 @@ use Rattle.qc_model.specs.Content.{Game}
 use Rattle.qc_model.specs.Game.{before}
 use Rattle.qc_rules.specs.declared.level.Level.{Level}
 use Rattle.qc_rules.specs.Spans.{kind_at}
-use Rattle.line_check.specs.Machine.{values_to}
+use Rattle.check_box.specs.Placed.{values_to}
 use Rattle.qc_play.specs.Stuck.{nothing_answered, stuck_strategy, stuck_counterstrategy}
 
 module _ (l : Level) (g : Game) (i : ℕ) (problem : l.problem.now ≡ g) (number : l.number ≡ i) where

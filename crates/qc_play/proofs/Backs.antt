@@ -6,9 +6,10 @@ use Rattle.qc_arguments.specs.Asked.{is_box_of}
 use Rattle.qc_joins.specs.Joins.{game_of as game_joined, KeepsOthers, KeepsAll}
 use Rattle.qc_joins.specs.declared.joins.Joins.{Joins}
 use Rattle.fd_store.specs.Held.{Held, trail_len, past_box, Follows, IsUndone}
-use Rattle.line_check.specs.Machine.{IsAt, values_to}
-use Rattle.line_check.proofs.Frames.{past_now, at_fewer, at_values, fewer_values}
-use Rattle.line_check.proofs.Placing.{at_filtered}
+use Rattle.check_box.specs.Placed.{IsAt, values_to}
+use Rattle.box_laws.proofs.Trails.{past_now}
+use Rattle.check_box.proofs.Fewer.{at_fewer, at_values, fewer_values}
+use Rattle.check_box.proofs.Placing.{at_filtered}
 use Rattle.qc_play.specs.declared.walk.Walk.{Walk}
 use Rattle.qc_play.specs.Walk.{IsWithin, Keeps, LeadsOn, IsBack}
 

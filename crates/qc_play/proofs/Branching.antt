@@ -5,7 +5,7 @@ use Rattle.qc_model.specs.Content.{Game}
 use Rattle.qc_model.specs.Domains.{Box, Values, box_within, values_left}
 use Rattle.qc_joins.specs.declared.joins.Joins.{Joins}
 use Rattle.fd_store.specs.Held.{values_from}
-use Rattle.line_check.specs.Cases.{IsCase}
+use Rattle.check_box.specs.Cases.{IsCase}
 use Rattle.proof_tree.specs.Counts.{branch_ends, case_ends}
 use Rattle.proof_tree.specs.Cover.{covered, uncovered, box_to}
 use Rattle.proof_tree.specs.Tree.{Branches, no_more, piece, Case}

@@ -17,6 +17,7 @@ use Rattle.qc_model.specs.Domains.{Values, Box, domain_values, declared_box, has
 use Rattle.qc_model.specs.Game.{IsMove, before, scope_domains}
 use Rattle.qc_model.specs.Valid.{IsValid, is_number, is_domain}
 use Rattle.qc_model.proofs.DomainValues.{range_values, ends_of, domain_fits}
+use Rattle.box_laws.proofs.Filters.{all_filter, all_take, all_drop}
 
 both : (a b : Bool) → (a && b) ≡ true → (a ≡ true) × (b ≡ true)
 both true b e = (refl, e)
@@ -108,16 +109,6 @@ lies_numbers [] ds h l = refl
 lies_numbers (v ∷ t) [] h l = absurd l
 lies_numbers (v ∷ t) (d ∷ ds) h l = let p = both (list_all is_number d) (list_all (list_all is_number) ds) h in two (is_number v) (list_all is_number t) (among_number v d p.0 l.0) (lies_numbers t ds p.1 l.1)
 
-all_take : {X : Type 0} (p : X → Bool) (n : ℕ) (xs : List X) → list_all p xs ≡ true → list_all p (take n xs) ≡ true
-all_take p zero xs h = refl
-all_take p (suc n) [] h = refl
-all_take p (suc n) (x ∷ xs) h = let r = both (p x) (list_all p xs) h in two (p x) (list_all p (take n xs)) r.0 (all_take p n xs r.1)
-
-all_drop : {X : Type 0} (p : X → Bool) (n : ℕ) (xs : List X) → list_all p xs ≡ true → list_all p (drop n xs) ≡ true
-all_drop p zero xs h = h
-all_drop p (suc n) [] h = refl
-all_drop p (suc n) (x ∷ xs) h = all_drop p n xs (both (p x) (list_all p xs) h).1
-
 declared_numbers : (xs : List Variable) → list_all (λ x. is_domain x.domain) xs ≡ true → list_all (list_all is_number) (map (λ x. domain_values x.domain) xs) ≡ true
 declared_numbers [] h = refl
 declared_numbers (x ∷ xs) h = let p = both (is_domain x.domain) (list_all (λ y. is_domain y.domain) xs) h in two (list_all is_number (domain_values x.domain)) (list_all (list_all is_number) (map (λ y. domain_values y.domain) xs)) (domain_fits x.domain p.0) (declared_numbers xs p.1)
@@ -134,14 +125,6 @@ numbers_both [] t h k = k
 numbers_both (v ∷ a) t h k = let p = both (is_number v) (list_all is_number a) h in two (is_number v) (list_all is_number (a ++ t)) p.0 (numbers_both a t p.1 k)
 
 -- a part of a list by variables
-all_filter : {X : Type 0} (p q : X → Bool) (xs : List X) → list_all p xs ≡ true → list_all p (filter q xs) ≡ true
-all_filter p q [] h = refl
-all_filter p q (x ∷ xs) h = let r = both (p x) (list_all p xs) h in kept (q x) r.0 (all_filter p q xs r.1)
-  where
-    kept : (b : Bool) → p x ≡ true → list_all p (filter q xs) ≡ true → list_all p (cond b (x ∷ filter q xs) (filter q xs)) ≡ true
-    kept true e f = two (p x) (list_all p (filter q xs)) e f
-    kept false e f = f
-
 pub own_domains : (g : Game) (i : ℕ) → IsValid g → list_all (λ x. is_domain x.domain) (filter (λ x. x.scope.0 == i) g.variables) ≡ true
 own_domains g i valid = all_filter (λ x. is_domain x.domain) (λ x. x.scope.0 == i) g.variables valid.domains
 

@@ -19,8 +19,8 @@ use Rattle.qc_joins.specs.Joins.{game_of as game_joined, StandsAt, KeepsOthers}
 use Rattle.qc_joins.specs.declared.joins.Joins.{Joins}
 use Rattle.fd_store.specs.Held.{Held, Follows}
 use Rattle.line_check.specs.Tracking.{tracked_at}
-use Rattle.line_check.proofs.Placing.{at_filtered}
-use Rattle.line_check.proofs.Readings.{some_place}
+use Rattle.check_box.proofs.Placing.{at_filtered}
+use Rattle.box_laws.proofs.Readings.{some_place}
 use Rattle.line_check.proofs.Tracking.{tracked_is}
 use Rattle.proof_tree.specs.declared.tree.Step.{Step}
 use Rattle.proof_tree.specs.declared.tree.Step.TheVariants.{Prune, Bound}

@@ -33,8 +33,9 @@ use Rattle.line_check.proofs.Facts.{next_drop}
 use Rattle.line_check.proofs.Leaves.{seen-append}
 use Rattle.line_check.proofs.LedgerClosing.{scope_is}
 use Rattle.line_check.proofs.LedgerTurns.{map_both, stuck_comes}
-use Rattle.line_check.proofs.LedgerSizes.{all_drop, all_set, all_take, left_numbers, position_numbers, one_mark, step_numbers}
-use Rattle.line_check.proofs.Readings.{box_size}
+use Rattle.line_check.proofs.LedgerSizes.{all_set, left_numbers, position_numbers, one_mark, step_numbers}
+use Rattle.box_laws.proofs.Filters.{all_drop, all_take}
+use Rattle.box_laws.proofs.Readings.{box_size}
 use Rattle.qc_play.specs.Walk.{node_finding, end_leaves, part_leaves, pieces_leaves, taken_leaves, CanReadNode, CanReadPart, CanReadEnd, CanReadBranches, CanReadCase}
 use Rattle.qc_play.proofs.Readable.{list_next, own_scope, own_part, part_end, next_node, branch_full, branch_variable, branch_cases, first_case, later_cases}
 

@@ -6,7 +6,7 @@ use Rattle.std.proofs.lemmas.List.{with_items_is}
 use Rattle.qc_model.specs.Content.{Game}
 use Rattle.qc_model.specs.Game.{before}
 use Rattle.qc_model.specs.Valid.{is_number}
-use Rattle.line_check.specs.Machine.{only, values_to}
+use Rattle.check_box.specs.Placed.{only, values_to}
 use Rattle.qc_play.specs.declared.walk.Walk.{Walk}
 use Rattle.qc_play.specs.Walk.{IsWithin, IsBack}
 use Rattle.qc_play.proofs.Backs.{undone_self}

@@ -14,7 +14,7 @@ use Rattle.qc_joins.specs.declared.joins.Joins.{Joins}
 use Rattle.qc_joins.specs.Joins.{game_of as game_joined, StandsAt}
 use Rattle.qc_joins.specs.Ends.{HasEnds}
 use Rattle.fd_store.specs.Held.{trail_len, Follows, IsUndone}
-use Rattle.line_check.specs.Machine.{IsAt, values_to}
+use Rattle.check_box.specs.Placed.{IsAt, values_to}
 use Rattle.line_check.specs.Tracking.{tracked_at}
 use Rattle.proof_tree.specs.declared.tree.Step.{Step}
 use Rattle.proof_tree.specs.Tree.{Tree, Ending, Branches, Case, skip, left_open, go}

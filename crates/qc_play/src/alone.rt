@@ -16,7 +16,8 @@ use crate::plan::{Plan, PlanList};
 use crate::shown::Shown;
 use crate::tables::Tables;
 use crate::walk::Walk;
-use line_check::{Found, goal_holds};
+use check_box::goal_holds;
+use line_check::Found;
 use qc_model::{Kind, ScopeId};
 use std::alloc::Global;
 

@@ -3,10 +3,10 @@ ghost use Rattle.std.specs.Prelude.{◌≡◌, ◌<◌, true, length};
 ghost use Rattle.qc_model.specs.Domains.{values_left};
 ghost use Rattle.proof_tree.specs.Cover.{is_cover};
 ghost use Rattle.fd_store.specs.Held.{values_from};
-ghost use Rattle.line_check.specs.Cases.{IsCase};
+ghost use Rattle.check_box.specs.Cases.{IsCase};
 
+use check_box::{Ends, case_ends};
 use fd_store::Store;
-use line_check::{Ends, case_ends};
 use qc_model::VarId;
 
 /// The first and the last of the values that a case covers, which begins at the first of the values of x from `from` on.

@@ -19,7 +19,7 @@ use crate::gathering::Gathering;
 use crate::shown::Shown;
 use crate::tables::Tables;
 use crate::walk::Walk;
-use line_check::{Remains, read_values};
+use check_box::{Remains, read_values};
 use qc_joins::Joins;
 use qc_model::{Problem, ScopeId};
 use std::alloc::{AllocError, Global};

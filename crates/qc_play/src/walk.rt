@@ -22,7 +22,7 @@ use crate::covers::ends_of;
 use crate::gathering::Gathering;
 use crate::shown::Shown;
 use crate::tables::Tables;
-use line_check::{Ends, Remains};
+use check_box::{Ends, Remains};
 use proof_tree::{Body, Case, Cases, End, Node, Piece};
 use qc_joins::Joins;
 use qc_model::{ScopeId, VarId};

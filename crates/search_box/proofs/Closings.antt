@@ -28,7 +28,7 @@ use Rattle.prop_engine.specs.Watching.{WasKept}
 use Rattle.prop_engine.proofs.Means.{closed_for}
 use Rattle.search_box.specs.Closes.{IsPruned, IsClosingAt, WasClosed}
 use Rattle.search_box.proofs.Keeping.{sub_self}
-use Rattle.search_box.proofs.Places.{box_size}
+use Rattle.box_laws.proofs.Readings.{box_size}
 
 -- what a removal that passes has
 pub record IsRemoval (ok : ℕ → Bool) (g : Game) (x : ℕ) (low high : ℤ) (c : ℕ) (box : Box) : Type 0 where

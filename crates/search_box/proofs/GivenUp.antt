@@ -62,23 +62,6 @@ bound_sub (Err e) s x low high box left large old new p q h = subst (λ b. is_su
 bound_sub (Ok None) s x low high box left large old new p q h = subst (λ b. is_sub_box b large ≡ true) (sym p.reached) h
 bound_sub (Ok (Some b)) s x low high box left large old new p q h = subst (λ d. is_sub_box d large ≡ true) (sym p.reached) (sub_without box large x.0 low high h)
 
--- where no value is to go, none goes
-all_stay : (p : ℤ → Bool) (vs : Values) → is_none_left (filter p vs) ≡ true → filter (λ v. not (p v)) vs ≡ vs
-all_stay p [] e = refl
-all_stay p (v ∷ vs) e = by (p v) e (all_stay p vs)
-  where
-    by : (b : Bool) → is_none_left (cond b (v ∷ filter p vs) (filter p vs)) ≡ true → (is_none_left (filter p vs) ≡ true → filter (λ v. not (p v)) vs ≡ vs) → cond (not b) (v ∷ filter (λ v. not (p v)) vs) (filter (λ v. not (p v)) vs) ≡ v ∷ vs
-    by true e f = cc
-    by false e f = ap (λ us. v ∷ us) (f e)
-
-set_same : (box : Box) (x : ℕ) (us : Values) → us ≡ values_left box x → set box x us ≡ box
-set_same [] x us h = refl
-set_same (vs ∷ box) zero us h = ap (λ l. l ∷ box) h
-set_same (vs ∷ box) (suc x) us h = ap (λ l. vs ∷ l) (set_same box x us h)
-
-pub none_goes : (box : Box) (x : ℕ) (low high : ℤ) → is_none_left (values_within low high (values_left box x)) ≡ true → box ≡ box_without box x low high
-none_goes box x low high h = sym (set_same box x (values_outside low high (values_left box x)) (all_stay (is_within low high) (values_left box x) h))
-
 pub not_false_true : (b : Bool) → not b ≡ false → b ≡ true
 not_false_true true h = refl
 not_false_true false h = cc

@@ -1,4 +1,5 @@
--- Values that stay, and stores that are led on and back.
+-- Values that stay.
+pub use Rattle.box_laws.proofs.Numbers.{passed_number}
 use Rattle.std.proofs.Common.{◌≡◌, ℕ, zero, suc, ◌<◌, ◌≤◌, Bool, true, false, not, ◌&&◌, ◌||◌, cond, List, [], ◌∷◌, length, set, get_or, refl, sym, ap, ◌∙◌, subst, arith, ℤ, to_z, of_z, w64}
 use Rattle.std.specs.Prelude.{filter, pos, negsuc, ◌+ℤ◌, ◌-ℤ◌, unsigned_abs}
 use Rattle.std.specs.List.{list_all}
@@ -14,79 +15,9 @@ use Rattle.qc_arguments.proofs.Boxes.{sub_within, set_full, sub_ascending}
 use Rattle.qc_arguments.proofs.Values.{value_passes, has_first}
 use Rattle.prop_base.proofs.Keeps.{within_one}
 use Rattle.proof_tree.specs.Cover.{box_to}
-use Rattle.fd_store.specs.Held.{Held, trail_len, Follows, IsUndone}
+use Rattle.box_laws.proofs.Sides.{both_sides, set_twice}
 
--- numbers as they are passed
-passed : (v : ℤ) → unsigned_abs v ≤ 2000000000 → to_z w64 (of_z w64 v) ≡ v
-passed v h = omega (arith, ints)
-
-pub passed_number : (v : ℤ) → is_number v ≡ true → to_z w64 (of_z w64 v) ≡ v
-passed_number v e = passed v (small v e)
-  where
-    small : (v : ℤ) → is_number v ≡ true → unsigned_abs v ≤ 2000000000
-    small v e = grind (arith, nat_tests)
-
-pub passed_before : (v : ℤ) → is_number v ≡ true → to_z w64 (of_z w64 (to_z w64 (of_z w64 v) -ℤ pos 1)) ≡ (v -ℤ pos 1)
-passed_before v e = ap (λ w. to_z w64 (of_z w64 (w -ℤ pos 1))) (passed_number v e) ∙ passed (v -ℤ pos 1) (small v e)
-  where
-    small : (v : ℤ) → is_number v ≡ true → unsigned_abs (v -ℤ pos 1) ≤ 2000000000
-    small v e = grind (arith, nat_tests)
-
-pub passed_after : (v : ℤ) → is_number v ≡ true → to_z w64 (of_z w64 (to_z w64 (of_z w64 v) +ℤ pos 1)) ≡ (v +ℤ pos 1)
-passed_after v e = ap (λ w. to_z w64 (of_z w64 (w +ℤ pos 1))) (passed_number v e) ∙ passed (v +ℤ pos 1) (small v e)
-  where
-    small : (v : ℤ) → is_number v ≡ true → unsigned_abs (v +ℤ pos 1) ≤ 2000000000
-    small v e = grind (arith, nat_tests)
-
-pub fits_before : (v : ℤ) → is_number v ≡ true → SFits w64 (to_z w64 (of_z w64 v) -ℤ pos 1)
-fits_before v e = subst (λ w. SFits w64 (w -ℤ pos 1)) (sym (passed_number v e)) (near v (small v e))
-  where
-    small : (v : ℤ) → is_number v ≡ true → unsigned_abs v ≤ 1000000000
-    small v e = grind (arith, nat_tests)
-
-    near : (v : ℤ) → unsigned_abs v ≤ 1000000000 → SFits w64 (v -ℤ pos 1)
-    near v h = omega (arith, ints)
-
-pub fits_after : (v : ℤ) → is_number v ≡ true → SFits w64 (to_z w64 (of_z w64 v) +ℤ pos 1)
-fits_after v e = subst (λ w. SFits w64 (w +ℤ pos 1)) (sym (passed_number v e)) (near v (small v e))
-  where
-    small : (v : ℤ) → is_number v ≡ true → unsigned_abs v ≤ 1000000000
-    small v e = grind (arith, nat_tests)
-
-    near : (v : ℤ) → unsigned_abs v ≤ 1000000000 → SFits w64 (v +ℤ pos 1)
-    near v h = omega (arith, ints)
-
--- the values from one number to another are left, once those below and those above are gone
-pub filter_two : (p q : ℤ → Bool) (vs : Values) → filter q (filter p vs) ≡ filter (λ v. p v && q v) vs
-filter_two p q [] = refl
-filter_two p q (v ∷ vs) = by (p v) (filter_two p q vs)
-  where
-    again : (b : Bool) → filter q (filter p vs) ≡ filter (λ v. p v && q v) vs → cond b (v ∷ filter q (filter p vs)) (filter q (filter p vs)) ≡ cond b (v ∷ filter (λ v. p v && q v) vs) (filter (λ v. p v && q v) vs)
-    again true e = ap (λ us. v ∷ us) e
-    again false e = e
-
-    by : (a : Bool) → filter q (filter p vs) ≡ filter (λ v. p v && q v) vs → filter q (cond a (v ∷ filter p vs) (filter p vs)) ≡ cond (a && q v) (v ∷ filter (λ v. p v && q v) vs) (filter (λ v. p v && q v) vs)
-    by true e = again (q v) e
-    by false e = e
-
-filter_agree : (r p q : ℤ → Bool) → ((v : ℤ) → r v ≡ true → p v ≡ q v) → (vs : Values) → list_all r vs ≡ true → filter p vs ≡ filter q vs
-filter_agree r p q f [] h = refl
-filter_agree r p q f (v ∷ vs) h =
-    ap (λ b. cond b (v ∷ filter p vs) (filter p vs)) (f v (first (r v) (list_all r vs) h)) ∙ ap (λ us. cond (q v) (v ∷ us) us) (filter_agree r p q f vs (second (r v) (list_all r vs) h))
-
-kept_between : (a b v : ℤ) → is_number v ≡ true → (not (is_within (negsuc 999999999) (a -ℤ pos 1) v) && not (is_within (b +ℤ pos 1) (pos 1000000000) v)) ≡ is_within a b v
-kept_between a b v n = grind (arith, nat_tests, ints)
-
-both_sides : (a b : ℤ) (vs : Values) → list_all is_number vs ≡ true → values_outside (b +ℤ pos 1) (pos 1000000000) (values_outside (negsuc 999999999) (a -ℤ pos 1) vs) ≡ values_within a b vs
-both_sides a b vs n =
-    filter_two (λ v. not (is_within (negsuc 999999999) (a -ℤ pos 1) v)) (λ v. not (is_within (b +ℤ pos 1) (pos 1000000000) v)) vs
-    ∙ filter_agree is_number (λ v. not (is_within (negsuc 999999999) (a -ℤ pos 1) v) && not (is_within (b +ℤ pos 1) (pos 1000000000) v)) (is_within a b) (kept_between a b) vs n
-
-set_twice : (box : Box) (x : ℕ) (us vs : Values) → set (set box x us) x vs ≡ set box x vs
-set_twice [] x us vs = refl
-set_twice (d ∷ box) zero us vs = refl
-set_twice (d ∷ box) (suc x) us vs = ap (λ b. d ∷ b) (set_twice box x us vs)
-
+-- once the values below one of them and those above it are gone, it is left alone
 pub one_kept : (box one two : Box) (x : ℕ) (v : ℤ) → x < length box → list_all is_number (values_left box x) ≡ true → is_ascending (values_left box x) ≡ true → has_value (values_left box x) v ≡ true →
     one ≡ box_without box x (negsuc 999999999) (v -ℤ pos 1) → two ≡ box_without one x (v +ℤ pos 1) (pos 1000000000) → two ≡ box_to box x (v ∷ [])
 one_kept box one two x v h n a l e f =
@@ -137,18 +68,3 @@ sub_one box large x v s h = subst (λ b. is_sub_box b large ≡ true) (within_on
 
 pub one_full : (box : Box) (x : ℕ) (v : ℤ) → has_empty box ≡ false → has_empty (box_to box x (v ∷ [])) ≡ false
 one_full box x v h = set_full box x (v ∷ []) h refl
-
--- a store that was led on and then undone to where it began is the store that it was
-past_the_end : {X : Type 0} (xs : List X) (d : X) → get_or xs (length xs) d ≡ d
-past_the_end [] d = refl
-past_the_end (x ∷ xs) d = past_the_end xs d
-
-pub box_back : (s m t : Held) (n : ℕ) → trail_len s ≡ n → Follows s m → IsUndone n m t → t.box ≡ s.box
-box_back s m t n e f u =
-    sym (past_the_end t.past t.box)
-    ∙ (ap (λ k. get_or t.past k t.box) (u.len ∙ sym e) ∙ (u.boxes (length s.past) (omega (arith, e)) ∙ (f.boxes (length s.past) (omega arith) ∙ past_the_end s.past s.box)))
-
-pub past_back : (s m t : Held) (n : ℕ) → trail_len s ≡ n → Follows s m → IsUndone n m t → t.past ≡ s.past
-past_back s m t n e f u =
-    ext_get_or s.box t.past s.past (u.len ∙ sym e)
-    (λ k l. ap (get_or t.past k) (sym (box_back s m t n e f u)) ∙ (u.boxes k (omega (arith, l, u.len)) ∙ f.boxes k (omega (arith, l, u.len, e))))

@@ -6,5 +6,4 @@ pub mod Closings
 pub mod GivenUp
 pub mod Looks
 pub mod Goings
-pub mod Whole
 pub mod Complete

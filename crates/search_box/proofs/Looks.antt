@@ -20,7 +20,7 @@ use Rattle.qc_cascade.specs.Ahead.{IsHorizon, IsOpen}
 use Rattle.qc_cascade.proofs.Placed.{stands_in_place, sees_open, sees_under, sees_horizon}
 use Rattle.search_box.specs.Looking.{LooksAhead, first_unseen}
 use Rattle.search_box.proofs.Closings.{all_prune, fits_steps, place_fits}
-use Rattle.search_box.proofs.Places.{box_size}
+use Rattle.box_laws.proofs.Readings.{box_size}
 use Rattle.step_trim.specs.Trims.{Trims}
 
 by_itself : (k : ℕ) → nat_le k k ≡ true

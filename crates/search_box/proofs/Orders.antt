@@ -9,54 +9,15 @@ use Rattle.qc_model.specs.Domains.{Values, is_none_left, is_single, has_value, l
 use Rattle.qc_model.proofs.Readable.{first, second, together}
 use Rattle.qc_arguments.proofs.Values.{above_first, ascending_rest, ascending_kept, all_kept, value_passes, has_first, has_greatest}
 use Rattle.fd_store.specs.Held.{values_from, values_up_to, least_of, greatest_of}
-use Rattle.search_box.proofs.Keeping.{filter_two}
+use Rattle.box_laws.proofs.Filters.{filter_all, filter_none, all_weaker}
+use Rattle.box_laws.proofs.Firsts.{from_itself, from_later, where_is, least_is, passes, first_among, from_first}
 use Rattle.search_box.specs.Rests.{IsFirst, IsAfter, IsNext, IsBefore, IsPrevious, IsLast}
-
-filter_all : (p : ℤ → Bool) (vs : Values) → list_all p vs ≡ true → filter p vs ≡ vs
-filter_all p [] h = refl
-filter_all p (v ∷ vs) h = ap (λ b. cond b (v ∷ filter p vs) (filter p vs)) (first (p v) (list_all p vs) h) ∙ ap (λ us. v ∷ us) (filter_all p vs (second (p v) (list_all p vs) h))
-
-all_weaker : (p q : ℤ → Bool) → ((v : ℤ) → p v ≡ true → q v ≡ true) → (vs : Values) → list_all p vs ≡ true → list_all q vs ≡ true
-all_weaker p q f [] h = refl
-all_weaker p q f (v ∷ vs) h = together (q v) (list_all q vs) (f v (first (p v) (list_all p vs) h)) (all_weaker p q f vs (second (p v) (list_all p vs) h))
-
-self_le : (v : ℤ) → int_le v v ≡ true
-self_le v = grind (arith, ints)
-
-lt_le : (v w : ℤ) → int_lt v w ≡ true → int_le v w ≡ true
-lt_le v w h = grind (arith, ints)
-
-gt_not_le : (v w : ℤ) → int_lt w v ≡ true → int_le v w ≡ false
-gt_not_le v w h = grind (arith, ints)
 
 lt_not_eq : (v w : ℤ) → int_lt v w ≡ true → int_eq v w ≡ false
 lt_not_eq v w h = grind (arith, ints)
 
 self_eq : (v : ℤ) → int_eq v v ≡ true
 self_eq v = grind (arith, ints)
-
--- the first of ascending values: from it on there are all
-from_itself : (v : ℤ) (vs : Values) → is_ascending (v ∷ vs) ≡ true → values_from v (v ∷ vs) ≡ v ∷ vs
-from_itself v vs a = filter_all (int_le v) (v ∷ vs) (together (int_le v v) (list_all (int_le v) vs) (self_le v) (all_weaker (int_lt v) (int_le v) (lt_le v) vs (above_first v vs a)))
-
--- one before it is left aside
-from_later : (v w : ℤ) (vs : Values) → is_ascending (w ∷ vs) ≡ true → has_value vs v ≡ true → values_from v (w ∷ vs) ≡ values_from v vs
-from_later v w vs a h = ap (λ b. cond b (w ∷ values_from v vs) (values_from v vs)) (gt_not_le v w (value_passes (int_lt w) vs v (above_first w vs a) h))
-
--- a value is the first, or among the others
-where_is : {X : Type 0} (v w : ℤ) (vs : Values) → has_value (w ∷ vs) v ≡ true → (v ≡ w → X) → (has_value vs v ≡ true → X) → X
-where_is {X} v w vs h f k = by (int_eq v w) (Decides-int_eq v w).0 h
-  where
-    by : (b : Bool) → (b ≡ true → v ≡ w) → (b || has_value vs v) ≡ true → X
-    by true e h = f (e refl)
-    by false e h = k h
-
-least_is : (v : ℤ) (vs : Values) → list_all (int_lt v) vs ≡ true → least_from v vs ≡ v
-least_is v [] h = refl
-least_is v (w ∷ vs) h = ap (λ b. least_from (cond b w v) vs) (no_less v w (first (int_lt v w) (list_all (int_lt v) vs) h)) ∙ least_is v vs (second (int_lt v w) (list_all (int_lt v) vs) h)
-  where
-    no_less : (v w : ℤ) → int_lt v w ≡ true → int_lt w v ≡ false
-    no_less v w h = grind (arith, ints)
 
 pub first_is : (vs : Values) (v : ℤ) → is_ascending vs ≡ true → is_none_left vs ≡ false → v ≡ least_value vs → IsFirst vs v
 first_is [] v a n e = cc
@@ -93,45 +54,6 @@ rest_at (w ∷ vs) v a h = where_is v w vs h here (λ k. later k (rest_at vs v (
         from_later v w vs a k
         ∙ (e
         ∙ ap (λ us. v ∷ us) (sym (ap (λ b. cond b (w ∷ values_from (v +ℤ pos 1) vs) (values_from (v +ℤ pos 1) vs)) (not_above v w (value_passes (int_lt w) vs v (above_first w vs a) k)))))
-
--- the first of the values that pass
-passes : (p : ℤ → Bool) (vs : Values) (v : ℤ) (rest : Values) → filter p vs ≡ v ∷ rest → p v ≡ true
-passes p [] v rest e = cc
-passes p (u ∷ vs) v rest e = go (p u) refl e (passes p vs v rest)
-  where
-    go : (b : Bool) → p u ≡ b → cond b (u ∷ filter p vs) (filter p vs) ≡ v ∷ rest → (filter p vs ≡ v ∷ rest → p v ≡ true) → p v ≡ true
-    go true f e k = let h : u ≡ v = cc in subst (λ z. p z ≡ true) h f
-    go false f e k = k e
-
-first_among : (p : ℤ → Bool) (vs : Values) (v : ℤ) (rest : Values) → filter p vs ≡ v ∷ rest → has_value vs v ≡ true
-first_among p [] v rest e = cc
-first_among p (u ∷ vs) v rest e = by (p u) e (first_among p vs v rest)
-  where
-    here : (u v : ℤ) (vs : Values) → u ≡ v → (int_eq v u || has_value vs v) ≡ true
-    here u v vs h = ap (λ b. b || has_value vs v) ((Decides-int_eq v u).1 (sym h))
-
-    later : (b c : Bool) → c ≡ true → (b || c) ≡ true
-    later true c e = refl
-    later false c e = e
-
-    by : (b : Bool) → cond b (u ∷ filter p vs) (filter p vs) ≡ v ∷ rest → (filter p vs ≡ v ∷ rest → has_value vs v ≡ true) → has_value (u ∷ vs) v ≡ true
-    by true e f = let h : u ≡ v = cc in here u v vs h
-    by false e f = later (int_eq v u) (has_value vs v) (f e)
-
--- the values from a number on are those from the first of them on
-from_first : (n v : ℤ) (rest vs : Values) → is_ascending vs ≡ true → values_from n vs ≡ v ∷ rest → values_from n vs ≡ values_from v vs
-from_first n v rest [] a e = cc
-from_first n v rest (w ∷ vs) a e = by (int_le n w) refl e (from_first n v rest vs (ascending_rest w vs a))
-  where
-    all_from : (u : ℤ) → int_lt w u ≡ true → int_le n w ≡ true → int_le n u ≡ true
-    all_from u h k = grind (arith, ints)
-
-    by : (b : Bool) → int_le n w ≡ b → cond b (w ∷ filter (int_le n) vs) (filter (int_le n) vs) ≡ v ∷ rest → (values_from n vs ≡ v ∷ rest → values_from n vs ≡ values_from v vs) → cond b (w ∷ filter (int_le n) vs) (filter (int_le n) vs) ≡ values_from v (w ∷ vs)
-    by true f e q =
-        let h : w ≡ v = cc in
-        let one : filter (int_le n) vs ≡ vs = filter_all (int_le n) vs (all_weaker (int_lt w) (int_le n) (λ u k. all_from u k f) vs (above_first w vs a)) in
-        ap (λ us. w ∷ us) one ∙ subst (λ u. w ∷ vs ≡ values_from u (w ∷ vs)) h (sym (from_itself w vs a))
-    by false f e q = q e ∙ sym (from_later v w vs a (first_among (int_le n) vs v rest e))
 
 above_it : (v w : ℤ) → int_le (v +ℤ pos 1) w ≡ true → int_lt v w ≡ true
 above_it v w h = grind (arith, ints)
@@ -188,46 +110,6 @@ last_is vs u a n e =
       last = λ v h. last_from vs v a h;
       alone = λ v h. alone_at vs v a h;
     })
-
--- whether a value lies in a range, by the first from its lower end on
-filter_none : (p : ℤ → Bool) (vs : Values) → list_all (λ v. not (p v)) vs ≡ true → filter p vs ≡ []
-filter_none p [] h = refl
-filter_none p (v ∷ vs) h = by (p v) (first (not (p v)) (list_all (λ v. not (p v)) vs) h) (filter_none p vs (second (not (p v)) (list_all (λ v. not (p v)) vs) h))
-  where
-    by : (b : Bool) → not b ≡ true → filter p vs ≡ [] → cond b (v ∷ filter p vs) (filter p vs) ≡ []
-    by true e f = cc
-    by false e f = f
-
-within_from : (low high : ℤ) (vs : Values) → values_within low high vs ≡ filter (λ v. int_le v high) (values_from low vs)
-within_from low high vs = sym (filter_two (int_le low) (λ v. int_le v high) vs)
-
-pub none_within : (vs : Values) (low high : ℤ) → None ≡ least_of (values_from low vs) → false ≡ not (is_none_left (values_within low high vs))
-none_within vs low high e = by (values_from low vs) refl e
-  where
-    by : (us : Values) → values_from low vs ≡ us → None ≡ least_of us → false ≡ not (is_none_left (values_within low high vs))
-    by [] f e = sym (ap (λ us. not (is_none_left us)) (within_from low high vs ∙ ap (filter (λ v. int_le v high)) f))
-    by (w ∷ us) f e = cc
-
-too_high : (high w v : ℤ) → int_le w high ≡ false → int_lt w v ≡ true → not (int_le v high) ≡ true
-too_high high w v e f = grind (arith, ints)
-
-first_within : (high w : ℤ) (us : Values) → is_ascending (w ∷ us) ≡ true → int_le w high ≡ not (is_none_left (filter (λ v. int_le v high) (w ∷ us)))
-first_within high w us a = by (int_le w high) refl
-  where
-    by : (b : Bool) → int_le w high ≡ b → b ≡ not (is_none_left (cond b (w ∷ filter (λ v. int_le v high) us) (filter (λ v. int_le v high) us)))
-    by true e = refl
-    by false e = sym (ap (λ l. not (is_none_left l)) (filter_none (λ v. int_le v high) us (all_weaker (int_lt w) (λ v. not (int_le v high)) (λ v h. too_high high w v e h) us (above_first w us a))))
-
-pub some_within : (vs : Values) (low high v : ℤ) → is_ascending vs ≡ true → Some v ≡ least_of (values_from low vs) → int_le v high ≡ not (is_none_left (values_within low high vs))
-some_within vs low high v a e = by (values_from low vs) refl e
-  where
-    by : (us : Values) → values_from low vs ≡ us → Some v ≡ least_of us → int_le v high ≡ not (is_none_left (values_within low high vs))
-    by [] f e = cc
-    by (w ∷ us) f e =
-        let up : is_ascending (w ∷ us) ≡ true = subst (λ l. is_ascending l ≡ true) f (ascending_kept (int_le low) vs a) in
-        let got : v ≡ least_from w us = cc in
-        ap (λ u. int_le u high) (got ∙ least_is w us (above_first w us up))
-        ∙ (first_within high w us up ∙ ap (λ l. not (is_none_left l)) (sym (within_from low high vs ∙ ap (filter (λ u. int_le u high)) f)))
 
 -- the value before one of them
 not_low : (v : ℤ) → int_le v (v -ℤ pos 1) ≡ false

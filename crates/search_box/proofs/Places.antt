@@ -1,4 +1,5 @@
 -- Variables that have one value left, and the values read from them.
+pub use Rattle.box_laws.proofs.Readings.{read_numbers}
 use Rattle.std.proofs.Common.{◌≡◌, ℕ, zero, suc, ◌<◌, ◌≤◌, ◌+◌, Bool, true, false, cond, List, [], ◌∷◌, length, take, drop, set, refl, sym, ap, ◌∙◌, arith, ℤ, add-one}
 use Rattle.std.specs.Prelude.{◌==◌, int_lt, filter}
 use Rattle.std.specs.List.{list_all}
@@ -50,26 +51,6 @@ fixed_fewer (d ∷ box) (suc m) (suc n) l e =
 tails : (u : ℤ) (us : List ℤ) (w : ℤ) (ws : List ℤ) → ◌≡◌ {A = List ℤ} (u ∷ us) (w ∷ ws) → (u ≡ w) × (us ≡ ws)
 tails u us w ws e = (cc, cc)
 
--- one value more is read
-pub read_more : (vs : List ℤ) (box : Box) (k : ℕ) (v : ℤ) → k < length vs → k < length box → v ≡ least_value (values_left box k) → take k vs ≡ box_values (take k box) →
-    take (k + 1) (set vs k v) ≡ box_values (take (k + 1) box)
-read_more vs box k v h l e f = ap (λ n. take n (set vs k v)) (add-one k) ∙ (go vs box k h l e f ∙ sym (ap (λ n. box_values (take n box)) (add-one k)))
-  where
-    go : (vs : List ℤ) (box : Box) (k : ℕ) → k < length vs → k < length box → v ≡ least_value (values_left box k) → take k vs ≡ box_values (take k box) → take (suc k) (set vs k v) ≡ box_values (take (suc k) box)
-    go [] box k h l e f = absurd (omega arith)
-    go (u ∷ vs) [] k h l e f = absurd (omega arith)
-    go (u ∷ vs) (d ∷ box) zero h l e f = ap (λ w. w ∷ []) e
-    go (u ∷ vs) (d ∷ box) (suc k) h l e f =
-        let t = tails u (take k vs) (least_value d) (box_values (take k box)) f in
-        ap (λ w. w ∷ take (suc k) (set vs k v)) t.0 ∙ ap (λ ws. least_value d ∷ ws) (go vs box k (omega arith) (omega arith) e t.1)
-
--- what stands before a place stays
-pub kept_before : (vs : List ℤ) (from k : ℕ) (v : ℤ) → from ≤ k → take from (set vs k v) ≡ take from vs
-kept_before vs zero k v l = refl
-kept_before [] (suc from) k v l = refl
-kept_before (u ∷ vs) (suc from) zero v l = absurd (omega arith)
-kept_before (u ∷ vs) (suc from) (suc k) v l = ap (λ ws. u ∷ ws) (kept_before vs from k v (omega arith))
-
 -- the values of fewer variables stand, too
 pub stand_fewer : (vs : List ℤ) (box : Box) (m n : ℕ) → m ≤ n → take n vs ≡ box_values (take n box) → take m vs ≡ box_values (take m box)
 stand_fewer vs box zero n l e = refl
@@ -86,45 +67,6 @@ take_all [] zero l = refl
 take_all [] (suc n) l = refl
 take_all (x ∷ xs) zero l = absurd (omega arith)
 take_all (x ∷ xs) (suc n) l = ap (λ ys. x ∷ ys) (take_all xs n (omega arith))
-
--- a box of the game
-pub box_size : (g : Game) (box : Box) → is_box_of g box ≡ true → length box ≡ length g.variables
-box_size g box d = sub_length box (declared_box g) d ∙ length-map g.variables (λ x. domain_values x.domain)
-
-least_number : (vs : Values) → is_none_left vs ≡ false → list_all is_number vs ≡ true → is_number (least_value vs) ≡ true
-least_number [] e n = cc
-least_number (v ∷ vs) e n = go v vs (first (is_number v) (list_all is_number vs) n) (second (is_number v) (list_all is_number vs) n)
-  where
-    go : (v : ℤ) (vs : Values) → is_number v ≡ true → list_all is_number vs ≡ true → is_number (least_from v vs) ≡ true
-    go v [] p q = p
-    go v (w ∷ vs) p q = by (int_lt w v) (go w vs (first (is_number w) (list_all is_number vs) q) (second (is_number w) (list_all is_number vs) q)) (go v vs p (second (is_number w) (list_all is_number vs) q))
-      where
-        by : (b : Bool) → is_number (least_from w vs) ≡ true → is_number (least_from v vs) ≡ true → is_number (least_from (cond b w v) vs) ≡ true
-        by true e f = e
-        by false e f = f
-
--- the values that are read are numbers
-pub read_numbers : (g : Game) (box : Box) (n : ℕ) → list_all (λ x. is_domain x.domain) g.variables ≡ true → is_box_of g box ≡ true → has_empty box ≡ false → list_all is_number (box_values (take n box)) ≡ true
-read_numbers g box n valid d full = go box n full (λ y. left_small g box y valid d)
-  where
-    go : (box : Box) (n : ℕ) → has_empty box ≡ false → ((y : ℕ) → list_all is_number (values_left box y) ≡ true) → list_all is_number (box_values (take n box)) ≡ true
-    go [] zero full f = refl
-    go [] (suc n) full f = refl
-    go (vs ∷ box) zero full f = refl
-    go ([] ∷ box) (suc n) full f = cc
-    go ((v ∷ vs) ∷ box) (suc n) full f =
-        together (is_number (least_value (v ∷ vs))) (list_all is_number (box_values (take n box))) (least_number (v ∷ vs) refl (f 0)) (go box n full (λ y. f (suc y)))
-
-all_filter : {X : Type 0} (p q : X → Bool) (xs : List X) → list_all p xs ≡ true → list_all p (filter q xs) ≡ true
-all_filter p q [] h = refl
-all_filter p q (x ∷ xs) h = by (q x) (all_filter p q xs (second (p x) (list_all p xs) h))
-  where
-    by : (b : Bool) → list_all p (filter q xs) ≡ true → list_all p (cond b (x ∷ filter q xs) (filter q xs)) ≡ true
-    by true k = together (p x) (list_all p (filter q xs)) (first (p x) (list_all p xs) h) k
-    by false k = k
-
-pub rules_valid : (g : Game) (i : ℕ) → list_all (is_constraint g.variables) g.constraints ≡ true → list_all (is_constraint g.variables) (restriction g i) ≡ true
-rules_valid g i h = all_filter (is_constraint g.variables) (λ c. c.owner.0 == i) g.constraints h
 
 -- the values of all variables
 pub all_read : (g : Game) (vs : List ℤ) (box : Box) → length vs ≡ length g.variables → take (length g.variables) vs ≡ box_values (take (length g.variables) box) → vs ≡ box_values (take (length g.variables) box)

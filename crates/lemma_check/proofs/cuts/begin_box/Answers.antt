@@ -1,7 +1,6 @@
 use Rattle.std.proofs.Common.{◌≡◌, ◌∙◌, ap, subst, sym, refl, true, List, length}
 use Rattle.qc_model.specs.Domains.{has_empty}
-use Rattle.line_check.proofs.Emptying.{declared_full}
-use Rattle.line_check.proofs.Declared.{declared_is}
+use Rattle.box_laws.proofs.Declared.{declared_full, declared_is}
 use Rattle.lemma_list.specs.declared.lemma.Literal.{Literal}
 use Rattle.lemma_check.specs.Gaps.{are_inside}
 use Rattle.lemma_check.specs.Held.{IsHeldOf}

@@ -8,7 +8,8 @@ use Rattle.qc_model.specs.Domains.{is_none_left, values_within, values_left, box
 use Rattle.qc_model.specs.Refuted.{refuted_by}
 use Rattle.fd_store.specs.Held.{Held}
 use Rattle.qc_arguments.specs.Asked.{IsAsked}
-use Rattle.line_check.proofs.Readings.{asked, legal_is, some_place}
+use Rattle.box_laws.proofs.Readings.{some_place}
+use Rattle.line_check.proofs.Removals.{asked, legal_is}
 use Rattle.line_check.proofs.legal.is_legal_prune.Goals as goal
 
 pub refutes_in-requires-clause-asked : goal.refutes_in-requires-clause-asked

@@ -6,9 +6,9 @@ use Rattle.qc_model.specs.Game.{allows, before}
 use Rattle.qc_model.specs.Holds.{holds_on}
 use Rattle.proof_tree.specs.Place.{position, is_fixed}
 use Rattle.fd_store.specs.Held.{Held}
-use Rattle.line_check.specs.Machine.{only, IsAt}
-use Rattle.line_check.proofs.Readings.{box_size}
-use Rattle.line_check.proofs.Placing.{position_placed}
+use Rattle.check_box.specs.Placed.{only, IsAt}
+use Rattle.box_laws.proofs.Readings.{box_size}
+use Rattle.check_box.proofs.Placing.{position_placed}
 use Rattle.line_check.proofs.Prefixes.{span_allows_prefix}
 use Rattle.line_check.proofs.Known.{single_after}
 use Rattle.line_check.proofs.tuple.tuple_allowed.Goals as goal

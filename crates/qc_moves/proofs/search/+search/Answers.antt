@@ -8,7 +8,7 @@ use Rattle.qc_model.proofs.Before.{before-le}
 use Rattle.qc_arguments.specs.Asked.{is_box_of}
 use Rattle.qc_arguments.proofs.Values.{value_passes}
 use Rattle.fd_store.specs.Held.{Held}
-use Rattle.line_check.proofs.Readings.{rules_valid}
+use Rattle.box_laws.proofs.Readings.{rules_valid}
 use Rattle.qc_play.proofs.Outcomes.{on_ok}
 use Rattle.qc_moves.specs.Found.{found, domains_to}
 use Rattle.qc_moves.specs.Puts.{state_of, puts}

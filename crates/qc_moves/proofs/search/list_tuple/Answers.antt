@@ -4,7 +4,7 @@ use Rattle.std.proofs.lemmas.List.{take_rest}
 use Rattle.qc_model.specs.Game.{restriction, allows}
 use Rattle.qc_model.specs.Holds.{holds_on}
 use Rattle.qc_model.specs.Valid.{is_constraint, is_number}
-use Rattle.line_check.proofs.Readings.{rules_valid}
+use Rattle.box_laws.proofs.Readings.{rules_valid}
 use Rattle.qc_play.proofs.Outcomes.{on_ok}
 use Rattle.qc_moves.specs.Puts.{state_of, put as put_of, puts}
 use Rattle.qc_moves.proofs.Going.{numbers_in}

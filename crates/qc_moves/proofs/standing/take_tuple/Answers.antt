@@ -4,7 +4,7 @@ use Rattle.std.specs.List.{list_all}
 use Rattle.qc_model.specs.Game.{restriction, scope_domains}
 use Rattle.qc_model.specs.Holds.{holds_on}
 use Rattle.qc_model.specs.Valid.{is_constraint, is_number}
-use Rattle.line_check.proofs.Readings.{rules_valid}
+use Rattle.box_laws.proofs.Readings.{rules_valid}
 use Rattle.qc_play.specs.Play.{lies_in}
 use Rattle.qc_play.proofs.Endings.{lies_true}
 use Rattle.qc_play.proofs.Ranges.{numbers_both, lies_numbers, scope_numbers}

@@ -3,7 +3,7 @@ use Rattle.qc_model.specs.Domains.{has_empty}
 use Rattle.qc_levels.specs.DemandLists.{HasLists}
 use Rattle.qc_joins.specs.Joins.{out_of}
 use Rattle.proof_tree.specs.Shape.{tree_of}
-use Rattle.line_check.proofs.Emptying.{declared_full}
+use Rattle.box_laws.proofs.Declared.{declared_full}
 use Rattle.qc_play.specs.Shown.{Shows}
 use Rattle.qc_play.specs.Walk.{node_finding, CanReadNode, IsWithin}
 use Rattle.qc_play.proofs.Outcomes.{if_ok}

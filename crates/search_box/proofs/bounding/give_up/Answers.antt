@@ -7,7 +7,8 @@ use Rattle.qc_model.specs.Domains.{box_without, is_none_left, values_left, value
 use Rattle.proof_tree.specs.declared.tree.Step.TheVariants.{Bound}
 use Rattle.proof_tree.specs.Steps.{best_value}
 use Rattle.search_box.specs.Bounds.{IsBounded}
-use Rattle.search_box.proofs.GivenUp.{bounded_is, none_goes, not_true_false, not_false_true}
+use Rattle.search_box.proofs.GivenUp.{bounded_is, not_true_false, not_false_true}
+use Rattle.box_laws.proofs.Emptying.{nothing_goes}
 use Rattle.search_box.proofs.bounding.give_up.Goals as goal
 
 pub returns-clause-answer : goal.returns-clause-answer
@@ -33,4 +34,4 @@ returns-then-not-has_within-clause-content c =
     let hi_fits : SFits w64 c.args.hi = search rules in
     let within = values_within c.args.lo c.args.hi (values_left c.args.store.now.box c.args.x.0) in
     let asked : c.has_within.result ≡ not (is_none_left within) = simp to_z-of_z at c.has_within.ensures in
-    none_goes c.args.store.now.box c.args.x.0 c.args.lo c.args.hi (not_false_true (is_none_left within) (sym asked ∙ c.if-not-has_within.true))
+    nothing_goes c.args.store.now.box c.args.x.0 c.args.lo c.args.hi (not_false_true (is_none_left within) (sym asked ∙ c.if-not-has_within.true))

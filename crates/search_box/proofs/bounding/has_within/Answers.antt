@@ -4,7 +4,7 @@ use mir.Val.{SFits}
 use mir.Syntax.{w64}
 use Rattle.qc_model.specs.Domains.{values_left}
 use Rattle.fd_store.specs.Held.{values_from, least_of}
-use Rattle.search_box.proofs.Orders.{some_within, none_within}
+use Rattle.box_laws.proofs.Emptying.{some_within, none_within}
 use Rattle.search_box.proofs.bounding.has_within.Goals as goal
 
 pub returns-in-None : goal.returns-in-None
@@ -21,4 +21,4 @@ returns-in-Some c =
     let v_fits : SFits w64 c.in-Some.v = search rules in
     let vs = values_left c.args.store.now.box c.args.x.0 in
     let found : c.next.result ≡ least_of (values_from c.args.lo vs) = simp to_z-of_z at c.next.ensures in
-    simp to_z-of_z (some_within vs c.args.lo c.args.hi c.in-Some.v c.known.ensures.ascending (sym c.in-Some.is ∙ found))
+    simp to_z-of_z (some_within vs c.args.lo c.args.hi c.in-Some.v (sym c.in-Some.is ∙ found))

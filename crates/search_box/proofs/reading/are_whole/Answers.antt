@@ -1,7 +1,7 @@
 use Rattle.std.proofs.Common.{◌≡◌, ◌∙◌, ℕ, ◌≤◌, ◌<◌, ◌+◌, length, refl, sym, arith, below_more}
 use Rattle.qc_model.specs.Domains.{values_left, declared_box}
-use Rattle.search_box.proofs.Places.{box_size}
-use Rattle.search_box.proofs.Whole.{domain_at, whole_at, as_declared}
+use Rattle.box_laws.proofs.Readings.{box_size}
+use Rattle.box_laws.proofs.Whole.{domain_at, whole_at, as_declared}
 use Rattle.search_box.proofs.reading.are_whole.Goals as goal
 
 pub size-requires : goal.size-requires

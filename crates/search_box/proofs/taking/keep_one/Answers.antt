@@ -1,6 +1,6 @@
 use Rattle.std.proofs.Common.{sym}
 use Rattle.prop_base.proofs.Steps.{follows_same}
-use Rattle.search_box.proofs.Keeping.{box_back, past_back}
+use Rattle.box_laws.proofs.Trails.{box_back, past_back}
 use Rattle.search_box.proofs.taking.keep_one.Goals as goal
 
 pub returns-in-Err-clause-same : goal.returns-in-Err-clause-same

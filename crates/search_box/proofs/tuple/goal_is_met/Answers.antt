@@ -5,7 +5,8 @@ use Rattle.qc_model.specs.Game.{allows}
 use Rattle.qc_model.specs.Holds.{holds_on}
 use Rattle.qc_model.specs.Valid.{is_constraint, is_number}
 use Rattle.search_box.proofs.Complete.{closed_goal_holds}
-use Rattle.search_box.proofs.Places.{read_numbers, rules_valid, all_read}
+use Rattle.search_box.proofs.Places.{all_read}
+use Rattle.box_laws.proofs.Readings.{read_numbers, rules_valid}
 use Rattle.search_box.proofs.tuple.goal_is_met.Goals as goal
 
 pub all_hold-requires-clause-rules : goal.all_hold-requires-clause-rules

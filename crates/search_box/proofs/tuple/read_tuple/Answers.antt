@@ -5,7 +5,7 @@ use Rattle.qc_model.specs.Game.{allows}
 use Rattle.qc_model.specs.Holds.{holds_on}
 use Rattle.qc_model.specs.Valid.{is_constraint, is_number}
 use Rattle.search_box.proofs.Complete.{closed_tuple_allowed}
-use Rattle.search_box.proofs.Places.{box_size, read_numbers, rules_valid}
+use Rattle.box_laws.proofs.Readings.{box_size, read_numbers, rules_valid}
 use Rattle.search_box.proofs.tuple.read_tuple.Goals as goal
 
 pub read_values-requires-clause-bound : goal.read_values-requires-clause-bound

@@ -3,7 +3,7 @@ use Rattle.std.specs.Prelude.{slice_index_or}
 use Rattle.qc_model.specs.Content.{Game}
 use Rattle.qc_model.specs.Domains.{Box, declared_box}
 use Rattle.qc_arguments.specs.Asked.{is_box_of}
-use Rattle.line_check.proofs.Declared.{declared_is}
+use Rattle.box_laws.proofs.Declared.{declared_is}
 use Rattle.lemma_check.proofs.machine.LemmaMachine.new.Goals as goal
 
 pub returns-clause-ready : goal.returns-clause-ready

@@ -6,9 +6,10 @@ use Rattle.proof_tree.specs.declared.line.Line.TheVariants.{Branch}
 use Rattle.line_check.specs.declared.open.Due.TheVariants as due
 use Rattle.line_check.specs.Ledger.{ledger_end}
 use Rattle.line_check.specs.State.{may_branch}
-use Rattle.line_check.specs.Machine.{only, game_of}
+use Rattle.line_check.specs.Machine.{game_of}
+use Rattle.check_box.specs.Placed.{only}
 use Rattle.line_check.specs.Known.{HasRead, AreBranchesRead}
-use Rattle.line_check.proofs.Readings.{box_size}
+use Rattle.box_laws.proofs.Readings.{box_size}
 use Rattle.line_check.proofs.Parts.{IsReadOn, read_within, read_tells, branch_inside, branch_full, branch_ready, branch_tells, no_room}
 use Rattle.line_check.proofs.machine.Machine.branch_line.Goals as goal
 use Rattle.line_check.proofs.machine.Machine.branch_line.Goals.{After-store, After-read_on}

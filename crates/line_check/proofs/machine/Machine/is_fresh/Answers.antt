@@ -6,8 +6,8 @@ use Rattle.fd_store.specs.Held.{Held}
 use Rattle.line_check.specs.declared.machine.Machine.{Machine}
 use Rattle.line_check.specs.declared.open.Due.TheVariants as due_of
 use Rattle.line_check.specs.Machine.{game_of, IsReady, IsReadyAt, IsAtNode}
-use Rattle.line_check.proofs.Readings.{box_size}
-use Rattle.line_check.proofs.Fresh.{domain_at, whole_at}
+use Rattle.box_laws.proofs.Readings.{box_size}
+use Rattle.box_laws.proofs.Whole.{domain_at, whole_at}
 use Rattle.line_check.proofs.machine.Machine.is_fresh.Goals as goal
 
 module _ (m : Machine) (due : m.due ≡ due_of.Node) (ready : IsReady m) where

@@ -2,7 +2,7 @@ use Rattle.std.proofs.Common.{ap, arith, length}
 use Rattle.qc_model.specs.Content.{Game}
 use Rattle.fd_store.specs.Held.{Held}
 use Rattle.line_check.specs.Machine.{game_of}
-use Rattle.line_check.proofs.Readings.{box_size}
+use Rattle.box_laws.proofs.Readings.{box_size}
 use Rattle.line_check.proofs.machine.Machine.may_branch_on.Goals as goal
 
 pub is_fixed-requires : goal.is_fixed-requires

@@ -10,11 +10,12 @@ use Rattle.fd_store.specs.Held.{trail_len}
 use Rattle.line_check.specs.LedgerSizes.{VerdictLaws}
 use Rattle.line_check.specs.Tracking.{TracksAll}
 use Rattle.line_check.specs.Machine.{AreFrames}
-use Rattle.line_check.proofs.Emptying.{declared_full}
-use Rattle.line_check.proofs.Declared.{declared_is}
+use Rattle.box_laws.proofs.Declared.{declared_full, declared_is}
 use Rattle.line_check.proofs.LedgerSizes.{verdict_laws}
 use Rattle.line_check.proofs.Known.{none_read}
-use Rattle.line_check.proofs.Turning.{new_tells, at_first, numbers_none}
+use Rattle.line_check.proofs.Turning.{new_tells}
+use Rattle.check_box.proofs.Fewer.{at_first}
+use Rattle.check_box.proofs.Placing.{numbers_none}
 use Rattle.line_check.proofs.machine.Machine.new.Goals as goal
 
 pub returns-clause-tells : goal.returns-clause-tells

@@ -6,11 +6,11 @@ use Rattle.qc_model.specs.Domains.{has_empty}
 use Rattle.qc_arguments.specs.Asked.{is_box_of}
 use Rattle.fd_store.specs.Held.{trail_len}
 use Rattle.line_check.specs.Machine.{game_of, AreFrames}
-use Rattle.line_check.proofs.Emptying.{declared_full}
-use Rattle.line_check.proofs.Declared.{declared_is}
+use Rattle.box_laws.proofs.Declared.{declared_full, declared_is}
 use Rattle.line_check.proofs.LedgerSizes.{verdict_laws}
 use Rattle.line_check.proofs.Known.{none_read}
-use Rattle.line_check.proofs.Turning.{new_tells, at_first}
+use Rattle.line_check.proofs.Turning.{new_tells}
+use Rattle.check_box.proofs.Fewer.{at_first}
 use Rattle.line_check.proofs.Bases.{base_boxed, base_read}
 use Rattle.line_check.proofs.machine.Machine.restart.Goals as goal
 

@@ -8,9 +8,9 @@ use Rattle.proof_tree.specs.Cover.{is_cover}
 use Rattle.fd_store.specs.Held.{Held, values_from}
 use Rattle.line_check.specs.declared.open.Open.TheVariants.{Branch}
 use Rattle.line_check.specs.declared.open.Due.TheVariants as due
-use Rattle.line_check.specs.Cases.{IsCase}
+use Rattle.check_box.specs.Cases.{IsCase}
 use Rattle.line_check.specs.Places.{rest}
-use Rattle.line_check.proofs.Readings.{passed_after}
+use Rattle.box_laws.proofs.Numbers.{passed_after}
 use Rattle.line_check.proofs.Forks.{skip_ready, skip_tells, not_skipped, variable_inside, inside_there, is_back}
 use Rattle.line_check.proofs.machine.Machine.skip_line.Goals as goal
 use Rattle.line_check.proofs.machine.Machine.skip_line.Goals.{In-Some}

@@ -5,11 +5,11 @@ use mir.Val.{SFits}
 use mir.Syntax.{w64}
 use Rattle.qc_model.specs.Domains.{values_left, box_within, declared_box}
 use Rattle.fd_store.specs.Held.{Held}
-use Rattle.line_check.specs.Cases.{IsCase}
+use Rattle.check_box.specs.Cases.{IsCase}
 use Rattle.line_check.specs.declared.open.Open.TheVariants.{Branch}
 use Rattle.line_check.specs.Places.{rest}
 use Rattle.line_check.specs.Machine.{game_of}
-use Rattle.line_check.proofs.Readings.{passed_after}
+use Rattle.box_laws.proofs.Numbers.{passed_after}
 use Rattle.line_check.proofs.Forks.{take_yes, take_no, take_within, take_into, variable_inside, inside_there}
 use Rattle.line_check.proofs.machine.Machine.take_case.Goals as goal
 use Rattle.line_check.proofs.machine.Machine.take_case.Goals.{After-keep, After-size, After-set_top}

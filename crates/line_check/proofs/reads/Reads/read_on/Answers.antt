@@ -4,9 +4,10 @@ use Rattle.std.specs.Vec.{with_item}
 use Rattle.qc_model.specs.Domains.{values_left, least_value, is_single}
 use Rattle.qc_model.specs.Valid.{is_number}
 use Rattle.line_check.specs.declared.reads.Reads.{Reads}
-use Rattle.line_check.specs.Machine.{only}
-use Rattle.line_check.proofs.Readings.{least_number, passed_number}
-use Rattle.line_check.proofs.Placing.{single_some, single_only, numbers_set}
+use Rattle.check_box.specs.Placed.{only}
+use Rattle.box_laws.proofs.Numbers.{passed_number}
+use Rattle.box_laws.proofs.Readings.{least_number}
+use Rattle.check_box.proofs.Placing.{single_some, single_only, numbers_set}
 use Rattle.line_check.proofs.Known.{reads_one, branches_one, kept_one, not_single, all_single, all_placed}
 use Rattle.line_check.proofs.reads.Reads.read_on.Goals as goal
 

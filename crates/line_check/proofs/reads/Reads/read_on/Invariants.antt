@@ -3,7 +3,7 @@ use Rattle.std.specs.List.{list_all}
 use Rattle.qc_model.specs.Valid.{is_number}
 use Rattle.line_check.specs.declared.open.Open.{Open}
 use Rattle.line_check.specs.Known.{HasRead, AreBranchesRead}
-use Rattle.line_check.specs.Machine.{only}
+use Rattle.check_box.specs.Placed.{only}
 use Rattle.line_check.proofs.reads.Reads.read_on.Given as goal
 
 abbrev pub invariant-loop-self : goal.invariant-loop-self

@@ -5,7 +5,7 @@ use Rattle.qc_model.specs.Holds.{holds_on}
 use Rattle.qc_model.specs.Valid.{is_constraint}
 use Rattle.qc_play.specs.Play.{at_goal}
 use Rattle.qc_play.specs.PlayText.{ending_line, unused_line}
-use Rattle.line_check.proofs.Readings.{rules_valid}
+use Rattle.box_laws.proofs.Readings.{rules_valid}
 use Rattle.qc_play.proofs.board.Board.reach_goal.Goals as goal
 
 pub all_hold-holds-requires-clause-rules : goal.all_hold-holds-requires-clause-rules

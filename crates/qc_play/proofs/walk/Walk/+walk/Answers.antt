@@ -6,8 +6,9 @@ use Rattle.qc_model.specs.Domains.{box_within, declared_box, has_empty, values_l
 use Rattle.qc_model.specs.Verdict.{Seen}
 use Rattle.qc_joins.specs.Joins.{out_of, StandsAt}
 use Rattle.fd_store.specs.Held.{Held}
-use Rattle.line_check.specs.Cases.{IsCase}
-use Rattle.line_check.proofs.Readings.{box_size, passed_after}
+use Rattle.check_box.specs.Cases.{IsCase}
+use Rattle.box_laws.proofs.Numbers.{passed_after}
+use Rattle.box_laws.proofs.Readings.{box_size}
 use Rattle.proof_tree.specs.Counts.{ends_of, ending_ends, weight, ending_weight, branch_weight, case_weight}
 use Rattle.std.proofs.lemmas.List.{drop_all}
 use Rattle.proof_tree.specs.Finding.{leaf_node, seen_of}
@@ -20,7 +21,7 @@ use Rattle.qc_play.specs.Shown.{Shows}
 use Rattle.qc_play.specs.Walk.{game_of, node_finding, part_leaves, marks_seen, CanReadNode, CanReadPart, CanReadEnd, CanReadCase, IsBack, HasSeen, Tells}
 use Rattle.qc_play.proofs.Backs.{back_self, back_then, back_below, within_back, within_kept_box}
 use Rattle.qc_arguments.proofs.Boxes.{left_small}
-use Rattle.line_check.proofs.Parts.{from_least}
+use Rattle.box_laws.proofs.Firsts.{from_least}
 use Rattle.qc_play.proofs.Branching.{Branched, none_branched, one_branched, all_branched, first_piece, piece_case}
 use Rattle.qc_play.proofs.Outcomes.{on_ok, if_ok}
 use Rattle.qc_play.proofs.OwnTrees.{own_back, own_shows, taken_back}

@@ -3,7 +3,7 @@ use Rattle.qc_joins.specs.Joins.{out_of, LeafFits}
 use Rattle.qc_levels.specs.Seen.{verdict_of}
 use Rattle.proof_tree.specs.Finding.{leaf_node, seen_of}
 use Rattle.proof_tree.specs.Place.{position}
-use Rattle.line_check.proofs.Placing.{position_placed}
+use Rattle.check_box.proofs.Placing.{position_placed}
 use Rattle.qc_play.specs.Gathers.{Gathers}
 use Rattle.qc_play.specs.Shown.{Shows}
 use Rattle.qc_play.specs.Walk.{game_of}

@@ -4,7 +4,7 @@ use Rattle.qc_joins.specs.Joins.{out_of}
 use Rattle.qc_joins.specs.Verdicts.{verdict_at}
 use Rattle.proof_tree.specs.Finding.{seen_of}
 use Rattle.proof_tree.specs.Place.{position}
-use Rattle.line_check.proofs.Placing.{position_placed}
+use Rattle.check_box.proofs.Placing.{position_placed}
 use Rattle.qc_play.specs.Walk.{game_of}
 use Rattle.qc_play.proofs.AtLevels.{level_from}
 use Rattle.qc_play.proofs.Backs.{back_all}

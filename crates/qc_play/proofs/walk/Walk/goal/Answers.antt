@@ -4,7 +4,7 @@ use Rattle.qc_model.specs.Demands.{demands}
 use Rattle.qc_model.specs.ForallVerdict.{goal_verdict}
 use Rattle.qc_model.specs.Game.{allows}
 use Rattle.proof_tree.specs.Place.{position}
-use Rattle.line_check.proofs.Placing.{position_placed}
+use Rattle.check_box.proofs.Placing.{position_placed}
 use Rattle.qc_play.specs.Walk.{game_of}
 use Rattle.qc_play.proofs.AtLevels.{all_values}
 use Rattle.qc_play.proofs.Backs.{back_all}

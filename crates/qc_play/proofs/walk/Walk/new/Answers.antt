@@ -2,8 +2,9 @@ use Rattle.std.proofs.Common.{◌≡◌, ◌∙◌, sym, subst, rules, length, t
 use Rattle.std.specs.Prelude.{pos}
 use Rattle.std.specs.List.{list_all}
 use Rattle.qc_model.specs.Valid.{is_number}
-use Rattle.line_check.proofs.Declared.{declared_is}
-use Rattle.line_check.proofs.Turning.{at_first, numbers_none}
+use Rattle.box_laws.proofs.Declared.{declared_is}
+use Rattle.check_box.proofs.Fewer.{at_first}
+use Rattle.check_box.proofs.Placing.{numbers_none}
 use Rattle.qc_play.proofs.walk.Walk.new.Goals as goal
 
 pub returns-clause-within : goal.returns-clause-within

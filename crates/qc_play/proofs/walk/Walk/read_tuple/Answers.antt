@@ -4,8 +4,8 @@ use Rattle.qc_model.specs.Domains.{is_single}
 use Rattle.qc_model.specs.Game.{before}
 use Rattle.qc_model.specs.Valid.{is_number}
 use Rattle.fd_store.specs.Held.{Held}
-use Rattle.line_check.specs.Machine.{only}
-use Rattle.line_check.proofs.Readings.{box_size}
+use Rattle.check_box.specs.Placed.{only}
+use Rattle.box_laws.proofs.Readings.{box_size}
 use Rattle.qc_play.specs.Walk.{game_of}
 use Rattle.qc_play.proofs.AtLevels.{level_from, level_stop, level_within}
 use Rattle.qc_play.proofs.TupleReads.{HasTuple, read_within, read_back}

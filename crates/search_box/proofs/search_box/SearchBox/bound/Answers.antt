@@ -5,7 +5,7 @@ use Rattle.search_box.specs.Boxed.{Boxed}
 use Rattle.search_box.proofs.Entering.{entered_on}
 use Rattle.search_box.proofs.GivenUp.{bound_sub}
 use Rattle.search_box.proofs.Keeping.{sub_self}
-use Rattle.search_box.proofs.Places.{box_size}
+use Rattle.box_laws.proofs.Readings.{box_size}
 use Rattle.search_box.proofs.search_box.SearchBox.bound.Goals as goal
 
 pub give_up-requires-clause-few : goal.give_up-requires-clause-few

@@ -5,7 +5,7 @@ use Rattle.qc_arguments.proofs.Values.{value_passes}
 use Rattle.fd_store.specs.Held.{values_from, least_of}
 use Rattle.search_box.specs.Boxed.{Boxed}
 use Rattle.search_box.specs.Rests.{IsNext}
-use Rattle.search_box.proofs.Keeping.{fits_after, passed_after}
+use Rattle.box_laws.proofs.Numbers.{fits_after, passed_after}
 use Rattle.search_box.proofs.Orders.{next_is}
 use Rattle.search_box.proofs.search_box.SearchBox.next.Goals as goal
 

@@ -4,7 +4,7 @@ use Rattle.qc_model.specs.Content.{Game}
 use Rattle.qc_model.specs.Domains.{is_single}
 use Rattle.search_box.specs.Boxed.{Boxed}
 use Rattle.search_box.proofs.Entering.{passed_on, is_own}
-use Rattle.search_box.proofs.Places.{box_size}
+use Rattle.box_laws.proofs.Readings.{box_size}
 use Rattle.search_box.proofs.search_box.SearchBox.next_free.Goals as goal
 
 pub next_unfixed-requires-clause-bound : goal.next_unfixed-requires-clause-bound

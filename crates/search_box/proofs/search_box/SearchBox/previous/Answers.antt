@@ -5,7 +5,7 @@ use Rattle.qc_arguments.proofs.Values.{value_passes}
 use Rattle.fd_store.specs.Held.{values_up_to, greatest_of}
 use Rattle.search_box.specs.Boxed.{Boxed}
 use Rattle.search_box.specs.Rests.{IsPrevious}
-use Rattle.search_box.proofs.Keeping.{fits_before, passed_before}
+use Rattle.box_laws.proofs.Numbers.{fits_before, passed_before}
 use Rattle.search_box.proofs.Orders.{previous_is}
 use Rattle.search_box.proofs.search_box.SearchBox.previous.Goals as goal
 

@@ -1,7 +1,7 @@
 use Rattle.std.proofs.Common.{sym, subst}
 use Rattle.fd_store.specs.Held.{Follows}
 use Rattle.search_box.specs.Boxed.{Boxed}
-use Rattle.search_box.proofs.Keeping.{box_back, past_back}
+use Rattle.box_laws.proofs.Trails.{box_back, past_back}
 use Rattle.search_box.proofs.search_box.SearchBox.undo_to.Goals as goal
 
 pub returns-clause-back : goal.returns-clause-back

@@ -1,4 +1,4 @@
--- A variable of which as many values are left as it has declared has its declared values left.
+-- A domain that is as large as the declared one is the declared one.
 use Rattle.std.proofs.Common.{◌≡◌, ℕ, zero, suc, ◌≤◌, Bool, true, false, ◌||◌, ◌&&◌, List, [], ◌∷◌, length, map, refl, sym, ap, ◌∙◌, arith, ℤ}
 use Rattle.std.specs.Prelude.{slice_get, int_lt, Some}
 use Rattle.std.specs.List.{list_all}
@@ -9,6 +9,7 @@ use Rattle.qc_model.specs.Content.{Game}
 use Rattle.qc_model.specs.Domains.{Values, Box, domain_values, declared_box, values_left, has_value, is_ascending, is_sub_box}
 use Rattle.qc_model.specs.Valid.{is_domain}
 use Rattle.qc_model.proofs.Readable.{first, second, together}
+use Rattle.qc_arguments.proofs.Values.{above_first, ascending_rest}
 use Rattle.qc_rules.proofs.Ascends.{domain_ascends}
 
 up : (x y z : ℤ) → int_lt x y ≡ true → int_lt y z ≡ true → int_lt x z ≡ true
@@ -25,17 +26,6 @@ all_up x y [] l h = refl
 all_up x y (v ∷ vs) l h =
     together (int_lt x v) (list_all (int_lt x) vs) (up x y v l (first (int_lt y v) (list_all (int_lt y) vs) h)) (all_up x y vs l (second (int_lt y v) (list_all (int_lt y) vs) h))
 
--- the values behind the first are above it
-all_above : (x : ℤ) (xs : Values) → is_ascending (x ∷ xs) ≡ true → list_all (int_lt x) xs ≡ true
-all_above x [] a = refl
-all_above x (y ∷ ys) a =
-    let l = first (int_lt x y) (is_ascending (y ∷ ys)) a in
-    together (int_lt x y) (list_all (int_lt x) ys) l (all_up x y ys l (all_above y ys (second (int_lt x y) (is_ascending (y ∷ ys)) a)))
-
-tail_ascends : (x : ℤ) (xs : Values) → is_ascending (x ∷ xs) ≡ true → is_ascending xs ≡ true
-tail_ascends x [] a = refl
-tail_ascends x (y ∷ ys) a = second (int_lt x y) (is_ascending (y ∷ ys)) a
-
 -- values above the first are among the others
 past : (e : ℤ) (es us : Values) → list_all (int_lt e) us ≡ true → list_all (has_value (e ∷ es)) us ≡ true → list_all (has_value es) us ≡ true
 past e es [] l h = refl
@@ -50,7 +40,7 @@ past e es (v ∷ us) l h =
 
 -- where the first of some values is not the first of the others, it is above that one
 later : (d e : ℤ) (es : Values) → int_eq d e ≡ false → is_ascending (e ∷ es) ≡ true → has_value (e ∷ es) d ≡ true → int_lt e d ≡ true
-later d e es n a h = among es (all_above e es a) (skip (int_eq d e) (has_value es d) n h)
+later d e es n a h = among es (above_first e es a) (skip (int_eq d e) (has_value es d) n h)
   where
     skip : (a b : Bool) → a ≡ false → (a || b) ≡ true → b ≡ true
     skip true b n k = cc
@@ -68,7 +58,7 @@ later d e es n a h = among es (all_above e es a) (skip (int_eq d e) (has_value e
 module _ (d e : ℤ) (ds es : Values) (a : is_ascending (d ∷ ds) ≡ true) (b : is_ascending (e ∷ es) ≡ true) (h : list_all (has_value (e ∷ es)) (d ∷ ds) ≡ true) where
   rest_in : int_eq d e ≡ true → list_all (has_value es) ds ≡ true
   rest_in q =
-      past e es ds (ap (λ u. list_all (int_lt u) ds) (is_same e d (turned d e q)) ∙ all_above d ds a) (second (has_value (e ∷ es) d) (list_all (has_value (e ∷ es)) ds) h)
+      past e es ds (ap (λ u. list_all (int_lt u) ds) (is_same e d (turned d e q)) ∙ above_first d ds a) (second (has_value (e ∷ es) d) (list_all (has_value (e ∷ es)) ds) h)
     where
       turned : (d e : ℤ) → int_eq d e ≡ true → int_eq e d ≡ true
       turned d e h = grind (arith, ints)
@@ -76,15 +66,15 @@ module _ (d e : ℤ) (ds es : Values) (a : is_ascending (d ∷ ds) ≡ true) (b 
   all_in : int_eq d e ≡ false → list_all (has_value es) (d ∷ ds) ≡ true
   all_in n =
       let l = later d e es n b (first (has_value (e ∷ es) d) (list_all (has_value (e ∷ es)) ds) h) in
-      past e es (d ∷ ds) (together (int_lt e d) (list_all (int_lt e) ds) l (all_up e d ds l (all_above d ds a))) h
+      past e es (d ∷ ds) (together (int_lt e d) (list_all (int_lt e) ds) l (all_up e d ds l (above_first d ds a))) h
 
 -- ascending values that are among others are no more than those
 no_more : (ds es : Values) → is_ascending ds ≡ true → is_ascending es ≡ true → list_all (has_value es) ds ≡ true → length ds ≤ length es
 no_more [] es a b h = omega arith
 no_more (d ∷ ds) [] a b h = cc
 no_more (d ∷ ds) (e ∷ es) a b h =
-    by (int_eq d e) (λ q. no_more ds es (tail_ascends d ds a) (tail_ascends e es b) (rest_in d e ds es a b h q))
-    (λ q. no_more (d ∷ ds) es a (tail_ascends e es b) (all_in d e ds es a b h q))
+    by (int_eq d e) (λ q. no_more ds es (ascending_rest d ds a) (ascending_rest e es b) (rest_in d e ds es a b h q))
+    (λ q. no_more (d ∷ ds) es a (ascending_rest e es b) (all_in d e ds es a b h q))
   where
     by : (q : Bool) → (q ≡ true → length ds ≤ length es) → (q ≡ false → length (d ∷ ds) ≤ length es) → length (d ∷ ds) ≤ length (e ∷ es)
     by true f g = omega (arith, f refl)
@@ -96,11 +86,11 @@ all_same [] [] a b h l = refl
 all_same [] (e ∷ es) a b h l = absurd (omega (arith, l))
 all_same (d ∷ ds) [] a b h l = absurd (omega (arith, l))
 all_same (d ∷ ds) (e ∷ es) a b h l =
-    by (int_eq d e) refl (λ q. all_same ds es (tail_ascends d ds a) (tail_ascends e es b) (rest_in d e ds es a b h q) (omega (arith, l)))
+    by (int_eq d e) refl (λ q. all_same ds es (ascending_rest d ds a) (ascending_rest e es b) (rest_in d e ds es a b h q) (omega (arith, l)))
   where
     by : (q : Bool) → int_eq d e ≡ q → (q ≡ true → ds ≡ es) → ◌≡◌ {A = Values} (d ∷ ds) (e ∷ es)
     by true q f = ap (λ u. u ∷ ds) (is_same d e q) ∙ ap (λ us. e ∷ us) (f refl)
-    by false q f = absurd (omega (arith, l, no_more (d ∷ ds) es a (tail_ascends e es b) (all_in d e ds es a b h q)))
+    by false q f = absurd (omega (arith, l, no_more (d ∷ ds) es a (ascending_rest e es b) (all_in d e ds es a b h q)))
 
 whole : (box : Box) (xs : List Variable) (y : ℕ) → list_all (λ x. is_domain x.domain) xs ≡ true → is_sub_box box (map (λ x. domain_values x.domain) xs) ≡ true →
     length (values_left box y) ≡ length (values_left (map (λ x. domain_values x.domain) xs) y) → values_left box y ≡ values_left (map (λ x. domain_values x.domain) xs) y
@@ -137,3 +127,6 @@ domain_at (z ∷ xs) (suc y) x e d = domain_at xs y x e (second (is_domain z.dom
 pub whole_at : (g : Game) (box : Box) (y : ℕ) (x : Variable) → list_all (λ x. is_domain x.domain) g.variables ≡ true → is_sub_box box (declared_box g) ≡ true → slice_get g.variables y ≡ Some x →
     length (values_left box y) ≡ length (domain_values x.domain) → values_left box y ≡ values_left (declared_box g) y
 whole_at g box y x d s e l = whole box g.variables y d s (l ∙ ap length (sym (declared_at g.variables y x e)))
+
+pub as_declared : (g : Game) (box : Box) (y : ℕ) (x : Variable) → slice_get g.variables y ≡ Some x → values_left box y ≡ values_left (declared_box g) y → length (values_left box y) ≡ length (domain_values x.domain)
+as_declared g box y x e h = ap length (h ∙ declared_at g.variables y x e)

@@ -1,0 +1,9 @@
+pub mod Numbers
+pub mod Filters
+pub mod Firsts
+pub mod Sides
+pub mod Emptying
+pub mod Declared
+pub mod Whole
+pub mod Readings
+pub mod Trails

@@ -1,0 +1,4 @@
+pub mod Cuts
+pub mod Fewer
+pub mod Placing
+pub mod Rooms

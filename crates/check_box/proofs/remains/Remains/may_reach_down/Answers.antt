@@ -1,0 +1,14 @@
+use Rattle.std.proofs.Common.{◌≡◌, false, true, rules, subst, ℤ}
+use Rattle.std.proofs.lemmas.Int.{to_z-of_z}
+use mir.Val.{SFits}
+use mir.Syntax.{w64}
+use Rattle.qc_model.specs.Domains.{is_none_left, values_left, values_within}
+use Rattle.fd_store.specs.Held.{Held}
+use Rattle.check_box.proofs.remains.Remains.may_reach_down.Goals as goal
+
+pub returns : goal.returns
+returns c =
+    let fits : SFits w64 c.args.hi = search rules in
+    let x = c.args.x.0 in
+    let none : c.reaches_down.result ≡ false → (lo : ℤ) → is_none_left (values_within lo c.args.hi (values_left c.self.inside.store.box x)) ≡ true = simp to_z-of_z at c.reaches_down.ensures in
+    λ e lo. subst (λ (h : Held). is_none_left (values_within lo c.args.hi (values_left h.box x)) ≡ true) c.self.view_is (none e lo)
