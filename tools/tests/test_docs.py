@@ -5,7 +5,7 @@ import unittest
 
 TOP = os.path.dirname(os.path.dirname(os.path.dirname(os.path.realpath(__file__))))
 # Crates of tests, and of what only tests are made of, promise nothing to a user.
-OF_TESTS = {"qc_drafts", "qc_trials", "qc_trials_games", "qc_trials_certificates", "qc_trials_program", "tell_trials", "dense_trials"}
+OF_TESTS = {"test_drafts", "test_libraries", "test_games", "test_certificates", "test_program", "test_tell", "test_dense"}
 # What a row names that is no function: types and fields of contracts, clauses, and words of the prose.
 NAME = re.compile(r"`([a-z_]+)`")
 
@@ -42,7 +42,7 @@ def public_names(crate):
 class Pages(unittest.TestCase):
     def test_each_crate_has_its_row(self):
         proved = {name for named, _ in rows("proved.md") for name in named}
-        missing = crates() - OF_TESTS - proved - {"qc_commands", "qc_program", "dense_commands", "dense_program"}
+        missing = crates() - OF_TESTS - proved - {"qecode_commands", "qc_program", "dense_commands", "dense_program"}
         self.assertFalse(missing, "docs/proved.md has no row of these crates")
 
     def test_the_calls_of_a_row_are_there(self):

@@ -8,8 +8,8 @@ use Rattle.qc_model.specs.Content.{Game}
 use Rattle.qc_model.specs.Domains.{Box, Values, domain_values, declared_box, has_value, has_empty, is_ascending, is_sub_box}
 use Rattle.qc_model.specs.Valid.{is_domain}
 use Rattle.qc_model.proofs.Readable.{first, second, together}
-use Rattle.qc_rules.proofs.Ascends.{domain_ascends}
-use Rattle.qc_arguments.specs.Asked.{is_box_of}
+use Rattle.model_levels.proofs.Ascends.{domain_ascends}
+use Rattle.model_arguments.specs.Asked.{is_box_of}
 use Rattle.fd_store.proofs.FullDomains.{none_empty}
 
 -- the declared values are declared

@@ -5,7 +5,7 @@ use Rattle.std.specs.Ordering.{int_eq}
 use Rattle.std.proofs.lemmas.Int.{ints}
 use Rattle.std.proofs.lemmas.Bool.Decides.{Decides-int_eq}
 use Rattle.qc_model.specs.Domains.{Values, Box, values_left, values_within, values_outside, is_within, is_none_left, has_empty, box_without, least_from, least_value, greatest_value, has_value}
-use Rattle.qc_arguments.proofs.Kept.{low_end, high_end}
+use Rattle.model_arguments.proofs.Kept.{low_end, high_end}
 use Rattle.fd_store.specs.declared.answer.Removed.TheVariants.{Emptied}
 use Rattle.fd_store.specs.Held.{removal, values_from, least_of}
 use Rattle.box_laws.proofs.Filters.{filter_two}

@@ -8,7 +8,7 @@ use Rattle.std.proofs.lemmas.Bool.Decides.{nat_tests, Decides-int_eq}
 use Rattle.qc_model.specs.Domains.{Values, has_value, least_from, is_ascending}
 use Rattle.qc_model.specs.Valid.{is_number}
 use Rattle.qc_model.proofs.Readable.{first, second, together}
-use Rattle.qc_arguments.proofs.Values.{above_first, ascending_rest, value_passes}
+use Rattle.model_arguments.proofs.Values.{above_first, ascending_rest, value_passes}
 use Rattle.fd_store.specs.Held.{values_from}
 use Rattle.box_laws.proofs.Filters.{filter_all, all_weaker}
 

@@ -8,8 +8,8 @@ use Rattle.qc_model.specs.Domains.{Values, Box, values_left, values_within, box_
 use Rattle.qc_model.specs.Game.{restriction}
 use Rattle.qc_model.specs.Valid.{is_number, is_constraint, is_domain}
 use Rattle.qc_model.proofs.Readable.{first, second, together}
-use Rattle.qc_arguments.specs.Asked.{is_box_of}
-use Rattle.qc_arguments.proofs.Boxes.{sub_length, left_small}
+use Rattle.model_arguments.specs.Asked.{is_box_of}
+use Rattle.model_arguments.proofs.Boxes.{sub_length, left_small}
 use Rattle.box_laws.proofs.Filters.{all_filter}
 
 -- a box of the game

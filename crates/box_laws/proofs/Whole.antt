@@ -9,8 +9,8 @@ use Rattle.qc_model.specs.Content.{Game}
 use Rattle.qc_model.specs.Domains.{Values, Box, domain_values, declared_box, values_left, has_value, is_ascending, is_sub_box}
 use Rattle.qc_model.specs.Valid.{is_domain}
 use Rattle.qc_model.proofs.Readable.{first, second, together}
-use Rattle.qc_arguments.proofs.Values.{above_first, ascending_rest}
-use Rattle.qc_rules.proofs.Ascends.{domain_ascends}
+use Rattle.model_arguments.proofs.Values.{above_first, ascending_rest}
+use Rattle.model_levels.proofs.Ascends.{domain_ascends}
 
 up : (x y z : ℤ) → int_lt x y ≡ true → int_lt y z ≡ true → int_lt x z ≡ true
 up x y z e f = grind (arith, ints)

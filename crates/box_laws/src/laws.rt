@@ -5,7 +5,7 @@ ghost use Rattle.qc_model.specs.declared.problem.Variable.{Variable};
 ghost use Rattle.qc_model.specs.Content.{Game};
 ghost use Rattle.qc_model.specs.Domains.{Box, Values, box_values, box_within, box_without, declared_box, domain_values, has_empty, is_none_left, is_sub_box, values_left, values_within};
 ghost use Rattle.qc_model.specs.Valid.{is_domain, is_number};
-ghost use Rattle.qc_arguments.specs.Asked.{is_box_of};
+ghost use Rattle.model_arguments.specs.Asked.{is_box_of};
 ghost use Rattle.fd_store.specs.Held.{Held, Follows, IsUndone, least_of, trail_len, values_from};
 
 /// The declared domains are a box of the game, and leave each variable a value. A variable of which as many values are left

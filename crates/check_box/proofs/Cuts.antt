@@ -9,7 +9,7 @@ use Rattle.std.proofs.lemmas.List.{get_or-set_same}
 use Rattle.qc_model.specs.Domains.{Values, Box, values_left, values_within, is_within, is_none_left, has_value, least_from, is_ascending, box_within}
 use Rattle.qc_model.specs.Valid.{is_number}
 use Rattle.qc_model.proofs.Readable.{first, second}
-use Rattle.qc_arguments.proofs.Values.{above_first, ascending_rest, ascending_kept, value_passes}
+use Rattle.model_arguments.proofs.Values.{above_first, ascending_rest, ascending_kept, value_passes}
 use Rattle.proof_tree.specs.Cover.{cover, is_cover}
 use Rattle.fd_store.specs.Held.{values_from, least_of}
 use Rattle.box_laws.proofs.Filters.{filter_two, filter_same, filter_none, filter_all, all_weaker}

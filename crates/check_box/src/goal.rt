@@ -4,7 +4,7 @@ ghost use Rattle.std.specs.List.{list_all};
 ghost use Rattle.qc_model.specs.Game.{allows};
 ghost use Rattle.qc_model.specs.Valid.{is_number};
 
-use qc_rules::{Levels, all_hold};
+use model_levels::{Levels, all_hold};
 
 /// Whether the goal holds on these values, one for each variable.
 pub fn goal_holds(levels: &Levels, values: &[i64]) -> bool

@@ -1,9 +1,9 @@
 -- What is answered for a certificate's file, where more was given before.
 use Rattle.std.proofs.Common.{◌≡◌, ℕ, List, [], Option, None, Some, Bool, true, false, refl, inl, inr}
 use Rattle.qc_model.specs.Content.{Game}
-use Rattle.qc_commands.specs.declared.status.Status.{Status}
-use Rattle.qc_commands.specs.declared.status.Status.TheVariants.{ReadFault}
-use Rattle.qc_commands.proofs.Down.{file_before, checks_before as tree_before}
+use Rattle.qecode_commands.specs.declared.status.Status.{Status}
+use Rattle.qecode_commands.specs.declared.status.Status.TheVariants.{ReadFault}
+use Rattle.qecode_commands.proofs.Down.{file_before, checks_before as tree_before}
 use Rattle.dense_commands.specs.Answers.{ChecksListFile, ChecksFile, is_list_head}
 
 list_before : (name : List ℕ) (told : Option (List ℕ)) (gave gave' : ℕ → Type 0) (g : Game) → ((n : ℕ) → gave n → gave' n) →

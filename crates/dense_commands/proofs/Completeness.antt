@@ -10,12 +10,12 @@ use Rattle.qdimacs.specs.Refusals.{formula_of}
 use Rattle.lemma_list.specs.Lemmas.{Entry}
 use Rattle.lemma_list.specs.InPlace.{proves}
 use Rattle.lemma_text.specs.Places.{IsText, NeverBoth, IsOneList}
-use Rattle.qc_commands.specs.declared.status.Status.{Status}
-use Rattle.qc_commands.specs.declared.status.Status.TheVariants.{Done, NotProved, Usage, BadCertificate, ReadFault, WriteFault, Memory}
-use Rattle.qc_commands.specs.Complete.{TellsProof as TellsTreeProof}
-use Rattle.qc_commands.specs.Files.{IsFile, Wrote}
-use Rattle.qc_commands.proofs.Told.{told_bytes, never_unread}
-use Rattle.qc_commands.proofs.Completeness.{Laws as ProblemLaws, for_problem, for_formula, solves_done, decides_done, checks_done as tree_file_done, no_fault}
+use Rattle.qecode_commands.specs.declared.status.Status.{Status}
+use Rattle.qecode_commands.specs.declared.status.Status.TheVariants.{Done, NotProved, Usage, BadCertificate, ReadFault, WriteFault, Memory}
+use Rattle.qecode_commands.specs.Complete.{TellsProof as TellsTreeProof}
+use Rattle.qecode_commands.specs.Files.{IsFile, Wrote}
+use Rattle.qecode_commands.proofs.Told.{told_bytes, never_unread}
+use Rattle.qecode_commands.proofs.Completeness.{Laws as ProblemLaws, for_problem, for_formula, solves_done, decides_done, checks_done as tree_file_done, no_fault}
 use Rattle.dense_commands.specs.Words.{Asked, solves, decides, checks}
 use Rattle.dense_commands.specs.Answers.{SolvesGame, DecidesGame, Denies, IsNoList, ChecksBytes, ChecksListFile, ChecksFile, is_list_head, HasHead, Answers}
 use Rattle.dense_commands.specs.Complete.{TellsProof, IsComplete}

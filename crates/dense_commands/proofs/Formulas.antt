@@ -9,8 +9,8 @@ use Rattle.qdimacs.specs.Content.{game_of}
 use Rattle.qdimacs.specs.Refusals.{formula_of}
 use Rattle.qdimacs.specs.Read.{IsProblemOf as IsGameOf}
 use Rattle.lemma_judge.specs.Stated.{LosesGame}
-use Rattle.qc_commands.specs.declared.status.Status.{Status}
-use Rattle.qc_commands.proofs.FormulaGames.{is_false, decided as decided_by_tree}
+use Rattle.qecode_commands.specs.declared.status.Status.{Status}
+use Rattle.qecode_commands.proofs.FormulaGames.{is_false, decided as decided_by_tree}
 use Rattle.dense_commands.specs.Answers.{SolvesByList, SolvesGame, TellsLoser, DecidesByList, DecidesGame}
 
 tells : (φ : Formula) (loser : Kind) → (IsWon (game_of φ) ↔ IsTrue (is_true φ)) → LosesGame loser (game_of φ) → TellsLoser loser φ

@@ -8,11 +8,11 @@ use Rattle.qdimacs.specs.Formula.{Formula, is_true}
 use Rattle.qdimacs.specs.Content.{game_of}
 use Rattle.lemma_text.specs.Places.{IsFault}
 use Rattle.lemma_judge.specs.Checking.{IsProof, IsNoProof}
-use Rattle.qc_commands.specs.declared.status.Status.{Status}
-use Rattle.qc_commands.specs.declared.status.Status.TheVariants.{Done, NotProved, Usage, BadCertificate}
-use Rattle.qc_commands.specs.Answers.{AnswersProblem, SolvesProblem, ChecksFile as ChecksTreeFile}
-use Rattle.qc_commands.specs.Formulas.{AnswersFormula, DecidesFormula}
-use Rattle.qc_commands.specs.Files.{IsFile, TurnsFileDown}
+use Rattle.qecode_commands.specs.declared.status.Status.{Status}
+use Rattle.qecode_commands.specs.declared.status.Status.TheVariants.{Done, NotProved, Usage, BadCertificate}
+use Rattle.qecode_commands.specs.Answers.{AnswersProblem, SolvesProblem, ChecksFile as ChecksTreeFile}
+use Rattle.qecode_commands.specs.Formulas.{AnswersFormula, DecidesFormula}
+use Rattle.qecode_commands.specs.Files.{IsFile, TurnsFileDown}
 use Rattle.dense_commands.specs.Words.{Asked, solves, decides, checks}
 
 -- the text is that of a list that proves who loses, which is so; it is no longer than `check` reads

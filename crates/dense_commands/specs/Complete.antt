@@ -9,9 +9,9 @@ use Rattle.qdimacs.specs.Refusals.{formula_of}
 use Rattle.lemma_list.specs.Lemmas.{Entry}
 use Rattle.lemma_list.specs.InPlace.{proves}
 use Rattle.lemma_judge.specs.Checking.{IsListText}
-use Rattle.qc_commands.specs.declared.status.Status.{Status}
-use Rattle.qc_commands.specs.declared.status.Status.TheVariants.{Done, Usage}
-use Rattle.qc_commands.specs.Complete.{TellsProblem, TellsFormula, TellsProof as TellsTreeProof}
+use Rattle.qecode_commands.specs.declared.status.Status.{Status}
+use Rattle.qecode_commands.specs.declared.status.Status.TheVariants.{Done, Usage}
+use Rattle.qecode_commands.specs.Complete.{TellsProblem, TellsFormula, TellsProof as TellsTreeProof}
 use Rattle.dense_commands.specs.Words.{Asked, solves, decides, checks}
 
 -- the file is told, and has the text of a list that proves what it states

@@ -3,7 +3,7 @@ use Rattle.std.specs.Prelude.{◌≡◌, ℕ, List, length, Option}
 use Rattle.qc_io.specs.Shelf.{IsFront}
 use Rattle.lemma_judge.specs.declared.progress.ListChecker.{ListChecker}
 use Rattle.lemma_judge.specs.Checking.{IsChecking}
-use Rattle.qc_commands.specs.Files.{IsFile}
+use Rattle.qecode_commands.specs.Files.{IsFile}
 
 -- its first n bytes
 pub record FedTo (told : Option (List ℕ)) (n : ℕ) (c : ListChecker) : Type 0 where

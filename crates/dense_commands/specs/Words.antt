@@ -1,7 +1,7 @@
 -- The words of a command.
 use Rattle.std.specs.Prelude.{ℕ, ◌&&◌, List, [], ◌∷◌, codes, Option, Some, None, if◌then◌else◌}
 use Rattle.std.specs.Str.{bytes_eq}
-use Rattle.qc_commands.specs.Words.{is_name, turns_asked, usual_turns}
+use Rattle.qecode_commands.specs.Words.{is_name, turns_asked, usual_turns}
 
 -- what the words ask for, files by their names: the problem of one is solved, or its formula decided, within so many turns; or a
 -- certificate is checked against a problem

@@ -1,15 +1,15 @@
 //! `check`: whether a certificate proves what it states of a problem.
 ghost use Rattle.std.specs.Prelude.{◌≡◌, ◌≢◌};
 ghost use Rattle.qc_io.specs.Counts.{Rose, RoseBy};
-ghost use Rattle.qc_commands.specs.Answers.{AnswersProblem};
-ghost use Rattle.qc_commands.specs.Files.{Wrote};
+ghost use Rattle.qecode_commands.specs.Answers.{AnswersProblem};
+ghost use Rattle.qecode_commands.specs.Files.{Wrote};
 ghost use Rattle.dense_commands.specs.Answers.{ChecksFile, HasHead};
 
 use crate::head::begins_list;
 use crate::list::check_list;
-use qc_commands::{Status, check_problem, open_problem};
 use qc_io::{Failed, Shelf, Sink};
 use qc_model::Problem;
+use qecode_commands::{Status, check_problem, open_problem};
 use std::alloc::Global;
 
 /// Checks the certificate of one file against the problem of another.

@@ -1,13 +1,13 @@
 //! `qbf`: whether a formula is true, by a list of lemmas for its game or by a certificate of `qecode`.
 ghost use Rattle.std.specs.Prelude.{◌≡◌, ◌≢◌, ◌≤◌};
 ghost use Rattle.qc_io.specs.Counts.{Rose, RoseBy};
-ghost use Rattle.qc_commands.specs.Files.{Wrote};
-ghost use Rattle.qc_commands.specs.Formulas.{AnswersFormula};
+ghost use Rattle.qecode_commands.specs.Files.{Wrote};
+ghost use Rattle.qecode_commands.specs.Formulas.{AnswersFormula};
 ghost use Rattle.dense_commands.specs.Answers.{DecidesGame};
 
 use crate::solve::solve_game;
-use qc_commands::{Status, open_formula};
 use qc_io::{Shelf, Sink};
+use qecode_commands::{Status, open_formula};
 use std::alloc::Global;
 
 /// Decides a file's formula: its game is solved within so many turns.

@@ -4,14 +4,14 @@ ghost use Rattle.qc_io.specs.Counts.{Rose, RoseBy};
 ghost use Rattle.qc_model.specs.Content.{Game};
 ghost use Rattle.lemma_check.specs.Machine.{game_of, IsReady};
 ghost use Rattle.lemma_judge.specs.Checking.{Comes, IsChecking};
-ghost use Rattle.qc_commands.specs.Files.{Wrote};
+ghost use Rattle.qecode_commands.specs.Files.{Wrote};
 ghost use Rattle.dense_commands.specs.Answers.{ChecksBytes, ChecksListFile, yes_line};
 
 use crate::feed::{Unread, feed_file};
 use lemma_judge::{Checked, ListChecker};
-use qc_commands::{Status, finish, refuse_certificate, too_long};
 use qc_io::{Shelf, Sink};
 use qc_model::{Kind, Problem};
+use qecode_commands::{Status, finish, refuse_certificate, too_long};
 use std::alloc::Global;
 
 /// How many bytes of a list's text are asked for at once.

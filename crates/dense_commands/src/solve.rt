@@ -2,14 +2,14 @@
 ghost use Rattle.std.specs.Prelude.{◌≡◌, ◌≢◌, ◌≤◌, IfSome};
 ghost use Rattle.qc_io.specs.Counts.{Rose, RoseBy};
 ghost use Rattle.lemma_solver.specs.Believed.{IsBelieved};
-ghost use Rattle.qc_commands.specs.Answers.{AnswersProblem};
-ghost use Rattle.qc_commands.specs.Files.{Wrote};
+ghost use Rattle.qecode_commands.specs.Answers.{AnswersProblem};
+ghost use Rattle.qecode_commands.specs.Files.{Wrote};
 ghost use Rattle.dense_commands.specs.Answers.{SolvesGame};
 
 use lemma_solver::{Believed, solve_by_lemmas};
-use qc_commands::{Status, finish, open_problem, solve_problem};
 use qc_io::{Shelf, Sink};
 use qc_model::Problem;
+use qecode_commands::{Status, finish, open_problem, solve_problem};
 use std::alloc::{AllocError, Global};
 
 /// How many looks at constraints and lemmas the search for a list is given for each turn.

@@ -1,7 +1,7 @@
 //! The top call: reads what the words name, and writes the answer.
 ghost use Rattle.std.specs.Prelude.{◌≡◌, ◌≢◌, map, None};
 ghost use Rattle.qc_io.specs.Counts.{NoneRose, Rose, RoseBy};
-ghost use Rattle.qc_commands.specs.Files.{Wrote};
+ghost use Rattle.qecode_commands.specs.Files.{Wrote};
 ghost use Rattle.dense_commands.specs.Words.{asked_of};
 ghost use Rattle.dense_commands.specs.Answers.{Answers};
 ghost use Rattle.dense_commands.specs.Complete.{IsComplete, MayRunOut};
@@ -12,10 +12,10 @@ use crate::solve::solve_file;
 use crate::words::{Command, command_of};
 use lemma_text::bytes_are_one_list_or_have_one_fault;
 use proof_text::bytes_are_one_text_or_have_one_fault;
-use qc_commands::{Status, finish};
 use qc_io::{Shelf, Sink};
 use qc_syntax::texts_say_one_thing;
 use qdimacs::texts_get_one_answer;
+use qecode_commands::{Status, finish};
 use std::alloc::Global;
 
 const USAGE: &[u8] =

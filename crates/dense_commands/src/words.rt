@@ -4,7 +4,7 @@ ghost use Rattle.std.specs.Option.{option_map};
 ghost use Rattle.dense_commands.specs.Words.{solves_within, decides_within, asked_by_two, asked_by_three, asked_by_four, asked_of};
 ghost use Rattle.dense_commands.specs.View.{asked, IsWithin};
 
-use qc_commands::{USUAL_TURNS, is_name, turns_in};
+use qecode_commands::{USUAL_TURNS, is_name, turns_in};
 
 /// What the words ask for: names of files, and how many turns a search may take, 1 to 10,000,000.
 #[derive(Clone, Copy)]

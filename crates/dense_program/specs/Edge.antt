@@ -1,11 +1,11 @@
 -- How the program ends over the files and the output of the system, of which nothing is told.
 use Rattle.std.specs.Prelude.{◌≡◌, ℕ, Option, None}
 use Rattle.qc_io.specs.Counts.{Rose, RoseBy}
-use Rattle.qc_commands.specs.declared.status.Status.{Status}
-use Rattle.qc_commands.specs.declared.status.Status.TheVariants.{ReadFault}
+use Rattle.qecode_commands.specs.declared.status.Status.{Status}
+use Rattle.qecode_commands.specs.declared.status.Status.TheVariants.{ReadFault}
 use Rattle.dense_commands.specs.Words.{Asked}
 use Rattle.dense_commands.specs.Answers.{Answers}
-use Rattle.qc_commands.specs.Files.{Wrote}
+use Rattle.qecode_commands.specs.Files.{Wrote}
 
 -- what is asked can end so; all counts begin at 0
 pub record EndsRight (asked : Option Asked) (status : Status) : Type 0 where

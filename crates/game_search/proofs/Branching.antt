@@ -6,9 +6,9 @@ use Rattle.proof_tree.specs.Cover.{box_to}
 use Rattle.proof_tree.specs.Lines.{upto_lines}
 use Rattle.proof_tree.specs.declared.line.Line.{Line}
 use Rattle.proof_tree.specs.declared.line.Line.TheVariants.{Open, Skip}
-use Rattle.qc_joins.specs.Joins.{StandsAt, game_of}
-use Rattle.qc_joins.specs.Verdicts.{settled_at}
-use Rattle.qc_joins.specs.declared.joins.Joins.{Joins}
+use Rattle.joins.specs.Joins.{StandsAt, game_of}
+use Rattle.joins.specs.Verdicts.{settled_at}
+use Rattle.joins.specs.declared.joins.Joins.{Joins}
 use Rattle.fd_store.specs.Held.{values_from}
 use Rattle.search_box.specs.Rests.{IsFirst, IsLast, IsNext, IsPrevious}
 use Rattle.search_parts.specs.Uppers.{seen_between, skipped_between, upto_between, without_before}

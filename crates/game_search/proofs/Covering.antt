@@ -8,7 +8,7 @@ use Rattle.std.proofs.lemmas.Bool.Decides.{Decides-int_eq}
 use Rattle.qc_model.specs.Lists.{Among}
 use Rattle.qc_model.specs.Domains.{Values, is_ascending, is_none_left, is_single, has_value, greatest_value}
 use Rattle.qc_model.specs.Valid.{is_number}
-use Rattle.qc_rules.proofs.Items.{drop_at}
+use Rattle.model_levels.proofs.Items.{drop_at}
 use Rattle.fd_store.specs.Held.{values_from}
 use Rattle.proof_tree.specs.Cover.{is_cover, uncovered}
 use Rattle.search_box.specs.Rests.{IsFirst, IsLast}

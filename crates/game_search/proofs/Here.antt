@@ -34,16 +34,16 @@ use Rattle.proof_tree.specs.declared.line.Line.{Line}
 use Rattle.proof_tree.specs.declared.line.Line.TheVariants.{Skip, Open, Next, Barred, Dot, Empty, Branch as BranchLine, Goal as GoalLine, Stuck as StuckLine}
 use Rattle.proof_tree.specs.declared.tree.Horizon.{Horizon}
 use Rattle.proof_tree.specs.declared.tree.Step.{Step}
-use Rattle.qc_levels.specs.Seen.{verdict_of}
-use Rattle.qc_levels.specs.declared.leaves.Found.{Found}
-use Rattle.qc_joins.specs.Joins.{StandsAt, LeafFits, KeepsAll}
-use Rattle.qc_joins.specs.Joins.{IsLong}
-use Rattle.qc_joins.specs.Sizes.{IsSized, HasSizes}
-use Rattle.qc_joins.specs.Verdicts.{verdict_at, stuck_of, settled_at, own_at, kind_own, scope_own}
-use Rattle.qc_joins.specs.declared.joins.Joins.{Joins}
-use Rattle.qc_joins.proofs.Lengths.{verdict_long, goal_long, stuck_long}
-use Rattle.qc_joins.proofs.Sizing.{sizes_both, leaf_fits, verdict_sized, goal_sized, stuck_sized}
-use Rattle.qc_likeness.proofs.Plain.{stuck_own}
+use Rattle.joins.specs.Seen.{verdict_of}
+use Rattle.joins.specs.declared.leaves.Found.{Found}
+use Rattle.joins.specs.Joins.{StandsAt, LeafFits, KeepsAll}
+use Rattle.joins.specs.Joins.{IsLong}
+use Rattle.joins.specs.Sizes.{IsSized, HasSizes}
+use Rattle.joins.specs.Verdicts.{verdict_at, stuck_of, settled_at, own_at, kind_own, scope_own}
+use Rattle.joins.specs.declared.joins.Joins.{Joins}
+use Rattle.joins.proofs.Lengths.{verdict_long, goal_long, stuck_long}
+use Rattle.joins.proofs.Sizing.{sizes_both, leaf_fits, verdict_sized, goal_sized, stuck_sized}
+use Rattle.likeness.proofs.Plain.{stuck_own}
 use Rattle.fd_store.specs.Held.{values_from}
 use Rattle.search_box.specs.Closes.{IsPruned}
 use Rattle.search_box.specs.Rests.{IsFirst, IsLast, IsNext, IsPrevious}

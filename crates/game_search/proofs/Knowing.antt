@@ -8,19 +8,19 @@ use Rattle.qc_model.specs.ForallVerdict.{goal_verdict}
 use Rattle.qc_model.specs.Verdict.{Verdict, lost}
 use Rattle.proof_tree.specs.declared.line.Line.{Line}
 use Rattle.proof_tree.specs.Place.{position}
-use Rattle.qc_levels.specs.Seen.{verdict_of}
-use Rattle.qc_levels.specs.declared.leaves.Found.{Found}
-use Rattle.qc_joins.specs.Joins.{StandsAt, out_of}
-use Rattle.qc_joins.specs.declared.joins.Joins.{Joins}
-use Rattle.qc_likeness.specs.Likeness.{ask_nothing, IsLike, decided_as}
-use Rattle.qc_likeness.proofs.Plain.{no_demands, later_none, cases_none}
-use Rattle.kept_nodes.specs.Known.{IsKnown, IsEnded, IsFinished, StandsHere}
+use Rattle.joins.specs.Seen.{verdict_of}
+use Rattle.joins.specs.declared.leaves.Found.{Found}
+use Rattle.joins.specs.Joins.{StandsAt, out_of}
+use Rattle.joins.specs.declared.joins.Joins.{Joins}
+use Rattle.likeness.specs.Likeness.{ask_nothing, IsLike, decided_as}
+use Rattle.likeness.proofs.Plain.{no_demands, later_none, cases_none}
+use Rattle.search_kept.specs.Known.{IsKnown, IsEnded, IsFinished, StandsHere}
 use Rattle.search_parts.specs.Made.{NodeMade}
 use Rattle.search_parts.specs.Settled.{beats_none}
 use Rattle.game_search.specs.Here.{Here, here_at}
 use Rattle.game_search.specs.Put.{NodePut}
 use Rattle.game_search.specs.Told.{NodeTold, came_to}
-use Rattle.kept_nodes.proofs.Knowing.{decided_made, node_ends}
+use Rattle.search_kept.proofs.Knowing.{decided_made, node_ends}
 use Rattle.game_search.specs.declared.walk.Walk.{Walk}
 use Rattle.search_parts.proofs.Joining.{own_so}
 

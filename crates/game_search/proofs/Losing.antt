@@ -26,9 +26,9 @@ use Rattle.proof_tree.specs.InPlace.{steps_in_place}
 use Rattle.proof_tree.specs.Order.{settles}
 use Rattle.proof_tree.specs.Place.{Tracked, tracked_variable, list_after}
 use Rattle.proof_tree.specs.Steps.{after_steps, best_value, step_marks}
-use Rattle.qc_joins.specs.Joins.{StandsAt}
-use Rattle.qc_joins.specs.Sizes.{HasSizes}
-use Rattle.qc_joins.specs.declared.joins.Joins.{Joins}
+use Rattle.joins.specs.Joins.{StandsAt}
+use Rattle.joins.specs.Sizes.{HasSizes}
+use Rattle.joins.specs.declared.joins.Joins.{Joins}
 use Rattle.prop_engine.specs.declared.answer.Closed.{Closed}
 use Rattle.fd_store.specs.Held.{values_from}
 use Rattle.search_box.specs.Rests.{IsFirst, IsLast}
@@ -50,7 +50,7 @@ use Rattle.game_search.proofs.Here.{settled_here, bare_steps}
 use Rattle.search_parts.proofs.Joining.{settled-append, or_none}
 use Rattle.search_parts.proofs.Marks.{some_marks}
 use Rattle.search_parts.proofs.Sizes.{sizes_none}
-use Rattle.qc_joins.proofs.Sizing.{sizes_both, sizes_bound}
+use Rattle.joins.proofs.Sizing.{sizes_both, sizes_bound}
 
 -- ---- values of a variable
 -- each of the values is no worse than what is reached

@@ -11,7 +11,7 @@ use Rattle.qc_model.specs.Demands.{demands}
 use Rattle.qc_model.specs.ExistsVerdict.{beats}
 use Rattle.qc_model.specs.Optimal.{is_better}
 use Rattle.qc_model.specs.Verdict.{Seen}
-use Rattle.qc_joins.specs.Verdicts.{scope_side}
+use Rattle.joins.specs.Verdicts.{scope_side}
 use Rattle.search_parts.specs.Bounded.{is_bounded, Outdoes}
 use Rattle.game_search.specs.Rivals.{beaten_by, outdoes, IsRival}
 use Rattle.search_parts.specs.Settled.{is_outdone}

@@ -8,13 +8,13 @@ use Rattle.qc_model.specs.Domains.{Box, is_single, values_left}
 use Rattle.qc_model.specs.Game.{before, is_of_scope}
 use Rattle.qc_model.specs.Valid.{IsValid, is_number}
 use Rattle.qc_model.specs.Verdict.{Seen}
-use Rattle.qc_arguments.specs.Asked.{is_box_of}
+use Rattle.model_arguments.specs.Asked.{is_box_of}
 use Rattle.proof_tree.specs.InPlace.{is_horizon}
 use Rattle.proof_tree.specs.Place.{position}
 use Rattle.proof_tree.specs.declared.line.Line.{Line}
-use Rattle.qc_levels.specs.declared.leaves.Found.{Found}
-use Rattle.qc_joins.specs.Joins.{KeepsAll, StandsAt}
-use Rattle.qc_joins.specs.Verdicts.{verdict_at}
+use Rattle.joins.specs.declared.leaves.Found.{Found}
+use Rattle.joins.specs.Joins.{KeepsAll, StandsAt}
+use Rattle.joins.specs.Verdicts.{verdict_at}
 use Rattle.search_box.specs.Boxed.{Boxed}
 use Rattle.search_box.specs.Entered.{IsEntered}
 use Rattle.search_box.proofs.Places.{read_numbers}

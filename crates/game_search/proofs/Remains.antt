@@ -9,14 +9,14 @@ use Rattle.qc_model.specs.Content.{Game}
 use Rattle.qc_model.specs.Domains.{Box, has_empty, is_single, values_left}
 use Rattle.qc_model.specs.Game.{before}
 use Rattle.qc_model.proofs.Before.{before_up}
-use Rattle.qc_rules.proofs.Singles.{still_single}
+use Rattle.model_levels.proofs.Singles.{still_single}
 use Rattle.qc_model.specs.Verdict.{Seen}
 use Rattle.proof_tree.specs.Cover.{box_to}
 use Rattle.proof_tree.specs.Lines.{upto_lines}
 use Rattle.proof_tree.specs.Place.{position}
 use Rattle.proof_tree.specs.declared.line.Line.{Line}
 use Rattle.proof_tree.specs.declared.line.Line.TheVariants.{Skip}
-use Rattle.qc_joins.specs.Joins.{game_of, StandsAt, KeepsOthers}
+use Rattle.joins.specs.Joins.{game_of, StandsAt, KeepsOthers}
 use Rattle.prop_engine.specs.declared.answer.Closed.{Closed}
 use Rattle.prop_engine.specs.declared.answer.Closed.TheVariants.{Open, Empty}
 use Rattle.fd_store.specs.Held.{Held}

@@ -5,12 +5,12 @@ use Rattle.qc_model.specs.Content.{Game}
 use Rattle.qc_model.specs.Demands.{demands}
 use Rattle.qc_model.specs.ExistsVerdict.{best_vector, beats}
 use Rattle.qc_model.specs.Verdict.{Seen, is_exact, some_node, exact_vectors, first_value, is_none_of}
-use Rattle.qc_levels.specs.Bests.{AllLong, incumbent_by}
-use Rattle.qc_levels.specs.Columns.{first_sense}
-use Rattle.qc_joins.specs.Joins.{StandsAt, game_of}
-use Rattle.qc_joins.specs.Verdicts.{wishes_at, incumbent_at}
-use Rattle.qc_joins.specs.declared.joins.Joins.{Joins}
-use Rattle.qc_joins.proofs.AtScope.{stands_long}
+use Rattle.joins.specs.Bests.{AllLong, incumbent_by}
+use Rattle.joins.specs.Columns.{first_sense}
+use Rattle.joins.specs.Joins.{StandsAt, game_of}
+use Rattle.joins.specs.Verdicts.{wishes_at, incumbent_at}
+use Rattle.joins.specs.declared.joins.Joins.{Joins}
+use Rattle.joins.proofs.AtScope.{stands_long}
 use Rattle.search_parts.specs.Beaten.{firsts, is_beaten}
 use Rattle.game_search.specs.Rivals.{above_at, StandsAbove}
 use Rattle.search_parts.proofs.Beating.{first_is_one}

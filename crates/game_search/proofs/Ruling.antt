@@ -26,11 +26,11 @@ use Rattle.qc_model.specs.Optimal.{is_better}
 use Rattle.qc_model.specs.Sees.{AtUniversal, IsVisible, AllVisible}
 use Rattle.qc_model.specs.Valid.{is_number}
 use Rattle.qc_model.specs.Verdict.{lost, exact, at_most, unknown, Seen, seen_barred, seen_skipped, seen_bound, seen_node, is_exact, some_node, exact_vectors, first_value, is_none_of}
-use Rattle.qc_levels.specs.Bests.{AllLong, incumbent_by}
-use Rattle.qc_joins.specs.Joins.{StandsAt, game_of}
-use Rattle.qc_joins.specs.Verdicts.{scope_wishes, wishes_at, scope_incumbent, incumbent_at, kind_wishes, kind_incumbent}
-use Rattle.qc_joins.specs.declared.joins.Joins.{Joins}
-use Rattle.qc_joins.proofs.AtScope.{stands_long}
+use Rattle.joins.specs.Bests.{AllLong, incumbent_by}
+use Rattle.joins.specs.Joins.{StandsAt, game_of}
+use Rattle.joins.specs.Verdicts.{scope_wishes, wishes_at, scope_incumbent, incumbent_at, kind_wishes, kind_incumbent}
+use Rattle.joins.specs.declared.joins.Joins.{Joins}
+use Rattle.joins.proofs.AtScope.{stands_long}
 use Rattle.qc_model.proofs.InOrder.{below_within}
 use Rattle.proof_tree.specs.Place.{owner_of, tracked_target, tracked_first, tracked_variable, next_scopes, list_after}
 use Rattle.search_box.specs.Bounds.{tracked_as}

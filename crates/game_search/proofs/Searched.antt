@@ -7,9 +7,9 @@ use Rattle.proof_tree.specs.InPlace.{horizon_below}
 use Rattle.proof_tree.specs.Lines.{horizon_lines}
 use Rattle.proof_tree.specs.declared.line.Line.{Line}
 use Rattle.proof_tree.specs.declared.tree.Horizon.{Horizon}
-use Rattle.qc_levels.specs.declared.leaves.Found.{Found}
+use Rattle.joins.specs.declared.leaves.Found.{Found}
 use Rattle.search_box.specs.Looking.{LooksAhead, scope_number}
-use Rattle.kept_nodes.specs.Known.{IsEnded}
+use Rattle.search_kept.specs.Known.{IsEnded}
 use Rattle.game_search.specs.declared.stage.Stage.{Stage}
 use Rattle.game_search.specs.declared.walk.Walk.{Walk}
 use Rattle.game_search.specs.Here.{Here, at_horizon, here_at, node_of, with_above}

@@ -34,8 +34,8 @@ use Rattle.proof_tree.specs.declared.tree.Outcome.{Outcome}
 use Rattle.proof_tree.specs.declared.tree.Outcome.TheVariants.{True, False, Open}
 use Rattle.proof_tree.specs.declared.tree.Version.{Version}
 use Rattle.proof_tree.specs.declared.tree.Version.TheVariants.{Two}
-use Rattle.qc_levels.specs.Seen.{verdict_of}
-use Rattle.qc_levels.specs.declared.leaves.Found.{Found}
+use Rattle.joins.specs.Seen.{verdict_of}
+use Rattle.joins.specs.declared.leaves.Found.{Found}
 use Rattle.strategy_arena.specs.Certificate.{line_fits}
 use Rattle.game_search.specs.Attempted.{Attempted}
 use Rattle.search_parts.specs.Made.{NodeMade}

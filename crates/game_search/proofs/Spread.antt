@@ -5,9 +5,9 @@ use Rattle.qc_model.specs.declared.problem.Variable.{Variable}
 use Rattle.qc_model.specs.Content.{Game}
 use Rattle.qc_model.specs.Domains.{Values, declared_box, has_value, is_ascending, is_none_left, values_left}
 use Rattle.qc_model.specs.Valid.{is_domain, is_number}
-use Rattle.qc_rules.proofs.Numbers.{passed}
-use Rattle.qc_arguments.specs.Asked.{is_box_of}
-use Rattle.qc_arguments.proofs.Boxes.{sub_ascending, left_small}
+use Rattle.model_levels.proofs.Numbers.{passed}
+use Rattle.model_arguments.specs.Asked.{is_box_of}
+use Rattle.model_arguments.proofs.Boxes.{sub_ascending, left_small}
 use Rattle.fd_store.specs.Held.{values_from}
 use Rattle.search_box.specs.Boxed.{Boxed}
 use Rattle.search_box.specs.Rests.{IsAfter, IsFirst, IsLast}

@@ -11,7 +11,7 @@ use Rattle.proof_tree.specs.declared.tree.Step.TheVariants.{Prune, Bound}
 use Rattle.proof_tree.specs.Place.{Tracked, tracked_variable, list_after}
 use Rattle.proof_tree.specs.Steps.{after_steps, are_legal}
 use Rattle.proof_tree.specs.Text.{step_fits}
-use Rattle.step_trim.specs.Trims.{Trims}
+use Rattle.search_trim.specs.Trims.{Trims}
 use Rattle.search_parts.specs.Made.{StepsMade}
 use Rattle.search_parts.proofs.Bools.{both}
 

@@ -11,9 +11,9 @@ use Rattle.qc_model.specs.Optimal.{is_better}
 use Rattle.qc_model.specs.Valid.{is_number}
 use Rattle.qc_model.specs.Verdict.{Seen, is_none_of}
 use Rattle.proof_tree.specs.Place.{Tracked, tracked_variable, list_after}
-use Rattle.qc_joins.specs.Joins.{StandsAt}
-use Rattle.qc_joins.specs.Verdicts.{wishes_at}
-use Rattle.qc_joins.specs.declared.joins.Joins.{Joins}
+use Rattle.joins.specs.Joins.{StandsAt}
+use Rattle.joins.specs.Verdicts.{wishes_at}
+use Rattle.joins.specs.declared.joins.Joins.{Joins}
 use Rattle.search_box.specs.Bounds.{tracked_as}
 use Rattle.search_parts.specs.Beaten.{firsts, is_beaten}
 use Rattle.game_search.specs.declared.aim.Aim.{Aim}

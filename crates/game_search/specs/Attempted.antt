@@ -4,8 +4,8 @@ use Rattle.qc_model.specs.Content.{Game}
 use Rattle.qc_model.specs.Domains.{declared_box}
 use Rattle.proof_tree.specs.Read.{root_finding}
 use Rattle.proof_tree.specs.declared.line.Line.{Line}
-use Rattle.qc_levels.specs.Seen.{verdict_of}
-use Rattle.qc_levels.specs.declared.leaves.Found.{Found}
+use Rattle.joins.specs.Seen.{verdict_of}
+use Rattle.joins.specs.declared.leaves.Found.{Found}
 use Rattle.search_parts.specs.Settled.{beats_none}
 use Rattle.search_parts.specs.Written.{NodeWritten}
 

@@ -5,8 +5,8 @@ use Rattle.qc_model.specs.Domains.{Values, Box, has_empty}
 use Rattle.qc_model.specs.Verdict.{Seen}
 use Rattle.proof_tree.specs.Cover.{box_to}
 use Rattle.proof_tree.specs.declared.tree.Step.{Step}
-use Rattle.qc_joins.specs.Joins.{StandsAt}
-use Rattle.qc_joins.specs.declared.joins.Joins.{Joins}
+use Rattle.joins.specs.Joins.{StandsAt}
+use Rattle.joins.specs.declared.joins.Joins.{Joins}
 use Rattle.search_parts.specs.Beaten.{seen_bounds}
 use Rattle.game_search.specs.Put.{StepsTold, BoundedSteps}
 use Rattle.game_search.specs.declared.stage.Stage.{Stage}

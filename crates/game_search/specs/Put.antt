@@ -11,10 +11,10 @@ use Rattle.proof_tree.specs.Tree.{Body, tree}
 use Rattle.proof_tree.specs.Steps.{after_steps}
 use Rattle.proof_tree.specs.declared.line.Line.{Line}
 use Rattle.proof_tree.specs.declared.tree.Step.{Step}
-use Rattle.qc_joins.specs.Verdicts.{settled_at, own_at, wishes_at}
-use Rattle.qc_joins.specs.Joins.{game_of, StandsAt}
-use Rattle.qc_joins.specs.Sizes.{HasSizes}
-use Rattle.qc_joins.specs.declared.joins.Joins.{Joins}
+use Rattle.joins.specs.Verdicts.{settled_at, own_at, wishes_at}
+use Rattle.joins.specs.Joins.{game_of, StandsAt}
+use Rattle.joins.specs.Sizes.{HasSizes}
+use Rattle.joins.specs.declared.joins.Joins.{Joins}
 use Rattle.game_search.specs.declared.walk.Walk.{Walk}
 use Rattle.search_box.specs.Boxed.{KeepsValues}
 use Rattle.game_search.specs.Aims.{tracked_at}

@@ -4,10 +4,10 @@ use Rattle.qc_model.specs.Content.{Game}
 use Rattle.qc_model.specs.Demands.{demands}
 use Rattle.qc_model.specs.ExistsVerdict.{beats}
 use Rattle.qc_model.specs.Verdict.{Seen}
-use Rattle.qc_levels.specs.Columns.{first_sense}
-use Rattle.qc_joins.specs.Joins.{StandsAt}
-use Rattle.qc_joins.specs.Verdicts.{wishes_at}
-use Rattle.qc_joins.specs.declared.joins.Joins.{Joins}
+use Rattle.joins.specs.Columns.{first_sense}
+use Rattle.joins.specs.Joins.{StandsAt}
+use Rattle.joins.specs.Verdicts.{wishes_at}
+use Rattle.joins.specs.declared.joins.Joins.{Joins}
 use Rattle.search_parts.specs.Beaten.{firsts, is_beaten}
 use Rattle.search_parts.specs.Settled.{beats_none}
 use Rattle.search_parts.specs.Bounded.{is_bounded}

@@ -8,14 +8,14 @@ use Rattle.qc_model.specs.Verdict.{Verdict, Seen}
 use Rattle.proof_tree.specs.Cover.{box_to}
 use Rattle.proof_tree.specs.Diligent.{SeesAhead}
 use Rattle.proof_tree.specs.Incumbents.{has_no_worse}
-use Rattle.qc_levels.specs.Seen.{verdict_of}
-use Rattle.qc_levels.specs.declared.leaves.Found.{Found}
+use Rattle.joins.specs.Seen.{verdict_of}
+use Rattle.joins.specs.declared.leaves.Found.{Found}
 use Rattle.proof_tree.specs.InPlace.{is_horizon}
 use Rattle.proof_tree.specs.Place.{list_after, position}
-use Rattle.qc_joins.specs.Verdicts.{verdict_at}
-use Rattle.qc_rules.specs.declared.level.Level.{Level}
-use Rattle.qc_joins.specs.Joins.{StandsAt, out_of}
-use Rattle.qc_joins.specs.declared.joins.Joins.{Joins}
+use Rattle.joins.specs.Verdicts.{verdict_at}
+use Rattle.model_levels.specs.declared.level.Level.{Level}
+use Rattle.joins.specs.Joins.{StandsAt, out_of}
+use Rattle.joins.specs.declared.joins.Joins.{Joins}
 use Rattle.prop_engine.specs.declared.answer.Closed.{Closed}
 use Rattle.search_box.specs.Boxed.{Boxed}
 use Rattle.search_box.specs.Complete.{IsClosedAtGoal}
@@ -24,9 +24,9 @@ use Rattle.search_box.specs.Looking.{scope_number}
 use Rattle.search_parts.specs.Beaten.{firsts, seen_bounds}
 use Rattle.search_parts.specs.Settled.{is_ended, is_vague_verdict, beats_none}
 use Rattle.search_parts.specs.Written.{NodeWritten}
-use Rattle.kept_nodes.specs.Aside.{StandsAside}
-use Rattle.kept_nodes.specs.Known.{IsEnded, IsFinished, StandsHere}
-use Rattle.kept_nodes.specs.declared.known.NodeEnd.{NodeEnd}
+use Rattle.search_kept.specs.Aside.{StandsAside}
+use Rattle.search_kept.specs.Known.{IsEnded, IsFinished, StandsHere}
+use Rattle.search_kept.specs.declared.known.NodeEnd.{NodeEnd}
 use Rattle.game_search.specs.Aims.{tracked_at}
 use Rattle.game_search.specs.Going.{IsGoing, GoesOn}
 use Rattle.game_search.specs.Here.{Here, in_box, node_of, node_below, below_of}

@@ -8,11 +8,11 @@ ghost use Rattle.qc_model.specs.declared.problem.Scope.{Scope};
 ghost use Rattle.qc_model.specs.declared.problem.Sense.TheVariants.{Min, Max};
 ghost use Rattle.qc_model.specs.Block.{no_condition_to};
 ghost use Rattle.qc_model.specs.Content.{Game};
-ghost use Rattle.qc_joins.specs.Joins.{game_of};
+ghost use Rattle.joins.specs.Joins.{game_of};
 ghost use Rattle.game_search.specs.Aims.{IsAimed, IsKeptTo, IsSpan, AreRuledOut, AreWorse};
 
-use qc_joins::Joins;
-use qc_laws::lists_are_visible;
+use joins::Joins;
+use model_laws::lists_are_visible;
 use qc_model::{Problem, ScopeId, Sense, Target, VarId, limits};
 
 /// The largest value that a variable can have.

@@ -1,24 +1,23 @@
 //! The lines of a certificate within a budget of turns.
 ghost use Rattle.std.specs.Prelude.{◌≡◌, ◌≤◌, ◌<◌, IfOk, None, List, ℤ, not, length};
 ghost use Rattle.qc_model.specs.Verdict.{Seen};
-ghost use Rattle.qc_levels.specs.Seen.{verdict_of};
-ghost use Rattle.qc_joins.specs.Joins.{game_of, StandsAt};
-ghost use Rattle.qc_joins.specs.Verdicts.{own_at};
+ghost use Rattle.joins.specs.Seen.{verdict_of};
+ghost use Rattle.joins.specs.Joins.{game_of, StandsAt};
+ghost use Rattle.joins.specs.Verdicts.{own_at};
 ghost use Rattle.search_parts.specs.Settled.{beats_none};
 ghost use Rattle.game_search.specs.Solution.{SolutionLines, outcome_by};
 ghost use Rattle.game_search.specs.Attempted.{Attempted};
 
 use crate::search::node;
 use crate::walk::Walk;
-use kept_nodes::{AsideNodes, KnownNodes, is_decided};
+use joins::{Found, Joins};
+use model_levels::Levels;
+use proof_meaning::outcomes_are_true;
 use proof_tree::{Outcome, StepList, cases_are_few};
-use qc_joins::Joins;
-use qc_levels::Found;
-use qc_meaning::outcomes_are_true;
 use qc_model::{Problem, ScopeId};
-use qc_rules::Levels;
 use search_advice::Advice;
 use search_box::SearchBox;
+use search_kept::{AsideNodes, KnownNodes, is_decided};
 use std::alloc::{AllocError, Global};
 use strategy_arena::{Arena, lines_fit};
 

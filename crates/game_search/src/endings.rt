@@ -1,7 +1,7 @@
 //! Nodes that have no tree of their own, and what a scope's tree comes to.
 ghost use Rattle.std.specs.Prelude.{◌≡◌, length, IfOk, OnOk, IsTrue};
 ghost use Rattle.proof_tree.specs.InPlace.{is_horizon};
-ghost use Rattle.qc_joins.specs.Joins.{game_of, KeepsAll};
+ghost use Rattle.joins.specs.Joins.{game_of, KeepsAll};
 ghost use Rattle.search_box.specs.Complete.{IsClosedAtGoal};
 ghost use Rattle.search_box.specs.Entered.{IsEntered};
 ghost use Rattle.search_box.specs.Looking.{scope_number};
@@ -11,11 +11,10 @@ ghost use Rattle.game_search.specs.Told.{EndsSo, GoalAnswers, JoinAnswers, NoLea
 use crate::rival::is_outdone;
 use crate::stage::Stage;
 use crate::walk::Walk;
+use joins::{Found, Joins};
+use model_levels::{Level, Levels};
 use proof_tree::Line;
-use qc_joins::Joins;
-use qc_levels::Found;
 use qc_model::ScopeId;
-use qc_rules::{Level, Levels};
 use std::alloc::AllocError;
 
 /// The goal, where each variable has its value, or where a horizon tells that it isn't passed.

@@ -1,6 +1,6 @@
 //! Nodes whose lines are kept: those whose position may be met again, and those below tuples that were tried first.
 ghost use Rattle.std.specs.Prelude.{◌≡◌, ◌<◌, suc, length, IfOk, IfSome, OnOk, IsTrue};
-ghost use Rattle.qc_joins.specs.Joins.{game_of};
+ghost use Rattle.joins.specs.Joins.{game_of};
 ghost use Rattle.search_box.specs.Entered.{IsEntered};
 ghost use Rattle.game_search.specs.Put.{IsBack};
 ghost use Rattle.game_search.specs.Told.{AsideAnswers, AsideStands, BelowFinished, EndsSo, IsBackBelow, IsBelow, KnownAnswers, KnownStands, NodeFinished};
@@ -8,10 +8,10 @@ ghost use Rattle.game_search.specs.Told.{AsideAnswers, AsideStands, BelowFinishe
 use crate::stage::Stage;
 use crate::walk::Walk;
 use crate::writing::copied_from;
-use kept_nodes::NodeEnd;
-use qc_levels::Found;
+use joins::Found;
+use model_levels::{Level, Levels};
 use qc_model::ScopeId;
-use qc_rules::{Level, Levels};
+use search_kept::NodeEnd;
 use std::alloc::AllocError;
 
 /// A number of the node's position, in the first pass, where it may be met again. The first scope has one node.

@@ -6,13 +6,13 @@
 //! than the budget.
 //!
 //! The values left are those of a `SearchBox`: it is closed by the filters of the constraints in force before each branch,
-//! and each node looks ahead for a scope that nobody passes. What the leaves of a node come to, joins say (`qc_joins`), one
+//! and each node looks ahead for a scope that nobody passes. What the leaves of a node come to, joins say (`joins`), one
 //! a scope.
 //!
 //! A first pass keeps of each settled node the case that settled it alone, and tries first the tuple after which no other
 //! counted at the same position before, or else at other nodes of the scope, or one that a free search found (`search_advice`). What
 //! stands below a tuple that was tried and ended nothing is kept aside for where the values are gone over. Where
-//! nothing is optimised it copies the lines of a node whose position was decided before (`kept_nodes`). Where this pass comes to
+//! nothing is optimised it copies the lines of a node whose position was decided before (`search_kept`). Where this pass comes to
 //! nothing, a second one goes over the cases in order, so that an open certificate has exactly the turns of the budget.
 #![tactic(auto)]
 

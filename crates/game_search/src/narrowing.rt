@@ -3,7 +3,7 @@
 ghost use Rattle.std.specs.Prelude.{◌≡◌, ◌<◌, ◌+◌, ◌∷◌, [], IfOk, OnOk, IsTrue, IsFalse};
 ghost use Rattle.qc_model.specs.Domains.{has_empty, has_value, values_left};
 ghost use Rattle.proof_tree.specs.Cover.{box_to};
-ghost use Rattle.qc_joins.specs.Joins.{game_of, KeepsOthers};
+ghost use Rattle.joins.specs.Joins.{game_of, KeepsOthers};
 ghost use Rattle.search_box.specs.Boxed.{LeadsOn};
 ghost use Rattle.game_search.specs.Aims.{IsSpan};
 ghost use Rattle.game_search.specs.Narrowed.{IsGivenUp, FirstAnswers, NarrowAnswers};

@@ -6,11 +6,11 @@
 ghost use Rattle.std.specs.Prelude.{◌≡◌, ◌<◌, length, List, ℤ, IsTrue};
 ghost use Rattle.qc_model.specs.ExistsVerdict.{beats as beats_bound};
 ghost use Rattle.qc_model.specs.Verdict.{Seen};
-ghost use Rattle.qc_joins.specs.Joins.{game_of, StandsAt};
+ghost use Rattle.joins.specs.Joins.{game_of, StandsAt};
 ghost use Rattle.game_search.specs.Rivals.{IsRival, StandsAbove, above_at, beaten_by, outdoes};
 ghost use Rattle.search_parts.specs.Settled.{is_outdone as is_outdone_by};
 
-use qc_joins::Joins;
+use joins::Joins;
 use qc_model::{ScopeId, Sense};
 
 /// The first value of the best vector that the scope right above has reached, and how it counts there.

@@ -22,7 +22,7 @@
 ghost use Rattle.std.specs.Prelude.{◌≡◌, ◌≤◌, ◌<◌, suc, length, false, IfOk, IfSome, OnOk, IsTrue, IsFalse};
 ghost use Rattle.qc_model.specs.Domains.{has_value, is_single, values_left};
 ghost use Rattle.qc_model.specs.Game.{is_of_scope};
-ghost use Rattle.qc_joins.specs.Joins.{game_of};
+ghost use Rattle.joins.specs.Joins.{game_of};
 ghost use Rattle.search_box.specs.Entered.{IsEntered};
 ghost use Rattle.game_search.specs.Aims.{IsSpan};
 ghost use Rattle.game_search.specs.Put.{IsBack};
@@ -45,12 +45,12 @@ use crate::writing::{
     drop_before, last_to_drop, leave_out, put_horizon, put_needed, put_steps, skip_and_tell,
     skip_between,
 };
-use kept_nodes::{NodeEnd, is_decided};
+use joins::Found;
+use model_levels::Levels;
 use proof_tree::Line;
 use prop_engine::Closed;
-use qc_levels::Found;
 use qc_model::{ScopeId, VarId};
-use qc_rules::Levels;
+use search_kept::{NodeEnd, is_decided};
 use std::alloc::AllocError;
 
 /// The node of a scope, or of the goal, in the box that the walk holds, below the horizon in force. Where it is exact,

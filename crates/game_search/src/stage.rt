@@ -9,8 +9,8 @@ ghost use Rattle.game_search.specs.Rivals.{IsRival};
 
 use crate::aim::Aim;
 use crate::rival::Rival;
+use model_levels::{Level, Levels};
 use qc_model::ScopeId;
-use qc_rules::{Level, Levels};
 
 /// A node's scope, beside all scopes of the problem, and the horizon in force below it, which isn't the scope itself. With
 /// `cuts` the case that settles a scope stands without those before it.

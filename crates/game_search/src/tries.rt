@@ -1,7 +1,7 @@
 //! When something is tried first at a node, and which value of a variable that is.
 ghost use Rattle.std.specs.Prelude.{◌≡◌, ◌<◌, false, IfSome, IsTrue};
 ghost use Rattle.qc_model.specs.Domains.{has_value, values_left};
-ghost use Rattle.qc_joins.specs.Joins.{game_of};
+ghost use Rattle.joins.specs.Joins.{game_of};
 ghost use Rattle.game_search.specs.Aims.{IsSpan};
 ghost use Rattle.game_search.specs.Told.{GoesFrom};
 
@@ -9,8 +9,8 @@ use crate::aim::{Aim, Worse, worse_than_found};
 use crate::rival::is_outdone;
 use crate::stage::Stage;
 use crate::walk::Walk;
+use model_levels::Level;
 use qc_model::{ScopeId, VarId};
-use qc_rules::Level;
 use search_advice::{Advice, Sought};
 use search_box::SearchBox;
 

@@ -1,12 +1,12 @@
 //! What changes on the way through a game.
 ghost use Rattle.std.specs.Prelude.{◌≡◌};
-ghost use Rattle.qc_joins.specs.Joins.{game_of};
+ghost use Rattle.joins.specs.Joins.{game_of};
 
-use kept_nodes::{AsideNodes, KnownNodes};
+use joins::Joins;
 use proof_tree::{Step, StepList};
-use qc_joins::Joins;
 use search_advice::Advice;
 use search_box::SearchBox;
+use search_kept::{AsideNodes, KnownNodes};
 use std::alloc::Global;
 use strategy_arena::Arena;
 

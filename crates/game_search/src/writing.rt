@@ -7,15 +7,15 @@ ghost use Rattle.proof_tree.specs.InPlace.{horizon_below};
 ghost use Rattle.proof_tree.specs.Lines.{horizon_lines, step_line, upto_lines};
 ghost use Rattle.proof_tree.specs.Text.{horizon_fits};
 ghost use Rattle.search_box.specs.Looking.{scope_number};
-ghost use Rattle.qc_joins.specs.Joins.{game_of, StandsAt, KeepsOthers};
+ghost use Rattle.joins.specs.Joins.{game_of, StandsAt, KeepsOthers};
 ghost use Rattle.game_search.specs.Trimmed.{TrimmedPut};
 ghost use Rattle.search_parts.specs.Uppers.{upto_between, skipped_between, seen_between, without_before};
 
+use joins::Joins;
 use proof_tree::{Horizon, Line, Step};
-use qc_joins::Joins;
 use qc_model::{Problem, ScopeId};
+use search_trim::trim;
 use std::alloc::{AllocError, Global};
-use step_trim::trim;
 use strategy_arena::Arena;
 
 fn line_of(step: Step) -> Line

@@ -14,7 +14,7 @@ use Rattle.qc_model.specs.Holds.{holds_on}
 use Rattle.qc_model.specs.Table.{IsOrdered}
 use Rattle.qc_model.proofs.Moves.{among_filter, of_filter}
 use Rattle.qc_model.proofs.Visible.{holds_visible}
-use Rattle.qc_table.proofs.Fits.{all_at}
+use Rattle.model_table.proofs.Fits.{all_at}
 use Rattle.lemma_boxes.proofs.Lists.{get_among, among_get, all_same}
 
 -- arguments below n are below m

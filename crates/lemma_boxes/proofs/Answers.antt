@@ -18,8 +18,8 @@ use Rattle.qc_model.specs.Meaning.{Meaning, clause, meaning_of}
 use Rattle.qc_model.specs.Refuted.{left_to}
 use Rattle.qc_model.specs.Visible.{ArgBelow, ArgsBelow, ArgumentsBelow}
 use Rattle.qc_model.proofs.Moves.{among_filter, of_filter}
-use Rattle.qc_table.proofs.Fits.{or_cases, all_at, any_at, any_from, only_value, and_true}
-use Rattle.qc_table.proofs.Sums.{same_number}
+use Rattle.model_table.proofs.Fits.{or_cases, all_at, any_at, any_from, only_value, and_true}
+use Rattle.model_table.proofs.Sums.{same_number}
 use Rattle.lemma_list.specs.declared.lemma.Literal.{Literal}
 use Rattle.lemma_list.specs.declared.lemma.Reason.{Reason}
 use Rattle.lemma_list.specs.declared.lemma.Reason.TheVariants.{Constraint, Lemma as Earlier}

@@ -14,14 +14,14 @@ use Rattle.qc_model.specs.Entailed.{entailed_as}
 use Rattle.qc_model.specs.Valid.{IsValid}
 use Rattle.qc_model.specs.Visible.{ArgumentsBelow}
 use Rattle.qc_model.proofs.Visible.{FitsOne, Fits, given_fits}
-use Rattle.qc_table.proofs.Fits.{or_cases}
-use Rattle.qc_table.proofs.Typing.{Kinds}
-use Rattle.qc_table.proofs.Typed.{given_of, lefts_of}
-use Rattle.qc_table.proofs.Kinded.{kinds_of}
-use Rattle.qc_table.proofs.Ordered.{constraint_at}
-use Rattle.qc_table.proofs.Entails.{entails}
-use Rattle.qc_table.proofs.Singles.{alone, alone_in, singles}
-use Rattle.qc_table.proofs.Single.{single_exact}
+use Rattle.model_table.proofs.Fits.{or_cases}
+use Rattle.model_table.proofs.Typing.{Kinds}
+use Rattle.model_table.proofs.Typed.{given_of, lefts_of}
+use Rattle.model_table.proofs.Kinded.{kinds_of}
+use Rattle.model_table.proofs.Ordered.{constraint_at}
+use Rattle.model_table.proofs.Entails.{entails}
+use Rattle.model_table.proofs.Singles.{alone, alone_in, singles}
+use Rattle.model_table.proofs.Single.{single_exact}
 use Rattle.lemma_list.specs.Entailment.{is_settled, is_entailed, entailed_by}
 use Rattle.lemma_boxes.proofs.Lists.{differ, both}
 

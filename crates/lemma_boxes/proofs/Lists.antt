@@ -8,8 +8,8 @@ use Rattle.lemma_list.specs.Reasons.{all_rules}
 use Rattle.qc_model.specs.Domains.{Box, InBox, is_none_left, has_value}
 use Rattle.std.specs.Ordering.{int_eq}
 use Rattle.qc_model.proofs.Moves.{among_filter, of_filter}
-use Rattle.qc_table.proofs.Fits.{any_at}
-use Rattle.qc_table.proofs.Sums.{same_number}
+use Rattle.model_table.proofs.Fits.{any_at}
+use Rattle.model_table.proofs.Sums.{same_number}
 
 pub differ : false ≡ true → ⊥
 differ e = cc

@@ -4,7 +4,7 @@ use Rattle.std.specs.Prelude.{ℤ, pos}
 use Rattle.std.specs.List.{list_all}
 use Rattle.qc_model.specs.Lists.{Among, LiesIn}
 use Rattle.qc_model.specs.Domains.{Box}
-use Rattle.qc_table.proofs.Fits.{all_at}
+use Rattle.model_table.proofs.Fits.{all_at}
 use Rattle.lemma_list.specs.declared.lemma.Literal.{Literal}
 use Rattle.lemma_list.specs.Literals.{meets, literals_hold, cut_to, box_to}
 use Rattle.lemma_boxes.proofs.Lists.{all_from, both, lies_filter, left_filter, left_other, get_front}

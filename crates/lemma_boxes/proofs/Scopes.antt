@@ -12,10 +12,10 @@ use Rattle.qc_model.specs.Game.{before, is_of_scope}
 use Rattle.qc_model.specs.Counter.{opposite}
 use Rattle.qc_model.specs.Valid.{IsValid, is_in_order}
 use Rattle.qc_model.proofs.Before.{before-le}
-use Rattle.qc_table.proofs.Crowded.{count_step}
-use Rattle.qc_table.proofs.Fits.{and_true}
-use Rattle.qc_meaning.proofs.FreeFront.{before_wider}
-use Rattle.qc_meaning.proofs.Widths.{in_scope}
+use Rattle.model_table.proofs.Crowded.{count_step}
+use Rattle.model_table.proofs.Fits.{and_true}
+use Rattle.proof_meaning.proofs.FreeFront.{before_wider}
+use Rattle.proof_meaning.proofs.Widths.{in_scope}
 use Rattle.lemma_list.specs.declared.lemma.Literal.{Literal}
 use Rattle.lemma_list.specs.Lemmas.{Lemma}
 use Rattle.lemma_list.specs.Places.{is_kind, side_at, of_its_scope, is_chosen_from, is_chosen_before, after_scope, place_of, place, is_winners, is_answer}

@@ -23,10 +23,10 @@ use Rattle.qc_model.specs.Left.{span}
 use Rattle.qc_model.specs.Refuted.{left_to}
 use Rattle.qc_model.specs.Visible.{ArgBelow, ArgsBelow, ArgumentsBelow}
 use Rattle.qc_model.proofs.Sound.{InRange, in_span, add_in, apart, hi_of, lo_of}
-use Rattle.qc_table.proofs.Fits.{only_value, true_if}
-use Rattle.qc_table.proofs.Sums.{in_point, same_number}
-use Rattle.qc_table.proofs.Products.{times_in}
-use Rattle.qc_meaning.proofs.FreeFront.{before_wider}
+use Rattle.model_table.proofs.Fits.{only_value, true_if}
+use Rattle.model_table.proofs.Sums.{in_point, same_number}
+use Rattle.model_table.proofs.Products.{times_in}
+use Rattle.proof_meaning.proofs.FreeFront.{before_wider}
 use Rattle.lemma_list.specs.declared.lemma.SumLiteral.{SumLiteral}
 use Rattle.lemma_list.specs.Lemmas.{Lemma}
 use Rattle.lemma_list.specs.Places.{place}

@@ -10,9 +10,9 @@ use Rattle.qc_model.specs.Refuted.{refuted_by}
 use Rattle.qc_model.specs.Valid.{IsValid}
 use Rattle.qc_model.specs.Visible.{ArgumentsBelow}
 use Rattle.qc_model.proofs.Before.{before-le}
-use Rattle.qc_table.proofs.Fits.{length_fits, or_cases}
-use Rattle.qc_table.proofs.Ordered.{valid_ordered}
-use Rattle.qc_table.proofs.Valid.{valid_table_sound}
+use Rattle.model_table.proofs.Fits.{length_fits, or_cases}
+use Rattle.model_table.proofs.Ordered.{valid_ordered}
+use Rattle.model_table.proofs.Valid.{valid_table_sound}
 use Rattle.lemma_list.specs.Lemmas.{Lemma}
 use Rattle.lemma_list.specs.Entailment.{entailed_by}
 use Rattle.lemma_list.specs.Sums.{linear_of, refuted_by_sums, entailed_by_sums, is_refuted, is_kept}

@@ -9,9 +9,9 @@ use Rattle.std.proofs.lemmas.List.{get_or-set_same, get_or_past, length-map}
 use Rattle.qc_model.specs.declared.problem.Variable.{Variable}
 use Rattle.qc_model.specs.Content.{Game}
 use Rattle.qc_model.specs.Domains.{Box, Values, values_left, values_within, is_within, is_none_left, is_sub_box, has_value, box_within, box_at, declared_box, domain_values}
-use Rattle.qc_arguments.specs.Asked.{is_box_of}
-use Rattle.qc_arguments.proofs.Values.{only_within}
-use Rattle.qc_arguments.proofs.Boxes.{sub_ascending}
+use Rattle.model_arguments.specs.Asked.{is_box_of}
+use Rattle.model_arguments.proofs.Values.{only_within}
+use Rattle.model_arguments.proofs.Boxes.{sub_ascending}
 use Rattle.fd_store.specs.Held.{Held, trail_len, past_box, Follows, IsUndone}
 use Rattle.qc_model.proofs.Conjunctions.{first, second}
 use Rattle.box_laws.proofs.Sides.{set_twice}

@@ -9,8 +9,8 @@ use crate::machine::{LemmaMachine, Stage};
 use check_box::Remains;
 use lemma_list::{Ending, Lemma};
 use lemma_text::Item;
+use model_levels::Levels;
 use qc_model::{Kind, Problem};
-use qc_rules::Levels;
 use std::alloc::{AllocError, Global};
 
 impl<'p> LemmaMachine<'p> {

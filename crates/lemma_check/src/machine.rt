@@ -1,8 +1,8 @@
 //! The machine: it takes the items of a list one by one, and says at the end what the list proves.
 use check_box::Remains;
 use lemma_list::Lemma;
+use model_levels::Levels;
 use qc_model::Kind;
-use qc_rules::Levels;
 use std::alloc::Global;
 
 /// Where a list is: between entries, in the head of a lemma, or in its steps. Nothing is kept of a list that is wrong.

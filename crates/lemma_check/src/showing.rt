@@ -13,8 +13,8 @@ use lemma_list::{Ending, Lemma, Reason};
 use lemma_reasons::{
     Aim, Answers, answers_to, goal_shows, goes_on, is_winners, reason_place, reason_shows, shows,
 };
+use model_levels::Levels;
 use qc_model::VarId;
-use qc_rules::Levels;
 
 /// A lemma that is being shown after those that are known, where play is known to go on to the scope `passed`.
 #[derive(Clone, Copy)]

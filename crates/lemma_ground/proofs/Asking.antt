@@ -7,7 +7,7 @@ use Rattle.qc_model.specs.Content.{Game, Rule}
 use Rattle.qc_model.specs.Domains.{Box, has_empty}
 use Rattle.qc_model.specs.Valid.{IsValid, is_constraint}
 use Rattle.qc_model.proofs.Readable.{first, second}
-use Rattle.qc_arguments.specs.Asked.{IsAsked, is_box_of}
+use Rattle.model_arguments.specs.Asked.{IsAsked, is_box_of}
 
 of_all : {X : Type 0} (p : X → Bool) (xs : List X) (k : ℕ) (x : X) → list_all p xs ≡ true → slice_get xs k ≡ Some x → p x ≡ true
 of_all p [] k x h e = cc

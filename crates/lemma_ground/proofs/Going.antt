@@ -3,7 +3,7 @@ use Rattle.std.proofs.Common.{◌≡◌, ◌<◌, ◌∙◌, ℕ, false, List, [
 use Rattle.std.specs.Prelude.{ℤ}
 use Rattle.std.proofs.lemmas.List.{get_or-set_same}
 use Rattle.qc_model.specs.Domains.{Values, values_left, values_outside, box_without, has_empty, is_none_left, is_sub_box}
-use Rattle.qc_arguments.proofs.Boxes.{sub_without, set_full}
+use Rattle.model_arguments.proofs.Boxes.{sub_without, set_full}
 use Rattle.fd_store.specs.Held.{Held, Follows, IsUndone, trail_len}
 use Rattle.prop_base.proofs.Steps.{follows_same, follows_more}
 use Rattle.lemma_ground.specs.Steady.{GoesOn}

@@ -4,7 +4,7 @@ use Rattle.std.specs.Prelude.{slice_get}
 use Rattle.std.proofs.lemmas.Option.{slice_get_within}
 use Rattle.qc_model.specs.Content.{Game}
 use Rattle.qc_model.specs.Domains.{declared_box, has_empty}
-use Rattle.qc_arguments.specs.Asked.{is_box_of}
+use Rattle.model_arguments.specs.Asked.{is_box_of}
 use Rattle.fd_store.specs.Held.{Held, IsUndone, trail_len, past_box}
 use Rattle.fd_store.specs.declared.store.Mark.{Mark}
 use Rattle.lemma_ground.specs.Steady.{IsWhole, IsMarked, IsSteady, GoesOn}

@@ -2,7 +2,7 @@
 use Rattle.std.specs.Prelude.{◌≡◌, ◌≤◌, ℕ, Some, List, slice_get, IsTrue, IsFalse}
 use Rattle.qc_model.specs.Content.{Game}
 use Rattle.qc_model.specs.Domains.{Box, has_empty, is_sub_box}
-use Rattle.qc_arguments.specs.Asked.{is_box_of}
+use Rattle.model_arguments.specs.Asked.{is_box_of}
 use Rattle.fd_store.specs.Held.{Held, Follows, trail_len, past_box}
 use Rattle.fd_store.specs.declared.store.Mark.{Mark}
 

@@ -1,7 +1,7 @@
 //! Gathering what `Facts` tells.
 use crate::facts::{OfRule, OfScope, OfVariable, TruthOf, Waker, Wakes, rule_at};
 use crate::sums::linear_of;
-use qc_arguments::{arguments, items_at, own_variables};
+use model_arguments::{arguments, items_at, own_variables};
 use qc_model::{Arg, Constraint, Domain, Kind, Meaning, Problem, VarId, meaning_of};
 use std::alloc::{AllocError, Global};
 

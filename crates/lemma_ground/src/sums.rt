@@ -1,7 +1,7 @@
 //! Sums of linear constraints.
 use crate::boxes::Boxes;
 use crate::facts::Facts;
-use qc_arguments::{arguments, items_at, numbers_at, one_at};
+use model_arguments::{arguments, items_at, numbers_at, one_at};
 use qc_model::{Arg, Constraint, Meaning, VarId, meaning_of};
 use std::alloc::{AllocError, Global};
 

@@ -7,7 +7,7 @@ use Rattle.qc_model.specs.Lists.{Among, LiesIn}
 use Rattle.qc_model.specs.Domains.{Box, values_left, values_within, is_none_left, has_value, has_empty, is_within, box_at, box_within, box_without}
 use Rattle.qc_model.specs.Counter.{opposite}
 use Rattle.qc_model.specs.Valid.{IsValid}
-use Rattle.qc_table.proofs.Fits.{and_true}
+use Rattle.model_table.proofs.Fits.{and_true}
 use Rattle.lemma_list.specs.declared.lemma.Reason.{Reason}
 use Rattle.lemma_list.specs.declared.lemma.Step.{Step}
 use Rattle.lemma_list.specs.declared.lemma.Step.TheVariants.{Cut, Choose}

@@ -11,9 +11,9 @@ use Rattle.qc_model.specs.Game.{before}
 use Rattle.qc_model.specs.Counter.{opposite}
 use Rattle.qc_model.specs.Valid.{IsValid}
 use Rattle.qc_model.proofs.Before.{before-zero}
-use Rattle.qc_table.proofs.Fits.{and_true}
-use Rattle.qc_table.proofs.Ordered.{valid_ordered}
-use Rattle.qc_meaning.proofs.Standing.{left_from}
+use Rattle.model_table.proofs.Fits.{and_true}
+use Rattle.model_table.proofs.Ordered.{valid_ordered}
+use Rattle.proof_meaning.proofs.Standing.{left_from}
 use Rattle.lemma_list.specs.declared.lemma.Literal.{Literal}
 use Rattle.lemma_list.specs.declared.lemma.SumLiteral.{SumLiteral}
 use Rattle.lemma_list.specs.Lemmas.{Lemma, Shown, Entry, shown, forget}

@@ -12,11 +12,11 @@ use Rattle.qc_model.specs.Counter.{opposite}
 use Rattle.qc_model.specs.Table.{IsOrdered}
 use Rattle.qc_model.specs.Valid.{IsValid}
 use Rattle.qc_model.proofs.Before.{before-le}
-use Rattle.qc_table.proofs.Ordered.{valid_ordered}
-use Rattle.qc_meaning.proofs.Boxes.{in_append, from_take}
-use Rattle.qc_meaning.proofs.Passing.{move_count}
-use Rattle.qc_meaning.proofs.Widths.{width, before_next, part_rest, in_scope}
-use Rattle.qc_meaning.proofs.Standing.{none_left}
+use Rattle.model_table.proofs.Ordered.{valid_ordered}
+use Rattle.proof_meaning.proofs.Boxes.{in_append, from_take}
+use Rattle.proof_meaning.proofs.Passing.{move_count}
+use Rattle.proof_meaning.proofs.Widths.{width, before_next, part_rest, in_scope}
+use Rattle.proof_meaning.proofs.Standing.{none_left}
 use Rattle.lemma_list.specs.Places.{is_kind, kind_of, side_at, is_chosen_from}
 use Rattle.lemma_boxes.proofs.Lists.{differ, drop_head, drop_tail}
 use Rattle.lemma_boxes.proofs.Allowed.{allows_front}

@@ -18,9 +18,9 @@ use Rattle.qc_model.specs.Table.{IsOrdered}
 use Rattle.qc_model.specs.Valid.{IsValid}
 use Rattle.qc_model.proofs.Before.{before-le}
 use Rattle.qc_model.proofs.Moves.{of_filter}
-use Rattle.qc_table.proofs.Fits.{all_at, length_fits, and_true, or_cases}
-use Rattle.qc_table.proofs.Ordered.{valid_ordered}
-use Rattle.qc_meaning.proofs.Boxes.{in_front}
+use Rattle.model_table.proofs.Fits.{all_at, length_fits, and_true, or_cases}
+use Rattle.model_table.proofs.Ordered.{valid_ordered}
+use Rattle.proof_meaning.proofs.Boxes.{in_front}
 use Rattle.lemma_list.specs.declared.lemma.Literal.{Literal}
 use Rattle.lemma_list.specs.declared.lemma.SumLiteral.{SumLiteral}
 use Rattle.lemma_list.specs.declared.lemma.Reason.{Reason}

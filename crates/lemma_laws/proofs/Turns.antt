@@ -9,7 +9,7 @@ use Rattle.qc_model.specs.Content.{Game}
 use Rattle.qc_model.specs.Game.{IsMove, AfterMove, Wins}
 use Rattle.qc_model.specs.Plan.{Plan, finish, choose, answer, Entries, Turn, Chooses}
 use Rattle.qc_model.specs.Counter.{opposite, CanPassBlock, RepliesTo, CounterWins}
-use Rattle.qc_laws.proofs.Existence.{decided, lost_by_counter}
+use Rattle.model_laws.proofs.Existence.{decided, lost_by_counter}
 use Rattle.lemma_list.specs.Claims.{Loses}
 use Rattle.lemma_list.specs.Places.{is_kind}
 use Rattle.lemma_boxes.proofs.Lists.{differ}

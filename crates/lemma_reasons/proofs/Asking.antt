@@ -5,9 +5,9 @@ use Rattle.std.proofs.lemmas.List.{length-map}
 use Rattle.qc_model.specs.Content.{Game, Rule}
 use Rattle.qc_model.specs.Domains.{Box, domain_values, declared_box, values_left}
 use Rattle.qc_model.specs.Valid.{is_constraint, is_domain}
-use Rattle.qc_arguments.specs.Asked.{IsAsked}
-use Rattle.qc_arguments.proofs.Boxes.{sub_length}
-use Rattle.qc_rules.proofs.Items.{both}
+use Rattle.model_arguments.specs.Asked.{IsAsked}
+use Rattle.model_arguments.proofs.Boxes.{sub_length}
+use Rattle.model_levels.proofs.Items.{both}
 use Rattle.qc_refuter.specs.Met.{is_domain_left}
 use Rattle.qc_refuter.proofs.Ready.{var_open}
 use Rattle.lemma_reasons.specs.Asked.{IsFullBox}

@@ -8,8 +8,8 @@ use Rattle.std.proofs.lemmas.List.{at_drop_more, at_drop_all}
 use mir.Syntax.{w64}
 use Rattle.std.proofs.lemmas.Bool.Decides.{nat_tests}
 use Rattle.qc_model.specs.Domains.{Values, has_value, is_within, least_value, greatest_value}
-use Rattle.qc_rules.proofs.Items.{both}
-use Rattle.qc_arguments.proofs.Kept.{low_end, high_end, inside, at_least, at_most, through, over_low, under_high}
+use Rattle.model_levels.proofs.Items.{both}
+use Rattle.model_arguments.proofs.Kept.{low_end, high_end, inside, at_least, at_most, through, over_low, under_high}
 use Rattle.fd_store.specs.Held.{values_from, least_of}
 use Rattle.qc_refuter.specs.Met.{is_domain_left}
 use Rattle.qc_refuter.proofs.Domains.{small_left}

@@ -6,8 +6,8 @@ use Rattle.std.proofs.lemmas.Bool.Decides.{nat_tests}
 use Rattle.qc_model.specs.Content.{Game, Rule}
 use Rattle.qc_model.specs.Domains.{Box}
 use Rattle.qc_model.specs.Block.{is_owned_within}
-use Rattle.qc_rules.specs.Spans.{IsSpanOf, is_rule_within}
-use Rattle.qc_rules.proofs.Items.{both}
+use Rattle.model_levels.specs.Spans.{IsSpanOf, is_rule_within}
+use Rattle.model_levels.proofs.Items.{both}
 use Rattle.qc_model.specs.Counter.{opposite}
 use Rattle.lemma_list.specs.Lemmas.{Lemma}
 use Rattle.lemma_list.specs.Places.{is_kind, side_at}

@@ -15,8 +15,8 @@ use Rattle.qc_model.specs.Domains.{Box}
 use Rattle.qc_model.specs.Meaning.{clause, meaning_of}
 use Rattle.qc_model.specs.Signature.{arg_kinds_of}
 use Rattle.qc_model.specs.Valid.{is_of_sort, are_of_sorts, have_lengths, argument_sees, is_constraint}
-use Rattle.qc_arguments.specs.Written.{arg_at, args_at, ints_at}
-use Rattle.qc_rules.proofs.Items.{both}
+use Rattle.model_arguments.specs.Written.{arg_at, args_at, ints_at}
+use Rattle.model_levels.proofs.Items.{both}
 use Rattle.lemma_list.specs.Sums.{linear, linear_as, linear_of}
 use Rattle.lemma_list.specs.Reasons.{comes_to, falsified_as, is_falsified}
 use Rattle.lemma_reasons.specs.Known.{difference_of, balance_of}

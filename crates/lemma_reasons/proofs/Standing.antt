@@ -5,7 +5,7 @@ use Rattle.std.proofs.lemmas.Bool.Decides.{nat_tests}
 use Rattle.qc_model.specs.declared.problem.Variable.{Variable}
 use Rattle.qc_model.specs.Content.{Rule}
 use Rattle.qc_model.specs.Valid.{is_in_order}
-use Rattle.qc_rules.proofs.Items.{both}
+use Rattle.model_levels.proofs.Items.{both}
 
 lt_of : (x y : ℕ) → nat_lt x y ≡ true → x < y
 lt_of x y e = grind (arith, nat_tests)

@@ -2,7 +2,7 @@
 use Rattle.std.specs.Prelude.{IsTrue, IsFalse}
 use Rattle.qc_model.specs.Content.{Game}
 use Rattle.qc_model.specs.Domains.{Box, has_empty}
-use Rattle.qc_arguments.specs.Asked.{is_box_of}
+use Rattle.model_arguments.specs.Asked.{is_box_of}
 
 -- values of the domains that the problem declares, some for each variable
 pub record IsFullBox (g : Game) (box : Box) : Type 0 where

@@ -5,7 +5,7 @@ use Rattle.qc_model.specs.declared.problem.Argument.{Argument}
 use Rattle.qc_model.specs.Content.{Game}
 use Rattle.qc_model.specs.Domains.{Box}
 use Rattle.qc_model.specs.Ranges.{range_of}
-use Rattle.qc_arguments.specs.Written.{arg_at}
+use Rattle.model_arguments.specs.Written.{arg_at}
 use Rattle.lemma_list.specs.Sums.{Linear, linear, sum_known}
 use Rattle.lemma_reasons.specs.declared.sums.Given.{Given}
 use Rattle.lemma_reasons.specs.declared.sums.Sum.{Sum}

@@ -3,7 +3,7 @@ ghost use Rattle.std.specs.Prelude.{◌≡◌, IsTrue};
 ghost use Rattle.std.specs.List.{list_any, list_all};
 ghost use Rattle.qc_model.specs.Left.{is_only};
 ghost use Rattle.qc_model.specs.Refuted.{left_to};
-ghost use Rattle.qc_arguments.specs.Asked.{IsAsked};
+ghost use Rattle.model_arguments.specs.Asked.{IsAsked};
 ghost use Rattle.qc_refuter.specs.Met.{is_open};
 ghost use Rattle.lemma_list.specs.Reasons.{is_item, answered, comes_to as comes_to_in, is_falsified as is_falsified_in};
 ghost use Rattle.lemma_reasons.specs.Answering.{answered_by};
@@ -12,8 +12,8 @@ use crate::answers::{Answers, may_answer};
 use crate::forms::items_met;
 use crate::rules::pred_of;
 use fd_store::Store;
-use qc_arguments::arguments;
-use qc_entailed::{has, is_fixed, least};
+use model_arguments::arguments;
+use prop_entailed::{has, is_fixed, least};
 use qc_model::{Arg, Constraint, Pred, Problem, VarId};
 
 // Whether one of the items is the variable.

@@ -2,8 +2,8 @@
 ghost use Rattle.std.specs.Prelude.{◌≡◌, ◌≤◌, ◌∷◌, [], None, IfNone, IfSome, IsTrue, length};
 ghost use Rattle.std.specs.List.{list_all};
 ghost use Rattle.qc_model.specs.Valid.{is_number};
-ghost use Rattle.qc_arguments.specs.Asked.{IsAsked};
-ghost use Rattle.qc_arguments.specs.Written.{arg_at, args_at, ints_at};
+ghost use Rattle.model_arguments.specs.Asked.{IsAsked};
+ghost use Rattle.model_arguments.specs.Written.{arg_at, args_at, ints_at};
 ghost use Rattle.qc_refuter.specs.Met.{is_open, are_met};
 ghost use Rattle.lemma_list.specs.Sums.{linear, linear_of};
 ghost use Rattle.lemma_reasons.specs.Known.{IsKnown, difference_of, balance_of};
@@ -12,7 +12,7 @@ ghost use Rattle.lemma_reasons.specs.Terms.{AreTerms};
 use crate::rules::pred_of;
 use crate::sums::{Given, Sum, sum_known};
 use fd_store::Store;
-use qc_arguments::arguments;
+use model_arguments::arguments;
 use qc_model::{Arg, Argument, Constraint, Pred, Problem};
 
 /// The factors of a difference.

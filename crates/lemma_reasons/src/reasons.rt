@@ -20,8 +20,8 @@ use crate::spans::goes_on;
 use crate::sums::Sum;
 use fd_store::Store;
 use lemma_list::{Lemma, LemmaId, Literal, Reason, SumLiteral};
+use model_levels::Levels;
 use qc_model::{ConId, Problem};
-use qc_rules::Levels;
 
 /// Whether each value that is left to a literal's variable meets the literals, or the winner may answer with one that
 /// does.

@@ -1,6 +1,6 @@
 //! Whether all constraints of some scopes are kept.
 ghost use Rattle.std.specs.Prelude.{◌≡◌, ◌≤◌, ℕ, suc, length};
-ghost use Rattle.qc_rules.specs.Spans.{IsSpanOf};
+ghost use Rattle.model_levels.specs.Spans.{IsSpanOf};
 ghost use Rattle.lemma_list.specs.Reasons.{goes_on as goes_on_in, goal_shows as goal_shows_in};
 ghost use Rattle.lemma_reasons.specs.Asked.{IsFullBox};
 ghost use Rattle.lemma_reasons.specs.Within.{kept_within, is_passed};
@@ -9,9 +9,9 @@ use crate::aim::Aim;
 use crate::kept::is_kept;
 use crate::places::{is_kind, opponent_of, side_at};
 use fd_store::Store;
-use qc_arguments::Span;
+use model_arguments::Span;
+use model_levels::Levels;
 use qc_model::{ConId, Kind, ScopeId};
-use qc_rules::Levels;
 
 // Whether all constraints in a row are kept.
 fn are_kept(aim: &Aim, span: Span, store: &Store) -> bool

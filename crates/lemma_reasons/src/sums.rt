@@ -2,7 +2,7 @@
 ghost use Rattle.std.specs.Prelude.{◌≡◌, ◌==◌, ◌≤◌, ◌^◌, Bool, cond, unsigned_abs};
 ghost use Rattle.qc_model.specs.declared.problem.Arg.{Arg};
 ghost use Rattle.qc_model.specs.Ranges.{range_of, range_sum};
-ghost use Rattle.qc_arguments.specs.Asked.{IsAsked};
+ghost use Rattle.model_arguments.specs.Asked.{IsAsked};
 ghost use Rattle.lemma_list.specs.Sums.{common, sum_known as sum_known_in};
 ghost use Rattle.std.specs.List.{list_any};
 ghost use Rattle.lemma_reasons.specs.Terms.{AreTerms, with_all};

@@ -4,7 +4,7 @@ ghost use Rattle.qc_model.specs.Left.{span};
 ghost use Rattle.qc_model.specs.Ranges.{range_of, point, product};
 ghost use Rattle.qc_model.specs.Refuted.{left_to};
 ghost use Rattle.qc_model.specs.Valid.{is_number};
-ghost use Rattle.qc_arguments.specs.Asked.{IsAsked};
+ghost use Rattle.model_arguments.specs.Asked.{IsAsked};
 ghost use Rattle.qc_refuter.specs.Met.{is_open};
 ghost use Rattle.lemma_list.specs.Sums.{counts as counts_in, terms_range};
 ghost use Rattle.lemma_reasons.specs.Steps.{is_counted as is_counted_in};

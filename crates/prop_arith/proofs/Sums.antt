@@ -20,10 +20,10 @@ use Rattle.qc_model.specs.Refuted.{left_to, refuted_as}
 use Rattle.qc_model.specs.Signature.{arg_kinds_of}
 use Rattle.qc_model.specs.Valid.{is_domain, is_integer, are_of_sorts, have_lengths, arg_sees, argument_sees, is_constraint}
 use Rattle.qc_model.proofs.Readable.{first, second}
-use Rattle.qc_arguments.specs.Asked.{IsAsked}
-use Rattle.qc_arguments.specs.Written.{arg_at}
-use Rattle.qc_arguments.proofs.Written.{left_written}
-use Rattle.qc_arguments.proofs.Kept.{ordered}
+use Rattle.model_arguments.specs.Asked.{IsAsked}
+use Rattle.model_arguments.specs.Written.{arg_at}
+use Rattle.model_arguments.proofs.Written.{left_written}
+use Rattle.model_arguments.proofs.Kept.{ordered}
 use Rattle.qc_refuter.specs.Met.{lefts, is_open, are_met}
 use Rattle.qc_refuter.proofs.Ready.{rule_met}
 use Rattle.prop_base.specs.Closed.{keeps_arg, keeps_argument}

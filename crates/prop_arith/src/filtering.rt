@@ -1,7 +1,7 @@
 //! The filter.
 ghost use Rattle.std.specs.Prelude.{◌≡◌, ◌<◌, length, IfOk, slice_get, Some};
 ghost use Rattle.qc_model.specs.Content.{Rule};
-ghost use Rattle.qc_arguments.specs.Asked.{IsAsked};
+ghost use Rattle.model_arguments.specs.Asked.{IsAsked};
 ghost use Rattle.prop_base.specs.Pruning.{IsPruning, IsFiltered, is_just};
 
 use crate::plus::filter_plus;

@@ -4,10 +4,10 @@ ghost use Rattle.qc_model.specs.declared.problem.Pred.TheVariants.{IntPlus};
 ghost use Rattle.prop_base.specs.Filtering.{Answers, Fits, Prunes};
 
 use fd_store::Store;
+use model_arguments::{arguments, one_at};
 use proof_tree::StepList;
 use prop_base::{Asked, Filtered};
 use prop_linear::filter_sum_equal;
-use qc_arguments::{arguments, one_at};
 use std::alloc::AllocError;
 
 /// The first two integers are together the third: their sum, without the third, is 0.

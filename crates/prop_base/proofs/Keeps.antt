@@ -12,9 +12,9 @@ use Rattle.qc_model.specs.Closed.{refutes_at, keeps_ends}
 use Rattle.qc_model.specs.Content.{Rule}
 use Rattle.qc_model.specs.Domains.{Values, Box, values_left, values_within, box_within, box_at, is_none_left, is_ascending, has_value}
 use Rattle.qc_model.specs.Refuted.{refuted_by}
-use Rattle.qc_arguments.proofs.Bools.{not_true}
+use Rattle.model_arguments.proofs.Bools.{not_true}
 use Rattle.prop_base.specs.Closed.{keeps_at, keeps_arg, keeps_argument}
-use Rattle.qc_arguments.proofs.Values.{only_within}
+use Rattle.model_arguments.proofs.Values.{only_within}
 
 pub stays : (vs : Values) (v : ℤ) → is_ascending vs ≡ true → has_value vs v ≡ true → is_none_left (values_within v v vs) ≡ false
 stays vs v a h = ap is_none_left (only_within v vs a h)

@@ -8,10 +8,10 @@ use Rattle.qc_model.specs.Content.{Game, Rule}
 use Rattle.qc_model.specs.Domains.{Box, declared_box, values_left, values_within, is_none_left, has_value, box_within, least_value, greatest_value}
 use Rattle.qc_model.specs.Refuted.{refuted_by}
 use Rattle.qc_model.specs.Valid.{is_number, is_domain}
-use Rattle.qc_arguments.specs.Asked.{IsAsked}
-use Rattle.qc_arguments.proofs.Boxes.{some_left, sub_ascending, value_small}
-use Rattle.qc_arguments.proofs.Values.{has_least, has_greatest}
-use Rattle.qc_arguments.proofs.Kept.{ordered}
+use Rattle.model_arguments.specs.Asked.{IsAsked}
+use Rattle.model_arguments.proofs.Boxes.{some_left, sub_ascending, value_small}
+use Rattle.model_arguments.proofs.Values.{has_least, has_greatest}
+use Rattle.model_arguments.proofs.Kept.{ordered}
 use Rattle.prop_base.specs.Closed.{IsCut}
 use Rattle.prop_base.proofs.Keeps.{stays}
 

@@ -6,8 +6,8 @@ use Rattle.qc_model.specs.Content.{Rule}
 use Rattle.qc_model.specs.Domains.{Values, Box, values_left, values_within, values_outside, box_within, box_without, is_within, is_none_left, has_value, least_value, greatest_value}
 use Rattle.qc_model.specs.Refuted.{refuted_by}
 use Rattle.qc_model.specs.Valid.{is_number}
-use Rattle.qc_arguments.proofs.Kept.{low_end, high_end}
-use Rattle.qc_arguments.proofs.Values.{has_first, has_least, has_greatest}
+use Rattle.model_arguments.proofs.Kept.{low_end, high_end}
+use Rattle.model_arguments.proofs.Values.{has_first, has_least, has_greatest}
 use Rattle.std.specs.Ordering.{int_eq}
 use Rattle.std.proofs.lemmas.Bool.Decides.{Decides-int_eq}
 use Rattle.qc_model.specs.declared.problem.VarId.{VarId}

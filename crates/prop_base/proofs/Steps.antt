@@ -10,7 +10,7 @@ use Rattle.qc_model.specs.Content.{Game, Rule}
 use Rattle.qc_model.specs.Domains.{Values, Box, values_left, values_within, values_outside, box_within, box_without, is_none_left, has_empty, is_within, is_sub_box}
 use Rattle.qc_model.specs.Valid.{is_number}
 use Rattle.qc_model.proofs.Readable.{first, second, together}
-use Rattle.qc_arguments.proofs.Bools.{not_true, not_false}
+use Rattle.model_arguments.proofs.Bools.{not_true, not_false}
 use Rattle.proof_tree.specs.declared.tree.Step.{Step}
 use Rattle.proof_tree.specs.declared.tree.Step.TheVariants.{Prune, Bound}
 use Rattle.proof_tree.specs.Steps.{removes_some, after_step, after_steps}
@@ -18,7 +18,7 @@ use Rattle.fd_store.specs.Held.{Held, Follows}
 use Rattle.prop_base.specs.declared.cuts.Cut.{Cut}
 use Rattle.prop_base.specs.Closed.{IsCut}
 use Rattle.prop_base.specs.Pruning.{is_refuted_by, is_pruned_by, are_pruned_by, IsPruning, is_just, total}
-use Rattle.qc_arguments.proofs.Boxes.{sub_without}
+use Rattle.model_arguments.proofs.Boxes.{sub_without}
 
 after-append : (xs ys : List Step) (box : Box) → after_steps (xs ++ ys) box ≡ after_steps ys (after_steps xs box)
 after-append [] ys box = refl

@@ -12,10 +12,10 @@ use Rattle.qc_model.specs.Meaning.{meaning_of}
 use Rattle.qc_model.specs.Signature.{arg_kinds_of}
 use Rattle.qc_model.specs.Valid.{is_number, is_domain, are_of_sorts, have_lengths, argument_sees}
 use Rattle.qc_model.proofs.Readable.{first, second}
-use Rattle.qc_arguments.specs.Asked.{IsAsked}
-use Rattle.qc_arguments.proofs.Boxes.{some_left, left_small, within_all}
-use Rattle.qc_arguments.proofs.Bools.{or_right}
-use Rattle.qc_arguments.proofs.Kept.{within_at}
+use Rattle.model_arguments.specs.Asked.{IsAsked}
+use Rattle.model_arguments.proofs.Boxes.{some_left, left_small, within_all}
+use Rattle.model_arguments.proofs.Bools.{or_right}
+use Rattle.model_arguments.proofs.Kept.{within_at}
 use Rattle.prop_base.specs.Closed.{IsCut}
 
 none_out : (vs : Values) → list_all is_number vs ≡ true → values_outside (negsuc 999999999) (pos 1000000000) vs ≡ []

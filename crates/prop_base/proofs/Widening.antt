@@ -5,7 +5,7 @@ use Rattle.std.proofs.lemmas.Int.{ints}
 use Rattle.qc_model.specs.Content.{Rule}
 use Rattle.qc_model.specs.Domains.{Values, Box, values_left, values_within, is_within, is_none_left}
 use Rattle.qc_model.specs.Valid.{is_number}
-use Rattle.qc_arguments.proofs.Kept.{small_between}
+use Rattle.model_arguments.proofs.Kept.{small_between}
 use Rattle.prop_base.specs.declared.cuts.Cut.{Cut}
 use Rattle.prop_base.specs.Closed.{IsCut}
 use Rattle.prop_base.specs.Wider.{wider, refutes_range}

@@ -1,7 +1,7 @@
 -- What a filter is given, and what it does.
 use Rattle.std.specs.Prelude.{List, Result, IfOk}
 use Rattle.std.specs.declared.alloc.AllocError.{AllocError}
-use Rattle.qc_arguments.specs.Asked.{IsAsked}
+use Rattle.model_arguments.specs.Asked.{IsAsked}
 use Rattle.proof_tree.specs.declared.tree.Step.{Step}
 use Rattle.fd_store.specs.Held.{Held}
 use Rattle.prop_base.specs.declared.answer.Filtered.{Filtered}

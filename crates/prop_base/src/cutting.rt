@@ -5,7 +5,7 @@
 ghost use Rattle.std.specs.Prelude.{IsTrue, IfNone, IfSome};
 ghost use Rattle.qc_model.specs.Closed.{keeps_ends};
 ghost use Rattle.qc_model.specs.Content.{Rule};
-ghost use Rattle.qc_arguments.specs.Asked.{IsAsked};
+ghost use Rattle.model_arguments.specs.Asked.{IsAsked};
 ghost use Rattle.prop_base.specs.Closed.{IsCut};
 ghost use Rattle.prop_base.specs.Filtering.{Answers, Fits, Prunes};
 

@@ -13,8 +13,8 @@ use crate::asked::Asked;
 use crate::cuts::Cut;
 use crate::removal::prune;
 use fd_store::Store;
+use model_arguments::arguments;
 use proof_tree::StepList;
-use qc_arguments::arguments;
 use qc_model::{Arg, Argument, Constraint, Problem, VarId};
 use std::alloc::AllocError;
 

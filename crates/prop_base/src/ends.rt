@@ -5,7 +5,7 @@
 ghost use Rattle.std.specs.Prelude.{◌<◌, length, IsTrue, IfNone, IfSome, ⊤};
 ghost use Rattle.std.specs.List.{list_all};
 ghost use Rattle.qc_model.specs.Valid.{arg_sees, argument_sees};
-ghost use Rattle.qc_arguments.specs.Asked.{IsAsked};
+ghost use Rattle.model_arguments.specs.Asked.{IsAsked};
 ghost use Rattle.prop_base.specs.Closed.{IsCut, keeps_at, keeps_arg, keeps_argument};
 ghost use Rattle.prop_base.specs.Filtering.{Answers, Fits, Prunes};
 
@@ -16,8 +16,8 @@ use crate::cutting::{Cutter, filter_by_cuts};
 use crate::ranges::widest;
 use crate::refuting::Refuter;
 use fd_store::Store;
+use model_arguments::{arguments, width};
 use proof_tree::StepList;
-use qc_arguments::{arguments, width};
 use qc_model::{Arg, Argument, Constraint, Problem, VarId};
 use std::alloc::AllocError;
 

@@ -6,7 +6,7 @@
 //! the widest; that it may go rests on the table's answer for this very range alone.
 ghost use Rattle.std.specs.Prelude.{◌≡◌, ◌<◌, ◌≤◌, ◌+◌, IsTrue, IsFalse, pos, ◌+ℤ◌, ◌≤ℤ◌};
 ghost use Rattle.qc_model.specs.Valid.{is_number};
-ghost use Rattle.qc_arguments.specs.Asked.{IsAsked};
+ghost use Rattle.model_arguments.specs.Asked.{IsAsked};
 ghost use Rattle.prop_base.specs.Closed.{IsCut};
 ghost use Rattle.prop_base.specs.Wider.{wider, refutes_range};
 

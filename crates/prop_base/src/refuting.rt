@@ -2,7 +2,7 @@
 ghost use Rattle.std.specs.Prelude.{◌≡◌, ◌<◌, length, IsTrue, IsFalse};
 ghost use Rattle.qc_model.specs.Domains.{box_within, is_none_left, values_left, values_within};
 ghost use Rattle.qc_model.specs.Refuted.{refuted_by};
-ghost use Rattle.qc_arguments.specs.Asked.{IsAsked};
+ghost use Rattle.model_arguments.specs.Asked.{IsAsked};
 
 use fd_store::Store;
 use qc_model::{Constraint, Problem, VarId};

@@ -22,8 +22,8 @@ use Rattle.qc_model.specs.Refuted.{left_to}
 use Rattle.qc_model.specs.Signature.{arg_kinds_of}
 use Rattle.qc_model.specs.Valid.{is_truth, is_bits, is_boolean, is_variable_with, is_of_sort, are_of_sorts, have_lengths, argument_sees}
 use Rattle.qc_model.proofs.Readable.{first, second, together}
-use Rattle.qc_arguments.specs.Asked.{IsAsked}
-use Rattle.qc_arguments.specs.Written.{arg_at, args_at}
+use Rattle.model_arguments.specs.Asked.{IsAsked}
+use Rattle.model_arguments.specs.Written.{arg_at, args_at}
 use Rattle.prop_bool.specs.declared.literals.Literal.{Literal}
 use Rattle.prop_bool.specs.Literals.{is_truth_left, is_truth_at, plain, negated, literals}
 

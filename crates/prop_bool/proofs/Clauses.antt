@@ -16,9 +16,9 @@ use Rattle.qc_model.specs.Meaning.{clause, meaning_of}
 use Rattle.qc_model.specs.Refuted.{left_to, refuted_as}
 use Rattle.qc_model.specs.Valid.{is_boolean, is_of_sort, are_of_sorts}
 use Rattle.qc_model.proofs.Readable.{second}
-use Rattle.qc_arguments.specs.Asked.{IsAsked}
-use Rattle.qc_arguments.specs.Written.{arg_at, args_at, last_arg}
-use Rattle.qc_arguments.proofs.Written.{lefts_written, last_written}
+use Rattle.model_arguments.specs.Asked.{IsAsked}
+use Rattle.model_arguments.specs.Written.{arg_at, args_at, last_arg}
+use Rattle.model_arguments.proofs.Written.{lefts_written, last_written}
 use Rattle.qc_refuter.specs.Met.{lefts}
 use Rattle.prop_bool.specs.Literals.{surely_fails, surely_holds, plain, literals, IsDisjunction}
 use Rattle.prop_bool.proofs.Arguments.{items_boolean, one_boolean, all_literals, any_literals, all_left, any_left, few_of, booleans_of, literals_truths, truth_of}

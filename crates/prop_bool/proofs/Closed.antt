@@ -11,10 +11,10 @@ use Rattle.qc_model.specs.Domains.{Box, values_left, has_value, least_value, gre
 use Rattle.qc_model.specs.Refuted.{refuted_by}
 use Rattle.qc_model.specs.Valid.{arg_sees, argument_sees}
 use Rattle.qc_model.proofs.Readable.{first, second, together}
-use Rattle.qc_arguments.specs.Asked.{IsAsked}
-use Rattle.qc_arguments.proofs.Boxes.{some_left, seen_place}
-use Rattle.qc_arguments.proofs.Values.{has_least, has_greatest}
-use Rattle.qc_arguments.proofs.Bools.{not_true}
+use Rattle.model_arguments.specs.Asked.{IsAsked}
+use Rattle.model_arguments.proofs.Boxes.{some_left, seen_place}
+use Rattle.model_arguments.proofs.Values.{has_least, has_greatest}
+use Rattle.model_arguments.proofs.Bools.{not_true}
 use Rattle.prop_base.specs.Closed.{keeps_at, keeps_arg, keeps_argument}
 use Rattle.prop_base.proofs.Keeps.{keeps_all}
 use Rattle.prop_base.proofs.Whole.{all_seen}

@@ -12,8 +12,8 @@ use Rattle.qc_model.specs.Domains.{Values, Box, values_left, has_value, is_singl
 use Rattle.qc_model.specs.Holds.{odd_ones, is_one}
 use Rattle.qc_model.specs.Refuted.{left_to}
 use Rattle.qc_model.proofs.Readable.{first, second, together}
-use Rattle.qc_arguments.specs.Repeats.{is_variable}
-use Rattle.qc_arguments.proofs.Bools.{never}
+use Rattle.model_arguments.specs.Repeats.{is_variable}
+use Rattle.model_arguments.proofs.Bools.{never}
 use Rattle.prop_bool.specs.declared.tallies.Tally.{Tally}
 use Rattle.prop_bool.specs.declared.tallies.Tally.TheVariants.{Decided, Open, Free, Unknown}
 use Rattle.prop_bool.specs.Literals.{truth_number, both_truths}

@@ -8,10 +8,10 @@ use Rattle.qc_model.specs.declared.problem.Arg.TheVariants.{Var, Num}
 use Rattle.qc_model.specs.Content.{Game, Rule}
 use Rattle.qc_model.specs.Domains.{Values, Box, declared_box, values_left, has_value, is_sub_box}
 use Rattle.qc_model.specs.Refuted.{left_to}
-use Rattle.qc_arguments.specs.Asked.{IsAsked}
-use Rattle.qc_arguments.proofs.Boxes.{sub_ascending, sub_within, set_full}
+use Rattle.model_arguments.specs.Asked.{IsAsked}
+use Rattle.model_arguments.proofs.Boxes.{sub_ascending, sub_within, set_full}
 use Rattle.prop_base.proofs.Keeps.{within_one}
-use Rattle.qc_arguments.specs.Repeats.{is_variable}
+use Rattle.model_arguments.specs.Repeats.{is_variable}
 use Rattle.prop_bool.proofs.Truths.{only_value}
 
 pub has_place : (box : Box) (y : ℕ) (v : ℤ) → has_value (values_left box y) v ≡ true → y < length box

@@ -7,7 +7,7 @@ use Rattle.qc_model.specs.Content.{Game, Rule}
 use Rattle.qc_model.specs.Domains.{Box}
 use Rattle.qc_model.specs.Holds.{same_truth}
 use Rattle.qc_model.specs.Refuted.{refuted_by}
-use Rattle.qc_arguments.specs.Asked.{IsAsked}
+use Rattle.model_arguments.specs.Asked.{IsAsked}
 use Rattle.prop_bool.specs.declared.findings.Finding.TheVariants.{Loses}
 use Rattle.prop_bool.specs.declared.tallies.Tally.TheVariants.{Free}
 use Rattle.prop_bool.specs.Literals.{truth_number}

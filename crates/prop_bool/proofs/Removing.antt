@@ -8,7 +8,7 @@ use Rattle.qc_model.specs.Content.{Game, Rule}
 use Rattle.qc_model.specs.Domains.{Box, values_left, values_within, values_outside, box_without, has_value, has_empty, is_none_left}
 use Rattle.qc_model.specs.Refuted.{refuted_by}
 use Rattle.qc_model.specs.Valid.{is_number}
-use Rattle.qc_arguments.proofs.Boxes.{set_full}
+use Rattle.model_arguments.proofs.Boxes.{set_full}
 use Rattle.proof_tree.specs.declared.tree.Step.{Step}
 use Rattle.prop_base.specs.declared.cuts.Cut.{Cut}
 use Rattle.prop_base.specs.declared.answer.Filtered.{Filtered}

@@ -8,8 +8,8 @@ use Rattle.qc_model.specs.Closed.{keeps_ends}
 use Rattle.qc_model.specs.Content.{Game, Rule}
 use Rattle.qc_model.specs.Domains.{Box, values_left, has_value}
 use Rattle.qc_model.specs.Refuted.{left_to, refuted_by}
-use Rattle.qc_arguments.specs.Asked.{IsAsked}
-use Rattle.qc_arguments.proofs.Bools.{never, or_right}
+use Rattle.model_arguments.specs.Asked.{IsAsked}
+use Rattle.model_arguments.proofs.Bools.{never, or_right}
 use Rattle.prop_bool.specs.declared.findings.Finding.TheVariants.{Loses}
 use Rattle.prop_bool.specs.declared.literals.Literal.{Literal}
 use Rattle.prop_bool.specs.Literals.{truth_number, both_truths, surely_holds, surely_fails, IsUnfixed, same_literal, IsDisjunction}
@@ -17,7 +17,7 @@ use Rattle.prop_bool.specs.Findings.{CanHold, IsLast, IsFinding, given}
 use Rattle.prop_bool.proofs.Adding.{unfixed_not_fails, unfixed_not_holds, holds_not_fails, fails_not_holds, holds_stays, fails_stays, all_weaker, any_weaker, some_hold, none_other, same_fails, same_holds}
 use Rattle.prop_bool.proofs.Closed.{closed_by}
 use Rattle.prop_bool.proofs.Fixing.{has_place, left_other, left_there, left_before, asked_at}
-use Rattle.qc_arguments.specs.Repeats.{is_variable}
+use Rattle.model_arguments.specs.Repeats.{is_variable}
 use Rattle.prop_bool.proofs.Signs.{agrees, all_both, any_both, by_value, back_fails, back_holds}
 use Rattle.prop_bool.proofs.Truths.{is_one}
 

@@ -11,8 +11,8 @@ use Rattle.qc_model.specs.Left.{is_only}
 use Rattle.qc_model.specs.Refuted.{left_to}
 use Rattle.qc_model.specs.Valid.{is_truth}
 use Rattle.qc_model.proofs.Readable.{first, second, together}
-use Rattle.qc_arguments.specs.Repeats.{is_variable, same_variable}
-use Rattle.qc_arguments.proofs.Bools.{or_left, or_right}
+use Rattle.model_arguments.specs.Repeats.{is_variable, same_variable}
+use Rattle.model_arguments.proofs.Bools.{or_left, or_right}
 use Rattle.prop_bool.specs.declared.literals.Literal.{Literal}
 use Rattle.prop_bool.specs.Literals.{truth_number, both_truths, surely_holds, surely_fails, plain, negated, literals, is_opposed}
 use Rattle.prop_bool.proofs.Adding.{holds_not_fails, fails_not_holds, both_of, truth_is}

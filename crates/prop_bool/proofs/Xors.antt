@@ -14,9 +14,9 @@ use Rattle.qc_model.specs.Meaning.{meaning_of}
 use Rattle.qc_model.specs.Refuted.{left_to, refuted_as}
 use Rattle.qc_model.specs.Valid.{is_boolean}
 use Rattle.qc_model.proofs.Readable.{together}
-use Rattle.qc_arguments.specs.Asked.{IsAsked}
-use Rattle.qc_arguments.specs.Written.{arg_at, args_at}
-use Rattle.qc_arguments.proofs.Written.{left_written, lefts_written}
+use Rattle.model_arguments.specs.Asked.{IsAsked}
+use Rattle.model_arguments.specs.Written.{arg_at, args_at}
+use Rattle.model_arguments.proofs.Written.{left_written, lefts_written}
 use Rattle.qc_refuter.specs.Met.{lefts}
 use Rattle.prop_bool.specs.Literals.{both_truths, is_truth_left}
 use Rattle.prop_bool.specs.Parities.{differ, are_single, IsParity}

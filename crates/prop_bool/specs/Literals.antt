@@ -8,8 +8,8 @@ use Rattle.qc_model.specs.Holds.{same_truth}
 use Rattle.qc_model.specs.Left.{is_only}
 use Rattle.qc_model.specs.Refuted.{left_to, refuted_by}
 use Rattle.qc_model.specs.Valid.{is_truth}
-use Rattle.qc_arguments.specs.Asked.{IsAsked}
-use Rattle.qc_arguments.specs.Repeats.{same_variable}
+use Rattle.model_arguments.specs.Asked.{IsAsked}
+use Rattle.model_arguments.specs.Repeats.{same_variable}
 use Rattle.prop_bool.specs.declared.literals.Literal.{Literal}
 
 -- the number of a truth value

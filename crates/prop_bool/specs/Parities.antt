@@ -7,8 +7,8 @@ use Rattle.qc_model.specs.Content.{Game, Rule}
 use Rattle.qc_model.specs.Domains.{Box, values_left, has_value, is_single, least_value}
 use Rattle.qc_model.specs.Holds.{same_truth, odd_ones}
 use Rattle.qc_model.specs.Refuted.{left_to, refuted_by}
-use Rattle.qc_arguments.specs.Asked.{IsAsked}
-use Rattle.qc_arguments.specs.Repeats.{is_variable}
+use Rattle.model_arguments.specs.Asked.{IsAsked}
+use Rattle.model_arguments.specs.Repeats.{is_variable}
 use Rattle.prop_bool.specs.declared.tallies.Tally.{Tally}
 use Rattle.prop_bool.specs.declared.tallies.Tally.TheVariants.{Decided, Open, Free, Unknown}
 use Rattle.prop_bool.specs.Findings.{given}

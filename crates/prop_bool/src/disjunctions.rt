@@ -1,7 +1,7 @@
 //! The filter of constraints that say that a head holds where some literal does, and fails where none does.
 ghost use Rattle.std.specs.Prelude.{◌≡◌, ◌≤◌, ◌<◌, ◌+◌, IsTrue, IfOk, OnOk, length, take, true, false};
 ghost use Rattle.std.specs.List.{list_all, list_any};
-ghost use Rattle.qc_arguments.specs.Asked.{IsAsked};
+ghost use Rattle.model_arguments.specs.Asked.{IsAsked};
 ghost use Rattle.prop_base.specs.Filtering.{Answers, Fits, Prunes};
 ghost use Rattle.prop_bool.specs.Findings.{IsFinding, answer_after};
 ghost use Rattle.prop_bool.specs.Literals.{IsDisjunction, IsUnfixed, literals, surely_fails, surely_holds};

@@ -7,7 +7,7 @@ ghost use Rattle.prop_bool.specs.declared.literals.Literal.{Literal};
 
 use crate::literals::{Literal, Standing, literal_at, standing_of};
 use fd_store::Store;
-use qc_arguments::is_among;
+use model_arguments::is_among;
 use qc_model::Arg;
 
 // With one literal more.

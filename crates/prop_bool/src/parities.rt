@@ -1,5 +1,5 @@
 //! The filter of constraints that say whether an odd number of items are 1.
-ghost use Rattle.qc_arguments.specs.Asked.{IsAsked};
+ghost use Rattle.model_arguments.specs.Asked.{IsAsked};
 ghost use Rattle.prop_base.specs.Filtering.{Answers, Fits, Prunes};
 ghost use Rattle.prop_bool.specs.Findings.{IsFinding};
 ghost use Rattle.prop_bool.specs.Parities.{IsParity};

@@ -7,9 +7,9 @@ use crate::disjunctions::filter_disjunction;
 use crate::literals::Literal;
 use crate::parities::filter_parity;
 use fd_store::Store;
+use model_arguments::{arguments, items_at, last_one, one_at};
 use proof_tree::StepList;
 use prop_base::{Asked, Filtered};
-use qc_arguments::{arguments, items_at, last_one, one_at};
 use qc_model::Arg;
 use std::alloc::AllocError;
 

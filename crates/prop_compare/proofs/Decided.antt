@@ -10,9 +10,9 @@ use Rattle.qc_model.specs.Left.{are_one_value}
 use Rattle.qc_model.specs.Valid.{is_truth}
 use Rattle.qc_model.proofs.Readable.{first, second}
 use Rattle.qc_model.proofs.Sound.{misses_apart}
-use Rattle.qc_arguments.proofs.Values.{has_least}
-use Rattle.qc_arguments.proofs.Kept.{among_of, low_end, high_end, lower, reaches, is_lower}
-use Rattle.qc_arguments.proofs.Bools.{never}
+use Rattle.model_arguments.proofs.Values.{has_least}
+use Rattle.model_arguments.proofs.Kept.{among_of, low_end, high_end, lower, reaches, is_lower}
+use Rattle.model_arguments.proofs.Bools.{never}
 use Rattle.qc_refuter.proofs.Domains.{none_common, some_common, some_left, ascending_left}
 use Rattle.qc_refuter.specs.Met.{is_domain_left}
 use Rattle.prop_compare.specs.Compared.{is_over}

@@ -6,9 +6,9 @@ use Rattle.std.proofs.lemmas.Int.{ints}
 use Rattle.std.proofs.lemmas.Bool.Decides.{Decides-int_eq}
 use Rattle.qc_model.specs.Domains.{Values, values_within, values_outside, is_within, has_value, is_none_left, is_single, least_value, greatest_value}
 use Rattle.qc_model.proofs.Readable.{first, second, together}
-use Rattle.qc_arguments.proofs.Values.{has_first}
-use Rattle.qc_arguments.proofs.Kept.{keeps, some_of, low_end, high_end, inside, at_least, at_most, out_low, out_high, is_out_low, is_out_high}
-use Rattle.qc_arguments.proofs.Bools.{not_true, never, bools_same, or_right}
+use Rattle.model_arguments.proofs.Values.{has_first}
+use Rattle.model_arguments.proofs.Kept.{keeps, some_of, low_end, high_end, inside, at_least, at_most, out_low, out_high, is_out_low, is_out_high}
+use Rattle.model_arguments.proofs.Bools.{not_true, never, bools_same, or_right}
 
 -- one filter after another
 pub filter_twice : (p q : ℤ → Bool) (vs : Values) → filter q (filter p vs) ≡ filter (λ v. p v && q v) vs

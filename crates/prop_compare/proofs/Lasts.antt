@@ -17,9 +17,9 @@ use Rattle.qc_model.specs.declared.signature.ArgKind.TheVariants.{Boolean}
 use Rattle.qc_model.specs.Signature.{arg_kinds_of}
 use Rattle.qc_model.specs.Valid.{is_domain, is_truth, is_boolean, is_of_sort, are_of_sorts, have_lengths, argument_sees}
 use Rattle.qc_model.proofs.Readable.{first, second}
-use Rattle.qc_arguments.specs.Asked.{IsAsked}
-use Rattle.qc_arguments.specs.Written.{last_arg}
-use Rattle.qc_arguments.proofs.Written.{last_written}
+use Rattle.model_arguments.specs.Asked.{IsAsked}
+use Rattle.model_arguments.specs.Written.{last_arg}
+use Rattle.model_arguments.proofs.Written.{last_written}
 use Rattle.qc_refuter.specs.Met.{lefts, is_open, is_met}
 use Rattle.qc_refuter.proofs.Ready.{rule_met}
 use Rattle.prop_compare.specs.Untold.{RefutesNone}

@@ -13,14 +13,14 @@ use Rattle.qc_model.specs.Domains.{Values, Box, values_left, values_within, valu
 use Rattle.qc_model.specs.Left.{are_one_value}
 use Rattle.qc_model.specs.Refuted.{left_to, refuted_by}
 use Rattle.qc_model.proofs.Readable.{first}
-use Rattle.qc_arguments.proofs.Values.{has_first, only_within, has_greatest}
-use Rattle.qc_arguments.proofs.Bools.{never, bools_same, not_true}
-use Rattle.qc_arguments.proofs.Kept.{lower, keeps, some_of, least_kept, greatest_kept, at_least, at_most}
+use Rattle.model_arguments.proofs.Values.{has_first, only_within, has_greatest}
+use Rattle.model_arguments.proofs.Bools.{never, bools_same, not_true}
+use Rattle.model_arguments.proofs.Kept.{lower, keeps, some_of, least_kept, greatest_kept, at_least, at_most}
 use Rattle.qc_refuter.proofs.Domains.{some_left, ascending_left}
 use Rattle.qc_refuter.specs.Met.{is_domain_left}
 use Rattle.prop_compare.specs.Compared.{box_with, IsPair, IsTested, AlikeBut}
 use Rattle.prop_compare.proofs.Kept.{single_value}
-use Rattle.qc_arguments.proofs.Items.{flipped}
+use Rattle.model_arguments.proofs.Items.{flipped}
 use Rattle.prop_compare.proofs.Sides.{with_full, with_other, with_kept, alike_same, alike_second}
 use Rattle.prop_compare.proofs.Reducing.{keeps_side, at_first, at_second}
 

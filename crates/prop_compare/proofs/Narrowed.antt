@@ -11,8 +11,8 @@ use Rattle.qc_model.specs.Domains.{Values, Box, values_left, values_within, valu
 use Rattle.qc_model.specs.Refuted.{left_to, refuted_by}
 use Rattle.qc_model.specs.Valid.{is_number}
 use Rattle.qc_model.proofs.Readable.{second, together}
-use Rattle.qc_arguments.proofs.Values.{ascending_kept, all_kept, has_least, has_greatest}
-use Rattle.qc_arguments.proofs.Bools.{never, not_true, not_false}
+use Rattle.model_arguments.proofs.Values.{ascending_kept, all_kept, has_least, has_greatest}
+use Rattle.model_arguments.proofs.Bools.{never, not_true, not_false}
 use Rattle.qc_refuter.proofs.Domains.{some_left, ascending_left, small_left}
 use Rattle.proof_tree.specs.declared.tree.Step.{Step}
 use Rattle.fd_store.specs.Held.{values_from, least_of}
@@ -21,7 +21,7 @@ use Rattle.prop_base.specs.Closed.{IsCut}
 use Rattle.prop_compare.specs.Compared.{box_with, box_kept, IsNarrowing, IsPart}
 use Rattle.prop_compare.proofs.Kept.{outside_both, none_taken}
 use Rattle.qc_refuter.proofs.Commons.{IsFrom, from_some, from_none}
-use Rattle.qc_arguments.proofs.Kept.{through, keeps, passes, was_left, some_of, over_low, under_high, least_kept, at_least, at_most, is_lower, small_of}
+use Rattle.model_arguments.proofs.Kept.{through, keeps, passes, was_left, some_of, over_low, under_high, least_kept, at_least, at_most, is_lower, small_of}
 use Rattle.prop_compare.proofs.Sides.{var_of, open_place, with_twice, with_kept, with_full, with_same}
 
 -- whether some value is within

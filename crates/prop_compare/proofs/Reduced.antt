@@ -7,8 +7,8 @@ use Rattle.std.proofs.lemmas.Bool.Decides.{Decides-int_eq}
 use Rattle.qc_model.specs.Domains.{Values, values_within, is_within, has_value, least_value, greatest_value, misses}
 use Rattle.qc_model.specs.Valid.{is_number, is_truth}
 use Rattle.qc_model.proofs.Readable.{first, second}
-use Rattle.qc_arguments.proofs.Values.{has_least, has_greatest, has_first}
-use Rattle.qc_arguments.proofs.Kept.{keeps, passes, some_of, low_end, high_end, inside, at_least, at_most, lower, is_lower, not_lower, reaches, apart, least_kept, greatest_kept, small_between}
+use Rattle.model_arguments.proofs.Values.{has_least, has_greatest, has_first}
+use Rattle.model_arguments.proofs.Kept.{keeps, passes, some_of, low_end, high_end, inside, at_least, at_most, lower, is_lower, not_lower, reaches, apart, least_kept, greatest_kept, small_between}
 use Rattle.qc_refuter.proofs.Domains.{some_left, small_left, none_common, some_common}
 use Rattle.qc_refuter.specs.Met.{is_domain_left}
 use Rattle.prop_compare.specs.Compared.{IsPart, is_over}

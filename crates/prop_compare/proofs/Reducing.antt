@@ -9,14 +9,14 @@ use Rattle.qc_model.specs.Content.{Game, Rule}
 use Rattle.qc_model.specs.Domains.{Values, Box, values_left, values_within, is_within, is_none_left, least_value, greatest_value}
 use Rattle.qc_model.specs.Refuted.{left_to, refuted_by}
 use Rattle.qc_model.proofs.Readable.{together}
-use Rattle.qc_arguments.proofs.Bools.{not_true}
+use Rattle.model_arguments.proofs.Bools.{not_true}
 use Rattle.qc_refuter.proofs.Domains.{some_left}
 use Rattle.prop_base.specs.Closed.{keeps_arg}
 use Rattle.prop_compare.specs.declared.keeping.Keeping.{Keeping}
-use Rattle.qc_arguments.specs.Repeats.{same_variable}
+use Rattle.model_arguments.specs.Repeats.{same_variable}
 use Rattle.prop_compare.specs.Compared.{box_kept, AlikeBut, IsPair, IsTested, IsPart}
 use Rattle.prop_compare.specs.Keeping.{IsReduction, IsReducing, kept}
-use Rattle.qc_arguments.proofs.Items.{flipped}
+use Rattle.model_arguments.proofs.Items.{flipped}
 use Rattle.prop_compare.proofs.Sides.{set_to, kept_there, var_of, with_kept, with_other, alike_same, alike_first, alike_second}
 
 -- an argument keeps its ends where the test fails at both

@@ -13,8 +13,8 @@ use Rattle.qc_model.specs.Domains.{Values, Box, values_left, values_within, valu
 use Rattle.qc_model.specs.Refuted.{refuted_by}
 use Rattle.qc_model.specs.Valid.{is_number}
 use Rattle.qc_model.proofs.Readable.{together}
-use Rattle.qc_arguments.proofs.Boxes.{set_full}
-use Rattle.qc_arguments.proofs.Bools.{not_true}
+use Rattle.model_arguments.proofs.Boxes.{set_full}
+use Rattle.model_arguments.proofs.Bools.{not_true}
 use Rattle.proof_tree.specs.declared.tree.Step.{Step}
 use Rattle.prop_base.specs.declared.answer.Filtered.{Filtered}
 use Rattle.prop_base.specs.declared.answer.Filtered.TheVariants.{Emptied, Stable, Changed}

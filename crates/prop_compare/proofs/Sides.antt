@@ -9,11 +9,11 @@ use Rattle.qc_model.specs.declared.problem.VarId.{VarId}
 use Rattle.qc_model.specs.Content.{Game, Rule}
 use Rattle.qc_model.specs.Domains.{Values, Box, values_left, values_within, is_within, is_none_left, has_empty}
 use Rattle.qc_model.specs.Refuted.{left_to}
-use Rattle.qc_arguments.proofs.Boxes.{set_full, set_same}
-use Rattle.qc_arguments.proofs.Items.{flipped}
+use Rattle.model_arguments.proofs.Boxes.{set_full, set_same}
+use Rattle.model_arguments.proofs.Items.{flipped}
 use Rattle.qc_refuter.proofs.Domains.{some_left}
 use Rattle.qc_refuter.specs.Met.{is_open}
-use Rattle.qc_arguments.specs.Repeats.{is_variable, same_variable}
+use Rattle.model_arguments.specs.Repeats.{is_variable, same_variable}
 use Rattle.prop_compare.specs.Compared.{box_with, AlikeBut, IsPair}
 use Rattle.prop_compare.proofs.Kept.{one_kept}
 

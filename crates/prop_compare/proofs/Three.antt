@@ -24,8 +24,8 @@ use Rattle.qc_model.specs.Refuted.{left_to, refuted_as}
 use Rattle.qc_model.specs.Signature.{arg_kinds_of}
 use Rattle.qc_model.specs.Valid.{is_domain, is_truth, is_bits, is_boolean, is_variable_with, is_of_sort, are_of_sorts, have_lengths, arg_sees, argument_sees, is_constraint}
 use Rattle.qc_model.proofs.Readable.{first, second, together}
-use Rattle.qc_arguments.specs.Asked.{IsAsked}
-use Rattle.qc_arguments.specs.Written.{arg_at}
+use Rattle.model_arguments.specs.Asked.{IsAsked}
+use Rattle.model_arguments.specs.Written.{arg_at}
 use Rattle.qc_refuter.specs.Met.{lefts, is_open, is_met}
 use Rattle.qc_refuter.proofs.Ready.{rule_met}
 use Rattle.prop_base.specs.Closed.{keeps_arg, keeps_argument}

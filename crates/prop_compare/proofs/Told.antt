@@ -10,20 +10,20 @@ use Rattle.qc_model.specs.Domains.{Values, Box, values_left, values_within, valu
 use Rattle.qc_model.specs.Refuted.{left_to, refuted_by}
 use Rattle.qc_model.specs.Valid.{is_number}
 use Rattle.qc_model.proofs.Readable.{first}
-use Rattle.qc_arguments.proofs.Boxes.{set_full}
-use Rattle.qc_arguments.proofs.Values.{has_least, has_greatest}
-use Rattle.qc_arguments.proofs.Bools.{never, not_false, clash}
+use Rattle.model_arguments.proofs.Boxes.{set_full}
+use Rattle.model_arguments.proofs.Values.{has_least, has_greatest}
+use Rattle.model_arguments.proofs.Bools.{never, not_false, clash}
 use Rattle.qc_refuter.proofs.Domains.{some_left}
 use Rattle.prop_base.specs.declared.cuts.Cut.{Cut}
 use Rattle.prop_base.specs.Closed.{IsCut, keeps_arg}
-use Rattle.qc_arguments.specs.Repeats.{is_variable, same_variable}
+use Rattle.model_arguments.specs.Repeats.{is_variable, same_variable}
 use Rattle.prop_compare.specs.Compared.{is_literal_arg, AlikeBut, IsPair, IsTested}
 use Rattle.prop_compare.specs.Telling.{truth_of, refuting_as, is_mistold, are_tangled, IsTelling}
 use Rattle.prop_compare.specs.declared.comparing.Comparison.{Comparison}
 use Rattle.prop_compare.proofs.Decided.{as_first, as_second, other_fails, mistold_one, mistold_both, both_truths, two_values}
 use Rattle.prop_compare.proofs.Kept.{single_value}
 use Rattle.prop_compare.proofs.Reducing.{keeps_side}
-use Rattle.qc_arguments.proofs.Items.{flipped}
+use Rattle.model_arguments.proofs.Items.{flipped}
 use Rattle.prop_compare.proofs.Sides.{var_of, open_place, set_to, with_other}
 
 -- the three aren't tangled

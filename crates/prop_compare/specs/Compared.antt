@@ -9,7 +9,7 @@ use Rattle.qc_model.specs.Domains.{Values, Box, values_left, values_within, is_n
 use Rattle.qc_model.specs.Meaning.{Meaning, equal, different, at_most, below}
 use Rattle.qc_model.specs.Refuted.{left_to, refuted_by}
 use Rattle.qc_model.specs.Valid.{is_number, arg_sees}
-use Rattle.qc_arguments.specs.Repeats.{is_variable, same_variable}
+use Rattle.model_arguments.specs.Repeats.{is_variable, same_variable}
 use Rattle.qc_refuter.specs.Met.{is_open}
 use Rattle.prop_base.specs.Closed.{keeps_arg}
 use Rattle.prop_compare.specs.declared.comparing.Comparison.{Comparison}

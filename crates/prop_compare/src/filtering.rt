@@ -7,9 +7,9 @@ ghost use Rattle.prop_compare.specs.Compared.{meant_by};
 use crate::comparing::{Comparison, compare};
 use crate::table::Table;
 use fd_store::Store;
+use model_arguments::{arguments, is_same, one_at};
 use proof_tree::StepList;
 use prop_base::{Asked, Filtered, filter_by_ends};
-use qc_arguments::{arguments, is_same, one_at};
 use std::alloc::AllocError;
 
 /// Removes values as the comparison c refutes them, until a domain is empty or the constraint refutes the box with none

@@ -14,9 +14,9 @@ use crate::reading::least;
 use crate::table::Table;
 use crate::truths::{loose, truth_cut};
 use fd_store::Store;
+use model_arguments::{arguments, is_same, one_at};
 use proof_tree::StepList;
 use prop_base::{Asked, Filtered, filter_by_ends, prune};
-use qc_arguments::{arguments, is_same, one_at};
 use qc_model::{Arg, VarId};
 use std::alloc::AllocError;
 

@@ -7,8 +7,8 @@ ghost use Rattle.qc_model.specs.Domains.{box_at, has_empty, is_single, values_le
 ghost use Rattle.qc_model.specs.Refuted.{left_to, refuted_by};
 ghost use Rattle.qc_model.specs.Signature.{arg_kinds_of};
 ghost use Rattle.qc_model.specs.declared.signature.ArgKind.TheVariants.{Boolean};
-ghost use Rattle.qc_arguments.specs.Asked.{IsAsked};
-ghost use Rattle.qc_arguments.specs.Written.{last_arg};
+ghost use Rattle.model_arguments.specs.Asked.{IsAsked};
+ghost use Rattle.model_arguments.specs.Written.{last_arg};
 ghost use Rattle.prop_base.specs.Filtering.{Fits, Prunes};
 ghost use Rattle.prop_compare.specs.Telling.{truth_of};
 ghost use Rattle.prop_compare.specs.Untold.{RefutesNone, IsGrown, after};
@@ -16,9 +16,9 @@ ghost use Rattle.prop_compare.specs.Untold.{RefutesNone, IsGrown, after};
 use crate::table::Table;
 use crate::truths::{loose, truth_cut};
 use fd_store::Store;
+use model_arguments::{arguments, last_one};
 use proof_tree::StepList;
 use prop_base::{Asked, Filtered, Refuter, prune};
-use qc_arguments::{arguments, last_one};
 use qc_model::{Constraint, Problem, VarId};
 use std::alloc::AllocError;
 

@@ -7,7 +7,7 @@ use Rattle.std.proofs.lemmas.List.Sums.{count_by-le-length}
 use Rattle.qc_model.specs.Domains.{Values, values_within, least_value, greatest_value, has_value, is_within, is_none_left}
 use Rattle.qc_model.specs.Valid.{is_number}
 use Rattle.qc_model.proofs.Readable.{together}
-use Rattle.qc_arguments.proofs.Values.{has_least, has_greatest}
+use Rattle.model_arguments.proofs.Values.{has_least, has_greatest}
 use Rattle.qc_refuter.proofs.Domains.{some_left}
 use Rattle.qc_refuter.specs.Full.{lies_in, held, IsWidest, AreWidest}
 use Rattle.qc_refuter.specs.Met.{is_domain_left}

@@ -6,7 +6,7 @@ use Rattle.std.proofs.lemmas.List.Sums.{sum_by-cons}
 use Rattle.qc_model.specs.Domains.{Values, least_value, greatest_value}
 use Rattle.qc_model.specs.Left.{has_crowd}
 use Rattle.qc_model.proofs.Sound.{both, differ}
-use Rattle.qc_table.proofs.CrowdEnds.{crowd_has_ends}
+use Rattle.model_table.proofs.CrowdEnds.{crowd_has_ends}
 use Rattle.qc_refuter.specs.Full.{lies_in, held}
 use Rattle.qc_refuter.proofs.Fill.{held_of_crowd, crowd_of_held, least_to_greatest}
 use Rattle.prop_different.specs.Quiet.{is_among, IsApart, IsQuiet, AllQuiet}

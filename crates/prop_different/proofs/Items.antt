@@ -12,8 +12,8 @@ use Rattle.qc_model.specs.Domains.{Values, Box, values_left, values_within, box_
 use Rattle.qc_model.specs.Left.{has_crowd}
 use Rattle.qc_model.specs.Refuted.{left_to, refuted_by}
 use Rattle.qc_model.proofs.Readable.{first, together}
-use Rattle.qc_arguments.proofs.Values.{has_least, has_greatest}
-use Rattle.qc_arguments.proofs.Items.{one_left, all_by}
+use Rattle.model_arguments.proofs.Values.{has_least, has_greatest}
+use Rattle.model_arguments.proofs.Items.{one_left, all_by}
 use Rattle.qc_refuter.specs.Full.{lies_in, held}
 use Rattle.qc_refuter.proofs.Fill.{crowd_of_held}
 use Rattle.qc_refuter.proofs.Seen.{has_within}

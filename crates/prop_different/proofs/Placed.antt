@@ -10,8 +10,8 @@ use Rattle.qc_model.specs.Content.{Game, Rule}
 use Rattle.qc_model.specs.Domains.{Box, values_left}
 use Rattle.qc_model.specs.Refuted.{left_to}
 use Rattle.qc_model.specs.Valid.{is_domain, arg_sees}
-use Rattle.qc_arguments.specs.Asked.{IsAsked}
-use Rattle.qc_arguments.proofs.Boxes.{seen_place, declared_below}
+use Rattle.model_arguments.specs.Asked.{IsAsked}
+use Rattle.model_arguments.proofs.Boxes.{seen_place, declared_below}
 use Rattle.qc_refuter.specs.Met.{is_domain_left, is_open}
 use Rattle.qc_refuter.proofs.Ready.{var_open}
 use Rattle.prop_different.specs.Different.{IsDifferent}

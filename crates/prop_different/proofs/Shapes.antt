@@ -17,15 +17,15 @@ use Rattle.qc_model.specs.Refuted.{refuted_as}
 use Rattle.qc_model.specs.Signature.{arg_kinds_of}
 use Rattle.qc_model.specs.Valid.{is_integer, is_domain, are_of_sorts, have_lengths, arg_sees, argument_sees, is_constraint}
 use Rattle.qc_model.proofs.Readable.{first, second}
-use Rattle.qc_arguments.specs.Asked.{IsAsked}
-use Rattle.qc_arguments.specs.Written.{args_at}
-use Rattle.qc_arguments.proofs.Written.{lefts_written}
+use Rattle.model_arguments.specs.Asked.{IsAsked}
+use Rattle.model_arguments.specs.Written.{args_at}
+use Rattle.model_arguments.proofs.Written.{lefts_written}
 use Rattle.qc_refuter.specs.Met.{lefts, is_open, is_met, are_met}
 use Rattle.qc_refuter.proofs.Ready.{rule_met}
 use Rattle.prop_base.specs.Closed.{keeps_arg, keeps_argument}
 use Rattle.prop_base.proofs.Keeps.{keeps_all}
 use Rattle.prop_different.specs.Different.{IsDifferent}
-use Rattle.qc_arguments.specs.Repeats.{has_repeat}
+use Rattle.model_arguments.specs.Repeats.{has_repeat}
 
 -- one array
 record IsArray (args : List Argument) : Type 0 where

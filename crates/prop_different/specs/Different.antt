@@ -8,12 +8,12 @@ use Rattle.qc_model.specs.Domains.{Values, Box, values_within, is_none_left}
 use Rattle.qc_model.specs.Left.{has_crowd}
 use Rattle.qc_model.specs.Refuted.{left_to, refuted_by}
 use Rattle.qc_model.specs.Valid.{is_number, arg_sees}
-use Rattle.qc_arguments.specs.Asked.{IsAsked}
+use Rattle.model_arguments.specs.Asked.{IsAsked}
 use Rattle.qc_refuter.specs.Full.{lies_in, held, AreWidest}
 use Rattle.qc_refuter.specs.Met.{is_open}
 use Rattle.prop_base.specs.Closed.{keeps_arg}
 use Rattle.prop_different.specs.Quiet.{IsApart}
-use Rattle.qc_arguments.specs.Repeats.{has_repeat}
+use Rattle.model_arguments.specs.Repeats.{has_repeat}
 
 -- it is refuted by a crowd of items, its own variables are among them, and each stands once
 pub record IsDifferent (g : Game) (c : Rule) (items : List Arg) : Type 0 where

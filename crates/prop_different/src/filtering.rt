@@ -6,10 +6,10 @@ ghost use Rattle.prop_different.specs.Different.{IsDifferent};
 
 use crate::rounds::settle_all;
 use fd_store::Store;
+use model_arguments::{arguments, is_repeated, items_at};
 use proof_tree::StepList;
 use prop_base::{Asked, Filtered, filter_by_ends, last_variable};
 use prop_compare::Table;
-use qc_arguments::{arguments, is_repeated, items_at};
 use qc_model::Arg;
 use std::alloc::AllocError;
 

@@ -7,8 +7,8 @@ ghost use Rattle.qc_refuter.specs.Met.{is_domain_left};
 ghost use Rattle.prop_different.specs.Different.{IsLeftAlone, IsFullCut, IsRoom, AreRooms};
 
 use fd_store::Store;
+use model_arguments::width;
 use prop_base::Cut;
-use qc_arguments::width;
 use qc_model::VarId;
 
 // How many numbers the widest full range has that ends before the number so far past its first.

@@ -4,7 +4,7 @@ ghost use Rattle.qc_model.specs.declared.problem.Arg.TheVariants.{Var};
 ghost use Rattle.qc_model.specs.Domains.{least_value};
 ghost use Rattle.qc_model.specs.Refuted.{left_to};
 ghost use Rattle.qc_model.specs.Valid.{is_number, arg_sees};
-ghost use Rattle.qc_arguments.specs.Asked.{IsAsked};
+ghost use Rattle.model_arguments.specs.Asked.{IsAsked};
 ghost use Rattle.prop_base.specs.Closed.{IsCut};
 ghost use Rattle.prop_different.specs.Different.{IsDifferent, IsLeftAlone, AreRooms};
 ghost use Rattle.prop_different.specs.Quiet.{IsQuiet};

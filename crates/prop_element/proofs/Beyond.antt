@@ -4,9 +4,9 @@ use Rattle.std.specs.Prelude.{pos, negsuc, int_lt, ◌<ℤ◌, ◌≤ℤ◌, ◌
 use Rattle.std.proofs.lemmas.Int.{ints}
 use Rattle.qc_model.specs.Domains.{Values, has_value, is_within, least_value, greatest_value}
 use Rattle.qc_model.specs.declared.problem.Set.TheVariants.{Range as SetRange}
-use Rattle.qc_arguments.proofs.Values.{has_least, has_greatest}
-use Rattle.qc_arguments.proofs.Bools.{clash}
-use Rattle.qc_arguments.proofs.Kept.{low_end, high_end, lower, reaches, through, apart, same_end, out_low, out_high, is_out_low, is_out_high, over_low, under_high}
+use Rattle.model_arguments.proofs.Values.{has_least, has_greatest}
+use Rattle.model_arguments.proofs.Bools.{clash}
+use Rattle.model_arguments.proofs.Kept.{low_end, high_end, lower, reaches, through, apart, same_end, out_low, out_high, is_out_low, is_out_high, over_low, under_high}
 use Rattle.fd_store.specs.Held.{values_from, values_up_to, least_of, greatest_of}
 use Rattle.qc_refuter.specs.Met.{is_domain_left}
 use Rattle.qc_refuter.proofs.Commons.{IsFrom, IsUpTo, from_some, from_none, up_to_some, up_to_none}

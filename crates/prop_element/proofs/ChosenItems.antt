@@ -16,11 +16,11 @@ use Rattle.qc_model.specs.Domains.{Values, Box, values_left, values_within, box_
 use Rattle.qc_model.specs.Left.{some_item_meets}
 use Rattle.qc_model.specs.Refuted.{left_to, refuted_by}
 use Rattle.qc_model.proofs.Readable.{first, second, together}
-use Rattle.qc_arguments.specs.Repeats.{same_variable, has_repeat}
-use Rattle.qc_arguments.proofs.Values.{has_first}
-use Rattle.qc_arguments.proofs.Bools.{or_left, or_right, or_none, neither, clash, not_true}
-use Rattle.qc_arguments.proofs.Items.{flipped, other_left, none_at}
-use Rattle.qc_arguments.proofs.Kept.{through, reaches, low_end, high_end, apart, at_least, at_most, passes, was_left, same_end}
+use Rattle.model_arguments.specs.Repeats.{same_variable, has_repeat}
+use Rattle.model_arguments.proofs.Values.{has_first}
+use Rattle.model_arguments.proofs.Bools.{or_left, or_right, or_none, neither, clash, not_true}
+use Rattle.model_arguments.proofs.Items.{flipped, other_left, none_at}
+use Rattle.model_arguments.proofs.Kept.{through, reaches, low_end, high_end, apart, at_least, at_most, passes, was_left, same_end}
 use Rattle.qc_refuter.specs.Commons.{IsLeastCommon, IsGreatestCommon}
 use Rattle.qc_refuter.specs.Met.{is_domain_left, is_open}
 use Rattle.qc_refuter.proofs.Domains.{small_left, some_left, none_common, some_common}

@@ -12,9 +12,9 @@ use Rattle.qc_model.specs.Refuted.{left_to, refuted_by}
 use Rattle.qc_refuter.proofs.Domains.{some_left, small_left}
 use Rattle.qc_refuter.specs.Met.{is_open}
 use Rattle.prop_base.specs.Closed.{keeps_at}
-use Rattle.qc_arguments.specs.Repeats.{same_variable}
-use Rattle.qc_arguments.proofs.Kept.{through, ordered, high_end, low_end, apart, over_low}
-use Rattle.qc_arguments.proofs.Items.{flipped}
+use Rattle.model_arguments.specs.Repeats.{same_variable}
+use Rattle.model_arguments.proofs.Kept.{through, ordered, high_end, low_end, apart, over_low}
+use Rattle.model_arguments.proofs.Items.{flipped}
 use Rattle.prop_compare.proofs.Sides.{open_place, with_other}
 use Rattle.prop_element.specs.Hulls.{IsHull}
 use Rattle.prop_element.specs.Extremes.{IsGreatest, IsHighestAt, IsGreatestReady, IsAloneHigh, HasOtherHigh, item_at, some_high, all_low}

@@ -8,9 +8,9 @@ use Rattle.qc_model.specs.Content.{Rule}
 use Rattle.qc_model.specs.Domains.{Box, values_left, values_within, is_within, least_value, greatest_value}
 use Rattle.qc_model.specs.Valid.{is_number}
 use Rattle.qc_model.proofs.Readable.{together}
-use Rattle.qc_arguments.proofs.Values.{has_least, has_greatest}
-use Rattle.qc_arguments.proofs.Bools.{not_true}
-use Rattle.qc_arguments.proofs.Kept.{some_of, keeps, over_low, under_high, small_of, lower, inside}
+use Rattle.model_arguments.proofs.Values.{has_least, has_greatest}
+use Rattle.model_arguments.proofs.Bools.{not_true}
+use Rattle.model_arguments.proofs.Kept.{some_of, keeps, over_low, under_high, small_of, lower, inside}
 use Rattle.qc_refuter.proofs.Domains.{some_left, small_left}
 use Rattle.qc_refuter.specs.Met.{is_domain_left}
 use Rattle.prop_base.specs.Closed.{IsCut, keeps_at}

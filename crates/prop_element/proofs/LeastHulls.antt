@@ -12,9 +12,9 @@ use Rattle.qc_model.specs.Refuted.{left_to, refuted_by}
 use Rattle.qc_refuter.proofs.Domains.{some_left, small_left}
 use Rattle.qc_refuter.specs.Met.{is_open}
 use Rattle.prop_base.specs.Closed.{keeps_at}
-use Rattle.qc_arguments.specs.Repeats.{same_variable}
-use Rattle.qc_arguments.proofs.Kept.{through, ordered, low_end, high_end, apart, under_high}
-use Rattle.qc_arguments.proofs.Items.{flipped}
+use Rattle.model_arguments.specs.Repeats.{same_variable}
+use Rattle.model_arguments.proofs.Kept.{through, ordered, low_end, high_end, apart, under_high}
+use Rattle.model_arguments.proofs.Items.{flipped}
 use Rattle.prop_compare.proofs.Sides.{open_place, with_other}
 use Rattle.prop_element.specs.Hulls.{IsHull}
 use Rattle.prop_element.specs.Extremes.{IsLeast, IsLowestAt, IsLeastReady, IsAloneLow, HasOtherLow, item_at, some_low, all_high}

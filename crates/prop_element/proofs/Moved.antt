@@ -14,10 +14,10 @@ use Rattle.qc_model.specs.Closed.{refutes_at}
 use Rattle.qc_model.specs.Content.{Rule}
 use Rattle.qc_model.specs.Valid.{is_number}
 use Rattle.qc_model.proofs.Readable.{first, second, together}
-use Rattle.qc_arguments.proofs.Values.{has_least, has_greatest}
-use Rattle.qc_arguments.specs.Repeats.{is_variable, same_variable}
-use Rattle.qc_arguments.proofs.Kept.{passes, was_left, at_least, at_most, lower, reaches}
-use Rattle.qc_arguments.proofs.Bools.{or_left, or_right, or_none, not_false}
+use Rattle.model_arguments.proofs.Values.{has_least, has_greatest}
+use Rattle.model_arguments.specs.Repeats.{is_variable, same_variable}
+use Rattle.model_arguments.proofs.Kept.{passes, was_left, at_least, at_most, lower, reaches}
+use Rattle.model_arguments.proofs.Bools.{or_left, or_right, or_none, not_false}
 use Rattle.qc_refuter.specs.Met.{is_open}
 use Rattle.qc_refuter.proofs.Domains.{some_left, small_left}
 use Rattle.qc_refuter.proofs.Terms.{open_at}

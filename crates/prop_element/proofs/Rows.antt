@@ -15,13 +15,13 @@ use Rattle.qc_model.specs.Lists.{Among}
 use Rattle.qc_model.specs.Refuted.{left_to, refuted_by}
 use Rattle.qc_model.proofs.Readable.{first, second, together}
 use Rattle.qc_model.proofs.Rows.{rows_step}
-use Rattle.qc_arguments.proofs.Values.{has_first}
-use Rattle.qc_arguments.proofs.Bools.{never, or_left, or_right, or_none, neither, clash, not_false}
+use Rattle.model_arguments.proofs.Values.{has_first}
+use Rattle.model_arguments.proofs.Bools.{never, or_left, or_right, or_none, neither, clash, not_false}
 use Rattle.qc_refuter.proofs.Domains.{small_left}
 use Rattle.qc_refuter.specs.Met.{is_open}
-use Rattle.qc_arguments.specs.Repeats.{same_variable, has_repeat}
-use Rattle.qc_arguments.proofs.Kept.{through, low_end, high_end, apart, inside, at_least, at_most, passes, was_left, same_end}
-use Rattle.qc_arguments.proofs.Items.{flipped, others_left, none_at}
+use Rattle.model_arguments.specs.Repeats.{same_variable, has_repeat}
+use Rattle.model_arguments.proofs.Kept.{through, low_end, high_end, apart, inside, at_least, at_most, passes, was_left, same_end}
+use Rattle.model_arguments.proofs.Items.{flipped, others_left, none_at}
 use Rattle.prop_compare.proofs.Sides.{open_place, with_other}
 use Rattle.prop_element.specs.Hulls.{IsHull}
 use Rattle.prop_element.specs.Extremes.{item_at}

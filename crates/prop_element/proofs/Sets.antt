@@ -13,15 +13,15 @@ use Rattle.qc_model.specs.declared.problem.Set.TheVariants.{Range as SetRange, L
 use Rattle.qc_model.specs.Content.{Rule}
 use Rattle.qc_model.specs.Domains.{Values, Box, values_left, values_within, is_within, has_value, set_has, is_ascending, least_value, greatest_value}
 use Rattle.qc_model.specs.Refuted.{refuted_by, left_to}
-use Rattle.qc_arguments.proofs.Values.{value_passes, above_first, ascending_rest, has_first}
-use Rattle.qc_arguments.proofs.Bools.{never, clash}
+use Rattle.model_arguments.proofs.Values.{value_passes, above_first, ascending_rest, has_first}
+use Rattle.model_arguments.proofs.Bools.{never, clash}
 use Rattle.qc_refuter.proofs.Domains.{some_left, small_left}
 use Rattle.qc_refuter.proofs.Listed.{less_by, all_at, listed_at, same_most, less_most}
 use Rattle.qc_refuter.proofs.Walks.{some_found}
 use Rattle.fd_store.specs.Held.{values_from, values_up_to, least_of, greatest_of}
 use Rattle.qc_refuter.specs.Met.{is_open}
 use Rattle.qc_refuter.proofs.Commons.{from_some, from_none, up_to_some, up_to_none}
-use Rattle.qc_arguments.proofs.Kept.{through, low_end, high_end, passes, was_left, apart, at_least, at_most, same_end}
+use Rattle.model_arguments.proofs.Kept.{through, low_end, high_end, passes, was_left, apart, at_least, at_most, same_end}
 use Rattle.prop_compare.proofs.Sides.{set_to}
 use Rattle.prop_element.specs.Hulls.{IsHull}
 use Rattle.prop_element.specs.Members.{IsMembership, IsFirst, IsLast, NonePasses}

@@ -27,17 +27,17 @@ use Rattle.qc_model.specs.Refuted.{left_to, refuted_as, refuted_by}
 use Rattle.qc_model.specs.Signature.{arg_kinds_of}
 use Rattle.qc_model.specs.Valid.{is_number, is_truth, is_bits, is_boolean, is_integer, is_integer_domain, is_variable_with, is_domain, is_set, is_of_sort, are_of_sorts, have_lengths, argument_sees, is_constraint}
 use Rattle.qc_model.proofs.Readable.{first, second, together}
-use Rattle.qc_arguments.specs.Asked.{IsAsked}
-use Rattle.qc_arguments.specs.Written.{arg_at, args_at, ints_at, set_at, last_arg}
-use Rattle.qc_arguments.proofs.Written.{left_written, lefts_written, numbers_written, last_written}
+use Rattle.model_arguments.specs.Asked.{IsAsked}
+use Rattle.model_arguments.specs.Written.{arg_at, args_at, ints_at, set_at, last_arg}
+use Rattle.model_arguments.proofs.Written.{left_written, lefts_written, numbers_written, last_written}
 use Rattle.qc_refuter.specs.Met.{lefts, is_open, is_met, are_met}
-use Rattle.qc_arguments.proofs.Bools.{never}
+use Rattle.model_arguments.proofs.Bools.{never}
 use Rattle.qc_refuter.proofs.Ready.{rule_met}
 use Rattle.qc_refuter.proofs.Walks.{all_passed}
 use Rattle.prop_compare.specs.Telling.{truth_of}
 use Rattle.prop_base.specs.Closed.{keeps_arg, keeps_argument}
 use Rattle.prop_base.proofs.Keeps.{keeps_all}
-use Rattle.qc_arguments.specs.Repeats.{same_variable, has_repeat}
+use Rattle.model_arguments.specs.Repeats.{same_variable, has_repeat}
 use Rattle.prop_element.specs.Choices.{IsChoice}
 use Rattle.prop_element.specs.Elements.{IsElement}
 use Rattle.prop_element.specs.Tables.{IsTable}

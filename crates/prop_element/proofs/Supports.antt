@@ -12,12 +12,12 @@ use Rattle.qc_model.specs.Domains.{Values, Box, values_left, values_within, box_
 use Rattle.qc_model.specs.Left.{some_item_in}
 use Rattle.qc_model.specs.Refuted.{left_to, refuted_by}
 use Rattle.qc_model.proofs.Readable.{first, second, together}
-use Rattle.qc_arguments.proofs.Values.{has_first}
-use Rattle.qc_arguments.proofs.Bools.{never, or_left, or_right, or_none, clash}
+use Rattle.model_arguments.proofs.Values.{has_first}
+use Rattle.model_arguments.proofs.Bools.{never, or_left, or_right, or_none, clash}
 use Rattle.qc_refuter.proofs.Domains.{small_left}
 use Rattle.qc_refuter.specs.Met.{is_open}
-use Rattle.qc_arguments.proofs.Kept.{through, low_end, high_end, apart, at_least, at_most, passes, was_left, same_end}
-use Rattle.qc_arguments.proofs.Items.{flipped}
+use Rattle.model_arguments.proofs.Kept.{through, low_end, high_end, apart, at_least, at_most, passes, was_left, same_end}
+use Rattle.model_arguments.proofs.Items.{flipped}
 use Rattle.prop_compare.proofs.Sides.{open_place, with_other}
 use Rattle.prop_element.specs.Hulls.{IsHull}
 use Rattle.prop_element.specs.Elements.{IsElement, place_fits, IsFirstPlace, IsLastPlace, NoPlace, NoneBefore, NoneFrom, IsLowerPlace, IsHigherPlace, IsLowestPlace, IsHighestPlace}

@@ -21,12 +21,12 @@ use Rattle.qc_model.specs.Refuted.{left_to, refuted_by}
 use Rattle.qc_model.specs.Signature.{arg_kinds_of}
 use Rattle.qc_model.specs.Valid.{are_of_sorts, have_lengths, arg_sees, argument_sees}
 use Rattle.qc_model.proofs.Readable.{first, second, together}
-use Rattle.qc_arguments.specs.Asked.{IsAsked}
-use Rattle.qc_arguments.specs.Written.{arg_at, last_arg}
-use Rattle.qc_arguments.proofs.Bools.{not_true}
-use Rattle.qc_arguments.proofs.Boxes.{some_left, seen_place, set_same}
-use Rattle.qc_arguments.proofs.Items.{flipped}
-use Rattle.qc_arguments.proofs.Written.{left_written}
+use Rattle.model_arguments.specs.Asked.{IsAsked}
+use Rattle.model_arguments.specs.Written.{arg_at, last_arg}
+use Rattle.model_arguments.proofs.Bools.{not_true}
+use Rattle.model_arguments.proofs.Boxes.{some_left, seen_place, set_same}
+use Rattle.model_arguments.proofs.Items.{flipped}
+use Rattle.model_arguments.proofs.Written.{left_written}
 use Rattle.qc_refuter.specs.Met.{lefts, is_open}
 use Rattle.qc_refuter.proofs.Domains.{some_left as open_some}
 use Rattle.prop_base.specs.declared.cuts.Cut.{Cut}

@@ -8,8 +8,8 @@ use Rattle.qc_model.specs.Content.{Rule}
 use Rattle.qc_model.specs.Domains.{Box, has_value, misses}
 use Rattle.qc_model.specs.Left.{some_item_meets}
 use Rattle.qc_model.specs.Refuted.{left_to, refuted_by}
-use Rattle.qc_arguments.specs.Repeats.{has_repeat}
-use Rattle.qc_arguments.specs.Written.{arg_at, args_at}
+use Rattle.model_arguments.specs.Repeats.{has_repeat}
+use Rattle.model_arguments.specs.Written.{arg_at, args_at}
 use Rattle.qc_refuter.specs.Commons.{IsLeastCommon}
 use Rattle.prop_base.specs.Closed.{keeps_arg}
 use Rattle.prop_element.specs.Extremes.{item_at}

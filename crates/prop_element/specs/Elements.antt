@@ -3,13 +3,13 @@ use Rattle.std.specs.Prelude.{◌≡◌, ◌⊎◌, ◌<◌, ◌≤◌, ◌+◌,
 use Rattle.qc_model.specs.declared.problem.Arg.{Arg}
 use Rattle.qc_model.specs.declared.problem.Pred.TheVariants.{ArrayIntElement, ArrayBoolElement}
 use Rattle.qc_model.specs.Closed.{keeps_ends}
-use Rattle.qc_arguments.specs.Written.{arg_at}
+use Rattle.model_arguments.specs.Written.{arg_at}
 use Rattle.qc_model.specs.Content.{Rule}
 use Rattle.qc_model.specs.Domains.{Values, Box, has_value}
 use Rattle.qc_model.specs.Left.{some_item_in}
 use Rattle.qc_model.specs.Refuted.{left_to, refuted_by}
 use Rattle.prop_base.specs.Closed.{keeps_arg}
-use Rattle.qc_arguments.specs.Repeats.{same_variable}
+use Rattle.model_arguments.specs.Repeats.{same_variable}
 
 -- a constraint that says no more than that the number at the place a is r
 pub record IsElement (c : Rule) (a : Arg) (ns : List ℤ) (r : Arg) : Type 0 where

@@ -8,7 +8,7 @@ use Rattle.qc_model.specs.Content.{Rule}
 use Rattle.qc_model.specs.Domains.{Box, least_value, greatest_value}
 use Rattle.qc_model.specs.Refuted.{left_to, refuted_by}
 use Rattle.prop_base.specs.Closed.{keeps_arg}
-use Rattle.qc_arguments.specs.Repeats.{same_variable}
+use Rattle.model_arguments.specs.Repeats.{same_variable}
 
 -- some item may be at most v, and all may be at least v
 abbrev pub some_low : Box → List Arg → ℤ → Bool

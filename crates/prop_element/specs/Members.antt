@@ -7,7 +7,7 @@ use Rattle.qc_model.specs.Closed.{keeps_ends}
 use Rattle.qc_model.specs.Content.{Rule}
 use Rattle.qc_model.specs.Domains.{Values, Box, has_value, set_has}
 use Rattle.qc_model.specs.Refuted.{left_to, refuted_by}
-use Rattle.qc_arguments.specs.Repeats.{same_variable}
+use Rattle.model_arguments.specs.Repeats.{same_variable}
 use Rattle.prop_base.specs.Closed.{keeps_arg}
 use Rattle.prop_compare.specs.Telling.{truth_of}
 

@@ -9,9 +9,9 @@ use Rattle.qc_model.specs.Domains.{Values, Box, is_within}
 use Rattle.qc_model.specs.Left.{row_fits}
 use Rattle.qc_model.specs.Lists.{Among}
 use Rattle.qc_model.specs.Refuted.{left_to, refuted_by}
-use Rattle.qc_arguments.specs.Written.{args_at}
+use Rattle.model_arguments.specs.Written.{args_at}
 use Rattle.prop_base.specs.Closed.{keeps_arg}
-use Rattle.qc_arguments.specs.Repeats.{has_repeat}
+use Rattle.model_arguments.specs.Repeats.{has_repeat}
 
 -- a constraint that says no more than that the items are one of the rows; no variable stands twice
 pub record IsTable (c : Rule) (items : List Arg) (rs : List (List ℤ)) : Type 0 where

@@ -6,9 +6,9 @@
 ghost use Rattle.std.specs.Prelude.{◌≡◌, ◌<◌, ◌≤◌, ◌∷◌, IsTrue, IsFalse, IfNone, IfSome, length};
 ghost use Rattle.std.specs.List.{list_all};
 ghost use Rattle.qc_model.specs.Closed.{keeps_ends};
-ghost use Rattle.qc_arguments.specs.Asked.{IsAsked};
-ghost use Rattle.qc_arguments.specs.Repeats.{has_repeat};
-ghost use Rattle.qc_arguments.specs.Written.{arg_at, args_at};
+ghost use Rattle.model_arguments.specs.Asked.{IsAsked};
+ghost use Rattle.model_arguments.specs.Repeats.{has_repeat};
+ghost use Rattle.model_arguments.specs.Written.{arg_at, args_at};
 ghost use Rattle.qc_refuter.specs.Met.{is_open};
 ghost use Rattle.qc_model.specs.Domains.{misses};
 ghost use Rattle.qc_model.specs.Refuted.{left_to};
@@ -20,9 +20,9 @@ ghost use Rattle.prop_element.specs.Choices.{IsChoice, IsChoiceRule, item_fits, 
 use crate::elements::{counted, places_before, places_up_to};
 use crate::hulls::{any_cut, arg_cut, whole_cut};
 use fd_store::Store;
+use model_arguments::{arguments, is_among, is_repeated, is_same, items_at, one_at};
 use prop_base::Cut;
 use prop_compare::{greatest, greatest_common, has, least, least_common};
-use qc_arguments::{arguments, is_among, is_repeated, is_same, items_at, one_at};
 use qc_model::{Arg, Constraint, Problem};
 
 /// A place, counted from 0, and the least value that its item has in common with the result.

@@ -1,19 +1,19 @@
 //! What is taken where a number is to stand at a place of an array.
 ghost use Rattle.std.specs.Prelude.{◌≡◌, ◌<◌, ◌+◌, ◌≤◌, IsTrue, IfNone, IfSome, length, pos, ◌≤ℤ◌};
 ghost use Rattle.qc_model.specs.Closed.{keeps_ends};
-ghost use Rattle.qc_arguments.specs.Written.{arg_at};
+ghost use Rattle.model_arguments.specs.Written.{arg_at};
 ghost use Rattle.qc_model.specs.Refuted.{left_to, refuted_by};
-ghost use Rattle.qc_arguments.specs.Asked.{IsAsked};
+ghost use Rattle.model_arguments.specs.Asked.{IsAsked};
 ghost use Rattle.qc_refuter.specs.Met.{is_open};
 ghost use Rattle.prop_base.specs.Closed.{IsCut, keeps_arg};
-ghost use Rattle.qc_arguments.specs.Repeats.{same_variable};
+ghost use Rattle.model_arguments.specs.Repeats.{same_variable};
 ghost use Rattle.prop_element.specs.Elements.{IsElement, IsElementRule, place_fits, IsFirstPlace, IsLastPlace, NoPlace, NoneBefore, NoneFrom, IsLowerPlace, IsHigherPlace, IsLowestPlace, IsHighestPlace};
 
 use crate::hulls::{arg_cut, whole_cut};
 use fd_store::Store;
+use model_arguments::{arguments, is_same, numbers_at, one_at};
 use prop_base::Cut;
 use prop_compare::{greatest, has, least};
-use qc_arguments::{arguments, is_same, numbers_at, one_at};
 use qc_model::{Arg, Constraint, Problem};
 
 // Whether place k, counted from 0, and its number are both left.

@@ -5,7 +5,7 @@ ghost use Rattle.prop_element.specs.Forms.{IsOfForm};
 
 use crate::choices::is_tangled;
 use crate::elements::is_own_place;
-use qc_arguments::{arguments, is_repeated, items_at};
+use model_arguments::{arguments, is_repeated, items_at};
 use qc_model::{Constraint, Pred};
 
 /// What such a constraint is about.

@@ -5,17 +5,17 @@ ghost use Rattle.qc_model.specs.declared.problem.Pred.TheVariants.{ArrayIntMaxim
 ghost use Rattle.qc_model.specs.Closed.{keeps_ends};
 ghost use Rattle.qc_model.specs.Domains.{greatest_value, least_value};
 ghost use Rattle.qc_model.specs.Refuted.{left_to};
-ghost use Rattle.qc_arguments.specs.Asked.{IsAsked};
+ghost use Rattle.model_arguments.specs.Asked.{IsAsked};
 ghost use Rattle.qc_refuter.specs.Met.{is_open};
 ghost use Rattle.prop_base.specs.Closed.{IsCut, keeps_arg};
-ghost use Rattle.qc_arguments.specs.Repeats.{same_variable};
+ghost use Rattle.model_arguments.specs.Repeats.{same_variable};
 ghost use Rattle.prop_element.specs.Extremes.{IsGreatest, IsHighestAt, IsGreatestReady, IsAloneHigh, HasOtherHigh, item_at};
 
 use crate::hulls::{any_cut, arg_cut};
 use fd_store::Store;
+use model_arguments::{arguments, is_same, items_at, one_at};
 use prop_base::Cut;
 use prop_compare::{greatest, least};
-use qc_arguments::{arguments, is_same, items_at, one_at};
 use qc_model::{Arg, Constraint, Problem};
 
 // The place of an item with the greatest greatest value.

@@ -6,7 +6,7 @@ ghost use Rattle.qc_model.specs.declared.problem.VarId.{VarId as Variable};
 ghost use Rattle.qc_model.specs.Domains.{values_left};
 ghost use Rattle.qc_model.specs.Refuted.{refuted_by};
 ghost use Rattle.qc_model.specs.Valid.{is_number};
-ghost use Rattle.qc_arguments.specs.Asked.{IsAsked};
+ghost use Rattle.model_arguments.specs.Asked.{IsAsked};
 ghost use Rattle.qc_refuter.specs.Met.{is_domain_left, is_open};
 ghost use Rattle.prop_base.specs.Closed.{IsCut, keeps_at, keeps_arg};
 ghost use Rattle.prop_element.specs.Hulls.{IsHull};

@@ -6,16 +6,16 @@ ghost use Rattle.qc_model.specs.Closed.{keeps_ends};
 ghost use Rattle.qc_model.specs.Domains.{is_ascending, set_has};
 ghost use Rattle.qc_model.specs.Refuted.{left_to};
 ghost use Rattle.qc_model.specs.Valid.{is_set};
-ghost use Rattle.qc_arguments.specs.Asked.{IsAsked};
+ghost use Rattle.model_arguments.specs.Asked.{IsAsked};
 ghost use Rattle.qc_refuter.specs.Met.{is_open};
 ghost use Rattle.prop_base.specs.Closed.{IsCut, keeps_arg};
 ghost use Rattle.prop_element.specs.Members.{IsMembership, IsFirst, IsLast, NonePasses};
 
 use crate::hulls::{arg_cut, whole_cut};
 use fd_store::Store;
+use model_arguments::{arguments, members_at, one_at};
 use prop_base::Cut;
 use prop_compare::{greatest, has, least, next_of, previous_of};
-use qc_arguments::{arguments, members_at, one_at};
 use qc_model::{Arg, Constraint, Problem, Set};
 
 fn first_in_range(low: i64, high: i64, a: Arg, store: &Store) -> Option<i64>

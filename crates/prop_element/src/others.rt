@@ -9,8 +9,8 @@ ghost use Rattle.prop_element.specs.Members.{is_wanted, IsFirst, IsLast, NonePas
 
 use crate::hulls::{after, before};
 use fd_store::Store;
+use model_arguments::contains;
 use prop_compare::{greatest, least, next_of, previous_of};
-use qc_arguments::contains;
 use qc_model::{Arg, Set};
 
 fn first_beyond(low: i64, high: i64, a: Arg, store: &Store) -> Option<i64>

@@ -6,16 +6,16 @@ ghost use Rattle.qc_model.specs.Domains.{Values, has_value, is_within};
 ghost use Rattle.qc_model.specs.Holds.{rows};
 ghost use Rattle.qc_model.specs.Left.{row_fits};
 ghost use Rattle.qc_model.specs.Refuted.{left_to};
-ghost use Rattle.qc_arguments.specs.Asked.{IsAsked};
+ghost use Rattle.model_arguments.specs.Asked.{IsAsked};
 ghost use Rattle.qc_refuter.specs.Met.{is_open};
 ghost use Rattle.prop_base.specs.Closed.{IsCut, keeps_arg};
 ghost use Rattle.prop_element.specs.Tables.{IsTable, IsTableRule, IsFitting, NoRow, NoneIs, IsNext, IsLowestRow, IsHighestRow, has_entry, fits_beyond};
 
 use crate::hulls::{any_cut, arg_cut};
 use fd_store::Store;
+use model_arguments::{arguments, items_at, numbers_at};
 use prop_base::Cut;
 use prop_compare::{greatest, has, is_fixed, least};
-use qc_arguments::{arguments, items_at, numbers_at};
 use qc_model::{Arg, Constraint, Problem};
 
 // Whether each entry of the row is left.

@@ -9,7 +9,7 @@ ghost use Rattle.qc_model.specs.Closed.{keeps_ends};
 ghost use Rattle.qc_model.specs.Domains.{values_left};
 ghost use Rattle.qc_model.specs.Refuted.{left_to};
 ghost use Rattle.qc_model.specs.Valid.{is_set, is_truth};
-ghost use Rattle.qc_arguments.specs.Asked.{IsAsked};
+ghost use Rattle.model_arguments.specs.Asked.{IsAsked};
 ghost use Rattle.qc_refuter.specs.Met.{is_open};
 ghost use Rattle.prop_base.specs.Closed.{IsCut};
 ghost use Rattle.prop_compare.specs.Telling.{truth_of};
@@ -20,9 +20,9 @@ use crate::hulls::{any_cut, arg_cut};
 use crate::members::{first_member, last_member};
 use crate::others::{first_other, last_other};
 use fd_store::Store;
+use model_arguments::{arguments, last_one, members_at, one_at};
 use prop_base::{Cut, Refuter};
 use prop_compare::{Table, what_is_told};
-use qc_arguments::{arguments, last_one, members_at, one_at};
 use qc_model::{Arg, Constraint, Problem, Set, VarId};
 
 // The least value left that is a member, or that isn't, as is told.

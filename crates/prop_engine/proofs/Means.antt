@@ -6,7 +6,7 @@ use Rattle.qc_model.specs.Closed.{keeps_ends, is_closed}
 use Rattle.qc_model.specs.Content.{Game, Rule}
 use Rattle.qc_model.specs.Domains.{Box, has_empty}
 use Rattle.qc_model.proofs.Readable.{together}
-use Rattle.qc_arguments.proofs.Bools.{not_true}
+use Rattle.model_arguments.proofs.Bools.{not_true}
 use Rattle.prop_engine.specs.Closing.{IsClosedFor}
 
 kept_filter : (p q : Rule → Bool) (cs : List Rule) → ((k : ℕ) (c : Rule) → slice_get cs k ≡ Some c → p c ≡ true → q c ≡ true) → list_all q (filter p cs) ≡ true

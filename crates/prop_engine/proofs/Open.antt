@@ -23,11 +23,11 @@ use Rattle.qc_model.specs.Meaning.{meaning_of}
 use Rattle.qc_model.specs.Refuted.{left_to, refuted_as, refuted_by}
 use Rattle.qc_model.specs.Valid.{IsValid, arg_sees, argument_sees}
 use Rattle.qc_model.proofs.Readable.{first, second, together}
-use Rattle.qc_arguments.specs.Repeats.{has_place}
-use Rattle.qc_arguments.specs.Written.{args_at}
-use Rattle.qc_arguments.proofs.Bools.{clash, never, not_true}
-use Rattle.qc_arguments.proofs.Boxes.{seen_place}
-use Rattle.qc_arguments.proofs.Written.{lefts_written}
+use Rattle.model_arguments.specs.Repeats.{has_place}
+use Rattle.model_arguments.specs.Written.{args_at}
+use Rattle.model_arguments.proofs.Bools.{clash, never, not_true}
+use Rattle.model_arguments.proofs.Boxes.{seen_place}
+use Rattle.model_arguments.proofs.Written.{lefts_written}
 use Rattle.prop_base.specs.Pruning.{is_just}
 use Rattle.prop_engine.specs.declared.hints.Hint.{Hint}
 use Rattle.prop_engine.specs.declared.literals.Literal.{Literal}

@@ -15,7 +15,7 @@ use Rattle.qc_model.specs.Content.{Rule}
 use Rattle.qc_model.specs.Domains.{Values, Box, values_left, box_at, least_value, greatest_value, box_without, values_outside}
 use Rattle.qc_model.specs.Meaning.{meaning_of}
 use Rattle.qc_model.specs.Refuted.{left_to, refuted_as}
-use Rattle.qc_arguments.proofs.Bools.{or_left, or_right, neither}
+use Rattle.model_arguments.proofs.Bools.{or_left, or_right, neither}
 use Rattle.proof_tree.specs.declared.tree.Step.{Step}
 use Rattle.proof_tree.specs.declared.tree.Step.TheVariants.{Prune, Bound}
 use Rattle.proof_tree.specs.Steps.{after_steps}

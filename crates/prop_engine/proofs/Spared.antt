@@ -7,7 +7,7 @@ use Rattle.qc_model.specs.declared.problem.VarId.{VarId}
 use Rattle.qc_model.specs.Content.{Game}
 use Rattle.qc_model.specs.Domains.{Box}
 use Rattle.proof_tree.specs.declared.tree.Step.{Step}
-use Rattle.qc_arguments.proofs.Bools.{clash}
+use Rattle.model_arguments.proofs.Bools.{clash}
 use Rattle.prop_engine.specs.declared.watching.Watch.{Watch}
 use Rattle.prop_engine.specs.Watching.{Waiting, is_marked, has_watch, names, changed_by, step_variable, IsSpared}
 use Rattle.prop_engine.proofs.Kept.{spared_more}

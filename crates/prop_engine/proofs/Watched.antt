@@ -14,8 +14,8 @@ use Rattle.qc_model.specs.Valid.{IsValid, is_constraint, argument_sees, are_of_s
 use Rattle.qc_model.specs.Meaning.{meaning_of}
 use Rattle.qc_model.specs.Signature.{arg_kinds_of}
 use Rattle.qc_model.proofs.Readable.{first, second, together}
-use Rattle.qc_arguments.specs.Written.{args_at, items_of}
-use Rattle.qc_arguments.proofs.Bools.{or_left, or_right}
+use Rattle.model_arguments.specs.Written.{args_at, items_of}
+use Rattle.model_arguments.proofs.Bools.{or_left, or_right}
 use Rattle.prop_engine.specs.declared.watching.HeldBy.{HeldBy}
 use Rattle.prop_engine.specs.declared.watching.Watch.{Watch}
 use Rattle.prop_engine.specs.Watching.{Watches, watchers, is_watched, has_number, HasGrown, IsHeld, IsRight, AreRight}

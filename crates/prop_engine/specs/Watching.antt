@@ -11,7 +11,7 @@ use Rattle.qc_model.specs.Domains.{Box, values_left, is_single, least_value, has
 use Rattle.proof_tree.specs.declared.tree.Step.{Step}
 use Rattle.proof_tree.specs.declared.tree.Step.TheVariants.{Prune, Bound}
 use Rattle.prop_base.specs.Pruning.{is_just}
-use Rattle.qc_arguments.specs.Written.{args_at}
+use Rattle.model_arguments.specs.Written.{args_at}
 use Rattle.prop_engine.specs.declared.watching.HeldBy.{HeldBy}
 use Rattle.prop_engine.specs.declared.watching.HeldBy.TheVariants.{Neither, One, Zero}
 use Rattle.prop_engine.specs.declared.watching.Watch.{Watch}

@@ -1,7 +1,7 @@
 //! Closing again after a change.
 ghost use Rattle.std.specs.Prelude.{◌≡◌, ◌≤◌, [], length, nat_lt, IsTrue, IsFalse, IfOk};
 ghost use Rattle.qc_model.specs.Domains.{has_empty};
-ghost use Rattle.qc_arguments.specs.Asked.{is_box_of};
+ghost use Rattle.model_arguments.specs.Asked.{is_box_of};
 ghost use Rattle.prop_base.specs.Pruning.{IsPruning};
 ghost use Rattle.prop_engine.specs.Closing.{EachRule, IsClosing, is_between};
 ghost use Rattle.prop_engine.specs.Watching.{MarkedWait, all_waiting, IsWatchOf, IsHintsOf, KeepsUnmarked, IsFound, IsReady, WasKept};
@@ -15,9 +15,9 @@ use crate::waiting::WorkList;
 use crate::waking::{wake_changed, wake_span, wake_variables};
 use crate::watching::Watches;
 use fd_store::Store;
+use model_arguments::Span;
 use proof_tree::StepList;
 use prop_base::Filtered;
-use qc_arguments::Span;
 use qc_model::{Problem, VarId};
 use std::alloc::{AllocError, Global};
 use std::marker::Model;

@@ -7,8 +7,8 @@
 ghost use Rattle.std.specs.Prelude.{◌≡◌, ◌<◌, IsTrue, IfOk, IfSome, length};
 ghost use Rattle.std.specs.List.{list_all};
 ghost use Rattle.qc_model.specs.Closed.{keeps_ends};
-ghost use Rattle.qc_arguments.specs.Asked.{is_box_of};
-ghost use Rattle.qc_arguments.specs.Repeats.{has_place};
+ghost use Rattle.model_arguments.specs.Asked.{is_box_of};
+ghost use Rattle.model_arguments.specs.Repeats.{has_place};
 ghost use Rattle.prop_base.specs.Pruning.{is_just};
 ghost use Rattle.prop_engine.specs.Closing.{EachRule};
 ghost use Rattle.prop_engine.specs.Literals.{IsLiteralOf, StaysOpen};
@@ -16,7 +16,7 @@ ghost use Rattle.prop_engine.specs.Watching.{IsHintsOf};
 
 use crate::literals::{Literal, Standing, are_enough, is_same, literal_at, standing_of};
 use fd_store::Store;
-use qc_arguments::{arguments, items_at};
+use model_arguments::{arguments, items_at};
 use qc_model::{Arg, ConId, Pred, Problem, VarId};
 use std::alloc::{AllocError, Global};
 use std::marker::Model;

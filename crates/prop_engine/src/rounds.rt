@@ -3,7 +3,7 @@ ghost use Rattle.std.specs.Prelude.{◌≡◌, ◌<◌, ◌≤◌, length, drop,
 ghost use Rattle.std.specs.List.{list_all};
 ghost use Rattle.qc_model.specs.Closed.{keeps_ends};
 ghost use Rattle.qc_model.specs.Domains.{has_empty};
-ghost use Rattle.qc_arguments.specs.Asked.{is_box_of};
+ghost use Rattle.model_arguments.specs.Asked.{is_box_of};
 ghost use Rattle.prop_base.specs.Pruning.{IsPruning};
 ghost use Rattle.prop_engine.specs.Closing.{has_constraint, EachRule, IsClosing, IsRound};
 

@@ -1,7 +1,7 @@
 //! One filter.
 ghost use Rattle.std.specs.Prelude.{◌≡◌, ◌<◌, length, IsTrue, IsFalse, IfOk};
 ghost use Rattle.qc_model.specs.Domains.{has_empty};
-ghost use Rattle.qc_arguments.specs.Asked.{is_box_of};
+ghost use Rattle.model_arguments.specs.Asked.{is_box_of};
 ghost use Rattle.prop_base.specs.Pruning.{IsPruning, is_just};
 ghost use Rattle.prop_engine.specs.Closing.{EachRule, IsRun};
 

@@ -2,14 +2,14 @@
 ghost use Rattle.std.specs.Prelude.{◌≡◌, ◌==◌, ◌≤◌, ℕ, length, IsTrue, IsFalse};
 ghost use Rattle.prop_engine.specs.Closing.{is_between};
 ghost use Rattle.prop_engine.specs.Watching.{is_marked, MarkedWait, all_waiting, is_own, is_watched, names, changed_by, step_variable, IsSpared, IsWatchOf, IsHintsOf, IsNow, IsRight};
-ghost use Rattle.qc_arguments.specs.Asked.{is_box_of};
+ghost use Rattle.model_arguments.specs.Asked.{is_box_of};
 
 use crate::hints::Hints;
 use crate::waiting::WorkList;
 use crate::watching::{HeldBy, Watch, Watches};
 use fd_store::Store;
+use model_arguments::Span;
 use proof_tree::Step;
-use qc_arguments::Span;
 use qc_model::{ConId, Problem, VarId};
 
 // Whether the constraint is in the span.

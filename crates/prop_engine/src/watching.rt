@@ -7,7 +7,7 @@ ghost use Rattle.qc_model.specs.Arguments.{arg_variables, argument_variables, va
 ghost use Rattle.qc_model.specs.Valid.{arg_sees, argument_sees};
 ghost use Rattle.prop_engine.specs.Watching.{watchers, is_watched, HasGrown, IsWatchOf, has_number, IsHeld, AreRight};
 
-use qc_arguments::arguments;
+use model_arguments::arguments;
 use qc_model::{Arg, Argument, ConId, Constraint, Pred, Problem, VarId};
 use std::alloc::{AllocError, Global};
 use std::marker::Model;

@@ -7,8 +7,8 @@ use Rattle.qc_model.specs.declared.problem.VarId.{VarId}
 use Rattle.qc_model.specs.Content.{Rule}
 use Rattle.qc_model.specs.Domains.{Values, Box}
 use Rattle.qc_model.specs.Refuted.{left_to}
-use Rattle.qc_arguments.specs.Repeats.{same_variable}
-use Rattle.qc_arguments.proofs.Items.{none_at, other_left}
+use Rattle.model_arguments.specs.Repeats.{same_variable}
+use Rattle.model_arguments.proofs.Items.{none_at, other_left}
 use Rattle.prop_linear.specs.Tightening.{AlikeOutside, IsBounded}
 use Rattle.prop_linear.specs.Sides.{IsPast, IsBalanced}
 

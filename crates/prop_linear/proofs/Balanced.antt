@@ -12,11 +12,11 @@ use Rattle.qc_model.specs.Left.{sum_range}
 use Rattle.qc_model.specs.Ranges.{Range}
 use Rattle.qc_model.specs.Refuted.{left_to, refuted_by}
 use Rattle.qc_model.proofs.Readable.{together}
-use Rattle.qc_arguments.proofs.Items.{all_by}
-use Rattle.qc_arguments.proofs.Bools.{not_true, or_none, or_right, or_left}
-use Rattle.qc_arguments.proofs.Kept.{not_lower}
+use Rattle.model_arguments.proofs.Items.{all_by}
+use Rattle.model_arguments.proofs.Bools.{not_true, or_none, or_right, or_left}
+use Rattle.model_arguments.proofs.Kept.{not_lower}
 use Rattle.prop_base.specs.Closed.{keeps_arg}
-use Rattle.qc_arguments.specs.Repeats.{has_repeat}
+use Rattle.model_arguments.specs.Repeats.{has_repeat}
 use Rattle.prop_linear.specs.Tightening.{IsNear, AllNear, AlikeOutside, least_sum}
 use Rattle.prop_linear.specs.Sides.{greatest_sum, signed, IsBalanced, IsPast}
 use Rattle.prop_linear.proofs.Alike.{alike_same, alike_at}

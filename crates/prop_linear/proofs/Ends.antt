@@ -7,8 +7,8 @@ use Rattle.std.proofs.lemmas.Bool.{leb-true}
 use Rattle.std.proofs.lemmas.Bool.Decides.{nat_tests}
 use Rattle.qc_model.specs.Domains.{Values, values_within, values_outside, is_within, is_none_left, least_value, greatest_value}
 use Rattle.qc_model.specs.Ranges.{range_of, point, product}
-use Rattle.qc_arguments.proofs.Values.{has_least, has_greatest}
-use Rattle.qc_arguments.proofs.Kept.{at_least, at_most, is_out_low, is_out_high, out_low, out_high, keeps, passes, was_left, some_of, low_end, high_end, same_end, ordered, inside, small_between}
+use Rattle.model_arguments.proofs.Values.{has_least, has_greatest}
+use Rattle.model_arguments.proofs.Kept.{at_least, at_most, is_out_low, is_out_high, out_low, out_high, keeps, passes, was_left, some_of, low_end, high_end, same_end, ordered, inside, small_between}
 use Rattle.qc_refuter.proofs.Domains.{some_left}
 use Rattle.qc_refuter.specs.Met.{is_domain_left}
 use Rattle.qc_refuter.proofs.Terms.{least_small, greatest_small}

@@ -9,13 +9,13 @@ use Rattle.qc_model.specs.declared.problem.VarId.{VarId}
 use Rattle.qc_model.specs.Content.{Game, Rule}
 use Rattle.qc_model.specs.Domains.{Box, values_left, box_without}
 use Rattle.qc_model.specs.Valid.{is_domain, arg_sees}
-use Rattle.qc_arguments.specs.Asked.{IsAsked}
-use Rattle.qc_arguments.proofs.Boxes.{seen_place, declared_below}
+use Rattle.model_arguments.specs.Asked.{IsAsked}
+use Rattle.model_arguments.proofs.Boxes.{seen_place, declared_below}
 use Rattle.qc_refuter.specs.Met.{is_domain_left}
 use Rattle.qc_refuter.proofs.Ready.{var_open}
 use Rattle.prop_base.specs.declared.cuts.Cut.{Cut}
 use Rattle.prop_base.specs.Closed.{IsCut}
-use Rattle.qc_arguments.specs.Repeats.{has_repeat}
+use Rattle.model_arguments.specs.Repeats.{has_repeat}
 use Rattle.prop_linear.specs.Tightening.{IsTightening, least_sum}
 use Rattle.prop_linear.specs.Sides.{IsPast}
 use Rattle.prop_linear.proofs.Moves.{cut_refuted}

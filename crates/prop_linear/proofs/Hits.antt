@@ -7,7 +7,7 @@ use Rattle.std.proofs.Math.Nat.{mul-div_cancel_left}
 use Rattle.std.proofs.lemmas.Int.{ints, clamps}
 use Rattle.std.proofs.lemmas.Bool.Decides.{Decides-int_eq}
 use Rattle.qc_model.specs.Domains.{Values, least_value, greatest_value, has_value}
-use Rattle.qc_arguments.proofs.Kept.{low_end, high_end}
+use Rattle.model_arguments.proofs.Kept.{low_end, high_end}
 use Rattle.prop_linear.specs.Tightening.{term_of}
 use Rattle.prop_linear.specs.Unequal.{IsHit}
 use Rattle.prop_linear.proofs.Spread.{low_of, up_gap, down_gap}

@@ -18,16 +18,16 @@ use Rattle.qc_model.specs.Ranges.{Range, is_point}
 use Rattle.qc_model.specs.Refuted.{left_to, refuted_by}
 use Rattle.qc_model.specs.Valid.{is_number}
 use Rattle.qc_model.proofs.Readable.{first, second, together}
-use Rattle.qc_arguments.proofs.Values.{value_passes, has_least, has_greatest}
-use Rattle.qc_arguments.proofs.Kept.{keeps, passes, was_left, some_of}
-use Rattle.qc_arguments.proofs.Bools.{not_false, neither, never}
-use Rattle.qc_arguments.proofs.Items.{none_at, other_left, flipped, all_by}
+use Rattle.model_arguments.proofs.Values.{value_passes, has_least, has_greatest}
+use Rattle.model_arguments.proofs.Kept.{keeps, passes, was_left, some_of}
+use Rattle.model_arguments.proofs.Bools.{not_false, neither, never}
+use Rattle.model_arguments.proofs.Items.{none_at, other_left, flipped, all_by}
 use Rattle.qc_refuter.proofs.Domains.{some_left}
 use Rattle.qc_refuter.specs.Met.{is_domain_left, is_open}
 use Rattle.qc_refuter.proofs.Terms.{open_at}
 use Rattle.prop_base.specs.Closed.{IsCut, keeps_arg}
 use Rattle.prop_base.proofs.Keeps.{within_one, stays}
-use Rattle.qc_arguments.specs.Repeats.{same_variable, has_repeat}
+use Rattle.model_arguments.specs.Repeats.{same_variable, has_repeat}
 use Rattle.prop_linear.specs.Tightening.{AlikeOutside, term_of, least_sum}
 use Rattle.prop_linear.specs.Unequal.{is_loose, loose_at, IsUnequal, IsHit}
 use Rattle.prop_linear.proofs.Alike.{alike_more, alike_at}

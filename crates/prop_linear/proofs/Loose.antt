@@ -20,15 +20,15 @@ use Rattle.qc_model.specs.Ranges.{Range, range_of, range_of_list, point, is_poin
 use Rattle.qc_model.specs.Refuted.{left_to}
 use Rattle.qc_model.specs.Valid.{is_number}
 use Rattle.qc_model.proofs.Readable.{first, second, together}
-use Rattle.qc_arguments.proofs.Values.{has_least, has_greatest}
-use Rattle.qc_arguments.proofs.Kept.{low_end, high_end}
-use Rattle.qc_arguments.proofs.Items.{other_left, all_by}
-use Rattle.qc_arguments.proofs.Bools.{not_true, not_false, or_left, or_right}
+use Rattle.model_arguments.proofs.Values.{has_least, has_greatest}
+use Rattle.model_arguments.proofs.Kept.{low_end, high_end}
+use Rattle.model_arguments.proofs.Items.{other_left, all_by}
+use Rattle.model_arguments.proofs.Bools.{not_true, not_false, or_left, or_right}
 use Rattle.qc_refuter.proofs.Domains.{some_left}
 use Rattle.qc_refuter.specs.Met.{is_domain_left, is_open}
 use Rattle.qc_refuter.proofs.Terms.{open_at}
 use Rattle.prop_base.specs.Closed.{keeps_arg}
-use Rattle.qc_arguments.specs.Repeats.{same_variable}
+use Rattle.model_arguments.specs.Repeats.{same_variable}
 use Rattle.prop_linear.specs.Tightening.{AlikeOutside, term_of}
 use Rattle.prop_linear.specs.Unequal.{is_loose, IsUnequal}
 use Rattle.prop_linear.proofs.Alike.{alike_same, alike_at}

@@ -13,9 +13,9 @@ use Rattle.qc_model.specs.Meaning.{sum_at_most, sum_equal, sum_different, meanin
 use Rattle.qc_model.specs.Ranges.{Range}
 use Rattle.qc_model.specs.Refuted.{left_to, refuted_by}
 use Rattle.qc_model.specs.Valid.{is_constraint}
-use Rattle.qc_arguments.specs.Repeats.{same_variable}
-use Rattle.qc_arguments.specs.Written.{arg_at, args_at, ints_at, last_arg}
-use Rattle.qc_arguments.proofs.Items.{others_left}
+use Rattle.model_arguments.specs.Repeats.{same_variable}
+use Rattle.model_arguments.specs.Written.{arg_at, args_at, ints_at, last_arg}
+use Rattle.model_arguments.proofs.Items.{others_left}
 use Rattle.prop_compare.specs.Telling.{truth_of}
 use Rattle.prop_linear.specs.declared.relation.Relation.{Relation}
 use Rattle.prop_linear.specs.declared.relation.Relation.TheVariants.{AtMost, Equal, Different}

@@ -14,11 +14,11 @@ use Rattle.qc_model.specs.Domains.{Values, Box, values_left, values_within, valu
 use Rattle.qc_model.specs.Left.{sum_range}
 use Rattle.qc_model.specs.Refuted.{left_to, refuted_by}
 use Rattle.qc_model.proofs.Readable.{together}
-use Rattle.qc_arguments.proofs.Bools.{neither, not_true}
-use Rattle.qc_arguments.proofs.Items.{none_at, other_left, others_left, all_by}
-use Rattle.qc_arguments.proofs.Kept.{not_lower}
+use Rattle.model_arguments.proofs.Bools.{neither, not_true}
+use Rattle.model_arguments.proofs.Items.{none_at, other_left, others_left, all_by}
+use Rattle.model_arguments.proofs.Kept.{not_lower}
 use Rattle.prop_base.specs.Closed.{keeps_arg}
-use Rattle.qc_arguments.specs.Repeats.{same_variable, has_repeat}
+use Rattle.model_arguments.specs.Repeats.{same_variable, has_repeat}
 use Rattle.prop_linear.specs.Tightening.{term_of, IsNear, IsTightening, AllNear, AlikeOutside, least_sum, IsBounded}
 use Rattle.prop_linear.specs.Sides.{IsPast}
 use Rattle.prop_linear.proofs.Alike.{alike_same, alike_at}

@@ -8,7 +8,7 @@ use Rattle.qc_model.specs.declared.problem.Arg.{Arg}
 use Rattle.qc_model.specs.declared.problem.Arg.TheVariants.{Var, Num}
 use Rattle.qc_model.specs.declared.problem.VarId.{VarId}
 use Rattle.qc_model.proofs.Readable.{first, second}
-use Rattle.qc_arguments.specs.Repeats.{same_variable, has_repeat}
+use Rattle.model_arguments.specs.Repeats.{same_variable, has_repeat}
 use Rattle.prop_linear.specs.Rising.{rise_from}
 
 neither : (a b : Bool) → a ≡ false → b ≡ false → (a || b) ≡ false

@@ -24,9 +24,9 @@ use Rattle.qc_model.specs.Refuted.{left_to, refuted_as}
 use Rattle.qc_model.specs.Signature.{arg_kinds_of}
 use Rattle.qc_model.specs.Valid.{is_number, is_domain, is_integer, are_of_sorts, have_lengths, is_sum, is_literal, arg_sees, argument_sees, is_constraint}
 use Rattle.qc_model.proofs.Readable.{first, second}
-use Rattle.qc_arguments.specs.Asked.{IsAsked}
-use Rattle.qc_arguments.specs.Written.{arg_at, args_at, ints_at}
-use Rattle.qc_arguments.proofs.Written.{left_written, lefts_written, numbers_written}
+use Rattle.model_arguments.specs.Asked.{IsAsked}
+use Rattle.model_arguments.specs.Written.{arg_at, args_at, ints_at}
+use Rattle.model_arguments.proofs.Written.{left_written, lefts_written, numbers_written}
 use Rattle.qc_refuter.specs.Met.{lefts, is_open, is_met, are_met}
 use Rattle.qc_refuter.proofs.Ready.{rule_met}
 use Rattle.prop_base.specs.Closed.{keeps_arg, keeps_argument}

@@ -13,9 +13,9 @@ use Rattle.qc_model.specs.Domains.{Values, Box, values_left, values_outside, box
 use Rattle.qc_model.specs.Left.{sum_range}
 use Rattle.qc_model.specs.Ranges.{range_of, point, product}
 use Rattle.qc_model.specs.Refuted.{left_to}
-use Rattle.qc_arguments.specs.Repeats.{has_repeat}
-use Rattle.qc_arguments.proofs.Kept.{ordered, is_lower}
-use Rattle.qc_arguments.proofs.Bools.{or_left, or_right}
+use Rattle.model_arguments.specs.Repeats.{has_repeat}
+use Rattle.model_arguments.proofs.Kept.{ordered, is_lower}
+use Rattle.model_arguments.proofs.Bools.{or_left, or_right}
 use Rattle.prop_linear.specs.Tightening.{term_of, IsNear, AlikeOutside, least_sum, IsBounded}
 use Rattle.prop_linear.specs.Sides.{greatest_sum, opposite, signed, IsPast, IsBalanced}
 use Rattle.prop_linear.proofs.Alike.{alike_more}

@@ -12,8 +12,8 @@ use Rattle.qc_model.proofs.Readable.{first, second, together}
 use Rattle.proof_tree.specs.declared.tree.Step.{Step}
 use Rattle.proof_tree.specs.Steps.{after_steps}
 use Rattle.fd_store.specs.Held.{Held}
-use Rattle.qc_arguments.specs.Asked.{IsAsked}
-use Rattle.qc_arguments.proofs.Boxes.{declared_below}
+use Rattle.model_arguments.specs.Asked.{IsAsked}
+use Rattle.model_arguments.proofs.Boxes.{declared_below}
 use Rattle.qc_refuter.specs.Met.{is_open}
 use Rattle.qc_refuter.proofs.Ready.{var_open}
 use Rattle.prop_base.specs.declared.answer.Filtered.{Filtered}

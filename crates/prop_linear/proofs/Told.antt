@@ -15,8 +15,8 @@ use Rattle.qc_model.specs.Ranges.{Range, is_point, ranges_miss}
 use Rattle.qc_model.specs.Refuted.{refuted_as}
 use Rattle.qc_model.specs.Signature.{arg_kinds_of}
 use Rattle.qc_model.proofs.Readable.{first, second}
-use Rattle.qc_arguments.specs.Written.{last_arg}
-use Rattle.qc_arguments.proofs.Kept.{ordered}
+use Rattle.model_arguments.specs.Written.{last_arg}
+use Rattle.model_arguments.proofs.Kept.{ordered}
 use Rattle.qc_refuter.specs.Met.{lefts}
 use Rattle.prop_compare.specs.Untold.{RefutesNone}
 use Rattle.prop_compare.proofs.Lasts.{refutes_none}

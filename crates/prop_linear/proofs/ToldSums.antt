@@ -18,10 +18,10 @@ use Rattle.qc_model.specs.Refuted.{left_to, refuted_as, refuted_by}
 use Rattle.qc_model.specs.Signature.{arg_kinds_of}
 use Rattle.qc_model.specs.Valid.{is_bits, is_boolean, is_integer, is_integer_domain, is_variable_with, are_of_sorts, is_constraint}
 use Rattle.qc_model.proofs.Readable.{first, second, together}
-use Rattle.qc_arguments.specs.Repeats.{same_variable}
-use Rattle.qc_arguments.specs.Written.{arg_at, args_at, ints_at, last_arg}
-use Rattle.qc_arguments.proofs.Bools.{never, not_true}
-use Rattle.qc_arguments.proofs.Written.{last_written}
+use Rattle.model_arguments.specs.Repeats.{same_variable}
+use Rattle.model_arguments.specs.Written.{arg_at, args_at, ints_at, last_arg}
+use Rattle.model_arguments.proofs.Bools.{never, not_true}
+use Rattle.model_arguments.proofs.Written.{last_written}
 use Rattle.qc_refuter.specs.Met.{lefts}
 use Rattle.prop_base.specs.Closed.{keeps_arg, keeps_argument}
 use Rattle.prop_base.proofs.Keeps.{keeps_all}

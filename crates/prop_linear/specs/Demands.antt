@@ -5,7 +5,7 @@ use Rattle.qc_model.specs.Content.{Rule}
 use Rattle.qc_model.specs.Domains.{Box}
 use Rattle.qc_model.specs.Ranges.{Range, point, is_point, ranges_miss}
 use Rattle.qc_model.specs.Refuted.{left_to}
-use Rattle.qc_arguments.specs.Written.{last_arg}
+use Rattle.model_arguments.specs.Written.{last_arg}
 use Rattle.prop_compare.specs.Telling.{truth_of}
 use Rattle.prop_linear.specs.declared.relation.Relation.{Relation}
 use Rattle.prop_linear.specs.declared.relation.Relation.TheVariants.{AtMost, Equal, Different}

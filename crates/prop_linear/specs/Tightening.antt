@@ -11,7 +11,7 @@ use Rattle.qc_model.specs.Left.{span, sum_range}
 use Rattle.qc_model.specs.Ranges.{Range, point, product}
 use Rattle.qc_model.specs.Refuted.{left_to, refuted_by}
 use Rattle.qc_model.specs.Valid.{is_number}
-use Rattle.qc_arguments.specs.Repeats.{same_variable}
+use Rattle.model_arguments.specs.Repeats.{same_variable}
 use Rattle.prop_base.specs.Closed.{keeps_arg}
 
 -- what a factor times one of these values can be

@@ -11,14 +11,14 @@ ghost use Rattle.qc_model.specs.Valid.{arg_sees, is_number};
 ghost use Rattle.qc_refuter.specs.Met.{is_open};
 ghost use Rattle.prop_base.specs.Filtering.{Answers, Fits, Prunes};
 ghost use Rattle.prop_linear.specs.Unequal.{IsUnequal, is_loose, loose_at};
-ghost use Rattle.qc_arguments.specs.Repeats.{has_repeat};
+ghost use Rattle.model_arguments.specs.Repeats.{has_repeat};
 
 use crate::missing::missing_value;
 use fd_store::Store;
+use model_arguments::{is_repeated, is_same};
 use proof_tree::StepList;
 use prop_base::{Asked, Cut, Filtered, empty_last, filter_by_ends, prune};
 use prop_compare::Table;
-use qc_arguments::{is_repeated, is_same};
 use qc_model::Arg;
 use qc_refuter::{Extent, sum_extent};
 use std::alloc::AllocError;

@@ -7,7 +7,7 @@ ghost use Rattle.prop_base.specs.declared.answer.Filtered.TheVariants.{Changed, 
 ghost use Rattle.prop_base.specs.Filtering.{Answers, Fits, Prunes};
 ghost use Rattle.prop_linear.specs.Sides.{IsBalanced, IsRound};
 ghost use Rattle.prop_linear.specs.Tightening.{AlikeOutside};
-ghost use Rattle.qc_arguments.specs.Repeats.{has_repeat};
+ghost use Rattle.model_arguments.specs.Repeats.{has_repeat};
 
 use crate::repeats::stands_twice;
 use crate::rounds::tighten_places;

@@ -3,7 +3,7 @@ ghost use Rattle.std.specs.Prelude.{◌≡◌, ◌<◌, ◌≤◌, length, IsTru
 ghost use Rattle.std.specs.List.{list_all};
 ghost use Rattle.qc_model.specs.Content.{Rule};
 ghost use Rattle.qc_model.specs.Valid.{arg_sees, is_number};
-ghost use Rattle.qc_arguments.specs.Asked.{IsAsked};
+ghost use Rattle.model_arguments.specs.Asked.{IsAsked};
 ghost use Rattle.qc_refuter.specs.Met.{is_open};
 ghost use Rattle.prop_base.specs.Filtering.{Answers, Fits, Prunes};
 ghost use Rattle.prop_base.specs.Pruning.{IsPruning, IsFiltered, is_just};
@@ -17,10 +17,10 @@ use crate::relation::{Demand, Relation, demanded};
 use crate::signs::under_opposite;
 use crate::telling::tell_sum;
 use fd_store::Store;
+use model_arguments::{arguments, items_at, last_one, numbers_at, one_at};
 use proof_tree::StepList;
 use prop_base::{Asked, Filtered, RuleFilter, filter_by_ends};
 use prop_compare::{Comparison, Table, filter_comparison, filter_reified, joined, what_is_told};
-use qc_arguments::{arguments, items_at, last_one, numbers_at, one_at};
 use qc_model::{Arg, ConId, Pred, Problem};
 use std::alloc::{AllocError, Global};
 

@@ -11,7 +11,7 @@ ghost use Rattle.prop_linear.specs.Tightening.{AllNear, IsNear, least_sum, term_
 
 use crate::signs::factor_at;
 use fd_store::Store;
-use qc_arguments::width;
+use model_arguments::width;
 use qc_model::Arg;
 
 /// The product of two numbers within the limit.

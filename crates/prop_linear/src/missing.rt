@@ -8,7 +8,7 @@ ghost use Rattle.prop_linear.specs.Unequal.{IsHit};
 
 use crate::slacks::slack;
 use fd_store::Store;
-use qc_arguments::width;
+use model_arguments::width;
 use qc_model::VarId;
 
 // How many steps of a factor go into a number, where it is whole.

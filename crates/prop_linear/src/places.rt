@@ -6,8 +6,8 @@ ghost use Rattle.qc_refuter.specs.Met.{is_domain_left};
 ghost use Rattle.prop_linear.specs.Tightening.{IsNear, IsTightening};
 
 use fd_store::Store;
+use model_arguments::width;
 use prop_base::Cut;
-use qc_arguments::width;
 use qc_model::VarId;
 
 // How many steps of a factor are within s.

@@ -3,10 +3,10 @@
 //! Mostly the items stand in the order of their variables, and one look at each tells that none does.
 ghost use Rattle.std.specs.Prelude.{◌≡◌, IfNone, IfSome, List, ◌∷◌, false};
 ghost use Rattle.qc_model.specs.declared.problem.Arg.{Arg as Item};
-ghost use Rattle.qc_arguments.specs.Repeats.{has_repeat};
+ghost use Rattle.model_arguments.specs.Repeats.{has_repeat};
 ghost use Rattle.prop_linear.specs.Rising.{rise_from};
 
-use qc_arguments::{is_repeated, is_same};
+use model_arguments::{is_repeated, is_same};
 use qc_model::Arg;
 
 // The least number that a later variable may have, where this item's may be no less than one. None comes where it is less.

@@ -9,16 +9,16 @@ ghost use Rattle.qc_model.specs.Valid.{arg_sees, is_number};
 ghost use Rattle.qc_refuter.specs.Met.{is_domain_left};
 ghost use Rattle.prop_base.specs.Filtering.{Fits, Prunes};
 ghost use Rattle.prop_linear.specs.Sides.{IsPast, AreNear, signed};
-ghost use Rattle.qc_arguments.specs.Repeats.{has_repeat};
+ghost use Rattle.model_arguments.specs.Repeats.{has_repeat};
 ghost use Rattle.prop_linear.specs.Tightening.{AlikeOutside, IsNear, least_sum};
 
 use crate::places::moves;
 use crate::sums::Widest;
 use crate::tighten::tighten_place;
 use fd_store::Store;
+use model_arguments::width;
 use proof_tree::StepList;
 use prop_base::Asked;
-use qc_arguments::width;
 use qc_model::{Arg, VarId};
 use std::alloc::AllocError;
 

@@ -10,7 +10,7 @@ ghost use Rattle.qc_model.specs.Domains.{has_empty};
 ghost use Rattle.qc_model.specs.Valid.{arg_sees, is_number};
 ghost use Rattle.prop_base.specs.Filtering.{Fits, Prunes};
 ghost use Rattle.prop_linear.specs.Sides.{IsPast, signed};
-ghost use Rattle.qc_arguments.specs.Repeats.{has_repeat};
+ghost use Rattle.model_arguments.specs.Repeats.{has_repeat};
 ghost use Rattle.prop_linear.specs.Tightening.{AlikeOutside, AllNear, IsBounded, least_sum};
 
 use crate::places::{is_near, place_cut};

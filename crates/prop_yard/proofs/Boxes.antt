@@ -11,12 +11,12 @@ use Rattle.qc_model.specs.Content.{Game}
 use Rattle.qc_model.specs.Domains.{Values, Box, domain_values, declared_box, values_left, is_none_left, has_value, values_outside, values_within, box_without, is_ascending, is_sub_box}
 use Rattle.qc_model.specs.Valid.{is_domain}
 use Rattle.qc_model.proofs.Readable.{first, second, together}
-use Rattle.qc_arguments.proofs.Values.{has_first}
-use Rattle.qc_arguments.proofs.Boxes.{set_full, sub_length, sub_without}
+use Rattle.model_arguments.proofs.Values.{has_first}
+use Rattle.model_arguments.proofs.Boxes.{set_full, sub_length, sub_without}
 use Rattle.fd_store.specs.Held.{Held, Follows, trail_len, past_box, removal}
 use Rattle.fd_store.specs.declared.answer.Removed.TheVariants.{Some as SomeGone}
 use Rattle.prop_yard.specs.Closing.{IsClosedBox, IsChangedAt, is_any}
-use Rattle.qc_rules.proofs.Ascends.{domain_ascends}
+use Rattle.model_levels.proofs.Ascends.{domain_ascends}
 use Rattle.prop_engine.specs.Closing.{EachRule, IsClosedFor}
 use Rattle.prop_engine.specs.Watching.{WasKept}
 use Rattle.qc_model.specs.Closed.{keeps_ends}

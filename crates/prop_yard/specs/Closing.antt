@@ -2,7 +2,7 @@
 use Rattle.std.specs.Prelude.{◌≡◌, ℕ, Bool, length, IsTrue, IsFalse, [], ◌∷◌}
 use Rattle.qc_model.specs.Content.{Game}
 use Rattle.qc_model.specs.Domains.{Box, has_empty}
-use Rattle.qc_arguments.specs.Asked.{is_box_of}
+use Rattle.model_arguments.specs.Asked.{is_box_of}
 use Rattle.qc_model.specs.declared.problem.VarId.{VarId}
 use Rattle.prop_engine.specs.Watching.{WasKept}
 use Rattle.prop_engine.specs.Closing.{IsClosedFor, is_between}

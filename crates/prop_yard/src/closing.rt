@@ -7,11 +7,11 @@ ghost use Rattle.prop_yard.specs.Closing.{IsChangedAt, IsClosedBox, is_any};
 
 use crate::cutting::take;
 use fd_store::{Removed, Store};
+use model_arguments::Span;
+use model_table::valid_is_ordered;
 use proof_tree::StepList;
 use prop_engine::{Closed, Engine, Filter};
-use qc_arguments::Span;
 use qc_model::{Problem, VarId};
-use qc_table::valid_is_ordered;
 use std::alloc::{AllocError, Global};
 
 // All constraints.

@@ -10,7 +10,7 @@ use Rattle.proof_tree.specs.declared.tree.Step.{Step}
 use Rattle.fd_store.specs.Held.{Held}
 use Rattle.prop_base.specs.Pruning.{IsPruning, total}
 use Rattle.prop_base.proofs.Steps.{pruning_more, pruning_total}
-use Rattle.qc_arguments.specs.declared.spans.Span.{Span}
+use Rattle.model_arguments.specs.declared.spans.Span.{Span}
 use Rattle.prop_engine.specs.Closing.{EachRule, is_between}
 use Rattle.prop_engine.specs.Watching.{WasKept, names, changed_by}
 use Rattle.prop_engine.proofs.Own.{keeps_same, after_length, after_others}

@@ -7,9 +7,9 @@ use Rattle.qc_model.specs.Content.{Game}
 use Rattle.qc_model.specs.Domains.{Values, Box, domain_values, declared_box, has_value, is_ascending, is_sub_box}
 use Rattle.qc_model.specs.Valid.{IsValid, is_domain}
 use Rattle.qc_model.proofs.Readable.{first, second, together}
-use Rattle.qc_arguments.specs.Asked.{is_box_of}
-use Rattle.qc_arguments.proofs.Values.{has_first}
-use Rattle.qc_rules.proofs.Ascends.{domain_ascends}
+use Rattle.model_arguments.specs.Asked.{is_box_of}
+use Rattle.model_arguments.proofs.Values.{has_first}
+use Rattle.model_levels.proofs.Ascends.{domain_ascends}
 
 or_right : (a b : Bool) → b ≡ true → (a || b) ≡ true
 or_right true b h = refl

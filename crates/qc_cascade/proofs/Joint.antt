@@ -12,12 +12,12 @@ use Rattle.qc_model.proofs.Readable.{first, second, together}
 use Rattle.proof_tree.specs.declared.tree.Step.{Step}
 use Rattle.proof_tree.specs.Steps.{after_steps}
 use Rattle.fd_store.specs.Held.{Held}
-use Rattle.qc_rules.specs.Spans.{is_rule_within, is_number_within, IsSpanOf}
+use Rattle.model_levels.specs.Spans.{is_rule_within, is_number_within, IsSpanOf}
 use Rattle.prop_base.specs.Pruning.{IsPruning, are_pruned_by}
 use Rattle.prop_base.proofs.Steps.{pruning_sub, pruning_more}
 use Rattle.prop_engine.specs.declared.answer.Closed.{Closed}
 use Rattle.prop_engine.specs.declared.answer.Closed.TheVariants.{Open, Empty}
-use Rattle.qc_arguments.specs.declared.spans.Span.{Span}
+use Rattle.model_arguments.specs.declared.spans.Span.{Span}
 use Rattle.prop_engine.specs.Closing.{EachRule, IsClosedFor, IsClosing, is_between}
 use Rattle.qc_cascade.specs.Adding.{is_either}
 use Rattle.prop_engine.proofs.Means.{closed_for}

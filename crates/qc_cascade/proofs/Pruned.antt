@@ -10,7 +10,7 @@ use Rattle.proof_tree.specs.declared.tree.Step.{Step}
 use Rattle.proof_tree.specs.declared.tree.Step.TheVariants.{Prune, Bound}
 use Rattle.proof_tree.specs.Steps.{removes_some, after_step, is_refuted_within, is_legal, are_legal}
 use Rattle.fd_store.specs.Held.{Held}
-use Rattle.qc_rules.specs.Spans.{is_rule_within, is_number_within}
+use Rattle.model_levels.specs.Spans.{is_rule_within, is_number_within}
 use Rattle.prop_base.specs.Pruning.{is_refuted_by, is_pruned_by, are_pruned_by, IsPruning}
 
 -- a constraint of these scopes is one of more scopes

@@ -1,6 +1,6 @@
 -- Two spans of constraints, closed in turn.
 use Rattle.std.specs.Prelude.{ℕ, Bool, ◌||◌}
-use Rattle.qc_arguments.specs.declared.spans.Span.{Span}
+use Rattle.model_arguments.specs.declared.spans.Span.{Span}
 use Rattle.prop_engine.specs.Closing.{is_between}
 
 -- the number is in one of the spans

@@ -7,7 +7,7 @@ use Rattle.qc_model.specs.Content.{Game, Rule}
 use Rattle.qc_model.specs.Domains.{Box, has_empty, is_sub_box}
 use Rattle.proof_tree.specs.declared.tree.Step.{Step}
 use Rattle.proof_tree.specs.Steps.{after_steps}
-use Rattle.qc_rules.specs.Spans.{is_number_within}
+use Rattle.model_levels.specs.Spans.{is_number_within}
 use Rattle.prop_base.specs.Pruning.{are_pruned_by}
 
 -- a box within this one is closed for the constraints of the scopes, or the goal, from i to k

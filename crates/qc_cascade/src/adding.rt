@@ -2,7 +2,7 @@
 ghost use Rattle.std.specs.Prelude.{◌≡◌, ◌≤◌, length, drop, IsTrue, IsFalse, IfOk};
 ghost use Rattle.qc_model.specs.Closed.{keeps_ends};
 ghost use Rattle.qc_model.specs.Domains.{has_empty};
-ghost use Rattle.qc_arguments.specs.Asked.{is_box_of};
+ghost use Rattle.model_arguments.specs.Asked.{is_box_of};
 ghost use Rattle.prop_base.specs.Pruning.{IsPruning};
 ghost use Rattle.prop_engine.specs.Closing.{EachRule, IsClosing, is_between};
 ghost use Rattle.prop_engine.specs.Watching.{IsReady, WasKept, changed_by, step_variable};
@@ -10,9 +10,9 @@ ghost use Rattle.qc_cascade.specs.Adding.{is_either};
 ghost use Rattle.qc_cascade.specs.Ahead.{EachKnown};
 
 use fd_store::Store;
+use model_arguments::Span;
 use proof_tree::{Step, StepList};
 use prop_engine::{Closed, Engine, Filter};
-use qc_arguments::Span;
 use qc_model::{Problem, VarId};
 use std::alloc::{AllocError, Global};
 

@@ -2,9 +2,9 @@
 ghost use Rattle.std.specs.Prelude.{◌≤◌, suc, length, IsTrue, IsFalse, IfOk};
 ghost use Rattle.qc_model.specs.Closed.{keeps_ends};
 ghost use Rattle.qc_model.specs.Domains.{has_empty};
-ghost use Rattle.qc_arguments.specs.Asked.{is_box_of};
+ghost use Rattle.model_arguments.specs.Asked.{is_box_of};
 ghost use Rattle.fd_store.specs.Held.{Follows};
-ghost use Rattle.qc_rules.specs.Spans.{IsSpanOf, is_number_within};
+ghost use Rattle.model_levels.specs.Spans.{IsSpanOf, is_number_within};
 ghost use Rattle.prop_base.specs.Pruning.{IsPruning};
 ghost use Rattle.prop_engine.specs.Closing.{EachRule, IsClosing};
 ghost use Rattle.prop_engine.specs.Watching.{IsReady};
@@ -13,11 +13,11 @@ ghost use Rattle.qc_cascade.specs.Ahead.{EachKnown, IsEntered};
 use crate::adding::close_added;
 use crate::entered::Entered;
 use fd_store::Store;
+use model_arguments::Span;
+use model_levels::Levels;
 use proof_tree::StepList;
 use prop_engine::{Closed, Engine, Filter};
-use qc_arguments::Span;
 use qc_model::ScopeId;
-use qc_rules::Levels;
 use std::alloc::{AllocError, Global};
 
 // The numbers of the constraints of the scopes from i to the one before k.

@@ -1,16 +1,16 @@
 //! What is found at a scope, with the store handed back.
 ghost use Rattle.std.specs.Prelude.{◌≡◌, ◌<◌, ◌≤◌, suc, length, IsTrue, IsFalse, IfOk};
 ghost use Rattle.qc_model.specs.Domains.{has_empty};
-ghost use Rattle.qc_arguments.specs.Asked.{is_box_of};
+ghost use Rattle.model_arguments.specs.Asked.{is_box_of};
 ghost use Rattle.prop_engine.specs.Watching.{IsReady};
 ghost use Rattle.qc_cascade.specs.Ahead.{EachKnown, IsEntered};
 
 use crate::cascade::first_empty;
 use crate::entered::Entered;
 use fd_store::Store;
+use model_levels::Levels;
 use prop_engine::{Engine, Filter};
 use qc_model::ScopeId;
-use qc_rules::Levels;
 use std::alloc::{AllocError, Global};
 
 // What is found from scope i to the number before `stop`.

@@ -7,24 +7,24 @@ use Rattle.qc_model.specs.Game.{before}
 use Rattle.qc_model.proofs.Before.{before-le}
 use Rattle.proof_tree.specs.declared.line.Line.{Line}
 use Rattle.proof_text.specs.Answers.{Told}
-use Rattle.qc_likeness.specs.Likeness.{IsLike}
-use Rattle.qc_likeness.proofs.Likes.{like_fresh}
-use Rattle.line_check.specs.declared.machine.Machine.{Machine}
-use Rattle.line_check.specs.declared.open.Due.TheVariants as due_of
-use Rattle.line_check.specs.declared.passing.NodeDue.{NodeDue}
-use Rattle.line_check.specs.Awaited.{node_awaited}
-use Rattle.line_check.specs.Ledger.{Ledger}
-use Rattle.line_check.specs.LedgerHeld.{Tells as Stands, first_ledger, goes_through}
-use Rattle.line_check.specs.Machine.{game_of, IsReady, IsReadyAt, IsAtNode}
-use Rattle.line_check.specs.Passed.{IsDueIn, DueTold}
-use Rattle.line_check.specs.State.{start, run}
-use Rattle.line_check.specs.Telling.{Tells}
-use Rattle.line_check.specs.Under.{IsUnder}
-use Rattle.line_check.proofs.LedgerRight.{Follows, follows}
-use Rattle.line_check.proofs.Passed.{due_told}
+use Rattle.likeness.specs.Likeness.{IsLike}
+use Rattle.likeness.proofs.Likes.{like_fresh}
+use Rattle.check_lines.specs.declared.machine.Machine.{Machine}
+use Rattle.check_lines.specs.declared.open.Due.TheVariants as due_of
+use Rattle.check_lines.specs.declared.passing.NodeDue.{NodeDue}
+use Rattle.check_lines.specs.Awaited.{node_awaited}
+use Rattle.check_lines.specs.Ledger.{Ledger}
+use Rattle.check_lines.specs.LedgerHeld.{Tells as Stands, first_ledger, goes_through}
+use Rattle.check_lines.specs.Machine.{game_of, IsReady, IsReadyAt, IsAtNode}
+use Rattle.check_lines.specs.Passed.{IsDueIn, DueTold}
+use Rattle.check_lines.specs.State.{start, run}
+use Rattle.check_lines.specs.Telling.{Tells}
+use Rattle.check_lines.specs.Under.{IsUnder}
+use Rattle.check_lines.proofs.LedgerRight.{Follows, follows}
+use Rattle.check_lines.proofs.Passed.{due_told}
 use Rattle.box_laws.proofs.Readings.{box_size}
-use Rattle.line_check.proofs.SameTold.{the_same}
-use Rattle.line_check.proofs.Under.{under_here}
+use Rattle.check_lines.proofs.SameTold.{the_same}
+use Rattle.check_lines.proofs.Under.{under_here}
 use Rattle.qc_check.specs.Checking.{lines_told}
 use Rattle.qc_check.specs.Keeping.{GoesOn, IsStart, IsInside, AreStartsOf, ledger_told, IsKeeping, values_due}
 use Rattle.qc_check.specs.declared.progress.Checker.{Checker}

@@ -7,15 +7,15 @@ use Rattle.qc_model.specs.Content.{Game}
 use Rattle.qc_model.specs.Demands.{demands}
 use Rattle.qc_model.specs.Domains.{Box}
 use Rattle.qc_model.specs.Verdict.{Verdict, lost, exact, at_most, unknown, Seen, seen_barred, seen_node}
-use Rattle.qc_levels.specs.Seen.{verdict_of}
-use Rattle.qc_joins.specs.Joins.{IsLong, out_of}
-use Rattle.qc_alike.specs.Looking.{looks}
-use Rattle.qc_alike.proofs.Alike.{does_alike}
-use Rattle.qc_likeness.specs.Likeness.{ask_nothing, IsLike, decided_as, is_decided_as, ends_as, line_looks}
-use Rattle.qc_likeness.proofs.Likes.{likes_alike}
-use Rattle.qc_likeness.proofs.Lines.{tree_looks}
-use Rattle.qc_likeness.proofs.Plain.{no_demands, later_none, read_none, decided_is}
-use Rattle.node_memory.specs.Known.{Decides, IsKnown}
+use Rattle.joins.specs.Seen.{verdict_of}
+use Rattle.joins.specs.Joins.{IsLong, out_of}
+use Rattle.proof_alike.specs.Looking.{looks}
+use Rattle.proof_alike.proofs.Alike.{does_alike}
+use Rattle.likeness.specs.Likeness.{ask_nothing, IsLike, decided_as, is_decided_as, ends_as, line_looks}
+use Rattle.likeness.proofs.Likes.{likes_alike}
+use Rattle.likeness.proofs.Lines.{tree_looks}
+use Rattle.likeness.proofs.Plain.{no_demands, later_none, read_none, decided_is}
+use Rattle.check_memory.specs.Known.{Decides, IsKnown}
 use Rattle.proof_tree.specs.Counts.{turns_of}
 use Rattle.proof_tree.specs.Lines.{tree_lines}
 use Rattle.proof_tree.specs.Text.{line_text}
@@ -23,14 +23,14 @@ use Rattle.proof_tree.specs.Tree.{Tree}
 use Rattle.proof_text.specs.Answers.{StandsFor}
 use Rattle.proof_text.specs.LineRanges.{line_fits}
 use Rattle.proof_text.proofs.FittingLines.{fitting_tree}
-use Rattle.line_check.specs.declared.machine.Machine.{Machine}
-use Rattle.line_check.specs.declared.passing.NodeEnded.{NodeEnded}
-use Rattle.line_check.specs.Ledger.{Ledger}
-use Rattle.line_check.specs.LedgerSizes.{KeepsSizesAt}
-use Rattle.line_check.specs.Machine.{game_of}
-use Rattle.line_check.specs.Passed.{EndedTold, HasEndedIn}
-use Rattle.line_check.specs.Telling.{Tells, TellsAfter}
-use Rattle.line_check.specs.Under.{EndsUnder}
+use Rattle.check_lines.specs.declared.machine.Machine.{Machine}
+use Rattle.check_lines.specs.declared.passing.NodeEnded.{NodeEnded}
+use Rattle.check_lines.specs.Ledger.{Ledger}
+use Rattle.check_lines.specs.LedgerSizes.{KeepsSizesAt}
+use Rattle.check_lines.specs.Machine.{game_of}
+use Rattle.check_lines.specs.Passed.{EndedTold, HasEndedIn}
+use Rattle.check_lines.specs.Telling.{Tells, TellsAfter}
+use Rattle.check_lines.specs.Under.{EndsUnder}
 use Rattle.qc_check.specs.declared.progress.Checker.{Checker}
 use Rattle.qc_check.specs.Checking.{lines_told, HeadIs, IsReading}
 use Rattle.qc_check.specs.Keeping.{Standing, GoesOn, MayEnd, IsStart, IsInside, AreStarts, AreStartsOf, ledger_told, IsKeeping, IsSettling}

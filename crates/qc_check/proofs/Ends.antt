@@ -18,19 +18,19 @@ use Rattle.proof_text.specs.Answers.{nothing, headed, StandsFor, IsTold}
 use Rattle.proof_text.specs.Laws.{HasFault, IsTextOrFault}
 use Rattle.proof_text.specs.Places.{IsText, BeginsText, IsNotACertificate, IsTooDeep}
 use Rattle.proof_text.specs.Readings.{Reading}
-use Rattle.line_check.specs.declared.machine.Machine.{Machine}
-use Rattle.line_check.specs.declared.answer.Answer.{Answer}
-use Rattle.line_check.specs.Ledger.{Ledger}
-use Rattle.line_check.specs.LedgerHeld.{first_ledger, goes_through}
-use Rattle.line_check.specs.Machine.{game_of}
-use Rattle.line_check.specs.Telling.{Tells, TellsAfter}
-use Rattle.line_check.specs.Found.{Answers, IsAnswer}
+use Rattle.check_lines.specs.declared.machine.Machine.{Machine}
+use Rattle.check_lines.specs.declared.answer.Answer.{Answer}
+use Rattle.check_lines.specs.Ledger.{Ledger}
+use Rattle.check_lines.specs.LedgerHeld.{first_ledger, goes_through}
+use Rattle.check_lines.specs.Machine.{game_of}
+use Rattle.check_lines.specs.Telling.{Tells, TellsAfter}
+use Rattle.check_lines.specs.Found.{Answers, IsAnswer}
 use Rattle.qc_check.specs.declared.stated.Stated.{Stated}
 use Rattle.qc_check.specs.Shown.{found_shows, counts_turns, IsStatable}
 use Rattle.qc_check.specs.declared.stated.Stop.TheVariants.{Bad, Deep}
 use Rattle.qc_check.specs.declared.finding.Fed.TheVariants.{NotACertificate as FedNone, TooDeep as FedDeep}
 use Rattle.qc_check.specs.Checking.{lines_told, HeadIs, IsReading, IsCertificate, IsProof, IsNoProof, IsStopped, Feeds}
-use Rattle.line_check.proofs.Showing.{shows_answer}
+use Rattle.check_lines.proofs.Showing.{shows_answer}
 use Rattle.qc_check.proofs.Shows.{proves_shown, proves_shown_so, shows_counted, counted}
 
 front_begins : (limit n : ℕ) (bytes : List ℕ) → BeginsText limit bytes → BeginsText limit (take n bytes)

@@ -14,19 +14,19 @@ use Rattle.proof_tree.specs.Counts.{branch_weight}
 use Rattle.proof_tree.specs.Lines.{step_line, upto_lines, case_lines, branches_lines}
 use Rattle.proof_tree.specs.declared.line.Line.{Line}
 use Rattle.proof_tree.specs.declared.line.Line.TheVariants.{Horizon}
-use Rattle.line_check.specs.declared.machine.Machine.{Machine}
-use Rattle.line_check.specs.Awaited.{Awaited, node_awaited, prune_awaited, body_awaited, part_awaited, case_awaited, ranged_awaited, none_awaited}
-use Rattle.line_check.specs.State.{may_see}
-use Rattle.line_check.specs.Ledger.{Ledger, goes, goes_at, only_ledger}
-use Rattle.line_check.specs.LedgerHeld.{first_ledger, goes_through}
-use Rattle.line_check.specs.Machine.{game_of, base_of, IsBaseOf, CanBegin}
-use Rattle.line_check.specs.Telling.{Tells, TellsAfter}
-use Rattle.line_check.specs.LedgerSizes.{KeepsSizesAt}
-use Rattle.line_check.specs.EndSizes.{ends_after, ends_through, EndsAt}
-use Rattle.line_check.proofs.LedgerSizes.{verdict_laws}
-use Rattle.line_check.proofs.EndSizes.{ends_one, first_ends, sizes_from}
-use Rattle.line_check.specs.Found.{Answers}
-use Rattle.line_check.specs.declared.answer.Answer.{Answer}
+use Rattle.check_lines.specs.declared.machine.Machine.{Machine}
+use Rattle.check_lines.specs.Awaited.{Awaited, node_awaited, prune_awaited, body_awaited, part_awaited, case_awaited, ranged_awaited, none_awaited}
+use Rattle.check_lines.specs.State.{may_see}
+use Rattle.check_lines.specs.Ledger.{Ledger, goes, goes_at, only_ledger}
+use Rattle.check_lines.specs.LedgerHeld.{first_ledger, goes_through}
+use Rattle.check_lines.specs.Machine.{game_of, base_of, IsBaseOf, CanBegin}
+use Rattle.check_lines.specs.Telling.{Tells, TellsAfter}
+use Rattle.check_lines.specs.LedgerSizes.{KeepsSizesAt}
+use Rattle.check_lines.specs.EndSizes.{ends_after, ends_through, EndsAt}
+use Rattle.check_lines.proofs.LedgerSizes.{verdict_laws}
+use Rattle.check_lines.proofs.EndSizes.{ends_one, first_ends, sizes_from}
+use Rattle.check_lines.specs.Found.{Answers}
+use Rattle.check_lines.specs.declared.answer.Answer.{Answer}
 use Rattle.qc_check.specs.declared.space.Space.{Space}
 use Rattle.qc_check.specs.Giving.{TellsLines, WasGivenLines, Takes}
 use Rattle.qc_check.proofs.Steps.{goes_more}

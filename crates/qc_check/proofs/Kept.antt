@@ -14,13 +14,13 @@ use Rattle.proof_text.specs.Answers.{Told, nothing, headed, is_nothing, tell, St
 use Rattle.proof_text.specs.Places.{BeginsText}
 use Rattle.proof_text.specs.declared.answer.Read.TheVariants.{Whole}
 use Rattle.proof_text.specs.LineRanges.{line_fits}
-use Rattle.qc_likeness.specs.Likeness.{line_looks}
-use Rattle.qc_likeness.proofs.Lines.{lines_look_before}
-use Rattle.line_check.specs.Ledger.{Ledger, goes}
-use Rattle.line_check.specs.LedgerHeld.{first_ledger, goes_through}
-use Rattle.line_check.specs.Machine.{game_of}
-use Rattle.line_check.specs.Telling.{TellsAfter}
-use Rattle.line_check.proofs.Under.{under_line, under_ends}
+use Rattle.likeness.specs.Likeness.{line_looks}
+use Rattle.likeness.proofs.Lines.{lines_look_before}
+use Rattle.check_lines.specs.Ledger.{Ledger, goes}
+use Rattle.check_lines.specs.LedgerHeld.{first_ledger, goes_through}
+use Rattle.check_lines.specs.Machine.{game_of}
+use Rattle.check_lines.specs.Telling.{TellsAfter}
+use Rattle.check_lines.proofs.Under.{under_line, under_ends}
 use Rattle.qc_check.specs.declared.progress.Checker.{Checker}
 use Rattle.qc_check.specs.Checking.{lines_told, HeadIs, IsReading, IsChecking, IsCheckingBy}
 use Rattle.qc_check.specs.Keeping.{Standing, GoesOn, MayEnd, IsStart, IsInside, AreStarts, AreStartsOf, ledger_told, IsKeeping, IsSettling, IsRead}

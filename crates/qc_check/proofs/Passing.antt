@@ -21,27 +21,27 @@ use Rattle.proof_text.specs.LineRanges.{line_fits}
 use Rattle.proof_text.specs.Places.{BeginsText}
 use Rattle.proof_text.specs.Readings.{Reading}
 use Rattle.proof_text.proofs.FittingLines.{tree_fitting}
-use Rattle.qc_likeness.specs.Likeness.{IsLike, line_looks, decided_as}
-use Rattle.qc_likeness.proofs.Likes.{like_kept}
-use Rattle.qc_likeness.proofs.Lines.{lines_look_before}
-use Rattle.node_memory.specs.declared.node.Met.{Met}
-use Rattle.node_memory.specs.Known.{Decides, IsKnownBy, IsMet}
-use Rattle.line_check.specs.declared.machine.Machine.{Machine}
-use Rattle.line_check.specs.declared.passing.NodeDue.{NodeDue}
-use Rattle.line_check.specs.Awaited.{node_awaited}
-use Rattle.line_check.specs.Ledger.{Ledger, Entry, place_at, goes}
-use Rattle.line_check.specs.LedgerHeld.{Tells as Stands, AboveIs, WithinIs, first_ledger, goes_through}
-use Rattle.line_check.specs.Machine.{game_of}
-use Rattle.line_check.specs.Passed.{IsDueIn, IsPassed, DueTold}
-use Rattle.line_check.specs.State.{Own, Above, at_root, below, Within, whole_tree, in_case, State, node_due, prune_due, body_due, end_due, case_due, ranged_due, ended, wrong, run}
-use Rattle.line_check.specs.Tally.{Tally, nothing as no_tally, ◌&◌}
-use Rattle.line_check.specs.Telling.{TellsAfter}
-use Rattle.line_check.specs.Under.{alone, is_over, IsUnder}
-use Rattle.line_check.proofs.LedgerRight.{Follows, follows}
-use Rattle.line_check.proofs.Onto.{above_on, within_on, onto, run_on}
-use Rattle.line_check.proofs.Passed.{due_told}
-use Rattle.line_check.proofs.Sums.{same_tally}
-use Rattle.line_check.proofs.Under.{under_node, under_node_ends}
+use Rattle.likeness.specs.Likeness.{IsLike, line_looks, decided_as}
+use Rattle.likeness.proofs.Likes.{like_kept}
+use Rattle.likeness.proofs.Lines.{lines_look_before}
+use Rattle.check_memory.specs.declared.node.Met.{Met}
+use Rattle.check_memory.specs.Known.{Decides, IsKnownBy, IsMet}
+use Rattle.check_lines.specs.declared.machine.Machine.{Machine}
+use Rattle.check_lines.specs.declared.passing.NodeDue.{NodeDue}
+use Rattle.check_lines.specs.Awaited.{node_awaited}
+use Rattle.check_lines.specs.Ledger.{Ledger, Entry, place_at, goes}
+use Rattle.check_lines.specs.LedgerHeld.{Tells as Stands, AboveIs, WithinIs, first_ledger, goes_through}
+use Rattle.check_lines.specs.Machine.{game_of}
+use Rattle.check_lines.specs.Passed.{IsDueIn, IsPassed, DueTold}
+use Rattle.check_lines.specs.State.{Own, Above, at_root, below, Within, whole_tree, in_case, State, node_due, prune_due, body_due, end_due, case_due, ranged_due, ended, wrong, run}
+use Rattle.check_lines.specs.Tally.{Tally, nothing as no_tally, ◌&◌}
+use Rattle.check_lines.specs.Telling.{TellsAfter}
+use Rattle.check_lines.specs.Under.{alone, is_over, IsUnder}
+use Rattle.check_lines.proofs.LedgerRight.{Follows, follows}
+use Rattle.check_lines.proofs.Onto.{above_on, within_on, onto, run_on}
+use Rattle.check_lines.proofs.Passed.{due_told}
+use Rattle.check_lines.proofs.Sums.{same_tally}
+use Rattle.check_lines.proofs.Under.{under_node, under_node_ends}
 use Rattle.qc_check.specs.declared.progress.Checker.{Checker}
 use Rattle.qc_check.specs.declared.stated.Stated.{Stated}
 use Rattle.qc_check.specs.Checking.{lines_told, HeadIs, IsReading}

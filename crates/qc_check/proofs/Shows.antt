@@ -12,10 +12,10 @@ use Rattle.proof_tree.specs.Read.{root_finding}
 use Rattle.proof_tree.specs.Proves.{proves, shows}
 use Rattle.proof_tree.specs.Counts.{turns_of}
 use Rattle.proof_tree.specs.Text.{outcome_fits}
-use Rattle.line_check.specs.declared.answer.Answer.{Answer}
-use Rattle.line_check.specs.Found.{IsAnswer}
-use Rattle.line_check.specs.Shown.{answer_shows, bare_verdict}
-use Rattle.line_check.proofs.Showing.{IsCounted, shows_answer, three, bare_unknown}
+use Rattle.check_lines.specs.declared.answer.Answer.{Answer}
+use Rattle.check_lines.specs.Found.{IsAnswer}
+use Rattle.check_lines.specs.Shown.{answer_shows, bare_verdict}
+use Rattle.check_lines.proofs.Showing.{IsCounted, shows_answer, three, bare_unknown}
 use Rattle.qc_check.specs.Shown.{found_shows, counts_turns, IsStatable}
 
 second : (a b : Bool) → (a && b) ≡ true → b ≡ true

@@ -11,11 +11,11 @@ use Rattle.proof_text.specs.declared.answer.Read.TheVariants.{Within, Head, Whol
 use Rattle.proof_text.specs.Answers.{Told, nothing, headed, tell, is_nothing, StandsFor, Says, SaysLine}
 use Rattle.proof_text.specs.Places.{BeginsText, IsNotACertificate, IsTooDeep}
 use Rattle.proof_text.specs.Readings.{Reading}
-use Rattle.line_check.specs.declared.machine.Machine.{Machine}
-use Rattle.line_check.specs.Ledger.{Ledger, goes}
-use Rattle.line_check.specs.LedgerHeld.{first_ledger, goes_through}
-use Rattle.line_check.specs.Machine.{game_of}
-use Rattle.line_check.specs.Telling.{TellsAfter}
+use Rattle.check_lines.specs.declared.machine.Machine.{Machine}
+use Rattle.check_lines.specs.Ledger.{Ledger, goes}
+use Rattle.check_lines.specs.LedgerHeld.{first_ledger, goes_through}
+use Rattle.check_lines.specs.Machine.{game_of}
+use Rattle.check_lines.specs.Telling.{TellsAfter}
 use Rattle.qc_check.specs.declared.stated.Stated.{Stated}
 use Rattle.qc_check.specs.declared.stated.Stop.{Stop}
 use Rattle.qc_check.specs.declared.stated.Stop.TheVariants.{Bad as BadStop, Deep as DeepStop}

@@ -8,7 +8,7 @@ use Rattle.proof_tree.specs.declared.line.Line.TheVariants.{Horizon as HorizonLi
 use Rattle.proof_tree.specs.Tree.{Tree, tree, Body, stuck, goal, cases, Ending, empty, barred, next, branch, Branches, no_more, piece, Case, skip, left_open, go}
 use Rattle.proof_tree.specs.Lines.{step_line, horizon_lines, upto_lines, tree_lines, body_lines, ending_lines, branches_lines, case_lines}
 use Rattle.proof_tree.specs.Counts.{ends_of, body_ends, ending_ends, branch_ends, case_ends}
-use Rattle.line_check.specs.EndSizes.{ends_after, ends_through}
+use Rattle.check_lines.specs.EndSizes.{ends_after, ends_through}
 
 pub through_join : (n : ℕ) (xs ys : List Line) → ends_through n (xs ++ ys) ≡ ends_through (ends_through n xs) ys
 through_join n [] ys = refl

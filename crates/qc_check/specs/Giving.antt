@@ -1,11 +1,11 @@
 -- What a space is after some lines, and what it says of a certificate.
 use Rattle.std.specs.Prelude.{◌≡◌, ◌≤◌, ◌+◌, List, ◌++◌, Some}
 use Rattle.proof_tree.specs.declared.line.Line.{Line}
-use Rattle.line_check.specs.declared.machine.Machine.{Machine}
-use Rattle.line_check.specs.LedgerHeld.{first_ledger, goes_through}
-use Rattle.line_check.specs.Machine.{game_of, base_of, CanBegin}
-use Rattle.line_check.specs.Telling.{TellsAfter}
-use Rattle.line_check.specs.EndSizes.{ends_through, EndsAt}
+use Rattle.check_lines.specs.declared.machine.Machine.{Machine}
+use Rattle.check_lines.specs.LedgerHeld.{first_ledger, goes_through}
+use Rattle.check_lines.specs.Machine.{game_of, base_of, CanBegin}
+use Rattle.check_lines.specs.Telling.{TellsAfter}
+use Rattle.check_lines.specs.EndSizes.{ends_through, EndsAt}
 use Rattle.qc_check.specs.declared.space.Space.{Space}
 
 -- the machine was given these lines: where they have no more ends than a certificate may have, it tells their ledger, and

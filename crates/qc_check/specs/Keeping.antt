@@ -9,13 +9,13 @@ use Rattle.proof_text.specs.LineRanges.{line_fits}
 use Rattle.proof_text.specs.Answers.{Told, tell, is_nothing, StandsFor}
 use Rattle.proof_text.specs.Places.{BeginsText}
 use Rattle.proof_text.specs.declared.answer.Read.TheVariants.{Whole}
-use Rattle.qc_likeness.specs.Likeness.{IsLike, line_looks}
-use Rattle.line_check.specs.declared.machine.Machine.{Machine}
-use Rattle.line_check.specs.Ledger.{Ledger}
-use Rattle.line_check.specs.LedgerHeld.{first_ledger, goes_through}
-use Rattle.line_check.specs.Machine.{game_of, IsReady}
-use Rattle.line_check.specs.Telling.{Tells, TellsAfter}
-use Rattle.line_check.specs.Under.{IsUnder, EndsUnder}
+use Rattle.likeness.specs.Likeness.{IsLike, line_looks}
+use Rattle.check_lines.specs.declared.machine.Machine.{Machine}
+use Rattle.check_lines.specs.Ledger.{Ledger}
+use Rattle.check_lines.specs.LedgerHeld.{first_ledger, goes_through}
+use Rattle.check_lines.specs.Machine.{game_of, IsReady}
+use Rattle.check_lines.specs.Telling.{Tells, TellsAfter}
+use Rattle.check_lines.specs.Under.{IsUnder, EndsUnder}
 use Rattle.qc_check.specs.declared.progress.Checker.{Checker}
 use Rattle.qc_check.specs.Checking.{lines_told, HeadIs, IsReading, IsChecking}
 use Rattle.qc_check.specs.Places.{StartHeld}

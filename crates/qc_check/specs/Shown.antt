@@ -3,10 +3,10 @@ use Rattle.std.specs.Prelude.{⊤, ◌<◌, ◌==◌, ◌^◌, ◌-◌, nat_lt, 
 use Rattle.qc_model.specs.declared.problem.Scope.{Scope}
 use Rattle.proof_tree.specs.declared.tree.Outcome.{Outcome}
 use Rattle.proof_tree.specs.declared.tree.Outcome.TheVariants.{True, False, Open}
-use Rattle.line_check.specs.declared.answer.Answer.{Answer}
+use Rattle.check_lines.specs.declared.answer.Answer.{Answer}
 use Rattle.qc_check.specs.declared.finding.Answer.{Answer as Given}
 use Rattle.qc_check.specs.declared.finding.Answer.TheVariants.{Yes, NotProved}
-use Rattle.line_check.specs.Shown.{answer_shows}
+use Rattle.check_lines.specs.Shown.{answer_shows}
 
 abbrev pub found_shows : List Scope → Option Answer → Outcome → Option ℤ → Bool
 found_shows scopes None o v = false

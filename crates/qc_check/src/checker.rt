@@ -1,6 +1,6 @@
 //! The checker, byte by byte.
 ghost use Rattle.std.specs.Prelude.{◌≡◌, ◌≤◌, ◌<◌, ◌+◌, ◌^◌, ◌++◌, ◌∷◌, [], None, Some, length, take, IfOk, IfNone, IfSome, ℕ, List};
-ghost use Rattle.line_check.specs.Machine.{game_of, IsReady};
+ghost use Rattle.check_lines.specs.Machine.{game_of, IsReady};
 ghost use Rattle.qc_model.specs.Content.{Game};
 ghost use Rattle.qc_check.specs.Checking.{Comes, Feeds, IsChecking, IsStopped, answered, answered_by};
 ghost use Rattle.qc_check.specs.Keeping.{WasGiven};
@@ -11,10 +11,10 @@ use crate::progress::Checker;
 use crate::shown::is_shown;
 use crate::starts::Starts;
 use crate::stated::{Stated, Stop};
-use line_check::{Machine, answers_are_right};
-use node_memory::NodeMemory;
+use check_lines::{Machine, answers_are_right};
+use check_memory::NodeMemory;
+use proof_meaning::outcomes_are_true;
 use proof_text::{LineReader, Read, bytes_are_one_text_or_have_one_fault, each_standing_is_right};
-use qc_meaning::outcomes_are_true;
 use qc_model::Problem;
 use std::alloc::{AllocError, Global};
 

@@ -3,7 +3,7 @@ ghost use Rattle.std.specs.Prelude.{◌≡◌, ◌+◌, ◌++◌, ◌∷◌, [],
 ghost use Rattle.proof_tree.specs.Shape.{tree_of, ending_of, branches_of, case_of};
 ghost use Rattle.proof_tree.specs.Lines.{step_line, horizon_lines, tree_lines, ending_lines, branches_lines, case_lines, upto_lines};
 ghost use Rattle.proof_tree.specs.declared.line.Line.TheVariants as line_of;
-ghost use Rattle.line_check.specs.Machine.{IsReady};
+ghost use Rattle.check_lines.specs.Machine.{IsReady};
 ghost use Rattle.qc_check.specs.Giving.{Takes};
 
 use crate::space::Space;

@@ -3,21 +3,21 @@
 //! A node is remembered only where its text lies whole in the piece that is read, so nothing is kept of a piece but what the
 //! memory has of it.
 ghost use Rattle.std.specs.Prelude.{◌≡◌, ◌⊎◌, ◌≤◌, ◌<◌, ◌+◌, ◌-◌, ◌^◌, ◌++◌, ◌∷◌, [], None, Some, length, take, drop, IfSome, IfNone, IsTrue, ℕ, List};
-ghost use Rattle.qc_likeness.specs.Likeness.{IsLike, line_looks};
-ghost use Rattle.node_memory.specs.Known.{IsMet};
-ghost use Rattle.line_check.specs.Machine.{game_of, IsReady};
-ghost use Rattle.line_check.specs.Passed.{IsDueIn};
-ghost use Rattle.line_check.specs.declared.open.Due.TheVariants as due_of;
+ghost use Rattle.likeness.specs.Likeness.{IsLike, line_looks};
+ghost use Rattle.check_memory.specs.Known.{IsMet};
+ghost use Rattle.check_lines.specs.Machine.{game_of, IsReady};
+ghost use Rattle.check_lines.specs.Passed.{IsDueIn};
+ghost use Rattle.check_lines.specs.declared.open.Due.TheVariants as due_of;
 ghost use Rattle.qc_check.specs.Checking.{IsChecking};
 ghost use Rattle.qc_check.specs.Keeping.{AreStartsAt, WasGiven, IsKeeping, IsRead, IsSettling, MayEnd, values_due};
 ghost use Rattle.qc_check.specs.Places.{StartHeld};
 
 use crate::progress::Checker;
 use crate::starts::Starts;
-use line_check::{Machine, NodeDue};
-use node_memory::{LEAST_SIZE, MOST_SIZE, Met, NodeMemory};
+use check_lines::{Machine, NodeDue};
+use check_memory::{LEAST_SIZE, MOST_SIZE, Met, NodeMemory};
+use likeness::is_won;
 use proof_tree::Line;
-use qc_likeness::is_won;
 use qc_model::ScopeId;
 
 /// How many nodes and branches may stand above one another.

@@ -3,8 +3,8 @@ ghost use Rattle.std.specs.Prelude.{◌≡◌};
 
 use crate::starts::Starts;
 use crate::stated::{Stated, Stop};
-use line_check::Machine;
-use node_memory::NodeMemory;
+use check_lines::Machine;
+use check_memory::NodeMemory;
 use proof_text::LineReader;
 use qc_model::Problem;
 

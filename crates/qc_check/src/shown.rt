@@ -3,7 +3,7 @@ ghost use Rattle.std.specs.Prelude.{◌≡◌};
 ghost use Rattle.qc_check.specs.Shown.{found_shows};
 
 use crate::stated::Stated;
-use line_check::{Answer, shows};
+use check_lines::{Answer, shows};
 use qc_model::Problem;
 
 /// Whether it does; no answer shows nothing.

@@ -1,7 +1,7 @@
 //! The memory that checks of one problem's certificates take.
 ghost use Rattle.std.specs.Prelude.{◌≡◌};
 
-use line_check::Machine;
+use check_lines::Machine;
 use qc_model::Problem;
 
 /// All memory that checks of one problem's certificates take.

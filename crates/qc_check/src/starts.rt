@@ -2,7 +2,7 @@
 ghost use Rattle.std.specs.Prelude.{◌≡◌, ◌≤◌, ◌<◌, ◌+◌, ◌⊎◌, ◌∷◌, [], Some, IfOk, IfNone, IfSome, List, ℤ, length, take, drop};
 ghost use Rattle.qc_check.specs.Places.{IsTail, StartHeld, rest};
 
-use line_check::NodeDue;
+use check_lines::NodeDue;
 use std::alloc::{AllocError, Global};
 use std::marker::Model;
 

@@ -11,7 +11,7 @@ use Rattle.qc_model.specs.Plan.{Plan}
 use Rattle.qc_model.specs.Value.{value}
 use Rattle.qc_model.specs.Optimal.{Optimal}
 use Rattle.proof_tree.specs.Meaning.{HasOptimum, OptimumBy, IsOptimum}
-use Rattle.qc_laws.proofs.Existence.{won_by_strategy}
+use Rattle.model_laws.proofs.Existence.{won_by_strategy}
 use Rattle.qc_pessimist.specs.Worst.{chosen_wish, Meets, OptimalAtWorst, HasPessimisticOptimum, PessimisticBy, IsPessimisticOptimum}
 use Rattle.qc_pessimist.specs.Opposed.{added, with_opposing, moved, opposed_game, put_empty, map_turn, with_empty_choices}
 use Rattle.qc_pessimist.specs.Laws.{ReadsAtWorst}

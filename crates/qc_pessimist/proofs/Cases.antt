@@ -6,10 +6,10 @@ use Rattle.qc_model.specs.Plan.{Plan, finish, choose}
 use Rattle.qc_model.specs.Value.{value}
 use Rattle.qc_model.specs.Optimal.{is_better, Optimal}
 use Rattle.qc_model.proofs.Plans.{optimal_wins}
-use Rattle.qc_laws.specs.Strategies.{optimal_strategies}
-use Rattle.qc_laws.proofs.Listed.{Lists, optimal_exact}
-use Rattle.qc_laws.proofs.Computed.{IsOptimum, only_strategy}
-use Rattle.qc_laws.proofs.CaseGames.{variable, of_variable, minimise, maximise, exists, indifferent, opposed as contrary}
+use Rattle.model_laws.specs.Strategies.{optimal_strategies}
+use Rattle.model_laws.proofs.Listed.{Lists, optimal_exact}
+use Rattle.model_laws.proofs.Computed.{IsOptimum, only_strategy}
+use Rattle.model_laws.proofs.CaseGames.{variable, of_variable, minimise, maximise, exists, indifferent, opposed as contrary}
 use Rattle.qc_pessimist.specs.Worst.{IsWorst, OptimalAtWorst, IsPessimisticOptimum}
 use Rattle.qc_pessimist.specs.Opposed.{opposed_game, moved}
 use Rattle.qc_pessimist.proofs.AtWorst.{reads_at_worst}

@@ -10,7 +10,7 @@ use Rattle.qc_model.specs.Plan.{Plan, finish, choose, answer, Entries, no_entrie
 use Rattle.qc_model.specs.Value.{value}
 use Rattle.qc_model.specs.Optimal.{is_better, NoBetterChoice, ChoosesBest, Optimal}
 use Rattle.proof_tree.specs.Meaning.{OptimumBy, IsOptimum}
-use Rattle.qc_laws.proofs.Existence.{won_by_strategy}
+use Rattle.model_laws.proofs.Existence.{won_by_strategy}
 use Rattle.qc_pessimist.specs.Worst.{chosen_wish, Meets, OptimalAtWorst, PessimisticBy, IsPessimisticOptimum}
 use Rattle.qc_pessimist.specs.Laws.{first_wish, NoBetterValue, NoBetterBy, NoBetterAtWorst}
 use Rattle.qc_pessimist.proofs.AtWorst.{reads_at_worst}

@@ -7,8 +7,8 @@ use Rattle.qc_model.specs.declared.problem.Kind.TheVariants.{Exists, Forall}
 use Rattle.qc_model.specs.declared.problem.Scope.{Scope}
 use Rattle.qc_model.specs.Content.{Game}
 use Rattle.qc_model.specs.Game.{before}
-use Rattle.qc_rules.specs.declared.level.Level.{Level}
-use Rattle.qc_rules.specs.Spans.{kind_at}
+use Rattle.model_levels.specs.declared.level.Level.{Level}
+use Rattle.model_levels.specs.Spans.{kind_at}
 use Rattle.check_box.specs.Placed.{values_to}
 use Rattle.qc_play.specs.Stuck.{nothing_answered, stuck_strategy, stuck_counterstrategy}
 

@@ -2,9 +2,9 @@
 use Rattle.std.proofs.Common.{◌≡◌, ℕ, suc, ◌-◌, true, false, refl, sym, ap, ◌∙◌, subst, arith, ℤ}
 use Rattle.qc_model.specs.Content.{Game}
 use Rattle.qc_model.specs.Domains.{box_within, has_empty, is_within}
-use Rattle.qc_arguments.specs.Asked.{is_box_of}
-use Rattle.qc_joins.specs.Joins.{game_of as game_joined, KeepsOthers, KeepsAll}
-use Rattle.qc_joins.specs.declared.joins.Joins.{Joins}
+use Rattle.model_arguments.specs.Asked.{is_box_of}
+use Rattle.joins.specs.Joins.{game_of as game_joined, KeepsOthers, KeepsAll}
+use Rattle.joins.specs.declared.joins.Joins.{Joins}
 use Rattle.fd_store.specs.Held.{Held, trail_len, past_box, Follows, IsUndone}
 use Rattle.check_box.specs.Placed.{IsAt, values_to}
 use Rattle.box_laws.proofs.Trails.{past_now}

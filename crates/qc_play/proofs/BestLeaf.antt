@@ -14,7 +14,7 @@ use Rattle.qc_model.specs.Verdict.{Verdict, lost, exact, at_most, unknown, seen_
 use Rattle.qc_model.specs.ExistsVerdict.{best_from, best_vector}
 use Rattle.qc_model.proofs.Vectors.{no_better_self}
 use Rattle.proof_tree.specs.Finding.{Finding, Leaf, leaf_barred, leaf_skipped, leaf_bound, leaf_node, seen_of, is_exact_at, first_choice}
-use Rattle.qc_meaning.proofs.LeafWords.{same_true, same_self}
+use Rattle.proof_meaning.proofs.LeafWords.{same_true, same_self}
 use Rattle.qc_play.specs.declared.best.Best.{Best}
 use Rattle.qc_play.specs.Shape.{plan_of}
 use Rattle.qc_play.specs.Entries.{NoneBetter, IsBest, KeepsBest, wins_over}

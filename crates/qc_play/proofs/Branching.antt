@@ -3,7 +3,7 @@ use Rattle.std.proofs.Common.{◌≡◌, ℕ, suc, ◌+◌, ◌<◌, List, ◌�
 use Rattle.std.specs.Prelude.{pos, ◌+ℤ◌}
 use Rattle.qc_model.specs.Content.{Game}
 use Rattle.qc_model.specs.Domains.{Box, Values, box_within, values_left}
-use Rattle.qc_joins.specs.declared.joins.Joins.{Joins}
+use Rattle.joins.specs.declared.joins.Joins.{Joins}
 use Rattle.fd_store.specs.Held.{values_from}
 use Rattle.check_box.specs.Cases.{IsCase}
 use Rattle.proof_tree.specs.Counts.{branch_ends, case_ends}

@@ -16,7 +16,7 @@ use Rattle.qc_model.specs.Plan.{Plan, finish, choose, answer, Entries, no_entrie
 use Rattle.qc_model.specs.Counter.{opposite, PassScope, CanPassBlock, HasEntry, RepliesTo, CounterWins, AnswersOnce, EachAnswersOnce}
 use Rattle.qc_model.specs.Optimal.{ChoosesBest, Optimal}
 use Rattle.qc_model.proofs.Moves.{moves_from}
-use Rattle.qc_meaning.proofs.LeafWords.{same_true, same_self}
+use Rattle.proof_meaning.proofs.LeafWords.{same_true, same_self}
 use Rattle.qc_play.specs.Play.{missing_at, not_allowed_at, Play, ends, lies_in, is_move, reply_to, Rest, own_turn, replied, moved, answered, answers_of, turn, play_from, play_of}
 use Rattle.qc_play.specs.Ends.{IsSound, MayGoOn, values_after, kind_at, IsHopeless, EndsFor, EndsWell}
 

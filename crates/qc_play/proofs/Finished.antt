@@ -3,8 +3,8 @@ use Rattle.std.proofs.Common.{◌≡◌, ℕ, List, length, sym, subst, ℤ, Opt
 use Rattle.std.specs.Prelude.{Result, IfOk}
 use Rattle.qc_model.specs.declared.problem.Condition.{Condition}
 use Rattle.qc_model.specs.Content.{Game}
-use Rattle.qc_levels.specs.declared.leaves.Found.{Found}
-use Rattle.qc_levels.specs.Seen.{verdict_of}
+use Rattle.joins.specs.declared.leaves.Found.{Found}
+use Rattle.joins.specs.Seen.{verdict_of}
 use Rattle.proof_tree.specs.Finding.{Leaf, kind_finding}
 use Rattle.qc_play.specs.declared.shown.Shown.{Shown}
 use Rattle.qc_play.specs.declared.gathering.Gathering.{Gathering}

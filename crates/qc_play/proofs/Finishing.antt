@@ -9,16 +9,16 @@ use Rattle.qc_model.specs.Valid.{IsValid}
 use Rattle.qc_model.specs.Plan.{answer, entry}
 use Rattle.qc_model.specs.Verdict.{lost, exact, at_most, unknown, Seen, is_lost, is_exact, some_node, each_node, exact_vectors, bounds, is_none_of, first_value}
 use Rattle.qc_model.specs.ExistsVerdict.{best_vector, beats, some_open, exists_verdict}
-use Rattle.qc_levels.proofs.Bests.{some_exact_is}
+use Rattle.joins.proofs.Bests.{some_exact_is}
 use Rattle.proof_tree.specs.Finding.{Leaf, leaf_barred, leaf_skipped, leaf_bound, leaf_node, seen_of, is_exact_at, first_choice, all_replies, exists_finding, forall_finding}
-use Rattle.qc_meaning.proofs.ForallRules.{any_forall_exact}
+use Rattle.proof_meaning.proofs.ForallRules.{any_forall_exact}
 use Rattle.qc_play.specs.declared.best.Best.{Best}
 use Rattle.qc_play.specs.declared.plan.PlanEntry.{PlanEntry}
 use Rattle.qc_play.specs.declared.counter.CounterEntry.{CounterEntry}
 use Rattle.qc_play.specs.Shape.{all_entries, all_replies as replies_in}
 use Rattle.qc_play.specs.EntryOrder.{entry_order}
 use Rattle.qc_play.specs.Entries.{entries_on, KeepsBest, KeepsFirst, KeepsReplies, KeepsAnswers, best_choice, lost_choice}
-use Rattle.qc_meaning.specs.Answered.{GoOnWithAll}
+use Rattle.proof_meaning.specs.Answered.{GoOnWithAll}
 use Rattle.qc_play.proofs.SortedAnswers.{answers_sorted}
 
 differ : false ≡ true → ⊥

@@ -2,11 +2,11 @@
 use Rattle.std.proofs.Common.{◌≡◌, ℕ, suc, ◌+◌, ◌≤◌, List, [], ◌∷◌, ◌++◌, map, sym, subst, arith, ℤ}
 use Rattle.qc_model.specs.Content.{Game}
 use Rattle.qc_model.specs.Verdict.{Verdict, seen_node}
-use Rattle.qc_joins.specs.declared.joins.Joins.{Joins}
-use Rattle.qc_joins.specs.Joins.{IsLong, LeafFits, StandsAt}
-use Rattle.qc_joins.specs.Ends.{IsOfEnds}
-use Rattle.qc_joins.proofs.Ends.{ends_sizes}
-use Rattle.qc_joins.proofs.Sizing.{leaf_fits}
+use Rattle.joins.specs.declared.joins.Joins.{Joins}
+use Rattle.joins.specs.Joins.{IsLong, LeafFits, StandsAt}
+use Rattle.joins.specs.Ends.{IsOfEnds}
+use Rattle.joins.proofs.Ends.{ends_sizes}
+use Rattle.joins.proofs.Sizing.{leaf_fits}
 use Rattle.proof_tree.specs.Finding.{Finding, Leaf, leaf_node, seen_of}
 use Rattle.qc_play.specs.declared.gathering.Gathering.{Gathering}
 use Rattle.qc_play.specs.Gathers.{Gathers, IsSameScope}

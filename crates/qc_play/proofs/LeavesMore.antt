@@ -3,9 +3,9 @@ use Rattle.std.proofs.Common.{◌≡◌, ℕ, Bool, true, false, cond, List, [],
 use Rattle.std.specs.Prelude.{⊤}
 use Rattle.qc_model.specs.Plan.{Plan, finish, choose, Entries, no_entries, entry}
 use Rattle.qc_model.specs.Verdict.{Verdict, exact, seen_node, each_node, exact_vectors}
-use Rattle.qc_levels.proofs.Bests.{each_join, vectors_join, append_nothing}
+use Rattle.joins.proofs.Bests.{each_join, vectors_join, append_nothing}
 use Rattle.proof_tree.specs.Finding.{Finding, Leaf, leaf_barred, leaf_skipped, leaf_bound, leaf_node, seen_of, first_choice}
-use Rattle.qc_meaning.proofs.Places.{both}
+use Rattle.proof_meaning.proofs.Places.{both}
 use Rattle.qc_play.specs.Entries.{entries_on}
 
 -- the leaf doesn't go on

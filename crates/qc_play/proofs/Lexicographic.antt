@@ -15,8 +15,8 @@ use Rattle.qc_model.specs.Lists.{Among, tuples}
 use Rattle.qc_model.specs.Domains.{domain_values, declared_box, is_ascending}
 use Rattle.qc_model.specs.Game.{before, scope_domains, allows, moves}
 use Rattle.qc_model.specs.Valid.{IsValid, is_domain}
-use Rattle.qc_meaning.proofs.Places.{both}
-use Rattle.qc_rules.proofs.Ascends.{domain_ascends}
+use Rattle.proof_meaning.proofs.Places.{both}
+use Rattle.model_levels.proofs.Ascends.{domain_ascends}
 
 abbrev pub order_of : List ℤ → List ℤ → Ordering
 order_of = slice_cmp int_cmp

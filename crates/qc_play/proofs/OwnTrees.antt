@@ -3,12 +3,12 @@ use Rattle.std.proofs.Common.{◌≡◌, ℕ, ◌+◌, ◌≤◌, List, [], drop
 use Rattle.qc_model.specs.Content.{Game}
 use Rattle.qc_model.specs.Demands.{demands}
 use Rattle.qc_model.specs.Domains.{Box, box_within}
-use Rattle.qc_joins.specs.declared.joins.Joins.{Joins}
-use Rattle.qc_joins.specs.Joins.{game_of as game_joined, KeepsOthers}
+use Rattle.joins.specs.declared.joins.Joins.{Joins}
+use Rattle.joins.specs.Joins.{game_of as game_joined, KeepsOthers}
 use Rattle.fd_store.specs.Held.{Held, trail_len, past_box, Follows, IsUndone}
 use Rattle.proof_tree.specs.Finding.{Leaf, scope_finding}
 use Rattle.proof_tree.specs.Place.{position}
-use Rattle.qc_meaning.specs.Answered.{IsAnswered}
+use Rattle.proof_meaning.specs.Answered.{IsAnswered}
 use Rattle.qc_play.specs.declared.gathering.Gathering.{Gathering}
 use Rattle.qc_play.specs.declared.shown.Shown.{Shown}
 use Rattle.qc_play.specs.declared.walk.Walk.{Walk}

@@ -8,11 +8,11 @@ use Rattle.qc_model.specs.Domains.{Box, values_left}
 use Rattle.qc_model.specs.Game.{before}
 use Rattle.qc_model.specs.Valid.{IsValid}
 use Rattle.qc_model.specs.Verdict.{Seen, seen_barred, seen_skipped}
-use Rattle.qc_arguments.specs.Asked.{is_box_of}
-use Rattle.qc_rules.specs.Spans.{kind_at}
-use Rattle.qc_joins.specs.declared.joins.Joins.{Joins}
-use Rattle.qc_joins.specs.Joins.{StandsAt}
-use Rattle.qc_joins.proofs.Ends.{ends_none}
+use Rattle.model_arguments.specs.Asked.{is_box_of}
+use Rattle.model_levels.specs.Spans.{kind_at}
+use Rattle.joins.specs.declared.joins.Joins.{Joins}
+use Rattle.joins.specs.Joins.{StandsAt}
+use Rattle.joins.proofs.Ends.{ends_none}
 use Rattle.proof_tree.specs.declared.tree.Step.{Step}
 use Rattle.proof_tree.specs.Counts.{ends_of, ending_ends, branch_ends, case_ends}
 use Rattle.proof_tree.specs.Finding.{Finding, Leaf, leaf_barred, leaf_skipped, leaf_node, seen_of}
@@ -20,8 +20,8 @@ use Rattle.proof_tree.specs.Place.{position}
 use Rattle.proof_tree.specs.Read.{marks}
 use Rattle.proof_tree.specs.Steps.{after_steps, step_marks}
 use Rattle.proof_tree.specs.Tree.{Tree, Ending, empty, barred, next, branch, Branches, Case, skip, left_open, go}
-use Rattle.line_check.specs.Tracking.{tracked_at}
-use Rattle.line_check.proofs.LedgerTurns.{map_both}
+use Rattle.check_lines.specs.Tracking.{tracked_at}
+use Rattle.check_lines.proofs.LedgerTurns.{map_both}
 use Rattle.qc_play.specs.declared.gathering.Gathering.{Gathering}
 use Rattle.qc_play.specs.Gathers.{Gathers, owner_of, wishes_of, count_before}
 use Rattle.qc_play.specs.Walk.{node_finding, end_leaves, part_leaves, pieces_leaves, taken_leaves, marks_seen, HasSeen, Tells}

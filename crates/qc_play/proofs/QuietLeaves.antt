@@ -1,6 +1,6 @@
 -- A leaf that doesn't go on changes nothing of what is gathered.
 use Rattle.std.proofs.Common.{List, [], ◌∷◌, ◌++◌, map, append_assoc, sym, subst, ℤ}
-use Rattle.qc_levels.proofs.Bests.{append_nothing}
+use Rattle.joins.proofs.Bests.{append_nothing}
 use Rattle.proof_tree.specs.Finding.{Leaf, leaf_barred, leaf_skipped, leaf_bound}
 use Rattle.qc_play.specs.declared.gathering.Gathering.{Gathering}
 use Rattle.qc_play.specs.declared.gathering.Gathering.TheVariants.{Player, Opponent}

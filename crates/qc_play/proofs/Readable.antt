@@ -14,11 +14,11 @@ use Rattle.proof_tree.specs.InPlace.{in_place, body_in_place, ending_in_place, b
 use Rattle.proof_tree.specs.Place.{position, is_fixed, is_goal, next_scopes, list_after}
 use Rattle.proof_tree.specs.Steps.{after_steps}
 use Rattle.proof_tree.specs.Tree.{Tree, tree, goal, cases, Ending, next, branch, Branches, piece, Case, skip, left_open, go}
-use Rattle.qc_meaning.specs.Answered.{Answered, IsAnswered}
-use Rattle.line_check.specs.EndSizes.{IsWide}
-use Rattle.line_check.proofs.Facts.{next_drop}
-use Rattle.line_check.proofs.LedgerTurns.{demands_step}
-use Rattle.line_check.proofs.Parts.{of_scope}
+use Rattle.proof_meaning.specs.Answered.{Answered, IsAnswered}
+use Rattle.check_lines.specs.EndSizes.{IsWide}
+use Rattle.check_lines.proofs.Facts.{next_drop}
+use Rattle.check_lines.proofs.LedgerTurns.{demands_step}
+use Rattle.check_lines.proofs.Parts.{of_scope}
 use Rattle.qc_play.specs.Walk.{steps_fit, part_leaves, case_fits, CanReadNode, CanReadPart, CanReadEnd, CanReadBranches, CanReadCase}
 
 both : (a b : Bool) → (a && b) ≡ true → (a ≡ true) × (b ≡ true)

@@ -9,16 +9,16 @@ use Rattle.qc_model.specs.Domains.{Box, declared_box, least_value}
 use Rattle.qc_model.specs.Game.{before}
 use Rattle.qc_model.specs.Valid.{IsValid}
 use Rattle.qc_model.proofs.Before.{before-le}
-use Rattle.qc_arguments.specs.Asked.{is_box_of}
-use Rattle.qc_arguments.proofs.Boxes.{sub_length}
-use Rattle.qc_levels.specs.declared.leaves.Found.{Found}
-use Rattle.qc_levels.specs.Seen.{verdict_of}
-use Rattle.qc_rules.specs.Spans.{kind_at}
-use Rattle.qc_joins.specs.Verdicts.{verdict_at}
+use Rattle.model_arguments.specs.Asked.{is_box_of}
+use Rattle.model_arguments.proofs.Boxes.{sub_length}
+use Rattle.joins.specs.declared.leaves.Found.{Found}
+use Rattle.joins.specs.Seen.{verdict_of}
+use Rattle.model_levels.specs.Spans.{kind_at}
+use Rattle.joins.specs.Verdicts.{verdict_at}
 use Rattle.proof_tree.specs.Finding.{Finding, Leaf, seen_of, kind_finding, scope_finding}
 use Rattle.proof_tree.specs.Place.{list_after, position}
-use Rattle.qc_meaning.specs.Answered.{IsAnswered}
-use Rattle.line_check.proofs.LedgerClosing.{scope_is}
+use Rattle.proof_meaning.specs.Answered.{IsAnswered}
+use Rattle.check_lines.proofs.LedgerClosing.{scope_is}
 use Rattle.qc_play.specs.declared.gathering.Gathering.{Gathering}
 use Rattle.qc_play.specs.declared.gathering.Gathering.TheVariants.{Player, Opponent}
 use Rattle.qc_play.specs.declared.shown.Shown.{Shown}

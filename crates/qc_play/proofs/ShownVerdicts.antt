@@ -1,8 +1,8 @@
 -- What a node comes to, by what is told of it.
 use Rattle.std.proofs.Common.{◌≡◌, List, sym, ap, ◌∙◌, ℤ}
 use Rattle.qc_model.specs.Verdict.{lost, exact, at_most, unknown}
-use Rattle.qc_levels.specs.declared.leaves.Found.TheVariants.{Lost, Exact, AtMost, Unknown}
-use Rattle.qc_levels.specs.Seen.{verdict_of}
+use Rattle.joins.specs.declared.leaves.Found.TheVariants.{Lost, Exact, AtMost, Unknown}
+use Rattle.joins.specs.Seen.{verdict_of}
 use Rattle.proof_tree.specs.Finding.{Finding}
 use Rattle.qc_play.specs.declared.shown.Shown.{Shown}
 use Rattle.qc_play.specs.Shown.{Shows}

@@ -12,12 +12,12 @@ use Rattle.qc_model.specs.Game.{moves}
 use Rattle.qc_model.specs.Plan.{Plan, Entries, no_entries, entry, entry_tuples, EachEntry}
 use Rattle.qc_model.specs.Valid.{IsValid}
 use Rattle.proof_tree.specs.Finding.{Finding, Leaf, leaf_barred, leaf_skipped, leaf_bound, leaf_node, strategy_at, answers}
-use Rattle.qc_meaning.proofs.LeafWords.{same_true, same_self}
+use Rattle.proof_meaning.proofs.LeafWords.{same_true, same_self}
 use Rattle.qc_play.specs.declared.plan.PlanEntry.{PlanEntry}
 use Rattle.qc_play.specs.Shape.{plan_of, all_entries}
 use Rattle.qc_play.specs.EntryOrder.{entry_order}
 use Rattle.qc_play.specs.Entries.{entries_on}
-use Rattle.qc_meaning.specs.Answered.{tuples_on, GoOnFrom, GoOnWithAll}
+use Rattle.proof_meaning.specs.Answered.{tuples_on, GoOnFrom, GoOnWithAll}
 use Rattle.qc_play.proofs.Lexicographic.{order_of, total, AllAfter, Ascends, is_after, same_ascending, moves_ascend}
 
 abbrev tuples_of : List PlanEntry → List (List ℤ)

@@ -14,14 +14,14 @@ use Rattle.qc_model.specs.Content.{Game}
 use Rattle.qc_model.specs.Demands.{demands}
 use Rattle.qc_model.specs.Domains.{Box, has_empty, is_none_left, values_left, values_within, is_within, box_within, box_without}
 use Rattle.qc_model.specs.Verdict.{Seen, seen_bound}
-use Rattle.qc_arguments.specs.Asked.{is_box_of}
-use Rattle.qc_joins.specs.Joins.{game_of as game_joined, StandsAt, KeepsOthers}
-use Rattle.qc_joins.specs.declared.joins.Joins.{Joins}
+use Rattle.model_arguments.specs.Asked.{is_box_of}
+use Rattle.joins.specs.Joins.{game_of as game_joined, StandsAt, KeepsOthers}
+use Rattle.joins.specs.declared.joins.Joins.{Joins}
 use Rattle.fd_store.specs.Held.{Held, Follows}
-use Rattle.line_check.specs.Tracking.{tracked_at}
+use Rattle.check_lines.specs.Tracking.{tracked_at}
 use Rattle.check_box.proofs.Placing.{at_filtered}
 use Rattle.box_laws.proofs.Readings.{some_place}
-use Rattle.line_check.proofs.Tracking.{tracked_is}
+use Rattle.check_lines.proofs.Tracking.{tracked_is}
 use Rattle.proof_tree.specs.declared.tree.Step.{Step}
 use Rattle.proof_tree.specs.declared.tree.Step.TheVariants.{Prune, Bound}
 use Rattle.proof_tree.specs.Place.{Tracked, owner_of, tracked_first, tracked_target, tracked_variable}

@@ -2,12 +2,12 @@
 use Rattle.std.proofs.Common.{◌≡◌, ℕ, ◌+◌, ◌≤◌, List, [], ◌++◌, map, refl, sym, ap, ◌∙◌, subst, arith, Some, append_assoc, append-nil, add-zero}
 use Rattle.qc_model.specs.Content.{Game}
 use Rattle.qc_model.specs.Verdict.{Seen}
-use Rattle.qc_joins.specs.Joins.{StandsAt}
-use Rattle.qc_joins.specs.Ends.{HasEnds}
-use Rattle.qc_joins.proofs.Ends.{ends_join}
-use Rattle.qc_joins.specs.declared.joins.Joins.{Joins}
+use Rattle.joins.specs.Joins.{StandsAt}
+use Rattle.joins.specs.Ends.{HasEnds}
+use Rattle.joins.proofs.Ends.{ends_join}
+use Rattle.joins.specs.declared.joins.Joins.{Joins}
 use Rattle.proof_tree.specs.Finding.{Leaf, seen_of}
-use Rattle.line_check.proofs.Leaves.{seen-append}
+use Rattle.check_lines.proofs.Leaves.{seen-append}
 use Rattle.qc_play.specs.declared.gathering.Gathering.{Gathering}
 use Rattle.qc_play.specs.Gathers.{Gathers, IsSameScope}
 use Rattle.qc_play.specs.Walk.{HasSeen, Tells}

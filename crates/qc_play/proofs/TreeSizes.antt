@@ -9,14 +9,14 @@ use Rattle.qc_model.specs.Game.{allows}
 use Rattle.qc_model.specs.Valid.{IsValid, is_number, is_domain}
 use Rattle.qc_model.specs.Verdict.{Verdict, lost, exact, at_most, unknown, Seen, seen_barred, seen_skipped, seen_bound, seen_node}
 use Rattle.qc_model.specs.ExistsVerdict.{some_open}
-use Rattle.qc_arguments.specs.Asked.{is_box_of}
-use Rattle.qc_arguments.proofs.Boxes.{left_small, some_left}
-use Rattle.qc_joins.specs.Joins.{IsLong}
-use Rattle.qc_joins.specs.Sizes.{AreLong, IsSized, AreNumbers, marks_at, nodes_at}
-use Rattle.qc_joins.specs.Ends.{HasEnds, IsOfEnds, HasPart, tells_nothing}
-use Rattle.qc_joins.proofs.Lengths.{long_join, verdict_long, stuck_long, goal_long}
-use Rattle.qc_joins.proofs.Sizing.{stuck_sized, goal_sized}
-use Rattle.qc_joins.proofs.Ends.{ends_none, ends_join, ends_node, open_join, verdict_of_ends}
+use Rattle.model_arguments.specs.Asked.{is_box_of}
+use Rattle.model_arguments.proofs.Boxes.{left_small, some_left}
+use Rattle.joins.specs.Joins.{IsLong}
+use Rattle.joins.specs.Sizes.{AreLong, IsSized, AreNumbers, marks_at, nodes_at}
+use Rattle.joins.specs.Ends.{HasEnds, IsOfEnds, HasPart, tells_nothing}
+use Rattle.joins.proofs.Lengths.{long_join, verdict_long, stuck_long, goal_long}
+use Rattle.joins.proofs.Sizing.{stuck_sized, goal_sized}
+use Rattle.joins.proofs.Ends.{ends_none, ends_join, ends_node, open_join, verdict_of_ends}
 use Rattle.proof_tree.specs.declared.tree.Step.{Step}
 use Rattle.proof_tree.specs.declared.tree.Step.TheVariants.{Prune, Bound}
 use Rattle.proof_tree.specs.Counts.{ends_of, ending_ends, branch_ends, case_ends}
@@ -26,14 +26,14 @@ use Rattle.proof_tree.specs.Place.{Tracked, position, next_scopes, list_after}
 use Rattle.proof_tree.specs.Read.{read, marks}
 use Rattle.proof_tree.specs.Steps.{after_step, after_steps, step_marks}
 use Rattle.proof_tree.specs.Tree.{Tree, tree, stuck, goal, cases, Ending, empty, barred, next, branch, Branches, no_more, piece, Case, skip, left_open, go}
-use Rattle.line_check.specs.EndSizes.{IsWide}
-use Rattle.line_check.specs.LedgerSizes.{HasNumbers}
-use Rattle.line_check.specs.Tracking.{tracked_at}
-use Rattle.line_check.proofs.Facts.{next_drop}
-use Rattle.line_check.proofs.Leaves.{seen-append}
-use Rattle.line_check.proofs.LedgerClosing.{scope_is}
-use Rattle.line_check.proofs.LedgerTurns.{map_both, stuck_comes}
-use Rattle.line_check.proofs.LedgerSizes.{all_set, left_numbers, position_numbers, one_mark, step_numbers}
+use Rattle.check_lines.specs.EndSizes.{IsWide}
+use Rattle.check_lines.specs.LedgerSizes.{HasNumbers}
+use Rattle.check_lines.specs.Tracking.{tracked_at}
+use Rattle.check_lines.proofs.Facts.{next_drop}
+use Rattle.check_lines.proofs.Leaves.{seen-append}
+use Rattle.check_lines.proofs.LedgerClosing.{scope_is}
+use Rattle.check_lines.proofs.LedgerTurns.{map_both, stuck_comes}
+use Rattle.check_lines.proofs.LedgerSizes.{all_set, left_numbers, position_numbers, one_mark, step_numbers}
 use Rattle.box_laws.proofs.Filters.{all_drop, all_take}
 use Rattle.box_laws.proofs.Readings.{box_size}
 use Rattle.qc_play.specs.Walk.{node_finding, end_leaves, part_leaves, pieces_leaves, taken_leaves, CanReadNode, CanReadPart, CanReadEnd, CanReadBranches, CanReadCase}

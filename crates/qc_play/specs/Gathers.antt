@@ -14,7 +14,7 @@ use Rattle.qc_play.specs.declared.gathering.Gathering.{Gathering}
 use Rattle.qc_play.specs.declared.gathering.Gathering.TheVariants.{Player, Opponent}
 use Rattle.qc_play.specs.Shape.{entries_of, replies_of}
 use Rattle.qc_play.specs.Entries.{KeepsBest, KeepsFirst, KeepsReplies, KeepsAnswers}
-use Rattle.qc_meaning.specs.Answered.{GoOnWithAll}
+use Rattle.proof_meaning.specs.Answered.{GoOnWithAll}
 
 -- of the leaves of a scope of the player: the best exact one, and the replies where all are lost
 pub record GathersPlayer (p : PlayerLeaves) (ls : List Leaf) : Type 0 where

@@ -1,7 +1,7 @@
 -- What a node of a certificate's tree comes to, as a value.
 use Rattle.std.specs.Prelude.{◌≡◌, IsTrue, List, ℤ}
 use Rattle.qc_model.specs.Verdict.{is_exact, is_lost}
-use Rattle.qc_levels.specs.Seen.{verdict_of}
+use Rattle.joins.specs.Seen.{verdict_of}
 use Rattle.proof_tree.specs.Finding.{Finding}
 use Rattle.qc_play.specs.declared.shown.Shown.{Shown}
 use Rattle.qc_play.specs.Shape.{plan_of, tree_of_counter}

@@ -8,21 +8,21 @@ use Rattle.qc_model.specs.Domains.{Box, Values, has_empty}
 use Rattle.qc_model.specs.Game.{before}
 use Rattle.qc_model.specs.Valid.{is_number}
 use Rattle.qc_model.specs.Verdict.{Seen, seen_bound}
-use Rattle.qc_arguments.specs.Asked.{is_box_of}
-use Rattle.qc_rules.specs.Spans.{kind_at}
-use Rattle.qc_joins.specs.declared.joins.Joins.{Joins}
-use Rattle.qc_joins.specs.Joins.{game_of as game_joined, StandsAt}
-use Rattle.qc_joins.specs.Ends.{HasEnds}
+use Rattle.model_arguments.specs.Asked.{is_box_of}
+use Rattle.model_levels.specs.Spans.{kind_at}
+use Rattle.joins.specs.declared.joins.Joins.{Joins}
+use Rattle.joins.specs.Joins.{game_of as game_joined, StandsAt}
+use Rattle.joins.specs.Ends.{HasEnds}
 use Rattle.fd_store.specs.Held.{trail_len, Follows, IsUndone}
 use Rattle.check_box.specs.Placed.{IsAt, values_to}
-use Rattle.line_check.specs.Tracking.{tracked_at}
+use Rattle.check_lines.specs.Tracking.{tracked_at}
 use Rattle.proof_tree.specs.declared.tree.Step.{Step}
 use Rattle.proof_tree.specs.Tree.{Tree, Ending, Branches, Case, skip, left_open, go}
 use Rattle.proof_tree.specs.Finding.{Finding, Leaf, seen_of}
 use Rattle.proof_tree.specs.InPlace.{in_place, steps_in_place, ending_in_place, branches_in_place}
 use Rattle.proof_tree.specs.Read.{read, marks, leaves, branch_leaves, case_leaves}
 use Rattle.proof_tree.specs.Steps.{after_steps, step_marks}
-use Rattle.qc_meaning.specs.Answered.{Answered, EndingAnswered, BranchesAnswered, CaseAnswered}
+use Rattle.proof_meaning.specs.Answered.{Answered, EndingAnswered, BranchesAnswered, CaseAnswered}
 use Rattle.qc_play.specs.declared.gathering.Gathering.{Gathering}
 use Rattle.qc_play.specs.declared.tables.Tables.{Tables}
 use Rattle.qc_play.specs.declared.walk.Walk.{Walk}

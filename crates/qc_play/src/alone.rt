@@ -3,7 +3,7 @@ ghost use Rattle.std.specs.Prelude.{◌≡◌, ◌<◌, false, length, drop};
 ghost use Rattle.qc_model.specs.Demands.{demands};
 ghost use Rattle.qc_model.specs.Domains.{has_empty};
 ghost use Rattle.qc_model.specs.declared.problem.Kind.TheVariants.{Exists as ByPlayer, Forall as ByOpponent};
-ghost use Rattle.qc_joins.specs.Joins.{out_of};
+ghost use Rattle.joins.specs.Joins.{out_of};
 ghost use Rattle.proof_tree.specs.Finding.{stuck_finding, goal_finding};
 ghost use Rattle.proof_tree.specs.Place.{position};
 ghost use Rattle.qc_play.specs.Shape.{plan_of, tree_of_counter};
@@ -17,7 +17,7 @@ use crate::shown::Shown;
 use crate::tables::Tables;
 use crate::walk::Walk;
 use check_box::goal_holds;
-use line_check::Found;
+use check_lines::Found;
 use qc_model::{Kind, ScopeId};
 use std::alloc::Global;
 

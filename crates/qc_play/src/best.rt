@@ -8,7 +8,7 @@ ghost use Rattle.qc_play.specs.Entries.{KeepsBest, wins_over as wins_over_kept, 
 
 use crate::numbers::numbers_of;
 use crate::plan::Plan;
-use qc_levels::compare;
+use joins::compare;
 use qc_model::{Condition, Numbers};
 use std::alloc::{AllocError, Global};
 use std::cmp::Ordering;

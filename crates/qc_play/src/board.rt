@@ -13,8 +13,8 @@ use crate::fault::PlayFault;
 use crate::lines::{put_goal, put_hopeless, put_stuck, put_turn};
 use crate::side::{Side, choice, has_answers, reply};
 use crate::tuple::{take_tuple, width};
+use model_levels::all_hold;
 use qc_model::{Kind, Problem, ScopeId};
-use qc_rules::all_hold;
 use std::alloc::Global;
 
 /// Whether the scopes of this owner are the side's.

@@ -3,13 +3,13 @@ ghost use Rattle.std.specs.Prelude.{◌≡◌, ◌++◌, [], ◌∷◌, ℕ, Lis
 ghost use Rattle.qc_model.specs.declared.problem.Kind.TheVariants.{Exists, Forall};
 ghost use Rattle.qc_model.specs.declared.problem.Condition.{Condition as Wish};
 ghost use Rattle.qc_model.specs.Content.{Game};
-ghost use Rattle.qc_levels.specs.Seen.{verdict_of};
+ghost use Rattle.joins.specs.Seen.{verdict_of};
 ghost use Rattle.proof_tree.specs.Finding.{Finding, Leaf, leaf_node, kind_finding};
 
 use crate::opponent_leaves::OpponentLeaves;
 use crate::player_leaves::PlayerLeaves;
 use crate::shown::Shown;
-use qc_levels::Found;
+use joins::Found;
 use qc_model::{Condition, Kind};
 use std::alloc::{AllocError, Global};
 

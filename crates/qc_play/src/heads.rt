@@ -3,7 +3,7 @@ ghost use Rattle.std.specs.Prelude.{◌≡◌};
 ghost use Rattle.proof_tree.specs.Proves.{optimises_first};
 ghost use Rattle.qc_play.specs.Heads.{is_head as is_head_of};
 
-use line_check::{Answer, Found, shows};
+use check_lines::{Answer, Found, shows};
 use proof_tree::Outcome;
 use qc_model::Problem;
 

@@ -8,8 +8,8 @@ use crate::counter::Counter;
 use crate::judged::proves;
 use crate::plan::Plan;
 use crate::root::{counter_of_root, plan_of_root};
+use proof_meaning::{outcomes_are_true, trees_answer_all_tuples};
 use proof_tree::{Certificate, Outcome};
-use qc_meaning::{outcomes_are_true, trees_answer_all_tuples};
 use qc_model::Problem;
 use std::alloc::{AllocError, Global};
 

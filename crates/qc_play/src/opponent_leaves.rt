@@ -5,7 +5,7 @@ ghost use Rattle.qc_model.specs.declared.problem.Condition.{Condition as Wish};
 ghost use Rattle.qc_model.specs.Content.{Game};
 ghost use Rattle.qc_model.specs.Valid.{IsValid};
 ghost use Rattle.qc_model.specs.Verdict.{is_lost, is_exact, each_node};
-ghost use Rattle.qc_levels.specs.Seen.{verdict_of};
+ghost use Rattle.joins.specs.Seen.{verdict_of};
 ghost use Rattle.proof_tree.specs.Finding.{Finding, Leaf, leaf_node, kind_finding, seen_of};
 ghost use Rattle.qc_play.specs.Shape.{tree_of_counter};
 ghost use Rattle.qc_play.specs.Entries.{KeepsFirst, lost_choice as lost_choice_of};
@@ -14,7 +14,7 @@ use crate::counter::{Counter, CounterEntry};
 use crate::numbers::tuple_of;
 use crate::plan::{Plan, PlanEntry, PlanList};
 use crate::shown::Shown;
-use qc_levels::Found;
+use joins::Found;
 use qc_model::Numbers;
 use std::alloc::{AllocError, Global};
 
@@ -52,7 +52,7 @@ fn lost_choice(alloc: Global, first: Option<CounterEntry>) -> Result<Counter, Al
 
 impl OpponentLeaves {
     ghost use Rattle.qc_play.specs.Shown.{Shows};
-    ghost use Rattle.qc_meaning.specs.Answered.{GoOnWithAll};
+    ghost use Rattle.proof_meaning.specs.Answered.{GoOnWithAll};
     ghost use Rattle.qc_play.specs.Gathers.{GathersOpponent};
 
     /// None so far.

@@ -4,14 +4,14 @@ ghost use Rattle.qc_model.specs.declared.problem.Kind.TheVariants.{Exists};
 ghost use Rattle.qc_model.specs.declared.problem.Condition.{Condition as Wish};
 ghost use Rattle.qc_model.specs.Content.{Game};
 ghost use Rattle.qc_model.specs.Demands.{demands_after};
-ghost use Rattle.qc_levels.specs.Seen.{verdict_of};
+ghost use Rattle.joins.specs.Seen.{verdict_of};
 ghost use Rattle.proof_tree.specs.Finding.{Finding, Leaf, leaf_node, kind_finding};
 
 use crate::best::{Best, best_choice, keep_best};
 use crate::counter::{Counter, CounterEntry, CounterList};
 use crate::numbers::tuple_of;
 use crate::shown::Shown;
-use qc_levels::Found;
+use joins::Found;
 use qc_model::Condition;
 use std::alloc::{AllocError, Global};
 

@@ -6,7 +6,7 @@ ghost use Rattle.proof_tree.specs.Counts.{ends_of};
 ghost use Rattle.proof_tree.specs.InPlace.{root_in_place};
 ghost use Rattle.proof_tree.specs.Read.{root_finding, strategy_of, counter_of};
 ghost use Rattle.proof_tree.specs.Shape.{tree_of};
-ghost use Rattle.qc_meaning.specs.Answered.{Answered};
+ghost use Rattle.proof_meaning.specs.Answered.{Answered};
 ghost use Rattle.qc_play.specs.Shape.{plan_of, tree_of_counter};
 ghost use Rattle.qc_play.specs.Shown.{Shows};
 

@@ -4,13 +4,13 @@ ghost use Rattle.qc_model.specs.declared.problem.Kind.TheVariants.{Exists as ByP
 ghost use Rattle.qc_model.specs.Demands.{demands};
 ghost use Rattle.qc_model.specs.Domains.{declared_box, has_empty};
 ghost use Rattle.qc_model.specs.Game.{before};
-ghost use Rattle.qc_levels.specs.DemandLists.{HasLists};
-ghost use Rattle.qc_rules.specs.Spans.{kind_at};
-ghost use Rattle.qc_joins.specs.Joins.{IsLong, out_of};
-ghost use Rattle.qc_joins.specs.Ends.{IsOfEnds};
+ghost use Rattle.joins.specs.DemandLists.{HasLists};
+ghost use Rattle.model_levels.specs.Spans.{kind_at};
+ghost use Rattle.joins.specs.Joins.{IsLong, out_of};
+ghost use Rattle.joins.specs.Ends.{IsOfEnds};
 ghost use Rattle.proof_tree.specs.Finding.{Finding, Leaf, leaf_node, scope_finding};
 ghost use Rattle.proof_tree.specs.Place.{is_fixed, position};
-ghost use Rattle.qc_meaning.specs.Answered.{IsAnswered};
+ghost use Rattle.proof_meaning.specs.Answered.{IsAnswered};
 ghost use Rattle.qc_play.specs.Gathers.{Gathers, owner_of, wishes_of, count_before};
 ghost use Rattle.qc_play.specs.Shown.{Shows};
 ghost use Rattle.qc_play.specs.Walk.{game_of, IsWithin, IsBack, HasSeen, Tells};
@@ -20,7 +20,7 @@ use crate::shown::Shown;
 use crate::tables::Tables;
 use crate::walk::Walk;
 use check_box::{Remains, read_values};
-use qc_joins::Joins;
+use joins::Joins;
 use qc_model::{Problem, ScopeId};
 use std::alloc::{AllocError, Global};
 

@@ -1,10 +1,10 @@
 //! What a walk over a tree reads of a problem, and never changes.
 ghost use Rattle.std.specs.Prelude.{◌≡◌, IfOk};
-ghost use Rattle.qc_levels.specs.DemandLists.{HasLists};
+ghost use Rattle.joins.specs.DemandLists.{HasLists};
 
-use qc_levels::Demands;
+use joins::Demands;
+use model_levels::Levels;
 use qc_model::Problem;
-use qc_rules::Levels;
 use std::alloc::{AllocError, Global};
 
 /// A problem beside its scopes and what is demanded of each, looked up once.

@@ -6,8 +6,8 @@ ghost use Rattle.qc_model.specs.Game.{scope_domains};
 ghost use Rattle.qc_model.specs.Valid.{is_domain, is_number};
 ghost use Rattle.qc_play.specs.Play.{lies_in as lies_in_all, is_move as is_move_of};
 
+use model_levels::all_hold;
 use qc_model::{Domain, Problem, Variable};
-use qc_rules::all_hold;
 use std::alloc::AllocError;
 
 fn is_between(low: i64, value: i64, high: i64) -> bool

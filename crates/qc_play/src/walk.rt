@@ -8,13 +8,13 @@ ghost use Rattle.std.specs.Prelude.{◌≡◌, ◌∷◌, ◌++◌, ◌<◌, ◌
 ghost use Rattle.qc_model.specs.Demands.{demands};
 ghost use Rattle.qc_model.specs.Domains.{box_within, has_empty, values_left};
 ghost use Rattle.qc_model.specs.Valid.{is_number};
-ghost use Rattle.qc_levels.specs.DemandLists.{HasLists};
-ghost use Rattle.qc_joins.specs.Joins.{out_of};
+ghost use Rattle.joins.specs.DemandLists.{HasLists};
+ghost use Rattle.joins.specs.Joins.{out_of};
 ghost use Rattle.proof_tree.specs.Counts.{ends_of as ends_in, ending_ends, branch_ends, case_ends};
 ghost use Rattle.proof_tree.specs.Finding.{scope_finding, leaf_node};
 ghost use Rattle.proof_tree.specs.Place.{is_fixed, position};
 ghost use Rattle.proof_tree.specs.Shape.{tree_of, ending_of, branches_of, case_of};
-ghost use Rattle.qc_meaning.specs.Answered.{IsAnswered};
+ghost use Rattle.proof_meaning.specs.Answered.{IsAnswered};
 ghost use Rattle.qc_play.specs.Shown.{Shows};
 ghost use Rattle.qc_play.specs.Walk.{game_of, node_finding, end_leaves, part_leaves, pieces_leaves, taken_leaves, CanReadNode, CanReadPart, CanReadEnd, CanReadBranches, CanReadCase, IsWithin, LeadsOn, IsBack, Tells};
 
@@ -23,8 +23,8 @@ use crate::gathering::Gathering;
 use crate::shown::Shown;
 use crate::tables::Tables;
 use check_box::{Ends, Remains};
+use joins::Joins;
 use proof_tree::{Body, Case, Cases, End, Node, Piece};
-use qc_joins::Joins;
 use qc_model::{ScopeId, VarId};
 use std::alloc::AllocError;
 

@@ -9,8 +9,8 @@ use crate::parts::{put_domain, put_number};
 use qc_model::{
     Aggregate, Condition, Constraint, Fold, Kind, Problem, Scope, ScopeId, Sense, Target, Variable,
 };
-use qc_reread::printed_text_is_read_again;
 use std::alloc::{AllocError, Global};
+use text_reread::printed_text_is_read_again;
 
 /// The canonical text of a problem. Read again, it is that problem.
 ///

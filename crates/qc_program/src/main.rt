@@ -4,12 +4,12 @@
 ghost use Rattle.std.specs.Prelude.{◌≡◌, IfOk, drop, map, string_bytes};
 ghost use Rattle.std.specs.Process.{exit_status};
 ghost use Rattle.std.specs.Vec.Iter.{into_iter_items};
-ghost use Rattle.qc_commands.specs.Exits.{exit_number};
-ghost use Rattle.qc_commands.specs.Words.{asked_of};
+ghost use Rattle.qecode_commands.specs.Exits.{exit_number};
+ghost use Rattle.qecode_commands.specs.Words.{asked_of};
 ghost use Rattle.qc_program.specs.Edge.{EndsRight};
 
-use qc_commands::{Status, run};
 use qc_io::{FolderShelf, OutSink};
+use qecode_commands::{Status, run};
 use std::alloc::{AllocError, Global};
 use std::env;
 use std::io::ErrorKind;

@@ -3,9 +3,9 @@ use Rattle.std.proofs.Common.{◌≡◌, true, false, [], ◌∷◌, Option, Som
 use Rattle.std.specs.Prelude.{pos, negsuc, ◌+ℤ◌, ◌-ℤ◌, ◌≤ℤ◌, nat_abs, int_le, IfNone, IfSome}
 use Rattle.std.proofs.lemmas.Int.{ints}
 use Rattle.qc_model.specs.Domains.{Values, values_within, is_within, has_value, is_none_left, least_value, greatest_value, misses}
-use Rattle.qc_arguments.proofs.Values.{has_first, has_least, has_greatest}
-use Rattle.qc_arguments.proofs.Bools.{clash}
-use Rattle.qc_arguments.proofs.Kept.{keeps, passes, was_left, low_end, high_end, inside, at_least, at_most, same_end, through, less_of, apart, over_low, under_high}
+use Rattle.model_arguments.proofs.Values.{has_first, has_least, has_greatest}
+use Rattle.model_arguments.proofs.Bools.{clash}
+use Rattle.model_arguments.proofs.Kept.{keeps, passes, was_left, low_end, high_end, inside, at_least, at_most, same_end, through, less_of, apart, over_low, under_high}
 use Rattle.qc_refuter.specs.Met.{is_domain_left}
 use Rattle.fd_store.specs.Held.{values_from, values_up_to, least_of, greatest_of}
 use Rattle.qc_refuter.specs.Commons.{IsNext, IsPrevious, AllBelow, AllAbove, IsLeastCommon, IsGreatestCommon}

@@ -5,9 +5,9 @@ use Rattle.qc_model.specs.Domains.{Values, has_value, is_none_left, is_ascending
 use Rattle.qc_model.specs.Valid.{is_number}
 use Rattle.qc_model.proofs.Readable.{first, second}
 use Rattle.qc_model.proofs.Sound.{misses_apart}
-use Rattle.qc_arguments.proofs.Bools.{not_false, never}
-use Rattle.qc_arguments.proofs.Kept.{among_of}
-use Rattle.qc_arguments.proofs.Values.{value_passes}
+use Rattle.model_arguments.proofs.Bools.{not_false, never}
+use Rattle.model_arguments.proofs.Kept.{among_of}
+use Rattle.model_arguments.proofs.Values.{value_passes}
 use Rattle.qc_refuter.specs.Met.{is_domain_left}
 use Rattle.qc_refuter.proofs.Seen.{misses_all}
 

@@ -15,8 +15,8 @@ use Rattle.qc_model.specs.Left.{is_crowded, has_crowd}
 use Rattle.qc_model.specs.Refuted.{left_to}
 use Rattle.qc_model.specs.Valid.{is_number}
 use Rattle.qc_model.proofs.Sound.{both}
-use Rattle.qc_table.proofs.Crowded.{ends_within}
-use Rattle.qc_table.proofs.CrowdEnds.{crowd_of_ends}
+use Rattle.model_table.proofs.Crowded.{ends_within}
+use Rattle.model_table.proofs.CrowdEnds.{crowd_of_ends}
 use Rattle.qc_refuter.specs.declared.stretches.Ends.{Ends}
 use Rattle.qc_refuter.specs.Met.{is_open, is_domain_left}
 use Rattle.qc_refuter.specs.Stretches.{lies, AreEndsOf, IsPlaced}

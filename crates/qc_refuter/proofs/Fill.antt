@@ -13,8 +13,8 @@ use Rattle.qc_model.specs.Domains.{Values, Box, least_value, greatest_value}
 use Rattle.qc_model.specs.Left.{is_crowded, has_crowd}
 use Rattle.qc_model.specs.Refuted.{left_to}
 use Rattle.qc_model.proofs.Sound.{lo_of, hi_of, both}
-use Rattle.qc_table.proofs.Crowded.{ends_within}
-use Rattle.qc_table.proofs.CrowdEnds.{crowd_of_ends}
+use Rattle.model_table.proofs.Crowded.{ends_within}
+use Rattle.model_table.proofs.CrowdEnds.{crowd_of_ends}
 use Rattle.qc_refuter.specs.Full.{lies_in, held, ends_past, first_sum, IsWidest, AreWidest, IsRoomy}
 
 count_both : {X : Type 0} (p q r : X → Bool) (xs : List X) → ((x : X) → cond (p x) 1 0 ≡ cond (q x) 1 0 + cond (r x) 1 0) → count_by p xs ≡ count_by q xs + count_by r xs

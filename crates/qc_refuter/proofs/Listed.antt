@@ -19,10 +19,10 @@ use Rattle.qc_model.specs.Domains.{Values, Box, has_value, set_has, is_ascending
 use Rattle.qc_model.specs.Holds.{same_truth}
 use Rattle.qc_model.specs.Valid.{is_set, is_number, is_listed, has_gap}
 use Rattle.qc_model.proofs.Readable.{first, second}
-use Rattle.qc_arguments.specs.Written.{set_at}
-use Rattle.qc_arguments.proofs.Values.{value_passes, above_first, ascending_rest, has_least, has_greatest}
-use Rattle.qc_arguments.proofs.Bools.{never, clash}
-use Rattle.qc_arguments.proofs.Kept.{low_end, high_end, through, apart, same_end, lower, reaches, at_least, at_most, small_between, is_out_low, is_out_high, under_high}
+use Rattle.model_arguments.specs.Written.{set_at}
+use Rattle.model_arguments.proofs.Values.{value_passes, above_first, ascending_rest, has_least, has_greatest}
+use Rattle.model_arguments.proofs.Bools.{never, clash}
+use Rattle.model_arguments.proofs.Kept.{low_end, high_end, through, apart, same_end, lower, reaches, at_least, at_most, small_between, is_out_low, is_out_high, under_high}
 use Rattle.qc_refuter.specs.Members.{IsMemberFrom, NoMemberFrom}
 use Rattle.qc_refuter.specs.Met.{lefts, is_domain_left, is_met, are_met}
 use Rattle.qc_refuter.proofs.Commons.{IsFrom}

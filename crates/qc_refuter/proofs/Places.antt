@@ -12,8 +12,8 @@ use Rattle.qc_model.specs.Holds.{rows}
 use Rattle.qc_model.specs.Left.{some_item_in, some_item_meets, row_fits}
 use Rattle.qc_model.specs.Refuted.{left_to}
 use Rattle.qc_model.proofs.Rows.{rows_step}
-use Rattle.qc_arguments.proofs.Bools.{never}
-use Rattle.qc_arguments.proofs.Kept.{low_end, high_end}
+use Rattle.model_arguments.proofs.Bools.{never}
+use Rattle.model_arguments.proofs.Kept.{low_end, high_end}
 
 pub row_missed : (p : List ℤ → Bool) (width : ℕ) (rest : List ℤ) → 0 < width → width ≤ length rest → p (take width rest) ≡ false →
     list_any p (rows width (drop width rest)) ≡ list_any p (rows width rest)

@@ -21,12 +21,12 @@ use Rattle.qc_model.specs.declared.signature.ArgKind.TheVariants.{Integer as int
 use Rattle.qc_model.specs.Signature.{arg_kinds_of}
 use Rattle.qc_model.specs.Valid.{is_number, is_truth, is_domain, is_integer_domain, is_bits, is_integer, is_boolean, is_of_sort, are_of_sorts, have_lengths, argument_sees, is_constraint, is_variable_with}
 use Rattle.qc_model.proofs.Readable.{first, second, together}
-use Rattle.qc_arguments.proofs.Last.{last_place}
-use Rattle.qc_arguments.specs.Asked.{IsAsked}
-use Rattle.qc_arguments.proofs.Boxes.{some_left, sub_ascending, sub_length, left_small, sub_within, set_full}
+use Rattle.model_arguments.proofs.Last.{last_place}
+use Rattle.model_arguments.specs.Asked.{IsAsked}
+use Rattle.model_arguments.proofs.Boxes.{some_left, sub_ascending, sub_length, left_small, sub_within, set_full}
 use Rattle.std.proofs.lemmas.List.{length-map}
 use Rattle.std.proofs.Common.{arith}
-use Rattle.qc_arguments.proofs.Bools.{not_true}
+use Rattle.model_arguments.proofs.Bools.{not_true}
 use Rattle.qc_refuter.specs.Met.{lefts, is_domain_left, is_open, is_met, are_met}
 
 placed : (p : Domain → Bool) (xs : List Variable) (k : ℕ) → is_variable_with p (slice_get xs k) ≡ true → k < length xs

@@ -11,8 +11,8 @@ use Rattle.qc_model.specs.Domains.{Values, is_none_left, is_ascending, least_val
 use Rattle.qc_model.specs.Valid.{is_number}
 use Rattle.qc_model.proofs.Readable.{first, second, together}
 use Rattle.qc_model.proofs.Sound.{hi_of}
-use Rattle.qc_arguments.proofs.Values.{has_least}
-use Rattle.qc_arguments.proofs.Kept.{among_of}
+use Rattle.model_arguments.proofs.Values.{has_least}
+use Rattle.model_arguments.proofs.Kept.{among_of}
 use Rattle.qc_refuter.specs.Met.{is_domain_left}
 use Rattle.qc_refuter.specs.Spanned.{is_small}
 use Rattle.qc_refuter.proofs.Terms.{least_small, greatest_small}

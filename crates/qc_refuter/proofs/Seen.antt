@@ -14,7 +14,7 @@ use Rattle.qc_model.specs.Valid.{is_number}
 use Rattle.qc_model.specs.Lists.{Among}
 use Rattle.qc_model.proofs.Sound.{lo_of, hi_of, has_it}
 use Rattle.qc_model.proofs.Readable.{first, second}
-use Rattle.qc_arguments.proofs.Kept.{within_at, has_kept}
+use Rattle.model_arguments.proofs.Kept.{within_at, has_kept}
 use Rattle.qc_refuter.specs.Met.{is_domain_left}
 
 pub left_here : (box : Box) (x : ℕ) (lo hi : ℤ) (a : Arg) (y : VarId) → a ≡ Var y → y.0 ≡ x → left_to (box_within box x lo hi) a ≡ values_within lo hi (values_left box y.0)

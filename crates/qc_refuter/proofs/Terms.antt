@@ -17,7 +17,7 @@ use Rattle.qc_model.specs.Ranges.{Range, range_of, point, product, range_sum, ra
 use Rattle.qc_model.specs.Refuted.{left_to}
 use Rattle.qc_model.specs.Valid.{is_number}
 use Rattle.qc_model.proofs.Readable.{first, second}
-use Rattle.qc_arguments.proofs.Values.{value_passes, has_least, has_greatest}
+use Rattle.model_arguments.proofs.Values.{value_passes, has_least, has_greatest}
 use Rattle.qc_refuter.specs.Met.{is_domain_left, is_open}
 use Rattle.qc_refuter.proofs.Fill.{least_to_greatest}
 

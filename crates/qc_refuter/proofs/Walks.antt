@@ -8,7 +8,7 @@ use Rattle.std.proofs.lemmas.Bool.Decides.{Decides-int_eq}
 use Rattle.qc_model.specs.Domains.{Values, has_value, least_value}
 use Rattle.qc_model.specs.Lists.{Among}
 use Rattle.qc_model.proofs.Sound.{has_it}
-use Rattle.qc_arguments.proofs.Kept.{low_end, same_end, lower, reaches, less_of, apart, over_low, under_high}
+use Rattle.model_arguments.proofs.Kept.{low_end, same_end, lower, reaches, less_of, apart, over_low, under_high}
 use Rattle.fd_store.specs.Held.{values_from, least_of}
 use Rattle.qc_refuter.specs.Met.{is_domain_left}
 use Rattle.qc_refuter.proofs.Domains.{small_left}

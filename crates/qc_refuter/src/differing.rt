@@ -13,7 +13,7 @@ use crate::reading::items_met;
 use crate::shown::View;
 use crate::stretches::{Ends, MOST_ITEMS, are_too_many};
 use crate::view::{greatest, least};
-use qc_arguments::width;
+use model_arguments::width;
 use qc_model::{Arg, Argument};
 
 /// Up to so many items have buffers of their own, since all places of a buffer are filled before it is used.

@@ -8,14 +8,14 @@ ghost use Rattle.std.specs.List.{list_all};
 ghost use Rattle.qc_model.specs.Domains.{least_value, greatest_value};
 ghost use Rattle.qc_model.specs.Refuted.{left_to};
 ghost use Rattle.qc_model.specs.Valid.{is_number};
-ghost use Rattle.qc_arguments.specs.Asked.{IsAsked};
+ghost use Rattle.model_arguments.specs.Asked.{IsAsked};
 ghost use Rattle.qc_refuter.specs.Met.{seen, is_open};
 ghost use Rattle.qc_refuter.specs.Full.{held, ends_past, first_sum, AreWidest};
 
 use crate::shown::View;
 use crate::view::{greatest, least, whole};
 use fd_store::Store;
-use qc_arguments::width;
+use model_arguments::width;
 use qc_model::{Arg, Constraint, Problem};
 
 fn clear(counts: &mut [u16])

@@ -16,7 +16,7 @@ ghost use Rattle.qc_refuter.specs.Met.{seen, lefts, are_met, is_open};
 use crate::reading::arg_met;
 use crate::shown::View;
 use crate::view::{greatest, least, next};
-use qc_arguments::{contains, members_at};
+use model_arguments::{contains, members_at};
 use qc_model::{Arg, Argument, Set};
 
 // The least number of a list from v on.

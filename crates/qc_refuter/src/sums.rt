@@ -9,7 +9,7 @@ ghost use Rattle.qc_model.specs.Meaning.{sum_equal as SumEqual, sum_different as
 ghost use Rattle.qc_model.specs.Ranges.{range_of, point, product as product_of};
 ghost use Rattle.qc_model.specs.Refuted.{left_to, refuted_as};
 ghost use Rattle.qc_model.specs.Valid.{is_number};
-ghost use Rattle.qc_arguments.specs.Asked.{IsAsked};
+ghost use Rattle.model_arguments.specs.Asked.{IsAsked};
 ghost use Rattle.qc_refuter.specs.Met.{seen, lefts, are_met, is_open};
 
 use crate::ends::Reach;

@@ -7,7 +7,7 @@ ghost use Rattle.qc_model.specs.RowMeaning.{plain_meaning};
 ghost use Rattle.qc_model.specs.Left.{last_left};
 ghost use Rattle.qc_model.specs.Meaning.{reified as Reified};
 ghost use Rattle.qc_model.specs.Refuted.{refuted_as, refuted_by};
-ghost use Rattle.qc_arguments.specs.Asked.{IsAsked};
+ghost use Rattle.model_arguments.specs.Asked.{IsAsked};
 ghost use Rattle.qc_refuter.specs.Met.{seen, lefts, are_met};
 
 use crate::reading::last_met;
@@ -15,7 +15,7 @@ use crate::shown::{Ends, View};
 use crate::view::{has, whole};
 use crate::{comparisons, differing, elements, ends, members, spans, sums, truths};
 use fd_store::Store;
-use qc_arguments::arguments;
+use model_arguments::arguments;
 use qc_model::{Argument, ConId, Constraint, Meaning, Problem, VarId, meaning_of};
 
 #[inline(never)]

@@ -1,15 +1,15 @@
 -- Words to write the cases of reading with.
 use Rattle.std.proofs.Common.{◌≡◌, refl, ℕ, ℤ, List, None, Some}
 use Rattle.qc_tokens.specs.Tokens.{number_of, first_cut, pieces, tokens_from, bad_byte_from, bad_number_from, tokens_of, first_bad_byte, first_bad_number}
-use Rattle.qc_grammar.specs.declared.tree.Word.{Word}
-use Rattle.qc_grammar.specs.declared.tree.Number.{Number}
-use Rattle.qc_grammar.specs.declared.tree.Item.{Item}
-use Rattle.qc_grammar.specs.Grammar.{IsProblem}
-use Rattle.qc_grammar.specs.Lexemes.{lexemes_of}
-use Rattle.qc_resolve.specs.declared.refusal.RefusalKind.{RefusalKind}
-use Rattle.qc_resolve.specs.Fits.{predicate_of}
-use Rattle.qc_resolve.specs.Draft.{game_of}
-use Rattle.qc_resolve.specs.TextRefusals.{first_refusal}
+use Rattle.text_grammar.specs.declared.tree.Word.{Word}
+use Rattle.text_grammar.specs.declared.tree.Number.{Number}
+use Rattle.text_grammar.specs.declared.tree.Item.{Item}
+use Rattle.text_grammar.specs.Grammar.{IsProblem}
+use Rattle.text_grammar.specs.Lexemes.{lexemes_of}
+use Rattle.text_resolve.specs.declared.refusal.RefusalKind.{RefusalKind}
+use Rattle.text_resolve.specs.Fits.{predicate_of}
+use Rattle.text_resolve.specs.Draft.{game_of}
+use Rattle.text_resolve.specs.TextRefusals.{first_refusal}
 use Rattle.qc_model.specs.Content.{Game}
 use Rattle.qc_syntax.specs.Reads.{Reads, MeetsFirst, kind_of}
 

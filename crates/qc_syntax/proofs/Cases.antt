@@ -7,16 +7,16 @@ use Rattle.qc_model.specs.declared.problem.Argument.TheVariants.{One}
 use Rattle.qc_model.specs.declared.problem.Pred.TheVariants.{IntLe}
 use Rattle.qc_model.specs.Content.{Game}
 use Rattle.qc_tokens.specs.Tokens.{tokens_of}
-use Rattle.qc_grammar.specs.declared.lexeme.Lexeme.{Lexeme}
-use Rattle.qc_grammar.specs.declared.lexeme.Lexeme.TheVariants.{Goal, Solve, Semicolon}
-use Rattle.qc_grammar.specs.declared.tree.One.TheVariants.{Name as OneName, Number as OneNumber}
-use Rattle.qc_grammar.specs.declared.tree.Members.TheVariants.{Braces}
-use Rattle.qc_grammar.specs.declared.tree.DomainText.TheVariants.{Members as MembersDomain}
-use Rattle.qc_grammar.specs.declared.tree.ArgumentText.TheVariants.{One as OneArgument}
-use Rattle.qc_grammar.specs.declared.tree.Item.{Item}
-use Rattle.qc_grammar.specs.declared.tree.Item.TheVariants.{Exists as ExistsItem, Goal as GoalItem, Variable, Constraint}
-use Rattle.qc_grammar.specs.Grammar.{item_lexemes, IsProblem, Begins}
-use Rattle.qc_grammar.specs.Lexemes.{lexemes_of, at_end}
+use Rattle.text_grammar.specs.declared.lexeme.Lexeme.{Lexeme}
+use Rattle.text_grammar.specs.declared.lexeme.Lexeme.TheVariants.{Goal, Solve, Semicolon}
+use Rattle.text_grammar.specs.declared.tree.One.TheVariants.{Name as OneName, Number as OneNumber}
+use Rattle.text_grammar.specs.declared.tree.Members.TheVariants.{Braces}
+use Rattle.text_grammar.specs.declared.tree.DomainText.TheVariants.{Members as MembersDomain}
+use Rattle.text_grammar.specs.declared.tree.ArgumentText.TheVariants.{One as OneArgument}
+use Rattle.text_grammar.specs.declared.tree.Item.{Item}
+use Rattle.text_grammar.specs.declared.tree.Item.TheVariants.{Exists as ExistsItem, Goal as GoalItem, Variable, Constraint}
+use Rattle.text_grammar.specs.Grammar.{item_lexemes, IsProblem, Begins}
+use Rattle.text_grammar.specs.Lexemes.{lexemes_of, at_end}
 use Rattle.qc_syntax.specs.declared.fault.Refused13.TheVariants.{BadByte, BadNumber, Syntax}
 use Rattle.qc_syntax.specs.Reads.{Reads, Refuses}
 use Rattle.qc_syntax.proofs.CaseWords.{reading, word, figure, read}

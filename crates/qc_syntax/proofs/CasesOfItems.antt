@@ -2,16 +2,16 @@
 use Rattle.std.proofs.Common.{refl, ℕ, zero, suc, ◌+◌, List, [], ◌∷◌, ◌++◌, None, Some, codes, pos, negsuc}
 use Rattle.std.specs.List.{repeat}
 use Rattle.qc_model.specs.declared.problem.Sense.TheVariants.{Min}
-use Rattle.qc_grammar.specs.declared.tree.One.TheVariants.{Name as OneName, Number as OneNumber}
-use Rattle.qc_grammar.specs.declared.tree.Members.TheVariants.{Range}
-use Rattle.qc_grammar.specs.declared.tree.DomainText.TheVariants.{Members as MembersDomain}
-use Rattle.qc_grammar.specs.declared.tree.ArgumentText.TheVariants.{One as OneArgument, Array}
-use Rattle.qc_grammar.specs.declared.tree.FoldText.TheVariants.{Sum as SumFold, Greatest as GreatestFold}
-use Rattle.qc_grammar.specs.declared.tree.Item.{Item}
-use Rattle.qc_grammar.specs.declared.tree.Item.TheVariants.{Exists as ExistsItem, Forall as ForallItem, Goal as GoalItem, Variable, Aggregate as AggregateItem, Constraint}
-use Rattle.qc_resolve.specs.declared.refusal.RefusalKind.TheVariants.{DuplicateName as NameRepeated, UnknownName as NameUnknown, UnknownPredicate as PredicateUnknown, WrongArguments as ArgumentsWrong, OutOfRange as NumberFar, EmptyDomain as DomainEmpty, TooWide as DomainWide, TooMany as Excess, NotVisible as Hidden, BottleneckFirst as Followed}
+use Rattle.text_grammar.specs.declared.tree.One.TheVariants.{Name as OneName, Number as OneNumber}
+use Rattle.text_grammar.specs.declared.tree.Members.TheVariants.{Range}
+use Rattle.text_grammar.specs.declared.tree.DomainText.TheVariants.{Members as MembersDomain}
+use Rattle.text_grammar.specs.declared.tree.ArgumentText.TheVariants.{One as OneArgument, Array}
+use Rattle.text_grammar.specs.declared.tree.FoldText.TheVariants.{Sum as SumFold, Greatest as GreatestFold}
+use Rattle.text_grammar.specs.declared.tree.Item.{Item}
+use Rattle.text_grammar.specs.declared.tree.Item.TheVariants.{Exists as ExistsItem, Forall as ForallItem, Goal as GoalItem, Variable, Aggregate as AggregateItem, Constraint}
+use Rattle.text_resolve.specs.declared.refusal.RefusalKind.TheVariants.{DuplicateName as NameRepeated, UnknownName as NameUnknown, UnknownPredicate as PredicateUnknown, WrongArguments as ArgumentsWrong, OutOfRange as NumberFar, EmptyDomain as DomainEmpty, TooWide as DomainWide, TooMany as Excess, NotVisible as Hidden, BottleneckFirst as Followed}
 use Rattle.qc_syntax.specs.declared.fault.Refused13.TheVariants.{DuplicateName, UnknownName, UnknownPredicate, WrongArguments, OutOfRange, EmptyDomain, TooWide, TooMany, NotVisible, BottleneckFirst}
-use Rattle.qc_resolve.specs.Draft.{game_of}
+use Rattle.text_resolve.specs.Draft.{game_of}
 use Rattle.qc_syntax.specs.Reads.{Reads, Refuses}
 use Rattle.qc_syntax.proofs.CaseWords.{reading, word, figure, faulty, read}
 

@@ -2,13 +2,13 @@
 use Rattle.std.proofs.Common.{◌≡◌, ℕ, List, Option, Some, None, ap, sym, ◌∙◌, subst, refl}
 use Rattle.qc_model.specs.Content.{Game}
 use Rattle.qc_tokens.specs.Tokens.{tokens_of, first_bad_byte, first_bad_number}
-use Rattle.qc_grammar.specs.declared.tree.Item.{Item}
-use Rattle.qc_grammar.specs.Lexemes.{lexemes_of, StopsAt}
-use Rattle.qc_grammar.proofs.Problems.{one_problem}
-use Rattle.qc_grammar.proofs.Stops.{problem_stops_nowhere, one_stop}
-use Rattle.qc_resolve.specs.declared.refusal.RefusalKind.{RefusalKind}
-use Rattle.qc_resolve.specs.Draft.{game_of}
-use Rattle.qc_resolve.specs.TextRefusals.{Refusal, first_refusal}
+use Rattle.text_grammar.specs.declared.tree.Item.{Item}
+use Rattle.text_grammar.specs.Lexemes.{lexemes_of, StopsAt}
+use Rattle.text_grammar.proofs.Problems.{one_problem}
+use Rattle.text_grammar.proofs.Stops.{problem_stops_nowhere, one_stop}
+use Rattle.text_resolve.specs.declared.refusal.RefusalKind.{RefusalKind}
+use Rattle.text_resolve.specs.Draft.{game_of}
+use Rattle.text_resolve.specs.TextRefusals.{Refusal, first_refusal}
 use Rattle.qc_syntax.specs.declared.fault.Refused13.{Refused13}
 use Rattle.qc_syntax.specs.declared.fault.Refused13.TheVariants.{BadByte, BadNumber, Syntax, DuplicateName, UnknownName, UnknownPredicate, WrongArguments, OutOfRange, EmptyDomain, TooWide, TooMany, NotVisible, BottleneckFirst}
 use Rattle.qc_syntax.specs.Reads.{IsClean, HasItems, Reads, MeetsFirst, Refuses, kind_of}

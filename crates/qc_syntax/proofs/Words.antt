@@ -5,7 +5,7 @@ use Rattle.std.proofs.lemmas.Bool.{and_from, and_parts}
 use Rattle.std.specs.List.{list_all, list_any}
 use Rattle.std.specs.Str.{bytes_eq}
 use Rattle.qc_model.specs.Names.{is_name, is_word, reserved_words}
-use Rattle.qc_resolve.specs.Names.{Declared}
+use Rattle.text_resolve.specs.Names.{Declared}
 
 pub names_are_words : (ds : List Declared) → IsTrue (list_all is_name (map (λ d. d.name) ds)) → IsTrue (list_all (λ d. is_word d.name) ds)
 names_are_words [] p = refl

@@ -2,10 +2,10 @@
 use Rattle.std.specs.Prelude.{ℕ}
 use Rattle.qc_tokens.specs.declared.fault.TokenError.{TokenError}
 use Rattle.qc_tokens.specs.declared.fault.TokenError.TheVariants.{BadByte as ByteFault, BadNumber as NumberFault, Memory as TokenMemory}
-use Rattle.qc_grammar.specs.declared.fault.GrammarFault.{GrammarFault}
-use Rattle.qc_grammar.specs.declared.fault.GrammarFault.TheVariants.{Syntax as GrammarSyntax, Memory as GrammarMemory}
-use Rattle.qc_resolve.specs.declared.refusal.ItemFault.{ItemFault}
-use Rattle.qc_resolve.specs.declared.refusal.ItemFault.TheVariants.{Refused as ItemsRefused, Memory as ItemsMemory}
+use Rattle.text_grammar.specs.declared.fault.GrammarFault.{GrammarFault}
+use Rattle.text_grammar.specs.declared.fault.GrammarFault.TheVariants.{Syntax as GrammarSyntax, Memory as GrammarMemory}
+use Rattle.text_resolve.specs.declared.refusal.ItemFault.{ItemFault}
+use Rattle.text_resolve.specs.declared.refusal.ItemFault.TheVariants.{Refused as ItemsRefused, Memory as ItemsMemory}
 use Rattle.qc_syntax.specs.declared.fault.Refused13.{Refused13}
 use Rattle.qc_syntax.specs.declared.fault.Refused13.TheVariants.{BadByte, BadNumber, Syntax}
 use Rattle.qc_syntax.specs.declared.fault.ReadFault.{ReadFault}

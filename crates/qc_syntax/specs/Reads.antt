@@ -2,13 +2,13 @@
 use Rattle.std.specs.Prelude.{◌≡◌, ℕ, List, None, Some}
 use Rattle.qc_model.specs.Content.{Game}
 use Rattle.qc_tokens.specs.Tokens.{tokens_of, first_bad_byte, first_bad_number}
-use Rattle.qc_grammar.specs.declared.tree.Item.{Item}
-use Rattle.qc_grammar.specs.Grammar.{IsProblem}
-use Rattle.qc_grammar.specs.Lexemes.{lexemes_of, StopsAt}
-use Rattle.qc_resolve.specs.declared.refusal.RefusalKind.{RefusalKind}
-use Rattle.qc_resolve.specs.declared.refusal.RefusalKind.TheVariants.{DuplicateName as NameRepeated, UnknownName as NameUnknown, UnknownPredicate as PredicateUnknown, WrongArguments as ArgumentsWrong, OutOfRange as NumberFar, EmptyDomain as DomainEmpty, TooWide as DomainWide, TooMany as Excess, NotVisible as Hidden, BottleneckFirst as Followed}
-use Rattle.qc_resolve.specs.Draft.{game_of}
-use Rattle.qc_resolve.specs.TextRefusals.{first_refusal}
+use Rattle.text_grammar.specs.declared.tree.Item.{Item}
+use Rattle.text_grammar.specs.Grammar.{IsProblem}
+use Rattle.text_grammar.specs.Lexemes.{lexemes_of, StopsAt}
+use Rattle.text_resolve.specs.declared.refusal.RefusalKind.{RefusalKind}
+use Rattle.text_resolve.specs.declared.refusal.RefusalKind.TheVariants.{DuplicateName as NameRepeated, UnknownName as NameUnknown, UnknownPredicate as PredicateUnknown, WrongArguments as ArgumentsWrong, OutOfRange as NumberFar, EmptyDomain as DomainEmpty, TooWide as DomainWide, TooMany as Excess, NotVisible as Hidden, BottleneckFirst as Followed}
+use Rattle.text_resolve.specs.Draft.{game_of}
+use Rattle.text_resolve.specs.TextRefusals.{first_refusal}
 use Rattle.qc_syntax.specs.declared.fault.Refused13.{Refused13}
 use Rattle.qc_syntax.specs.declared.fault.Refused13.TheVariants.{BadByte, BadNumber, Syntax, DuplicateName, UnknownName, UnknownPredicate, WrongArguments, OutOfRange, EmptyDomain, TooWide, TooMany, NotVisible, BottleneckFirst}
 use Rattle.qc_syntax.specs.declared.fault.ReadFault.{ReadFault}

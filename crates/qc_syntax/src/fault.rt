@@ -3,10 +3,10 @@ ghost use Rattle.std.specs.Prelude.{◌≡◌};
 ghost use Rattle.qc_syntax.specs.Reads.{kind_of as kind_of_fault};
 ghost use Rattle.qc_syntax.specs.Faults.{refusal, of_tokens, of_grammar, of_items};
 
-use qc_grammar::GrammarFault;
-use qc_resolve::{ItemFault, RefusalKind};
 use qc_tokens::TokenError;
 use std::alloc::AllocError;
+use text_grammar::GrammarFault;
+use text_resolve::{ItemFault, RefusalKind};
 use thiserror::Error;
 
 /// The kinds of refusals, in the order in which they are looked for.

@@ -5,12 +5,12 @@ ghost use Rattle.std.specs.List.{All};
 ghost use Rattle.qc_syntax.specs.Reads.{IsClean, HasItems, Reads, Explains};
 
 use crate::fault::ReadFault;
-use qc_grammar::{Item, read_items};
 use qc_model::{Problem, build};
-use qc_resolve::resolve;
 use qc_tokens::{Token, tokens};
-use qc_valid::{names_are_names, unrefused_is_valid};
 use std::alloc::Global;
+use text_grammar::{Item, read_items};
+use text_resolve::resolve;
+use text_valid::{names_are_names, unrefused_is_valid};
 
 /// The problem that a text says, or the first kind of refusal that it meets, with its place.
 ///

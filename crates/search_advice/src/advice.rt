@@ -13,9 +13,9 @@ use crate::positions::Positions;
 use crate::signs::Signs;
 use crate::standing::{Source, Standing};
 use crate::tuples::{KEPT, Tuples};
-use qc_likeness::Residues;
+use likeness::Residues;
+use model_levels::{Level, Levels};
 use qc_model::{Kind, ScopeId, VarId};
-use qc_rules::{Level, Levels};
 use search_box::SearchBox;
 use std::alloc::{AllocError, Global};
 

@@ -1,11 +1,11 @@
 //! When the best value is looked for that the last scope can give to the variable that it optimises.
 //!
-//! The search finds tuples that get better bit by bit, each by a case of its own. A free search (`scout`) that goes for the best
+//! The search finds tuples that get better bit by bit, each by a case of its own. A free search (`search_scout`) that goes for the best
 //! value gets there sooner, and a bound that gives up all worse ones before the first case leaves little to go over. So the
 //! scout is asked at a node after one that took many turns, and as long as that serves.
+use model_levels::{Level, Levels};
 use qc_model::{Problem, ScopeId, Sense, VarId};
-use qc_rules::{Level, Levels};
-use scout::Scout;
+use search_scout::Scout;
 use std::alloc::{AllocError, Global};
 
 /// After a node that took so many turns the next one is looked at.

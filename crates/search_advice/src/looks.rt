@@ -1,12 +1,12 @@
 //! When a tuple of the last scope is looked for.
 //!
 //! Where that scope is the player's and nothing is demanded after it, one allowed tuple settles it. The search goes over its
-//! variables and values in order, so it can go astray for long where a free search (`scout`) doesn't. So the scout is asked at
+//! variables and values in order, so it can go astray for long where a free search (`search_scout`) doesn't. So the scout is asked at
 //! the first node where the scope has many variables, and after a node that took many turns.
 use crate::advice::demands_after;
+use model_levels::{Level, Levels};
 use qc_model::{Kind, Problem, ScopeId};
-use qc_rules::{Level, Levels};
-use scout::Scout;
+use search_scout::Scout;
 use std::alloc::{AllocError, Global};
 
 /// From so many variables on the first node is looked at.

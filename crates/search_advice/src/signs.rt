@@ -4,9 +4,9 @@
 //! one that the opponent has to. Of a variable of the player the first value to try is the one by which it satisfies more of the
 //! player's clauses than by the other, where those of the opponent count against it; of one of the opponent it is the other way
 //! round. That is little to go by, so it is asked only where nothing better is known.
-use qc_arguments::{arguments, items_at};
+use model_arguments::{arguments, items_at};
+use model_levels::{Level, Levels};
 use qc_model::{Arg, Constraint, Kind, Pred, ScopeId};
-use qc_rules::{Level, Levels};
 use std::alloc::{AllocError, Global};
 
 /// For each variable how many more of the player's clauses than of the opponent's want it true, less how many more want it

@@ -4,8 +4,8 @@
 //! way, and one of those before it is.
 ghost use Rattle.std.specs.Prelude.{◌≡◌};
 
+use model_levels::Level;
 use qc_model::VarId;
-use qc_rules::Level;
 use search_box::SearchBox;
 use std::alloc::{AllocError, Global};
 

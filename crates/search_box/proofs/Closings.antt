@@ -11,8 +11,8 @@ use Rattle.qc_model.specs.Content.{Game, Rule}
 use Rattle.qc_model.specs.Domains.{Box, values_left, values_within, values_outside, is_none_left, has_empty, is_sub_box, box_within, box_without, declared_box}
 use Rattle.qc_model.specs.Valid.{IsValid, is_number}
 use Rattle.qc_model.proofs.Readable.{first, second, together}
-use Rattle.qc_arguments.specs.Asked.{is_box_of}
-use Rattle.qc_rules.specs.Spans.{IsSpanOf, is_rule_within, is_number_within}
+use Rattle.model_arguments.specs.Asked.{is_box_of}
+use Rattle.model_levels.specs.Spans.{IsSpanOf, is_rule_within, is_number_within}
 use Rattle.proof_tree.specs.declared.tree.Step.{Step}
 use Rattle.proof_tree.specs.declared.tree.Step.TheVariants.{Prune, Bound}
 use Rattle.proof_tree.specs.Place.{Tracked, tracked_variable, list_after}

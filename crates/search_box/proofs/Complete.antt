@@ -30,14 +30,14 @@ use Rattle.qc_model.proofs.Before.{before-le}
 use Rattle.qc_model.proofs.Readable.{first, second, together}
 use Rattle.qc_model.proofs.Sound.{is_false}
 use Rattle.qc_model.proofs.Visible.{holds_visible}
-use Rattle.qc_table.proofs.Ordered.{valid_ordered}
-use Rattle.qc_table.proofs.Single.{valid_single}
-use Rattle.qc_arguments.specs.Asked.{is_box_of}
-use Rattle.qc_arguments.proofs.Boxes.{sub_length}
-use Rattle.qc_arguments.proofs.Kept.{among_of}
+use Rattle.model_table.proofs.Ordered.{valid_ordered}
+use Rattle.model_table.proofs.Single.{valid_single}
+use Rattle.model_arguments.specs.Asked.{is_box_of}
+use Rattle.model_arguments.proofs.Boxes.{sub_length}
+use Rattle.model_arguments.proofs.Kept.{among_of}
 use Rattle.proof_tree.specs.Place.{position}
-use Rattle.qc_rules.specs.Spans.{kind_at}
-use Rattle.qc_rules.proofs.Items.{drop_at}
+use Rattle.model_levels.specs.Spans.{kind_at}
+use Rattle.model_levels.proofs.Items.{drop_at}
 use Rattle.search_box.specs.Closes.{IsClosedAt}
 use Rattle.search_box.specs.Complete.{each_mentions, takes_goal_in, IsClosedAtGoal}
 use Rattle.search_box.proofs.Places.{fixed_fewer}

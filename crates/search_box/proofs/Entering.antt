@@ -12,8 +12,8 @@ use Rattle.qc_model.specs.Game.{before, is_of_scope}
 use Rattle.qc_model.proofs.Before.{before_up, before-zero}
 use Rattle.qc_model.proofs.Readable.{first, second}
 use Rattle.qc_model.specs.Valid.{IsValid}
-use Rattle.qc_arguments.specs.Asked.{is_box_of}
-use Rattle.qc_rules.proofs.SpanLaws.{variables_all}
+use Rattle.model_arguments.specs.Asked.{is_box_of}
+use Rattle.model_levels.proofs.SpanLaws.{variables_all}
 use Rattle.proof_tree.specs.Place.{position, is_fixed}
 use Rattle.fd_store.specs.Held.{Follows, past_box}
 use Rattle.prop_base.proofs.Steps.{follows_more}

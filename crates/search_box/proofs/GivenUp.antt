@@ -15,7 +15,7 @@ use Rattle.proof_tree.specs.declared.tree.Step.TheVariants.{Bound}
 use Rattle.proof_tree.specs.Place.{Tracked, tracked_variable, list_after}
 use Rattle.proof_tree.specs.Steps.{removes_some, is_tracked, are_legal, best_value}
 use Rattle.proof_tree.specs.Text.{is_place}
-use Rattle.qc_arguments.proofs.Boxes.{sub_without}
+use Rattle.model_arguments.proofs.Boxes.{sub_without}
 use Rattle.prop_base.proofs.Steps.{cut_emptied}
 use Rattle.search_box.specs.declared.bounding.Bounded.{Bounded}
 use Rattle.search_box.specs.Bounds.{tracked_as, IsBounded, BoundAnswers}

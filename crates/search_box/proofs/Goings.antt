@@ -16,7 +16,7 @@ use Rattle.qc_model.specs.Domains.{Values, Box, values_left, values_within, box_
 use Rattle.qc_model.specs.Game.{before}
 use Rattle.qc_model.proofs.Before.{before_up}
 use Rattle.qc_model.proofs.Readable.{first, second, together}
-use Rattle.qc_rules.specs.Spans.{kind_at}
+use Rattle.model_levels.specs.Spans.{kind_at}
 use Rattle.proof_tree.specs.declared.tree.Step.{Step}
 use Rattle.proof_tree.specs.declared.tree.Step.TheVariants.{Prune, Bound}
 use Rattle.proof_tree.specs.Cover.{box_to}

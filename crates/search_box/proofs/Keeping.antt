@@ -11,8 +11,8 @@ use mir.Val.{SFits}
 use Rattle.qc_model.specs.Domains.{Values, Box, values_left, values_within, values_outside, is_within, has_value, is_ascending, is_sub_box, has_empty, box_without}
 use Rattle.qc_model.specs.Valid.{is_number}
 use Rattle.qc_model.proofs.Readable.{first, second, together}
-use Rattle.qc_arguments.proofs.Boxes.{sub_within, set_full, sub_ascending}
-use Rattle.qc_arguments.proofs.Values.{value_passes, has_first}
+use Rattle.model_arguments.proofs.Boxes.{sub_within, set_full, sub_ascending}
+use Rattle.model_arguments.proofs.Values.{value_passes, has_first}
 use Rattle.prop_base.proofs.Keeps.{within_one}
 use Rattle.proof_tree.specs.Cover.{box_to}
 use Rattle.box_laws.proofs.Sides.{both_sides, set_twice}

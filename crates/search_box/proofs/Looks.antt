@@ -8,8 +8,8 @@ use Rattle.qc_model.specs.Content.{Game}
 use Rattle.qc_model.specs.Domains.{Box, has_empty}
 use Rattle.qc_model.specs.Valid.{IsValid}
 use Rattle.qc_model.proofs.Readable.{first, second, together}
-use Rattle.qc_arguments.specs.Asked.{is_box_of}
-use Rattle.qc_rules.specs.Spans.{is_number_within}
+use Rattle.model_arguments.specs.Asked.{is_box_of}
+use Rattle.model_levels.specs.Spans.{is_number_within}
 use Rattle.proof_tree.specs.declared.tree.Horizon.{Horizon}
 use Rattle.proof_tree.specs.declared.tree.Step.{Step}
 use Rattle.proof_tree.specs.InPlace.{is_nearer}
@@ -21,7 +21,7 @@ use Rattle.qc_cascade.proofs.Placed.{stands_in_place, sees_open, sees_under, see
 use Rattle.search_box.specs.Looking.{LooksAhead, first_unseen}
 use Rattle.search_box.proofs.Closings.{all_prune, fits_steps, place_fits}
 use Rattle.box_laws.proofs.Readings.{box_size}
-use Rattle.step_trim.specs.Trims.{Trims}
+use Rattle.search_trim.specs.Trims.{Trims}
 
 by_itself : (k : ℕ) → nat_le k k ≡ true
 by_itself k = grind (arith, nat_tests)

@@ -7,7 +7,7 @@ use Rattle.std.proofs.lemmas.Int.{ints}
 use Rattle.std.proofs.lemmas.Bool.Decides.{Decides-int_eq}
 use Rattle.qc_model.specs.Domains.{Values, is_none_left, is_single, has_value, least_from, least_value, greatest_from, greatest_value, is_ascending, values_within}
 use Rattle.qc_model.proofs.Readable.{first, second, together}
-use Rattle.qc_arguments.proofs.Values.{above_first, ascending_rest, ascending_kept, all_kept, value_passes, has_first, has_greatest}
+use Rattle.model_arguments.proofs.Values.{above_first, ascending_rest, ascending_kept, all_kept, value_passes, has_first, has_greatest}
 use Rattle.fd_store.specs.Held.{values_from, values_up_to, least_of, greatest_of}
 use Rattle.box_laws.proofs.Filters.{filter_all, filter_none, all_weaker}
 use Rattle.box_laws.proofs.Firsts.{from_itself, from_later, where_is, least_is, passes, first_among, from_first}

@@ -9,8 +9,8 @@ use Rattle.qc_model.specs.Domains.{Values, Box, values_left, box_values, is_none
 use Rattle.qc_model.specs.Game.{restriction}
 use Rattle.qc_model.specs.Valid.{is_number, is_constraint, is_domain}
 use Rattle.qc_model.proofs.Readable.{first, second, together}
-use Rattle.qc_arguments.specs.Asked.{is_box_of}
-use Rattle.qc_arguments.proofs.Boxes.{sub_length, left_small}
+use Rattle.model_arguments.specs.Asked.{is_box_of}
+use Rattle.model_arguments.proofs.Boxes.{sub_length, left_small}
 
 -- one more variable has one value left
 pub fixed_more : (box : Box) (x at : ℕ) → x ≤ at → at < length box → is_single (values_left box at) ≡ true → list_all is_single (drop x (take at box)) ≡ true → list_all is_single (drop x (take (at + 1) box)) ≡ true

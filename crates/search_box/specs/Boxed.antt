@@ -3,7 +3,7 @@ use Rattle.std.specs.Prelude.{◌≡◌, ◌≤◌, ℕ, List, take, IsTrue, ℤ
 use Rattle.qc_model.specs.Content.{Game}
 use Rattle.qc_model.specs.Domains.{is_sub_box}
 use Rattle.qc_model.specs.Game.{before}
-use Rattle.qc_arguments.specs.Asked.{is_box_of}
+use Rattle.model_arguments.specs.Asked.{is_box_of}
 use Rattle.fd_store.specs.Held.{Held, Follows, trail_len, past_box}
 
 -- the game, the values left to each variable with the past boxes, and a place for one value of each variable

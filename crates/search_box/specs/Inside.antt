@@ -1,7 +1,7 @@
 -- What a search box keeps of its parts.
 use Rattle.std.specs.Prelude.{◌≡◌, Bool, List, length, IsTrue, ℤ}
 use Rattle.qc_model.specs.Content.{Game}
-use Rattle.qc_arguments.specs.Asked.{is_box_of}
+use Rattle.model_arguments.specs.Asked.{is_box_of}
 use Rattle.fd_store.specs.Held.{Held}
 use Rattle.prop_engine.specs.Watching.{Knowing, IsReady}
 use Rattle.search_box.specs.Complete.{each_mentions}

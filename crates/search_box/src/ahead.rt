@@ -2,20 +2,20 @@
 ghost use Rattle.std.specs.Prelude.{◌≡◌, ◌<◌, ◌≤◌, true, false, length, IfOk, IfSome};
 ghost use Rattle.qc_model.specs.Content.{Rule};
 ghost use Rattle.qc_model.specs.Domains.{has_empty};
-ghost use Rattle.qc_arguments.specs.Asked.{is_box_of};
+ghost use Rattle.model_arguments.specs.Asked.{is_box_of};
 ghost use Rattle.prop_engine.specs.Watching.{IsReady};
 ghost use Rattle.qc_cascade.specs.Ahead.{IsEntered as IsFound};
 ghost use Rattle.search_box.specs.Looking.{LooksAhead, scope_number, first_unseen};
 
 use fd_store::Store;
-use joint_store::Joint;
+use model_levels::Levels;
 use proof_tree::Horizon;
 use prop_engine::{Engine, Filter};
 use qc_cascade::{Entered, enter, enter_under};
 use qc_model::ScopeId;
-use qc_rules::Levels;
+use search_joint::Joint;
+use search_trim::trimmed;
 use std::alloc::{AllocError, Global};
-use step_trim::trimmed;
 
 // What is found ahead, up to the horizon in force.
 fn found_ahead<F: Filter>(

@@ -2,16 +2,16 @@
 ghost use Rattle.std.specs.Prelude.{◌≡◌, true, false, IfOk};
 ghost use Rattle.qc_model.specs.Content.{Rule};
 ghost use Rattle.qc_model.specs.Domains.{has_empty, is_sub_box};
-ghost use Rattle.qc_arguments.specs.Asked.{is_box_of};
+ghost use Rattle.model_arguments.specs.Asked.{is_box_of};
 ghost use Rattle.fd_store.specs.Held.{Follows};
 ghost use Rattle.prop_engine.specs.Watching.{IsReady};
 ghost use Rattle.search_box.specs.Closes.{IsClosingAt, IsPruned, WasClosed};
 
 use fd_store::Store;
+use model_levels::Level;
 use proof_tree::StepList;
 use prop_engine::{Closed, Engine, Filter};
 use qc_model::VarId;
-use qc_rules::Level;
 use std::alloc::{AllocError, Global};
 
 /// Runs the filters of all constraints in force, and those that removals wake, until nothing more is removed.

@@ -7,7 +7,7 @@ ghost use Rattle.qc_model.specs.declared.problem.VarId.{VarId};
 ghost use Rattle.qc_model.specs.Content.{Game};
 ghost use Rattle.qc_model.specs.Domains.{Box, Values, has_empty};
 ghost use Rattle.qc_model.specs.Game.{before};
-ghost use Rattle.qc_rules.specs.Spans.{kind_at};
+ghost use Rattle.model_levels.specs.Spans.{kind_at};
 ghost use Rattle.fd_store.specs.Held.{Follows};
 ghost use Rattle.proof_tree.specs.declared.tree.Step.{Step};
 ghost use Rattle.proof_tree.specs.Cover.{box_to};

@@ -4,7 +4,7 @@ ghost use Rattle.qc_model.specs.Arguments.{variables_of};
 ghost use Rattle.qc_model.specs.Verdict.{is_none_of};
 ghost use Rattle.search_box.specs.Complete.{each_mentions};
 
-use qc_arguments::{arguments, own_variables};
+use model_arguments::{arguments, own_variables};
 use qc_model::{ConId, Constraint, Problem};
 use std::alloc::{AllocError, Global};
 

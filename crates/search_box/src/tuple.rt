@@ -6,15 +6,15 @@ ghost use Rattle.std.specs.Prelude.{◌≡◌, true, false, suc, length, take};
 ghost use Rattle.std.specs.List.{list_all};
 ghost use Rattle.qc_model.specs.Domains.{box_values, has_empty, is_single};
 ghost use Rattle.qc_model.specs.Game.{allows};
-ghost use Rattle.qc_arguments.specs.Asked.{is_box_of};
+ghost use Rattle.model_arguments.specs.Asked.{is_box_of};
 ghost use Rattle.proof_tree.specs.Place.{position};
 ghost use Rattle.search_box.specs.Closes.{IsClosedAt};
 ghost use Rattle.search_box.specs.Complete.{IsClosedAtGoal, each_mentions, takes_goal_in};
 
 use crate::reading::read_values;
 use fd_store::Store;
+use model_levels::{Level, Levels, all_hold};
 use qc_model::{Kind, ScopeId};
-use qc_rules::{Level, Levels, all_hold};
 
 /// Reads the values of the scope's variables into their places, and says whether its constraints hold on them and those
 /// before, which stand in theirs.

@@ -11,9 +11,9 @@ use Rattle.qc_model.specs.declared.problem.Condition.{Condition}
 use Rattle.qc_model.specs.ExistsVerdict.{best_vector, best_number_from, beats}
 use Rattle.qc_model.specs.Optimal.{is_better}
 use Rattle.qc_model.specs.Verdict.{lost, exact, at_most, unknown, Seen, seen_barred, seen_skipped, seen_bound, seen_node, exact_vectors, first_value, is_none_of}
-use Rattle.qc_levels.specs.Bests.{AllLong}
-use Rattle.qc_levels.proofs.ExistsVerdicts.{first_of_best}
-use Rattle.qc_joins.specs.Sizes.{EachHas}
+use Rattle.joins.specs.Bests.{AllLong}
+use Rattle.joins.proofs.ExistsVerdicts.{first_of_best}
+use Rattle.joins.specs.Sizes.{EachHas}
 use Rattle.proof_tree.specs.Incumbents.{has_no_worse}
 use Rattle.proof_tree.specs.Place.{Tracked}
 use Rattle.qc_model.specs.Domains.{Box, Values, values_left}

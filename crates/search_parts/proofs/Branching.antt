@@ -24,11 +24,11 @@ use Rattle.proof_tree.specs.Steps.{after_steps}
 use Rattle.proof_tree.specs.Text.{upto_fits}
 use Rattle.proof_tree.specs.declared.tree.Step.{Step}
 use Rattle.proof_tree.specs.declared.tree.Version.TheVariants.{Two}
-use Rattle.qc_joins.proofs.Lengths.{long_join}
-use Rattle.qc_joins.proofs.Sizing.{sizes_both}
+use Rattle.joins.proofs.Lengths.{long_join}
+use Rattle.joins.proofs.Sizing.{sizes_both}
 use Rattle.search_parts.specs.Uppers.{upto_all}
-use Rattle.qc_joins.specs.Sizes.{HasSizes}
-use Rattle.qc_joins.specs.Verdicts.{scope_wishes}
+use Rattle.joins.specs.Sizes.{HasSizes}
+use Rattle.joins.specs.Verdicts.{scope_wishes}
 use Rattle.search_parts.specs.Beaten.{firsts, seen_bounds, is_beaten, are_beaten, AreAmong}
 use Rattle.search_parts.specs.Settled.{is_settled, is_ended}
 use Rattle.search_parts.specs.Made.{CasesMade, PartMade}

@@ -15,8 +15,8 @@ use Rattle.qc_model.specs.ForallVerdict.{bounded_forall, entry_values, numbers_f
 use Rattle.proof_tree.specs.Finding.{Leaf, leaf_barred, leaf_skipped, leaf_bound, leaf_node, seen_of, comes_to, scope_finding, kind_finding}
 use Rattle.proof_tree.specs.Place.{list_after, is_goal}
 use Rattle.proof_tree.specs.Order.{settles}
-use Rattle.qc_joins.specs.Sizes.{EachHas}
-use Rattle.qc_joins.specs.Verdicts.{scope_verdict, kind_verdict, scope_settled, kind_settled, scope_own, kind_own, scope_wishes, kind_wishes}
+use Rattle.joins.specs.Sizes.{EachHas}
+use Rattle.joins.specs.Verdicts.{scope_verdict, kind_verdict, scope_settled, kind_settled, scope_own, kind_own, scope_wishes, kind_wishes}
 use Rattle.search_parts.specs.Beaten.{firsts, are_beaten}
 use Rattle.search_parts.specs.Settled.{is_settled, is_vague_verdict}
 use Rattle.search_parts.proofs.Beating.{best_beats, some_beats, each_long}

@@ -5,7 +5,7 @@ use Rattle.qc_model.specs.declared.problem.Condition.{Condition}
 use Rattle.qc_model.specs.ExistsVerdict.{some_open}
 use Rattle.qc_model.specs.Verdict.{Verdict, lost, exact, at_most, unknown, Seen, seen_barred, seen_skipped, seen_bound, seen_node, some_node, bounds, first_value}
 use Rattle.proof_tree.specs.Finding.{leaf_bound, seen_of}
-use Rattle.qc_joins.specs.Sizes.{EachHas}
+use Rattle.joins.specs.Sizes.{EachHas}
 use Rattle.search_parts.specs.Beaten.{firsts, seen_bounds}
 
 -- the marks of steps, as leaves, are seen so

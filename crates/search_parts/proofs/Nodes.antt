@@ -27,9 +27,9 @@ use Rattle.proof_tree.specs.Order.{skips}
 use Rattle.proof_tree.specs.Text.{is_place, horizon_fits}
 use Rattle.proof_tree.specs.declared.tree.Step.{Step}
 use Rattle.proof_tree.specs.declared.tree.Horizon.{Horizon}
-use Rattle.qc_joins.specs.Joins.{IsLong}
-use Rattle.qc_joins.specs.Sizes.{EachHas, IsSized}
-use Rattle.qc_joins.specs.Verdicts.{scope_verdict, scope_wishes}
+use Rattle.joins.specs.Joins.{IsLong}
+use Rattle.joins.specs.Sizes.{EachHas, IsSized}
+use Rattle.joins.specs.Verdicts.{scope_verdict, scope_wishes}
 use Rattle.search_parts.specs.Beaten.{firsts, seen_bounds, is_beaten, are_beaten}
 use Rattle.search_parts.specs.Own.{IsOwnSized}
 use Rattle.search_parts.specs.Settled.{is_ended, is_vague_verdict}

@@ -25,9 +25,9 @@ use Rattle.qc_model.specs.Optimal.{is_better}
 use Rattle.qc_model.specs.Ranges.{range_from}
 use Rattle.qc_model.specs.Value.{fold_of, aggregate_fold}
 use Rattle.qc_model.specs.Verdict.{Verdict, lost, exact, at_most, unknown, Seen, seen_barred, seen_skipped, seen_bound, seen_node, is_lost, is_exact, is_unknown, some_node, each_node, is_none_of, exact_vectors, bounds, first_value}
-use Rattle.qc_levels.specs.Columns.{is_one_sided, first_sense, side_of_fold, side_of_target, side_bound}
-use Rattle.qc_joins.specs.Sizes.{EachHas}
-use Rattle.qc_joins.specs.Verdicts.{scope_verdict, kind_verdict, scope_wishes, scope_side, kind_side}
+use Rattle.joins.specs.Columns.{is_one_sided, first_sense, side_of_fold, side_of_target, side_bound}
+use Rattle.joins.specs.Sizes.{EachHas}
+use Rattle.joins.specs.Verdicts.{scope_verdict, kind_verdict, scope_wishes, scope_side, kind_side}
 use Rattle.proof_tree.specs.Place.{is_goal, list_after}
 use Rattle.search_parts.specs.Beaten.{firsts, are_beaten}
 use Rattle.search_parts.specs.Bounded.{is_fold_bounded, is_target_bounded, is_list_bounded, is_bounded, Outdoes}

@@ -17,9 +17,9 @@ use Rattle.proof_tree.specs.Lines.{step_line, upto_lines, ending_lines, branches
 use Rattle.proof_tree.specs.declared.line.Line.{Line}
 use Rattle.proof_tree.specs.declared.line.Line.TheVariants.{Skip, Open, Range}
 use Rattle.proof_tree.specs.declared.tree.Step.{Step}
-use Rattle.qc_joins.specs.Sizes.{HasSizes}
+use Rattle.joins.specs.Sizes.{HasSizes}
 use Rattle.search_parts.specs.Beaten.{firsts, AreAmong}
-use Rattle.qc_joins.proofs.Sizing.{sizes_both}
+use Rattle.joins.proofs.Sizing.{sizes_both}
 use Rattle.search_parts.specs.Settled.{is_settled, is_ended}
 use Rattle.search_parts.specs.Uppers.{upto_all}
 use Rattle.search_parts.specs.Made.{CasesMade, PartMade}

@@ -9,9 +9,9 @@ use Rattle.qc_model.specs.Content.{Game}
 use Rattle.qc_model.specs.Demands.{demands_after, is_better_vector}
 use Rattle.qc_model.specs.ExistsVerdict.{best_from, best_vector, exists_verdict}
 use Rattle.qc_model.specs.Verdict.{Verdict, lost, exact, at_most, unknown, Seen, seen_barred, seen_skipped, seen_bound, seen_node, is_exact, exact_vectors, first_value}
-use Rattle.qc_levels.specs.Columns.{number_at}
-use Rattle.qc_joins.specs.Sizes.{IsSized, HasSizes, total_at}
-use Rattle.qc_joins.specs.Verdicts.{scope_own, kind_own}
+use Rattle.joins.specs.Columns.{number_at}
+use Rattle.joins.specs.Sizes.{IsSized, HasSizes, total_at}
+use Rattle.joins.specs.Verdicts.{scope_own, kind_own}
 use Rattle.search_parts.specs.Own.{IsOwnSized}
 
 pub sizes_more : (m n : ℕ) (xs : List Seen) → m ≤ n → HasSizes m xs → HasSizes n xs

@@ -15,9 +15,9 @@ use Rattle.proof_tree.specs.Finding.{seen_of}
 use Rattle.proof_tree.specs.Counts.{ending_turns, ending_opens}
 use Rattle.proof_tree.specs.Order.{settles}
 use Rattle.proof_tree.specs.Tree.{Ending}
-use Rattle.qc_joins.specs.Sizes.{AreLong, HasSizes}
-use Rattle.qc_joins.specs.Verdicts.{scope_wishes}
-use Rattle.qc_joins.proofs.Sizing.{sizes_both}
+use Rattle.joins.specs.Sizes.{AreLong, HasSizes}
+use Rattle.joins.specs.Verdicts.{scope_wishes}
+use Rattle.joins.proofs.Sizing.{sizes_both}
 use Rattle.search_parts.specs.Made.{EndingMade, PartMade, BoundedMade}
 use Rattle.search_parts.specs.Beaten.{firsts, seen_bounds, is_beaten, are_beaten, AreAmong}
 use Rattle.search_parts.specs.Settled.{is_settled}

@@ -13,7 +13,7 @@ use Rattle.qc_model.specs.ExistsVerdict.{exists_verdict, some_open, best_vector,
 use Rattle.qc_model.specs.declared.problem.Target.{Target}
 use Rattle.qc_model.specs.declared.problem.Target.TheVariants.{Var, Aggregate as Agg}
 use Rattle.qc_model.specs.ForallVerdict.{entry_values, numbers_for, bounded_forall, first_entry_bound}
-use Rattle.qc_joins.specs.Verdicts.{scope_verdict, kind_verdict}
+use Rattle.joins.specs.Verdicts.{scope_verdict, kind_verdict}
 use Rattle.search_parts.specs.Beaten.{seen_bounds}
 use Rattle.search_parts.specs.Settled.{is_vague_verdict, beats_none}
 

@@ -9,7 +9,7 @@ use Rattle.qc_model.specs.declared.problem.Target.TheVariants.{Var, Aggregate as
 use Rattle.qc_model.specs.Block.{of_kind}
 use Rattle.qc_model.specs.Content.{Game}
 use Rattle.qc_model.specs.Optimal.{is_better}
-use Rattle.qc_levels.specs.Columns.{is_one_sided, first_sense}
+use Rattle.joins.specs.Columns.{is_one_sided, first_sense}
 
 -- some branches alone bound the first entry's value
 abbrev pub is_fold_bounded : Sense → Option Aggregate → Bool

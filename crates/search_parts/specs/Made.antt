@@ -21,9 +21,9 @@ use Rattle.proof_tree.specs.Order.{has_go, opens_last, is_joined, skips, branche
 use Rattle.std.specs.List.{list_all}
 use Rattle.proof_tree.specs.declared.tree.Version.TheVariants.{Two}
 use Rattle.proof_tree.specs.Text.{tree_fits, ending_fits, branches_fit, step_fits}
-use Rattle.qc_joins.specs.Joins.{IsLong}
-use Rattle.qc_joins.specs.Sizes.{AreLong, IsSized, HasSizes}
-use Rattle.qc_joins.specs.Verdicts.{scope_wishes}
+use Rattle.joins.specs.Joins.{IsLong}
+use Rattle.joins.specs.Sizes.{AreLong, IsSized, HasSizes}
+use Rattle.joins.specs.Verdicts.{scope_wishes}
 use Rattle.search_parts.specs.Beaten.{firsts, seen_bounds, are_beaten, AreAmong}
 use Rattle.search_parts.specs.Settled.{is_ended, is_vague_verdict}
 use Rattle.search_parts.specs.Own.{IsOwnSized}

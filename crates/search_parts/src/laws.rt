@@ -5,7 +5,7 @@ ghost use Rattle.qc_model.specs.declared.problem.Scope.{Scope};
 ghost use Rattle.qc_model.specs.Content.{Game};
 ghost use Rattle.qc_model.specs.Verdict.{Seen};
 ghost use Rattle.proof_tree.specs.Place.{is_goal, list_after};
-ghost use Rattle.qc_joins.specs.Verdicts.{scope_verdict};
+ghost use Rattle.joins.specs.Verdicts.{scope_verdict};
 ghost use Rattle.search_parts.specs.Beaten.{seen_bounds};
 ghost use Rattle.search_parts.specs.Bounded.{Outdoes};
 ghost use Rattle.search_parts.specs.Settled.{beats_none, is_ended, is_vague_verdict};

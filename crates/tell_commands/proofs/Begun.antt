@@ -14,12 +14,12 @@ use Rattle.qc_play.specs.declared.counter.Counter.{Counter}
 use Rattle.qc_play.specs.Shape.{plan_of, tree_of_counter}
 use Rattle.qc_play.specs.Made.{IsPlanOf, IsCounterOf}
 use Rattle.qc_play.specs.Evidence.{IsLeftOpen}
-use Rattle.qc_commands.specs.declared.status.Status.{Status}
-use Rattle.qc_commands.specs.declared.status.Status.TheVariants.{Done, NotProved, Open, Memory, ReadFault}
-use Rattle.qc_commands.specs.Complete.{TellsSide}
-use Rattle.qc_commands.specs.Plays.{shown_tree, ShowsSide}
-use Rattle.qc_commands.proofs.Played.{plan_side, counter_side, certificate_before}
-use Rattle.qc_commands.proofs.PlaysDone.{never_uncertified, one_certificate, not_open}
+use Rattle.qecode_commands.specs.declared.status.Status.{Status}
+use Rattle.qecode_commands.specs.declared.status.Status.TheVariants.{Done, NotProved, Open, Memory, ReadFault}
+use Rattle.qecode_commands.specs.Complete.{TellsSide}
+use Rattle.qecode_commands.specs.Plays.{shown_tree, ShowsSide}
+use Rattle.qecode_commands.proofs.Played.{plan_side, counter_side, certificate_before}
+use Rattle.qecode_commands.proofs.PlaysDone.{never_uncertified, one_certificate, not_open}
 use Rattle.tell_commands.specs.Opening.{BeginsWith, BeginsCertificate, BeginsFile}
 
 -- more was given before

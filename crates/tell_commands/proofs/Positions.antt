@@ -1,13 +1,13 @@
 -- What is answered for a position, from its last step to its first.
 use Rattle.std.proofs.Common.{◌≡◌, ℕ, true, List, Option, None, inl, inr, refl, subst}
 use Rattle.qc_model.specs.Content.{Game}
-use Rattle.qc_moves.specs.Stands.{Place, before_scope, after_all, left_over, missing_at, not_allowed_at, place_of}
-use Rattle.qc_commands.specs.declared.status.Status.{Status}
-use Rattle.qc_commands.specs.declared.status.Status.TheVariants.{Done, BadMoves, Memory, ReadFault}
-use Rattle.qc_commands.specs.Moves.{bad_moves_at, moves_of}
-use Rattle.qc_commands.proofs.Down.{file_before}
-use Rattle.qc_commands.proofs.PlaysDone.{never_bad}
-use Rattle.qc_commands.proofs.Told.{told_bytes, never_unread}
+use Rattle.tell_moves.specs.Stands.{Place, before_scope, after_all, left_over, missing_at, not_allowed_at, place_of}
+use Rattle.qecode_commands.specs.declared.status.Status.{Status}
+use Rattle.qecode_commands.specs.declared.status.Status.TheVariants.{Done, BadMoves, Memory, ReadFault}
+use Rattle.qecode_commands.specs.Moves.{bad_moves_at, moves_of}
+use Rattle.qecode_commands.proofs.Down.{file_before}
+use Rattle.qecode_commands.proofs.PlaysDone.{never_bad}
+use Rattle.qecode_commands.proofs.Told.{told_bytes, never_unread}
 use Rattle.tell_commands.specs.Allowed.{RefusesAt, ListsPlace, ListsBytes, ListsFile}
 use Rattle.tell_commands.specs.Complete.{is_position, TellsPosition}
 

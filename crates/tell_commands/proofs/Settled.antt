@@ -1,12 +1,12 @@
 -- A run in which nothing failed answers what was asked.
 use Rattle.std.proofs.Common.{◌≡◌, ℕ, List, Option, Some, None, refl}
 use Rattle.qc_io.specs.Counts.{Rose, NoneRose}
-use Rattle.qc_commands.specs.declared.status.Status.{Status}
-use Rattle.qc_commands.specs.declared.status.Status.TheVariants.{Usage, WriteFault, ReadFault, Memory}
-use Rattle.qc_commands.specs.Answers.{SolvesProblem}
-use Rattle.qc_commands.specs.Files.{Wrote}
-use Rattle.qc_commands.specs.Readings.{worst_game}
-use Rattle.qc_commands.proofs.Completeness.{Laws, for_problem, for_reading, solves_done, no_fault}
+use Rattle.qecode_commands.specs.declared.status.Status.{Status}
+use Rattle.qecode_commands.specs.declared.status.Status.TheVariants.{Usage, WriteFault, ReadFault, Memory}
+use Rattle.qecode_commands.specs.Answers.{SolvesProblem}
+use Rattle.qecode_commands.specs.Files.{Wrote}
+use Rattle.qecode_commands.specs.Readings.{worst_game}
+use Rattle.qecode_commands.proofs.Completeness.{Laws, for_problem, for_reading, solves_done, no_fault}
 use Rattle.tell_commands.specs.Allowed.{ListsFile}
 use Rattle.tell_commands.specs.Answers.{Answers}
 use Rattle.tell_commands.specs.Complete.{IsComplete}

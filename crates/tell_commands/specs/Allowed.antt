@@ -2,13 +2,13 @@
 use Rattle.std.specs.Prelude.{◌≡◌, ◌⊎◌, ℕ, ℤ, Bool, true, false, nat_lt, List, [], ◌++◌, take, length, codes, Option, None}
 use Rattle.qc_model.specs.Content.{Game}
 use Rattle.qc_model.specs.Game.{moves}
-use Rattle.qc_moves.specs.Lines.{lines_of}
-use Rattle.qc_moves.specs.Stands.{Place, before_scope, after_all, left_over, missing_at, not_allowed_at, place_of}
-use Rattle.qc_commands.specs.declared.status.Status.{Status}
-use Rattle.qc_commands.specs.declared.status.Status.TheVariants.{Done, BadMoves, Memory}
-use Rattle.qc_commands.specs.Files.{IsFile, TurnsFileDown}
-use Rattle.qc_commands.specs.Moves.{bad_moves_at, moves_of, TurnsMovesDown}
-use Rattle.qc_commands.specs.Plays.{missing_line, not_allowed_line}
+use Rattle.tell_moves.specs.Lines.{lines_of}
+use Rattle.tell_moves.specs.Stands.{Place, before_scope, after_all, left_over, missing_at, not_allowed_at, place_of}
+use Rattle.qecode_commands.specs.declared.status.Status.{Status}
+use Rattle.qecode_commands.specs.declared.status.Status.TheVariants.{Done, BadMoves, Memory}
+use Rattle.qecode_commands.specs.Files.{IsFile, TurnsFileDown}
+use Rattle.qecode_commands.specs.Moves.{bad_moves_at, moves_of, TurnsMovesDown}
+use Rattle.qecode_commands.specs.Plays.{missing_line, not_allowed_line}
 
 abbrev pub more_line : Bool → List ℕ
 more_line true = codes "more\n"

@@ -1,9 +1,9 @@
 -- What `run` answers and writes.
 use Rattle.std.specs.Prelude.{◌≡◌, ℕ, List, codes, Option, Some, None}
-use Rattle.qc_commands.specs.declared.status.Status.{Status}
-use Rattle.qc_commands.specs.declared.status.Status.TheVariants.{Usage}
-use Rattle.qc_commands.specs.Answers.{AnswersProblem, SolvesProblem}
-use Rattle.qc_commands.specs.Readings.{AnswersReading}
+use Rattle.qecode_commands.specs.declared.status.Status.{Status}
+use Rattle.qecode_commands.specs.declared.status.Status.TheVariants.{Usage}
+use Rattle.qecode_commands.specs.Answers.{AnswersProblem, SolvesProblem}
+use Rattle.qecode_commands.specs.Readings.{AnswersReading}
 use Rattle.tell_commands.specs.Allowed.{ListsFile}
 use Rattle.tell_commands.specs.Opening.{BeginsFile}
 use Rattle.tell_commands.specs.Words.{Asked, begins, lists, hopes, assures}

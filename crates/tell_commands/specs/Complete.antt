@@ -4,12 +4,12 @@ use Rattle.qc_model.specs.declared.problem.Kind.{Kind}
 use Rattle.qc_model.specs.Content.{Game}
 use Rattle.qc_model.specs.Turns.{full_turns_of}
 use Rattle.proof_tree.specs.Tree.{Tree}
-use Rattle.qc_moves.specs.Stands.{Place, before_scope, after_all, left_over, missing_at, not_allowed_at, place_of}
-use Rattle.qc_commands.specs.declared.status.Status.{Status}
-use Rattle.qc_commands.specs.declared.status.Status.TheVariants.{Done, Usage}
-use Rattle.qc_commands.specs.Complete.{TellsProblem, TellsSide, TellsReading}
-use Rattle.qc_commands.specs.Moves.{bad_moves_at, moves_of}
-use Rattle.qc_commands.specs.Readings.{worst_game}
+use Rattle.tell_moves.specs.Stands.{Place, before_scope, after_all, left_over, missing_at, not_allowed_at, place_of}
+use Rattle.qecode_commands.specs.declared.status.Status.{Status}
+use Rattle.qecode_commands.specs.declared.status.Status.TheVariants.{Done, Usage}
+use Rattle.qecode_commands.specs.Complete.{TellsProblem, TellsSide, TellsReading}
+use Rattle.qecode_commands.specs.Moves.{bad_moves_at, moves_of}
+use Rattle.qecode_commands.specs.Readings.{worst_game}
 use Rattle.tell_commands.specs.Words.{Asked, begins, lists, hopes, assures}
 
 -- the values end before a scope, or after the last one

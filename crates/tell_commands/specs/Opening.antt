@@ -10,10 +10,10 @@ use Rattle.qc_model.specs.Plan.{Plan as Choices, finish, choose, answer}
 use Rattle.proof_tree.specs.declared.tree.Outcome.{Outcome}
 use Rattle.proof_tree.specs.Tree.{Tree}
 use Rattle.proof_tree.specs.Text.{outcome_text}
-use Rattle.qc_commands.specs.declared.status.Status.{Status}
-use Rattle.qc_commands.specs.declared.status.Status.TheVariants.{Done, NotProved, Open, Memory}
-use Rattle.qc_commands.specs.Certificates.{TurnsCertificateDown, IsCertificateOf}
-use Rattle.qc_commands.specs.Plays.{shown_tree, ShowsSide, IsOpen, IsNotProved}
+use Rattle.qecode_commands.specs.declared.status.Status.{Status}
+use Rattle.qecode_commands.specs.declared.status.Status.TheVariants.{Done, NotProved, Open, Memory}
+use Rattle.qecode_commands.specs.Certificates.{TurnsCertificateDown, IsCertificateOf}
+use Rattle.qecode_commands.specs.Plays.{shown_tree, ShowsSide, IsOpen, IsNotProved}
 
 -- a line for each variable, with its value
 abbrev pub named_lines : List Variable → List ℤ → List ℕ

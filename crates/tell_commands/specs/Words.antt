@@ -2,7 +2,7 @@
 use Rattle.std.specs.Prelude.{ℕ, ◌&&◌, List, [], ◌∷◌, codes, Option, Some, None, if◌then◌else◌}
 use Rattle.std.specs.Str.{bytes_eq}
 use Rattle.qc_pessimist.specs.declared.reading.Places.{Places}
-use Rattle.qc_commands.specs.Words.{is_name, number_asked, turns_asked, places_asked, usual_turns}
+use Rattle.qecode_commands.specs.Words.{is_name, number_asked, turns_asked, places_asked, usual_turns}
 
 -- What the words ask for: how the strategy, or the counterstrategy, of a certificate begins; at most so many allowed tuples at
 -- a position; the certificate of a problem within so many turns, or that of the game at the worst ties of chosen owners.

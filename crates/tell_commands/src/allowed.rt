@@ -1,20 +1,20 @@
 //! `allowed`: the allowed tuples at a position.
 ghost use Rattle.std.specs.Prelude.{◌≡◌, ◌≢◌, ◌≤◌, length, IfOk};
 ghost use Rattle.qc_io.specs.Counts.{Rose, RoseBy};
-ghost use Rattle.qc_moves.specs.Stands.{before_scope, place_told, IsReady, IsBefore};
-ghost use Rattle.qc_commands.specs.Answers.{AnswersProblem};
-ghost use Rattle.qc_commands.specs.Files.{Wrote};
+ghost use Rattle.tell_moves.specs.Stands.{before_scope, place_told, IsReady, IsBefore};
+ghost use Rattle.qecode_commands.specs.Answers.{AnswersProblem};
+ghost use Rattle.qecode_commands.specs.Files.{Wrote};
 ghost use Rattle.tell_commands.specs.Allowed.{allowed_text, ListsPlace, ListsValues, ListsBytes, ListsFile};
 
-use qc_commands::{
+use qc_io::{Shelf, Sink};
+use qc_model::{Problem, ScopeId};
+use qc_play::PlayFault;
+use qecode_commands::{
     MOVES_LIMIT, Status, finish, open_file, open_problem, read_moves, turn_moves_down,
     turn_play_down,
 };
-use qc_io::{Shelf, Sink};
-use qc_model::{Problem, ScopeId};
-use qc_moves::{Standing, first_moves, stand_at};
-use qc_play::PlayFault;
 use std::alloc::{AllocError, Global};
+use tell_moves::{Standing, first_moves, stand_at};
 
 /// Lists the allowed tuples of a problem at the position of a file, at most so many.
 pub(crate) fn list_files<S: Shelf, K: Sink>(

@@ -3,16 +3,16 @@ ghost use Rattle.std.specs.Prelude.{◌≡◌, ◌≢◌};
 ghost use Rattle.qc_io.specs.Counts.{Rose, RoseBy};
 ghost use Rattle.proof_tree.specs.Shape.{tree_of};
 ghost use Rattle.qc_play.specs.Sides.{kind_of, choices_of};
-ghost use Rattle.qc_commands.specs.Answers.{AnswersProblem};
-ghost use Rattle.qc_commands.specs.Files.{Wrote};
+ghost use Rattle.qecode_commands.specs.Answers.{AnswersProblem};
+ghost use Rattle.qecode_commands.specs.Files.{Wrote};
 ghost use Rattle.tell_commands.specs.Opening.{BeginsWith, BeginsCertificate, BeginsFile};
 
 use crate::opening::opening;
 use proof_tree::Certificate;
-use qc_commands::{Status, finish, open_certificate, open_problem, tell_open};
 use qc_io::{Shelf, Sink};
 use qc_model::Problem;
 use qc_play::{Evidence, Side, make_evidence};
+use qecode_commands::{Status, finish, open_certificate, open_problem, tell_open};
 use std::alloc::{AllocError, Global};
 
 /// Tells how a file's certificate begins, which proves what it states of the problem of another.

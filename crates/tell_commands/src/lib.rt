@@ -2,7 +2,7 @@
 //!
 //! `qtell` tells of checked answers what people rely on: how the strategy of a certificate begins, which tuples are allowed
 //! at a position, and the two certificates behind `worst` with `--gap`. `run` reads what the words name from a shelf, and
-//! writes the answer to a sink, as the one of `qc_commands` does, by its calls and in its statuses. Its contract says what
+//! writes the answer to a sink, as the one of `qecode_commands` does, by its calls and in its statuses. Its contract says what
 //! the answer means, by words of `specs/` (`Answers`, `Allowed`, `Opening`, `Complete`).
 #![tactic(auto)]
 

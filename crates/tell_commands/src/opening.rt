@@ -8,9 +8,9 @@ ghost use Rattle.tell_commands.specs.Opening.{named_lines, choice_lines, opening
 
 use itoa::Buffer;
 use proof_tree::Outcome;
-use qc_commands::outcome_line;
 use qc_model::{Kind, Problem, ScopeId, Variable};
 use qc_play::{Counter, Plan, Side};
+use qecode_commands::outcome_line;
 use std::alloc::{AllocError, Global};
 
 // The line of a variable.

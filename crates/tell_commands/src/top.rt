@@ -1,7 +1,7 @@
 //! The top call: reads what the words name, and writes the answer.
 ghost use Rattle.std.specs.Prelude.{◌≡◌, ◌≢◌, map, None};
 ghost use Rattle.qc_io.specs.Counts.{NoneRose, Rose, RoseBy};
-ghost use Rattle.qc_commands.specs.Files.{Wrote};
+ghost use Rattle.qecode_commands.specs.Files.{Wrote};
 ghost use Rattle.tell_commands.specs.Answers.{Answers};
 ghost use Rattle.tell_commands.specs.Complete.{IsComplete};
 ghost use Rattle.tell_commands.specs.Words.{asked_of};
@@ -10,10 +10,10 @@ use crate::allowed::list_files;
 use crate::begin::begin_files;
 use crate::words::{Command, command_of};
 use proof_text::bytes_are_one_text_or_have_one_fault;
-use qc_commands::{Status, finish, oppose_file, solve_file};
 use qc_io::{Shelf, Sink};
 use qc_syntax::texts_say_one_thing;
 use qdimacs::texts_get_one_answer;
+use qecode_commands::{Status, finish, oppose_file, solve_file};
 use std::alloc::Global;
 
 const USAGE: &[u8] =

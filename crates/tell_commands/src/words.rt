@@ -4,8 +4,8 @@ ghost use Rattle.std.specs.Option.{option_map};
 ghost use Rattle.tell_commands.specs.Words.{most_asked, lists_most, hopes_within, assures_within, gap_within as gap_within_of, asked_by_three, asked_by_four, asked_by_five, asked_by_six, asked_of};
 ghost use Rattle.tell_commands.specs.View.{asked, IsWithin};
 
-use qc_commands::{USUAL_TURNS, is_name, number_within, places_in, turns_in};
 use qc_pessimist::Places;
+use qecode_commands::{USUAL_TURNS, is_name, number_within, places_in, turns_in};
 
 /// The most tuples that may be asked for.
 const MOST_LISTED: u64 = 1_000_000;

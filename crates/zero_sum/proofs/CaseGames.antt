@@ -9,7 +9,7 @@ use Rattle.qc_model.specs.declared.problem.Pred.TheVariants.{IntLe, IntLt}
 use Rattle.qc_model.specs.declared.problem.Arg.TheVariants.{Num}
 use Rattle.qc_model.specs.declared.problem.Argument.TheVariants.{One}
 use Rattle.qc_model.specs.Content.{Game}
-use Rattle.qc_laws.proofs.CaseGames.{variable, rule, one_var, of_variable, of_aggregate, minimise, exists, forall_scope}
+use Rattle.model_laws.proofs.CaseGames.{variable, rule, one_var, of_variable, of_aggregate, minimise, exists, forall_scope}
 use Rattle.zero_sum.specs.declared.stake.Stake.{Stake}
 
 abbrev pub stake : Sense → ℕ → ℕ → Stake

@@ -12,11 +12,11 @@ use Rattle.qc_model.specs.Game.{IsWon}
 use Rattle.qc_model.specs.Plan.{Plan, finish, choose, answer, no_entries, entry}
 use Rattle.qc_model.specs.Valid.{IsValid}
 use Rattle.qc_model.proofs.Plans.{optimal_wins}
-use Rattle.qc_laws.specs.Strategies.{optimal_strategies}
-use Rattle.qc_laws.proofs.Existence.{optimal_exists}
-use Rattle.qc_laws.proofs.Listed.{optimal_exact}
-use Rattle.qc_laws.proofs.Computed.{IsOptimum as IsComputed, only_strategy, none_optimal}
-use Rattle.qc_laws.proofs.CaseGames.{rule, one_var, of_variable, of_aggregate, minimise, exists, forall_scope, opposed, unopposed}
+use Rattle.model_laws.specs.Strategies.{optimal_strategies}
+use Rattle.model_laws.proofs.Existence.{optimal_exists}
+use Rattle.model_laws.proofs.Listed.{optimal_exact}
+use Rattle.model_laws.proofs.Computed.{IsOptimum as IsComputed, only_strategy, none_optimal}
+use Rattle.model_laws.proofs.CaseGames.{rule, one_var, of_variable, of_aggregate, minimise, exists, forall_scope, opposed, unopposed}
 use Rattle.proof_tree.specs.Meaning.{IsOptimum}
 use Rattle.zero_sum.specs.Stake.{is_zero_sum, stake_of, defaults_fit}
 use Rattle.zero_sum.specs.Bounded.{bounded_game}

@@ -8,7 +8,7 @@ use Rattle.qc_model.specs.Domains.{Values, declared_box, domain_values, greatest
 use Rattle.qc_model.specs.Valid.{IsValid, is_domain, is_variable_with, is_integer_domain}
 use Rattle.qc_model.proofs.DomainValues.{domain_full}
 use Rattle.qc_model.proofs.Widths.{least_is_first, greatest_is_last}
-use Rattle.qc_rules.proofs.Ascends.{domain_ascends}
+use Rattle.model_levels.proofs.Ascends.{domain_ascends}
 use Rattle.zero_sum.specs.declared.stake.Stake.{Stake}
 use Rattle.zero_sum.specs.Stake.{stake_of}
 use Rattle.zero_sum.proofs.Valid.{all_get, stake_sound}

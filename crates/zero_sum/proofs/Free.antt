@@ -12,7 +12,7 @@ use Rattle.qc_model.specs.Game.{before, scope_domains, restriction, moves}
 use Rattle.qc_model.specs.Valid.{IsValid, is_domain}
 use Rattle.qc_model.proofs.DomainValues.{domain_full}
 use Rattle.qc_model.proofs.Moves.{of_map, moves_from}
-use Rattle.qc_laws.proofs.Listed.{all_to}
+use Rattle.model_laws.proofs.Listed.{all_to}
 use Rattle.zero_sum.specs.Stake.{is_free}
 
 none_fails : {X : Type 0} (p : X → Bool) (xs : List X) → (length xs == 0) ≡ true → list_all p xs ≡ true

@@ -11,7 +11,7 @@ use Rattle.qc_model.specs.Value.{value}
 use Rattle.qc_model.specs.Optimal.{is_better, Optimal}
 use Rattle.qc_model.specs.Valid.{IsValid}
 use Rattle.qc_model.proofs.Plans.{optimal_wins}
-use Rattle.qc_laws.proofs.Existence.{optimal_exists}
+use Rattle.model_laws.proofs.Existence.{optimal_exists}
 use Rattle.proof_tree.specs.Meaning.{HasOptimum, IsOptimum}
 use Rattle.zero_sum.specs.declared.stake.Stake.{Stake}
 use Rattle.zero_sum.specs.Stake.{is_as_good, only_wish, stake_from, stake_by, defaults_from, defaults_by}

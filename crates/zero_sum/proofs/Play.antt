@@ -17,7 +17,7 @@ use Rattle.qc_model.specs.Optimal.{ChoosesBest, Optimal}
 use Rattle.qc_model.specs.Valid.{IsValid}
 use Rattle.qc_model.proofs.Moves.{moves_from, moves_to}
 use Rattle.qc_model.proofs.Plans.{optimal_wins}
-use Rattle.qc_laws.proofs.Existence.{entries_exist, optimal_exists}
+use Rattle.model_laws.proofs.Existence.{entries_exist, optimal_exists}
 use Rattle.zero_sum.specs.declared.stake.Stake.{Stake}
 use Rattle.zero_sum.specs.Stake.{is_as_good, is_free, stake_past, stake_from, defaults_past, defaults_from}
 use Rattle.zero_sum.specs.Bounded.{plain, bounded_game}

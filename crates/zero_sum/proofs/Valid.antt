@@ -28,7 +28,7 @@ use Rattle.qc_model.specs.Bottlenecks.{bottlenecks_last}
 use Rattle.qc_model.specs.Valid.{IsValid, is_number, is_variable_with, is_integer_domain, is_declared_by, is_constraint, is_in_order, is_target, is_scope, is_universal, is_fold, is_aggregate_of}
 use Rattle.qc_model.proofs.Before.{before_up}
 use Rattle.qc_model.proofs.InOrder.{stands_after}
-use Rattle.qc_laws.proofs.Seen.{after_visible}
+use Rattle.model_laws.proofs.Seen.{after_visible}
 use Rattle.zero_sum.specs.declared.stake.Stake.{Stake}
 use Rattle.zero_sum.specs.Stake.{is_by_worst, only_wish, stake_past, stake_from, stake_by, stake_of}
 use Rattle.zero_sum.specs.Bounded.{bound, with_rule, plain, bounded_game}

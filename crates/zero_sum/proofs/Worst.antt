@@ -10,7 +10,7 @@ use Rattle.qc_model.specs.declared.problem.Aggregate.{Aggregate}
 use Rattle.qc_model.specs.Lists.{Among}
 use Rattle.qc_model.specs.Value.{fold_of, aggregate_fold, least_or, greatest_or}
 use Rattle.qc_model.specs.Optimal.{is_better}
-use Rattle.qc_laws.proofs.Folds.{least_is_one, greatest_is_one, least_bounds, greatest_bounds}
+use Rattle.model_laws.proofs.Folds.{least_is_one, greatest_is_one, least_bounds, greatest_bounds}
 use Rattle.zero_sum.specs.Stake.{is_as_good, is_worst, is_by_worst}
 use Rattle.zero_sum.specs.Bounded.{next_better}
 

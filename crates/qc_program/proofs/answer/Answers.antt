@@ -1,11 +1,11 @@
 use Rattle.std.proofs.Common.{◌≡◌, ℕ, List, map, string_bytes, Option, None, Bor, ap}
 use Rattle.qc_io.specs.Counts.{Rose, RoseBy}
 use Rattle.qc_io.specs.Edge.{ShelfCounts, SinkCounts}
-use Rattle.qc_commands.specs.declared.status.Status.{Status}
-use Rattle.qc_commands.specs.declared.status.Status.TheVariants.{ReadFault}
-use Rattle.qc_commands.specs.Words.{Asked, asked_of}
-use Rattle.qc_commands.specs.Answers.{Answers}
-use Rattle.qc_commands.specs.Files.{Wrote}
+use Rattle.qecode_commands.specs.declared.status.Status.{Status}
+use Rattle.qecode_commands.specs.declared.status.Status.TheVariants.{ReadFault}
+use Rattle.qecode_commands.specs.Words.{Asked, asked_of}
+use Rattle.qecode_commands.specs.Answers.{Answers}
+use Rattle.qecode_commands.specs.Files.{Wrote}
 use Rattle.qc_program.specs.Edge.{EndsRight}
 use Rattle.qc_program.proofs.answer.Goals as goal
 

@@ -1,8 +1,8 @@
 use Rattle.std.proofs.Common.{◌≡◌, [], refl, subst}
 use Rattle.qc_io.specs.Counts.{RoseBy}
 use Rattle.qc_io.proofs.Known.{Appends-nil}
-use Rattle.qc_commands.proofs.Down.{rose_after}
-use Rattle.qc_commands.proofs.Written.{Wrote-weaker}
+use Rattle.qecode_commands.proofs.Down.{rose_after}
+use Rattle.qecode_commands.proofs.Written.{Wrote-weaker}
 use Rattle.dense_commands.specs.Answers.{ChecksFile}
 use Rattle.dense_commands.proofs.Before.{checks_before, unread}
 use Rattle.dense_commands.proofs.check.check_file.Goals as goal

@@ -1,9 +1,9 @@
 use Rattle.std.proofs.Common.{◌≡◌, inl, inr, subst}
 use Rattle.qc_io.specs.Counts.{RoseBy}
 use Rattle.dense_commands.specs.Answers.{ChecksFile}
-use Rattle.qc_commands.proofs.Down.{rose_after}
+use Rattle.qecode_commands.proofs.Down.{rose_after}
 use Rattle.dense_commands.proofs.Before.{checks_before}
-use Rattle.qc_commands.proofs.Written.{Wrote-weaker, wrote_from}
+use Rattle.qecode_commands.proofs.Written.{Wrote-weaker, wrote_from}
 use Rattle.dense_commands.proofs.check.check_files.Goals as goal
 
 pub returns-in-Ok-clause-wrote : goal.returns-in-Ok-clause-wrote

@@ -1,7 +1,7 @@
 use Rattle.std.proofs.Common.{inl, inr, refl, rules, subst}
 use Rattle.lemma_check.specs.Machine.{game_of}
 use Rattle.lemma_judge.specs.Checking.{Comes}
-use Rattle.qc_commands.proofs.Written.{Wrote-weaker}
+use Rattle.qecode_commands.proofs.Written.{Wrote-weaker}
 use Rattle.dense_commands.proofs.list.check_file.Goals as goal
 
 pub returns-in-Ok-clause-wrote : goal.returns-in-Ok-clause-wrote

@@ -1,6 +1,6 @@
 use Rattle.std.proofs.Common.{subst}
 use Rattle.qc_io.specs.Counts.{RoseBy}
-use Rattle.qc_commands.proofs.Written.{Wrote-weaker}
+use Rattle.qecode_commands.proofs.Written.{Wrote-weaker}
 use Rattle.dense_commands.specs.Answers.{ChecksListFile}
 use Rattle.dense_commands.proofs.list.check_list.Goals as goal
 

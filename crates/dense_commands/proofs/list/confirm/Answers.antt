@@ -1,5 +1,5 @@
 use Rattle.std.proofs.Common.{refl}
-use Rattle.qc_commands.proofs.Written.{Wrote-weaker}
+use Rattle.qecode_commands.proofs.Written.{Wrote-weaker}
 use Rattle.dense_commands.proofs.list.confirm.Goals as goal
 
 pub returns-in-Exists-clause-wrote : goal.returns-in-Exists-clause-wrote

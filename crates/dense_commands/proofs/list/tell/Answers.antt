@@ -1,6 +1,6 @@
 use Rattle.std.proofs.Common.{subst}
 use Rattle.lemma_judge.specs.Checking.{Comes}
-use Rattle.qc_commands.proofs.Written.{Wrote-weaker}
+use Rattle.qecode_commands.proofs.Written.{Wrote-weaker}
 use Rattle.dense_commands.proofs.list.tell.Goals as goal
 
 pub returns-in-Yes-clause-wrote : goal.returns-in-Yes-clause-wrote

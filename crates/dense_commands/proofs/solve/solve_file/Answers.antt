@@ -1,5 +1,5 @@
 use Rattle.std.proofs.Common.{inl, inr}
-use Rattle.qc_commands.proofs.Written.{Wrote-weaker, wrote_from}
+use Rattle.qecode_commands.proofs.Written.{Wrote-weaker, wrote_from}
 use Rattle.dense_commands.proofs.solve.solve_file.Goals as goal
 
 pub returns-in-Ok-clause-wrote : goal.returns-in-Ok-clause-wrote

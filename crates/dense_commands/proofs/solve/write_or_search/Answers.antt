@@ -1,7 +1,7 @@
 use Rattle.std.proofs.Common.{◌≡◌, ◌∙◌, ◌≤◌, length, IfSome, inl, inr, subst, sym}
 use Rattle.lemma_judge.specs.Checking.{IsProof}
 use Rattle.lemma_solver.specs.Believed.{IsBelieved}
-use Rattle.qc_commands.proofs.Written.{Wrote-weaker}
+use Rattle.qecode_commands.proofs.Written.{Wrote-weaker}
 use Rattle.dense_commands.proofs.solve.write_or_search.Goals as goal
 
 pub returns-in-Some-clause-wrote : goal.returns-in-Some-clause-wrote

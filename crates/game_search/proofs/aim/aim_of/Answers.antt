@@ -1,6 +1,6 @@
 use Rattle.std.proofs.Common.{◌≡◌, ◌∙◌, refl, sym, ap, ◌∷◌}
 use Rattle.qc_model.specs.Content.{Game}
-use Rattle.qc_joins.specs.Verdicts.{wishes_at}
+use Rattle.joins.specs.Verdicts.{wishes_at}
 use Rattle.game_search.proofs.Ruling.{target_there, aim_taken, aim_is, none_counted}
 use Rattle.game_search.proofs.aim.aim_of.Goals as goal
 

@@ -1,7 +1,7 @@
 use Rattle.std.proofs.Common.{◌∙◌, refl, sym, subst, Option, w64, rules}
 use Rattle.std.proofs.lemmas.Int.{to_z-of_z}
 use mir.Val.{SFits}
-use Rattle.qc_joins.specs.Joins.{game_of}
+use Rattle.joins.specs.Joins.{game_of}
 use Rattle.game_search.specs.Aims.{IsAim, IsAimed, AreRuledOut}
 use Rattle.game_search.specs.declared.aim.Aim.{Aim}
 use Rattle.game_search.proofs.Ruling.{none_reached, worse_so}

@@ -1,5 +1,5 @@
 use Rattle.std.proofs.Common.{◌≡◌, ◌∙◌, sym, refl, true, false, not, Bool}
-use Rattle.qc_levels.specs.Seen.{verdict_of}
+use Rattle.joins.specs.Seen.{verdict_of}
 use Rattle.search_parts.specs.Settled.{beats_none, is_vague_verdict}
 use Rattle.game_search.proofs.Solved.{solution_of}
 use Rattle.game_search.proofs.attempts.two_passes.Goals as goal

@@ -1,8 +1,8 @@
 use Rattle.std.proofs.Common.{◌≡◌, ◌∙◌, ap, refl, subst, true, drop, arith}
 use Rattle.qc_model.specs.Content.{Game}
 use Rattle.qc_model.specs.Demands.{demands}
-use Rattle.qc_levels.specs.Seen.{verdict_of}
-use Rattle.qc_joins.specs.Verdicts.{stuck_of}
+use Rattle.joins.specs.Seen.{verdict_of}
+use Rattle.joins.specs.Verdicts.{stuck_of}
 use Rattle.game_search.specs.Here.{node_of}
 use Rattle.game_search.proofs.Here.{stuck_told}
 use Rattle.game_search.proofs.OwnTrees.{numbers_at}

@@ -1,15 +1,15 @@
 use Rattle.std.proofs.Common.{◌≡◌, ◌++◌, ◌∙◌, refl, subst, sym, suc, drop, List}
 use Rattle.std.specs.Prelude.{IfSome}
 use Rattle.qc_model.specs.Demands.{demands}
-use Rattle.qc_levels.specs.Seen.{verdict_of}
+use Rattle.joins.specs.Seen.{verdict_of}
 use Rattle.proof_tree.specs.declared.line.Line.{Line}
 use Rattle.search_box.specs.Looking.{scope_number}
-use Rattle.kept_nodes.specs.Aside.{StandsAside}
+use Rattle.search_kept.specs.Aside.{StandsAside}
 use Rattle.search_parts.specs.Written.{NodeWritten}
-use Rattle.kept_nodes.specs.declared.aside.AsideNode.{AsideNode}
+use Rattle.search_kept.specs.declared.aside.AsideNode.{AsideNode}
 use Rattle.search_parts.specs.Settled.{beats_none}
-use Rattle.kept_nodes.proofs.Asides.{aside_written}
-use Rattle.kept_nodes.proofs.Knowing.{node_ends}
+use Rattle.search_kept.proofs.Asides.{aside_written}
+use Rattle.search_kept.proofs.Knowing.{node_ends}
 use Rattle.game_search.proofs.keeping.put_aside.Goals as goal
 
 pub returns-clause-told : goal.returns-clause-told

@@ -3,15 +3,15 @@ use Rattle.std.specs.Prelude.{IfSome}
 use Rattle.qc_model.specs.Content.{Game}
 use Rattle.qc_model.specs.Demands.{demands}
 use Rattle.qc_model.specs.ForallVerdict.{goal_verdict}
-use Rattle.qc_levels.specs.Seen.{verdict_of}
-use Rattle.qc_joins.specs.Joins.{out_of}
+use Rattle.joins.specs.Seen.{verdict_of}
+use Rattle.joins.specs.Joins.{out_of}
 use Rattle.proof_tree.specs.declared.line.Line.{Line}
 use Rattle.search_box.specs.Looking.{scope_number}
-use Rattle.kept_nodes.specs.Known.{StandsHere}
+use Rattle.search_kept.specs.Known.{StandsHere}
 use Rattle.game_search.specs.Here.{node_of}
-use Rattle.kept_nodes.specs.declared.known.KnownNode.{KnownNode}
+use Rattle.search_kept.specs.declared.known.KnownNode.{KnownNode}
 use Rattle.search_parts.specs.Settled.{beats_none}
-use Rattle.kept_nodes.proofs.Knowing.{node_ends}
+use Rattle.search_kept.proofs.Knowing.{node_ends}
 use Rattle.game_search.proofs.Knowing.{stands_told}
 use Rattle.game_search.proofs.keeping.put_known.Goals as goal
 

@@ -4,8 +4,8 @@ use Rattle.std.specs.Int.{int_max, int_min}
 use Rattle.qc_model.specs.Content.{Game}
 use Rattle.qc_model.specs.Domains.{values_left}
 use Rattle.qc_model.specs.Valid.{is_number}
-use Rattle.qc_arguments.specs.Asked.{is_box_of}
-use Rattle.qc_arguments.proofs.Boxes.{left_small}
+use Rattle.model_arguments.specs.Asked.{is_box_of}
+use Rattle.model_arguments.proofs.Boxes.{left_small}
 use Rattle.search_box.specs.Bounds.{BoundAnswers}
 use Rattle.search_box.proofs.Keeping.{passed_number}
 use Rattle.search_parts.proofs.Fitting.{number_among}

@@ -3,9 +3,9 @@ use Rattle.qc_model.specs.Content.{Game}
 use Rattle.std.specs.Int.{int_max, int_min}
 use Rattle.qc_model.specs.Domains.{declared_box, values_left}
 use Rattle.qc_model.specs.Valid.{is_number}
-use Rattle.qc_arguments.specs.Asked.{is_box_of}
-use Rattle.qc_arguments.proofs.Boxes.{left_small}
-use Rattle.qc_joins.specs.Joins.{game_of}
+use Rattle.model_arguments.specs.Asked.{is_box_of}
+use Rattle.model_arguments.proofs.Boxes.{left_small}
+use Rattle.joins.specs.Joins.{game_of}
 use Rattle.prop_base.proofs.Steps.{follows_same}
 use Rattle.search_box.proofs.Keeping.{passed_number, sub_self}
 use Rattle.game_search.specs.Aims.{AreWorse, NoneWorse, IsWorse}

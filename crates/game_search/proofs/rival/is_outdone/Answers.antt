@@ -2,7 +2,7 @@ use Rattle.std.proofs.Common.{◌≡◌, ◌∙◌, sym, ap, Option, w64, rules}
 use Rattle.std.proofs.lemmas.Int.{to_z-of_z}
 use mir.Val.{SFits}
 use Rattle.qc_model.specs.ExistsVerdict.{beats}
-use Rattle.qc_joins.specs.Joins.{game_of}
+use Rattle.joins.specs.Joins.{game_of}
 use Rattle.game_search.specs.Rivals.{beaten_by}
 use Rattle.game_search.specs.declared.rival.Rival.{Rival}
 use Rattle.game_search.proofs.Outdoing.{outdone_by}

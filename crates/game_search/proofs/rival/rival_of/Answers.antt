@@ -1,8 +1,8 @@
 use Rattle.std.proofs.Common.{◌≡◌, ◌∙◌, sym, ◌∷◌, ◌-◌, w64, rules}
 use Rattle.std.proofs.lemmas.Int.{to_z-of_z}
 use mir.Val.{SFits}
-use Rattle.qc_joins.specs.Joins.{game_of}
-use Rattle.qc_joins.specs.Verdicts.{wishes_at}
+use Rattle.joins.specs.Joins.{game_of}
+use Rattle.joins.specs.Verdicts.{wishes_at}
 use Rattle.game_search.proofs.Ruling.{none_counted}
 use Rattle.game_search.proofs.Rivals.{rival_sense, rival_beats}
 use Rattle.game_search.proofs.rival.rival_of.Goals as goal

@@ -13,8 +13,8 @@ use Rattle.proof_tree.specs.Incumbents.{has_no_worse}
 use Rattle.proof_tree.specs.InPlace.{is_horizon}
 use Rattle.proof_tree.specs.Lines.{step_line}
 use Rattle.proof_tree.specs.Place.{is_fixed_to}
-use Rattle.qc_levels.specs.Seen.{verdict_of}
-use Rattle.qc_joins.specs.Joins.{game_of, KeepsOthers, LeafFits, out_of}
+use Rattle.joins.specs.Seen.{verdict_of}
+use Rattle.joins.specs.Joins.{game_of, KeepsOthers, LeafFits, out_of}
 use Rattle.search_box.specs.Closes.{IsPruned, IsClosedAt}
 use Rattle.search_box.specs.Entered.{IsEntered}
 use Rattle.search_box.specs.Looking.{scope_number}
@@ -30,9 +30,9 @@ use Rattle.search_parts.specs.Settled.{beats_none, is_outdone}
 use Rattle.game_search.specs.Trimmed.{TrimmedPut}
 use Rattle.game_search.specs.Here.{here_of, in_box, node_of}
 use Rattle.game_search.specs.Put.{BoundedPut}
-use Rattle.kept_nodes.specs.Known.{IsEnded}
+use Rattle.search_kept.specs.Known.{IsEnded}
 use Rattle.search_parts.specs.Written.{NodeWritten}
-use Rattle.qc_joins.specs.declared.joins.Joins.{Joins}
+use Rattle.joins.specs.declared.joins.Joins.{Joins}
 use Rattle.search_box.specs.Complete.{IsClosedAtGoal}
 use Rattle.game_search.proofs.Spread.{first_case, next_case, spread_here}
 use Rattle.qc_model.specs.Demands.{demands}

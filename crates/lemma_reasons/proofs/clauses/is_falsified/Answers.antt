@@ -1,7 +1,7 @@
 use Rattle.std.proofs.Common.{◌∙◌, sym, ap}
 use Rattle.std.specs.Prelude.{pos}
 use Rattle.std.specs.List.{list_all}
-use Rattle.qc_arguments.specs.Written.{args_at}
+use Rattle.model_arguments.specs.Written.{args_at}
 use Rattle.qc_refuter.proofs.Ready.{rule_met}
 use Rattle.lemma_list.specs.Reasons.{comes_to}
 use Rattle.lemma_reasons.specs.Answering.{answered_by}

@@ -1,7 +1,7 @@
 use Rattle.std.proofs.Common.{◌∙◌, sym, subst}
 use Rattle.std.proofs.lemmas.Option.{same_Some, slice_get_within}
 use Rattle.qc_model.specs.Content.{Rule}
-use Rattle.qc_arguments.specs.Asked.{IsAsked}
+use Rattle.model_arguments.specs.Asked.{IsAsked}
 use Rattle.qc_refuter.proofs.Ready.{rule_met}
 use Rattle.lemma_reasons.proofs.kept.is_entailed.Goals as goal
 

@@ -1,6 +1,6 @@
 use Rattle.std.proofs.Common.{◌≤◌, length, subst, sym, suc}
 use Rattle.qc_model.specs.Content.{Game}
-use Rattle.qc_rules.specs.Spans.{IsSpanOf}
+use Rattle.model_levels.specs.Spans.{IsSpanOf}
 use Rattle.lemma_reasons.proofs.spans.scope_kept.Goals as goal
 
 pub returns : goal.returns

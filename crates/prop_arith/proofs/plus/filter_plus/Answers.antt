@@ -3,7 +3,7 @@ use Rattle.std.specs.Prelude.{pos}
 use Rattle.std.specs.List.{list_all}
 use Rattle.qc_model.specs.declared.problem.Arg.{Arg}
 use Rattle.qc_model.specs.Valid.{arg_sees}
-use Rattle.qc_arguments.specs.Written.{arg_at}
+use Rattle.model_arguments.specs.Written.{arg_at}
 use Rattle.qc_refuter.specs.Met.{is_open}
 use Rattle.prop_linear.specs.Sides.{IsBalanced}
 use Rattle.prop_arith.proofs.Sums.{signs, row, plus_balanced, plus_sees, plus_open}

@@ -1,6 +1,6 @@
 use Rattle.std.proofs.Common.{refl, ap}
 use Rattle.std.specs.List.{list_all}
-use Rattle.qc_arguments.proofs.Boxes.{seen_place}
+use Rattle.model_arguments.proofs.Boxes.{seen_place}
 use Rattle.prop_base.specs.Closed.{keeps_at}
 use Rattle.prop_base.proofs.Whole.{all_seen, whole_cut, whole_emptied}
 use Rattle.prop_base.proofs.emptying.empty_last.Goals as goal

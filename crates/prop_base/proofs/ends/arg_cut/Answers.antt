@@ -1,6 +1,6 @@
 use Rattle.std.proofs.Common.{◌≡◌, true, subst}
 use Rattle.qc_model.specs.Valid.{arg_sees}
-use Rattle.qc_arguments.proofs.Boxes.{seen_place}
+use Rattle.model_arguments.proofs.Boxes.{seen_place}
 use Rattle.prop_base.proofs.ends.arg_cut.Goals as goal
 
 pub end_cut-requires-clause-x : goal.end_cut-requires-clause-x

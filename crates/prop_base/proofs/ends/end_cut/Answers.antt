@@ -6,8 +6,8 @@ use Rattle.qc_model.specs.Closed.{refutes_at}
 use Rattle.qc_model.specs.Domains.{declared_box, values_left, least_value, greatest_value}
 use Rattle.qc_model.specs.Valid.{is_number}
 use Rattle.qc_model.proofs.Readable.{together}
-use Rattle.qc_arguments.proofs.Values.{has_least, has_greatest}
-use Rattle.qc_arguments.proofs.Boxes.{some_left, sub_ascending}
+use Rattle.model_arguments.proofs.Values.{has_least, has_greatest}
+use Rattle.model_arguments.proofs.Boxes.{some_left, sub_ascending}
 use Rattle.prop_base.proofs.Keeps.{keeps_end}
 use Rattle.prop_base.proofs.OneEnd.{least_end, greatest_end, ends_ordered, end_stays, end_small, end_goes}
 use Rattle.prop_base.proofs.Widening.{width_back}

@@ -1,7 +1,7 @@
 use Rattle.std.proofs.Common.{◌≡◌, ◌∙◌, sym, ap, subst, true, not, take, ◌+◌}
 use Rattle.std.specs.List.{list_all}
 use Rattle.qc_model.specs.Domains.{Box}
-use Rattle.qc_arguments.specs.Asked.{IsAsked}
+use Rattle.model_arguments.specs.Asked.{IsAsked}
 use Rattle.prop_bool.specs.Literals.{truth_number, is_truth_at, literals, same_literal, surely_fails, surely_holds}
 use Rattle.prop_bool.specs.Findings.{given}
 use Rattle.qc_model.proofs.Readable.{second}

@@ -1,6 +1,6 @@
 use Rattle.std.proofs.Common.{List, [], ◌∙◌, sym, ap, subst}
 use Rattle.qc_model.specs.declared.problem.Arg.{Arg}
-use Rattle.qc_arguments.specs.Written.{arg_at, args_at}
+use Rattle.model_arguments.specs.Written.{arg_at, args_at}
 use Rattle.prop_bool.specs.Literals.{IsDisjunction, literals, negated}
 use Rattle.prop_bool.proofs.Junctions.{all_items_say}
 use Rattle.prop_bool.proofs.predicates.filter_all_items.Goals as goal

@@ -2,7 +2,7 @@ use Rattle.std.proofs.Common.{List, subst, sym, ap, ◌∙◌, ◌≤◌, ◌+�
 use Rattle.std.specs.Prelude.{pos}
 use Rattle.qc_model.specs.declared.problem.Arg.{Arg}
 use Rattle.qc_model.specs.declared.problem.Arg.TheVariants.{Num}
-use Rattle.qc_arguments.specs.Written.{args_at}
+use Rattle.model_arguments.specs.Written.{args_at}
 use Rattle.prop_bool.specs.Literals.{IsDisjunction, literals, plain}
 use Rattle.prop_bool.proofs.Clauses.{clause_says, clause_few}
 use Rattle.prop_bool.proofs.predicates.filter_clause.Goals as goal

@@ -1,6 +1,6 @@
 use Rattle.std.proofs.Common.{[], ◌∷◌, ◌∙◌, sym, ap, subst}
 use Rattle.qc_model.specs.declared.problem.Arg.{Arg}
-use Rattle.qc_arguments.specs.Written.{arg_at}
+use Rattle.model_arguments.specs.Written.{arg_at}
 use Rattle.prop_bool.specs.Literals.{IsDisjunction, literals, plain}
 use Rattle.prop_bool.proofs.Junctions.{either_says}
 use Rattle.prop_bool.proofs.predicates.filter_either.Goals as goal

@@ -1,6 +1,6 @@
 use Rattle.std.proofs.Common.{[], ◌∷◌, false, ◌∙◌, sym, ap, subst}
 use Rattle.qc_model.specs.declared.problem.Arg.{Arg}
-use Rattle.qc_arguments.specs.Written.{arg_at}
+use Rattle.model_arguments.specs.Written.{arg_at}
 use Rattle.prop_bool.specs.Parities.{IsParity}
 use Rattle.prop_bool.proofs.Xors.{exactly_one_says}
 use Rattle.prop_bool.proofs.predicates.filter_exactly_one.Goals as goal

@@ -1,6 +1,6 @@
 use Rattle.std.proofs.Common.{List, true, ◌∙◌, sym, ap, subst}
 use Rattle.qc_model.specs.declared.problem.Arg.{Arg}
-use Rattle.qc_arguments.specs.Written.{args_at}
+use Rattle.model_arguments.specs.Written.{args_at}
 use Rattle.prop_bool.specs.Parities.{IsParity}
 use Rattle.prop_bool.proofs.Xors.{odd_items_say}
 use Rattle.prop_bool.proofs.predicates.filter_odd_items.Goals as goal

@@ -1,6 +1,6 @@
 use Rattle.std.proofs.Common.{List, [], ◌∙◌, sym, ap, subst}
 use Rattle.qc_model.specs.declared.problem.Arg.{Arg}
-use Rattle.qc_arguments.specs.Written.{arg_at, args_at}
+use Rattle.model_arguments.specs.Written.{arg_at, args_at}
 use Rattle.prop_bool.specs.Literals.{IsDisjunction, literals, plain}
 use Rattle.prop_bool.proofs.Junctions.{some_item_says}
 use Rattle.prop_bool.proofs.predicates.filter_some_item.Goals as goal

@@ -1,6 +1,6 @@
 use Rattle.std.proofs.Common.{List, subst, sym, ap, ◌∙◌, ◌≤◌, ◌+◌, length}
 use Rattle.qc_model.specs.declared.problem.Arg.{Arg}
-use Rattle.qc_arguments.specs.Written.{args_at, last_arg}
+use Rattle.model_arguments.specs.Written.{args_at, last_arg}
 use Rattle.prop_bool.specs.Literals.{IsDisjunction, literals, plain}
 use Rattle.prop_bool.proofs.Clauses.{told_says, told_few}
 use Rattle.prop_bool.proofs.predicates.filter_told_clause.Goals as goal

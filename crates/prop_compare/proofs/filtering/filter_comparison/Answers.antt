@@ -1,5 +1,5 @@
 use Rattle.std.proofs.Common.{◌∙◌, sym, ap}
-use Rattle.qc_arguments.specs.Written.{arg_at}
+use Rattle.model_arguments.specs.Written.{arg_at}
 use Rattle.prop_compare.proofs.Rows.{pair_at, tested_by}
 use Rattle.prop_compare.proofs.filtering.filter_comparison.Goals as goal
 

@@ -1,5 +1,5 @@
 use Rattle.std.proofs.Common.{◌∙◌, sym, ap}
-use Rattle.qc_arguments.specs.Written.{arg_at}
+use Rattle.model_arguments.specs.Written.{arg_at}
 use Rattle.prop_compare.proofs.Three.{telling_at}
 use Rattle.prop_compare.proofs.reified.filter_reified.Goals as goal
 

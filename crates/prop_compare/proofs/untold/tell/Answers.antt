@@ -1,7 +1,7 @@
 use Rattle.std.proofs.Common.{◌∙◌, sym, ap, subst}
 use Rattle.qc_model.specs.declared.problem.Arg.{Arg}
 use Rattle.qc_model.specs.Domains.{values_left}
-use Rattle.qc_arguments.specs.Written.{last_arg}
+use Rattle.model_arguments.specs.Written.{last_arg}
 use Rattle.prop_compare.specs.Untold.{RefutesNone}
 use Rattle.prop_compare.proofs.Decided.{both_truths}
 use Rattle.prop_compare.proofs.Lasts.{IsTruthLast, truth_last}

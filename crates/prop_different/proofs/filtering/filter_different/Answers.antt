@@ -1,8 +1,8 @@
 use Rattle.std.proofs.Common.{◌∙◌, sym, ap, subst, List}
 use Rattle.qc_model.specs.declared.problem.Arg.{Arg}
-use Rattle.qc_arguments.specs.Written.{args_at}
+use Rattle.model_arguments.specs.Written.{args_at}
 use Rattle.prop_different.specs.Different.{IsDifferent}
-use Rattle.qc_arguments.specs.Repeats.{has_repeat}
+use Rattle.model_arguments.specs.Repeats.{has_repeat}
 use Rattle.prop_different.proofs.Shapes.{items_differ}
 use Rattle.prop_different.proofs.filtering.filter_different.Goals as goal
 

@@ -7,7 +7,7 @@ use Rattle.qc_model.specs.declared.problem.Arg.TheVariants.{Var}
 use Rattle.qc_model.specs.Domains.{Values, least_value}
 use Rattle.qc_model.specs.Refuted.{left_to}
 use Rattle.qc_model.specs.Valid.{is_number}
-use Rattle.qc_arguments.proofs.Boxes.{seen_place}
+use Rattle.model_arguments.proofs.Boxes.{seen_place}
 use Rattle.qc_refuter.specs.Full.{held, AreWidest}
 use Rattle.qc_refuter.proofs.Terms.{least_small}
 use Rattle.prop_base.proofs.Whole.{whole_cut}

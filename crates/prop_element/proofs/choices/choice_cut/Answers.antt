@@ -1,7 +1,7 @@
 use Rattle.std.proofs.Common.{◌≤◌, ◌∙◌, sym, ap, subst, List, length}
 use Rattle.std.specs.List.{list_all}
 use Rattle.qc_model.specs.declared.problem.Arg.{Arg}
-use Rattle.qc_arguments.specs.Written.{arg_at, args_at}
+use Rattle.model_arguments.specs.Written.{arg_at, args_at}
 use Rattle.qc_refuter.specs.Met.{is_open}
 use Rattle.prop_element.specs.Choices.{IsChoice}
 use Rattle.prop_element.proofs.Shapes.{choice_open, choice_is}

@@ -1,6 +1,6 @@
 use Rattle.std.proofs.Common.{◌∙◌, sym, ap, subst, List, ℤ}
 use Rattle.qc_model.specs.declared.problem.Arg.{Arg}
-use Rattle.qc_arguments.specs.Written.{arg_at, ints_at}
+use Rattle.model_arguments.specs.Written.{arg_at, ints_at}
 use Rattle.qc_refuter.specs.Met.{is_open}
 use Rattle.prop_element.specs.Elements.{IsElement}
 use Rattle.prop_element.proofs.Shapes.{element_open, element_is}

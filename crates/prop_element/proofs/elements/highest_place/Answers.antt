@@ -4,8 +4,8 @@ use Rattle.std.proofs.lemmas.Int.{to_z-of_z}
 use mir.Val.{SFits}
 use mir.Syntax.{w64}
 use Rattle.qc_model.specs.Refuted.{left_to}
-use Rattle.qc_arguments.proofs.Bools.{clash}
-use Rattle.qc_arguments.proofs.Kept.{through}
+use Rattle.model_arguments.proofs.Bools.{clash}
+use Rattle.model_arguments.proofs.Kept.{through}
 use Rattle.prop_element.specs.Elements.{place_fits}
 use Rattle.prop_element.proofs.Supports.{higher_more, highest_stop, highest_done}
 use Rattle.prop_element.proofs.elements.highest_place.Goals as goal

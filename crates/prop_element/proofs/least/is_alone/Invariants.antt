@@ -2,7 +2,7 @@ use Rattle.std.proofs.Common.{◌≡◌, ◌<◌, ℕ, false}
 use Rattle.std.specs.Prelude.{◌<ℤ◌}
 use Rattle.qc_model.specs.Domains.{least_value, greatest_value}
 use Rattle.qc_model.specs.Refuted.{left_to}
-use Rattle.qc_arguments.specs.Repeats.{same_variable}
+use Rattle.model_arguments.specs.Repeats.{same_variable}
 use Rattle.prop_element.specs.Extremes.{item_at}
 use Rattle.prop_element.proofs.least.is_alone.Given as goal
 

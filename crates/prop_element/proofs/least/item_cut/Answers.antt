@@ -8,7 +8,7 @@ use Rattle.qc_model.specs.Domains.{greatest_value}
 use Rattle.qc_model.specs.Refuted.{left_to}
 use Rattle.qc_model.proofs.Readable.{first, second}
 use Rattle.qc_refuter.proofs.Terms.{open_at}
-use Rattle.qc_arguments.specs.Repeats.{same_variable}
+use Rattle.model_arguments.specs.Repeats.{same_variable}
 use Rattle.prop_element.specs.Hulls.{IsHull}
 use Rattle.prop_element.specs.Extremes.{item_at}
 use Rattle.prop_element.proofs.LeastHulls.{item_alone, item_free}

@@ -6,7 +6,7 @@ use Rattle.qc_model.specs.declared.problem.Arg.{Arg}
 use Rattle.qc_model.specs.Domains.{least_value, greatest_value}
 use Rattle.qc_model.specs.Refuted.{left_to}
 use Rattle.qc_refuter.specs.Met.{is_open}
-use Rattle.qc_arguments.proofs.Kept.{through}
+use Rattle.model_arguments.proofs.Kept.{through}
 use Rattle.prop_element.specs.Hulls.{IsHull}
 use Rattle.prop_element.specs.Extremes.{IsLeast, item_at}
 use Rattle.prop_element.proofs.Moved.{less_by, most_by}

@@ -1,7 +1,7 @@
 use Rattle.std.proofs.Common.{◌∙◌, sym, ap, subst, List}
 use Rattle.std.specs.List.{list_all}
 use Rattle.qc_model.specs.declared.problem.Arg.{Arg}
-use Rattle.qc_arguments.specs.Written.{arg_at, args_at}
+use Rattle.model_arguments.specs.Written.{arg_at, args_at}
 use Rattle.qc_refuter.specs.Met.{is_open}
 use Rattle.prop_element.specs.Extremes.{IsLeast}
 use Rattle.prop_element.proofs.Shapes.{least_open, least_is}

@@ -1,6 +1,6 @@
 use Rattle.std.proofs.Common.{◌∙◌, sym, ap, subst}
 use Rattle.qc_model.specs.declared.problem.Arg.{Arg}
-use Rattle.qc_arguments.specs.Written.{arg_at, set_at}
+use Rattle.model_arguments.specs.Written.{arg_at, set_at}
 use Rattle.qc_refuter.specs.Met.{is_open}
 use Rattle.prop_element.specs.Members.{IsMembership}
 use Rattle.prop_element.proofs.Shapes.{has_set, set_open, set_ordered, membership}

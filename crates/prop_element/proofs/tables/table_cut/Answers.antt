@@ -3,7 +3,7 @@ use Rattle.std.specs.Prelude.{IfNone}
 use Rattle.std.specs.List.{list_all}
 use Rattle.qc_model.specs.declared.problem.Arg.{Arg}
 use Rattle.qc_model.specs.Holds.{rows}
-use Rattle.qc_arguments.specs.Written.{args_at, ints_at}
+use Rattle.model_arguments.specs.Written.{args_at, ints_at}
 use Rattle.qc_refuter.specs.Met.{is_open}
 use Rattle.prop_base.specs.Closed.{keeps_arg}
 use Rattle.prop_element.specs.Tables.{IsTable}

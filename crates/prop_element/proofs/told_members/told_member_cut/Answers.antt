@@ -1,6 +1,6 @@
 use Rattle.std.proofs.Common.{◌∙◌, sym, ap, subst}
 use Rattle.qc_model.specs.declared.problem.Arg.{Arg}
-use Rattle.qc_arguments.specs.Written.{arg_at, set_at, last_arg}
+use Rattle.model_arguments.specs.Written.{arg_at, set_at, last_arg}
 use Rattle.qc_refuter.specs.Met.{is_open}
 use Rattle.prop_compare.specs.Untold.{RefutesNone}
 use Rattle.prop_compare.proofs.Lasts.{IsTruthLast, truth_last}

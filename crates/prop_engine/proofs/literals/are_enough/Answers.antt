@@ -1,5 +1,5 @@
 use Rattle.std.proofs.Common.{sym, ◌∙◌, subst}
-use Rattle.qc_arguments.proofs.Bools.{not_false}
+use Rattle.model_arguments.proofs.Bools.{not_false}
 use Rattle.prop_engine.specs.Literals.{Stands}
 use Rattle.prop_engine.proofs.Open.{one_shows, both_show}
 use Rattle.prop_engine.proofs.literals.are_enough.Goals as goal

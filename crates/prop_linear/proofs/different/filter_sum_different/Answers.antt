@@ -1,7 +1,7 @@
 use Rattle.std.proofs.Common.{◌≡◌, ◌∙◌, ◌<◌, sym, ap, refl, get_or, length, arith, false}
 use Rattle.std.specs.Prelude.{pos}
 use Rattle.qc_model.specs.declared.problem.Arg.TheVariants.{Var, Num}
-use Rattle.qc_arguments.specs.Repeats.{same_variable}
+use Rattle.model_arguments.specs.Repeats.{same_variable}
 use Rattle.prop_linear.proofs.Last.{any_default}
 use Rattle.prop_linear.proofs.Loose.{two_loose}
 use Rattle.prop_linear.proofs.different.filter_sum_different.Goals as goal

@@ -9,10 +9,10 @@ use Rattle.qc_model.specs.Domains.{has_empty, is_single, values_left, values_out
 use Rattle.qc_model.specs.Ranges.{Range}
 use Rattle.qc_model.specs.Refuted.{left_to}
 use Rattle.qc_model.proofs.Readable.{second}
-use Rattle.qc_arguments.specs.Asked.{IsAsked}
-use Rattle.qc_arguments.proofs.Boxes.{set_full}
+use Rattle.model_arguments.specs.Asked.{IsAsked}
+use Rattle.model_arguments.proofs.Boxes.{set_full}
 use Rattle.std.specs.List.{list_all}
-use Rattle.qc_arguments.proofs.Bools.{not_false}
+use Rattle.model_arguments.proofs.Bools.{not_false}
 use Rattle.qc_refuter.specs.Met.{is_open}
 use Rattle.std.specs.Ordering.{int_eq}
 use Rattle.prop_linear.specs.Tightening.{least_sum}

@@ -6,8 +6,8 @@ use mir.Val.{SFits}
 use mir.Syntax.{w64, w128}
 use Rattle.qc_model.specs.declared.problem.Arg.TheVariants.{Num}
 use Rattle.std.specs.List.{list_all}
-use Rattle.qc_arguments.specs.Asked.{IsAsked}
-use Rattle.qc_arguments.specs.Repeats.{has_repeat}
+use Rattle.model_arguments.specs.Asked.{IsAsked}
+use Rattle.model_arguments.specs.Repeats.{has_repeat}
 use Rattle.qc_model.specs.declared.problem.Arg.{Arg}
 use Rattle.qc_model.specs.Closed.{keeps_ends}
 use Rattle.qc_model.specs.Content.{Game, Rule}

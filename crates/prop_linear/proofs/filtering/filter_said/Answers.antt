@@ -5,7 +5,7 @@ use mir.Val.{SFits}
 use mir.Syntax.{w64}
 use Rattle.qc_model.specs.declared.problem.Arg.{Arg}
 use Rattle.qc_model.specs.Valid.{arg_sees, is_number}
-use Rattle.qc_arguments.specs.Written.{arg_at, args_at, ints_at}
+use Rattle.model_arguments.specs.Written.{arg_at, args_at, ints_at}
 use Rattle.qc_refuter.specs.Met.{is_open}
 use Rattle.prop_linear.specs.declared.relation.Demand.{Demand}
 use Rattle.prop_linear.specs.Demands.{demand_of, IsDemanded}

@@ -1,8 +1,8 @@
 use Rattle.std.proofs.Common.{◌∙◌, inr, sym, ap, subst}
 use Rattle.qc_model.specs.Domains.{is_single}
 use Rattle.qc_model.specs.Refuted.{left_to}
-use Rattle.qc_arguments.specs.Asked.{IsAsked}
-use Rattle.qc_arguments.specs.Written.{last_arg}
+use Rattle.model_arguments.specs.Asked.{IsAsked}
+use Rattle.model_arguments.specs.Written.{last_arg}
 use Rattle.prop_compare.proofs.Lasts.{IsTruthLast, truth_last}
 use Rattle.prop_compare.proofs.Settled.{joined_filtered}
 use Rattle.prop_linear.proofs.Told.{told_truth}

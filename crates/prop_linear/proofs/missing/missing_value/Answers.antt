@@ -5,7 +5,7 @@ use mir.Val.{SFits}
 use mir.Syntax.{w64, w128}
 use Rattle.qc_model.specs.Domains.{values_left, has_value, least_value, greatest_value}
 use Rattle.qc_model.specs.Valid.{is_number}
-use Rattle.qc_arguments.proofs.Kept.{ordered}
+use Rattle.model_arguments.proofs.Kept.{ordered}
 use Rattle.qc_refuter.proofs.Domains.{some_left}
 use Rattle.qc_refuter.proofs.Terms.{least_small, greatest_small}
 use Rattle.prop_linear.proofs.Hits.{none_below, none_between, none_beyond, none_stepped, hit_stepped}

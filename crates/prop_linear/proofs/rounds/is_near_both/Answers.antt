@@ -6,7 +6,7 @@ use mir.Val.{SFits}
 use mir.Syntax.{w64}
 use Rattle.qc_model.specs.Domains.{values_left}
 use Rattle.qc_model.specs.Valid.{is_number}
-use Rattle.qc_arguments.proofs.Kept.{ordered}
+use Rattle.model_arguments.proofs.Kept.{ordered}
 use Rattle.qc_refuter.proofs.Domains.{some_left}
 use Rattle.qc_refuter.proofs.Terms.{least_small, greatest_small}
 use Rattle.prop_linear.proofs.Ends.{near_of}

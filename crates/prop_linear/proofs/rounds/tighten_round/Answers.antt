@@ -2,7 +2,7 @@ use Rattle.std.proofs.Common.{◌≡◌, ◌∙◌, ◌<◌, ◌+◌, sym, ap, s
 use Rattle.std.specs.Prelude.{pos, ◌+ℤ◌, ◌≤ℤ◌}
 use Rattle.std.proofs.lemmas.Int.{ints}
 use Rattle.qc_model.specs.Domains.{Box}
-use Rattle.qc_arguments.proofs.Bools.{clash}
+use Rattle.model_arguments.proofs.Bools.{clash}
 use Rattle.prop_base.specs.Pruning.{is_just}
 use Rattle.prop_base.proofs.Prunings.{prunes_more, fits_after}
 use Rattle.prop_linear.specs.Tightening.{least_sum}

@@ -6,7 +6,7 @@ use mir.Syntax.{w64, w128}
 use Rattle.qc_model.specs.Domains.{box_at}
 use Rattle.qc_model.specs.Ranges.{range_of}
 use Rattle.qc_model.specs.Refuted.{refuted_by}
-use Rattle.qc_arguments.specs.Written.{args_at, ints_at}
+use Rattle.model_arguments.specs.Written.{args_at, ints_at}
 use Rattle.qc_refuter.specs.Met.{is_open}
 use Rattle.prop_compare.specs.Telling.{truth_of}
 use Rattle.prop_compare.specs.Untold.{RefutesNone}

@@ -6,7 +6,7 @@ use mir.Syntax.{w64}
 use Rattle.qc_model.specs.declared.problem.Arg.TheVariants.{Var}
 use Rattle.qc_model.specs.Domains.{Box, values_left, values_outside, has_empty}
 use Rattle.qc_model.specs.Refuted.{left_to}
-use Rattle.qc_arguments.proofs.Boxes.{set_full}
+use Rattle.model_arguments.proofs.Boxes.{set_full}
 use Rattle.prop_linear.specs.Tightening.{AlikeOutside, AllNear, IsNear, IsTightening, least_sum}
 use Rattle.prop_linear.specs.Sides.{signed}
 use Rattle.prop_linear.proofs.Alike.{alike_at}

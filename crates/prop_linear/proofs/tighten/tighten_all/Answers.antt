@@ -2,7 +2,7 @@ use Rattle.std.proofs.Common.{◌≡◌, ◌∙◌, ◌<◌, ◌+◌, sym, ap, s
 use Rattle.std.specs.Prelude.{pos, ◌+ℤ◌}
 use Rattle.std.proofs.lemmas.List.{take_all}
 use Rattle.qc_model.specs.declared.problem.Arg.TheVariants.{Num}
-use Rattle.qc_arguments.proofs.Bools.{clash}
+use Rattle.model_arguments.proofs.Bools.{clash}
 use Rattle.prop_base.proofs.Prunings.{prunes_more, fits_after}
 use Rattle.prop_linear.specs.Tightening.{AllNear, least_sum}
 use Rattle.prop_linear.specs.Sides.{IsPast, signed}

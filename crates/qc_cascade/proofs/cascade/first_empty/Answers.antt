@@ -1,7 +1,7 @@
 use Rattle.std.proofs.Common.{◌≡◌, suc, ◌+◌, subst, arith, [], refl, ℕ}
 use Rattle.qc_model.specs.Closed.{keeps_ends}
 use Rattle.qc_model.specs.Domains.{declared_box}
-use Rattle.qc_rules.specs.Spans.{is_number_within}
+use Rattle.model_levels.specs.Spans.{is_number_within}
 use Rattle.prop_base.specs.Pruning.{IsPruning}
 use Rattle.prop_base.proofs.Steps.{pruning_sub}
 use Rattle.prop_engine.specs.Closing.{EachRule, IsClosing}

@@ -1,7 +1,7 @@
 use Rattle.std.proofs.Common.{◌≡◌, ◌<◌, ◌≤◌, ℕ, [], true, false}
 use Rattle.qc_model.specs.Closed.{keeps_ends}
 use Rattle.qc_model.specs.Domains.{has_empty, is_sub_box, declared_box}
-use Rattle.qc_rules.specs.Spans.{is_number_within}
+use Rattle.model_levels.specs.Spans.{is_number_within}
 use Rattle.prop_base.specs.Pruning.{IsPruning}
 use Rattle.prop_engine.specs.Closing.{EachRule}
 use Rattle.prop_engine.specs.Watching.{IsReady}

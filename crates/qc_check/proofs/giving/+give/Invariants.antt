@@ -2,7 +2,7 @@ use Rattle.std.proofs.Common.{◌≤◌, ◌+◌, ◌*◌, drop}
 use Rattle.proof_tree.specs.Shape.{tree_of, ending_of, branches_of, case_of}
 use Rattle.proof_tree.specs.Counts.{weight, ending_weight, branch_weight, case_weight}
 use Rattle.proof_tree.specs.Lines.{branches_lines}
-use Rattle.line_check.specs.Machine.{IsReady}
+use Rattle.check_lines.specs.Machine.{IsReady}
 use Rattle.qc_check.specs.declared.space.Space.{Space}
 use Rattle.qc_check.specs.Giving.{Takes}
 use Rattle.qc_check.proofs.giving.+give.Given as goal

@@ -1,8 +1,8 @@
 use Rattle.std.proofs.Common.{◌≡◌, ◌≤◌, ◌+◌, length, refl, sym, subst, arith}
 use Rattle.qc_model.specs.Content.{Game}
 use Rattle.proof_tree.specs.declared.line.Line.TheVariants.{Horizon}
-use Rattle.line_check.specs.Machine.{game_of}
-use Rattle.line_check.specs.Ledger.{goes}
+use Rattle.check_lines.specs.Machine.{game_of}
+use Rattle.check_lines.specs.Ledger.{goes}
 use Rattle.qc_check.proofs.Given.{takes_like, far_horizon}
 use Rattle.qc_check.proofs.giving.give_scope.Goals as goal
 

@@ -1,6 +1,6 @@
 use Rattle.std.proofs.Common.{drop, map}
 use Rattle.proof_tree.specs.Lines.{step_line}
-use Rattle.line_check.specs.Machine.{IsReady}
+use Rattle.check_lines.specs.Machine.{IsReady}
 use Rattle.qc_check.specs.declared.space.Space.{Space}
 use Rattle.qc_check.specs.Giving.{Takes}
 use Rattle.qc_check.proofs.giving.give_steps.Given as goal

@@ -1,8 +1,8 @@
 use Rattle.std.proofs.Common.{◌≡◌, ◌∷◌, ◌∙◌, subst, sym, take}
 use Rattle.std.specs.Prelude.{IsTrue}
 use Rattle.qc_model.specs.Content.{Game}
-use Rattle.qc_likeness.specs.Likeness.{ask_nothing}
-use Rattle.line_check.specs.Machine.{game_of}
+use Rattle.likeness.specs.Likeness.{ask_nothing}
+use Rattle.check_lines.specs.Machine.{game_of}
 use Rattle.qc_check.specs.Keeping.{AreStartsAt, MayEnd}
 use Rattle.qc_check.specs.Places.{StartHeld, rest}
 use Rattle.qc_check.proofs.Ending.{known_here, known_as, between}

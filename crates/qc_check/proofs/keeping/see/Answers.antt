@@ -1,7 +1,7 @@
 use Rattle.std.proofs.Common.{◌≡◌, ◌∙◌, refl, sym, subst, inr, List, ◌∷◌}
 use Rattle.std.specs.Prelude.{IsTrue}
-use Rattle.qc_alike.specs.Alike.{is_looked_at}
-use Rattle.qc_likeness.specs.Likeness.{line_looks}
+use Rattle.proof_alike.specs.Alike.{is_looked_at}
+use Rattle.likeness.specs.Likeness.{line_looks}
 use Rattle.qc_check.specs.Places.{StartHeld}
 use Rattle.qc_check.proofs.keeping.see.Goals as goal
 

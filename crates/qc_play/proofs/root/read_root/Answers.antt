@@ -1,7 +1,7 @@
 use Rattle.std.proofs.Common.{◌∙◌, sym, ap, subst, None}
 use Rattle.qc_model.specs.Domains.{has_empty}
-use Rattle.qc_levels.specs.DemandLists.{HasLists}
-use Rattle.qc_joins.specs.Joins.{out_of}
+use Rattle.joins.specs.DemandLists.{HasLists}
+use Rattle.joins.specs.Joins.{out_of}
 use Rattle.proof_tree.specs.Shape.{tree_of}
 use Rattle.box_laws.proofs.Declared.{declared_full}
 use Rattle.qc_play.specs.Shown.{Shows}

@@ -3,7 +3,7 @@ use Rattle.std.specs.Cmp.Rules.{signed_items}
 use Rattle.std.specs.Ordering.{int_eq}
 use Rattle.std.specs.Cmp.Lexicographic.{pointwise}
 use Rattle.qc_model.specs.Lists.{same_values}
-use Rattle.qc_meaning.proofs.LeafWords.{same_true, same_self}
+use Rattle.proof_meaning.proofs.LeafWords.{same_true, same_self}
 use Rattle.qc_play.proofs.Ranges.{same_test}
 use Rattle.qc_play.proofs.side.is_tuple.Goals as goal
 

@@ -3,7 +3,7 @@ use Rattle.std.specs.Prelude.{IfNone, IfSome}
 use Rattle.std.specs.List.{list_all}
 use Rattle.qc_model.specs.Domains.{Box, least_value}
 use Rattle.qc_model.specs.Refuted.{left_to}
-use Rattle.qc_arguments.proofs.Boxes.{within_all}
+use Rattle.model_arguments.proofs.Boxes.{within_all}
 use Rattle.qc_refuter.specs.Full.{held, AreWidest}
 use Rattle.qc_refuter.specs.Met.{is_open}
 use Rattle.qc_refuter.proofs.full.widest_full.Goals as goal

@@ -1,6 +1,6 @@
 use Rattle.std.proofs.Common.{◌≡◌, subst, true}
 use Rattle.qc_model.specs.Domains.{Values, values_left, is_within}
-use Rattle.qc_arguments.proofs.Kept.{some_of, least_kept}
+use Rattle.model_arguments.proofs.Kept.{some_of, least_kept}
 use Rattle.qc_refuter.specs.Met.{is_domain_left}
 use Rattle.qc_refuter.proofs.Seen.{left_here}
 use Rattle.qc_refuter.proofs.Terms.{some_left}

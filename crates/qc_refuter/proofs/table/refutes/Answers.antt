@@ -1,7 +1,7 @@
 use Rattle.std.proofs.Common.{◌≡◌, ◌∙◌, sym, ap, true, subst}
 use Rattle.std.proofs.lemmas.Option.{same_Some}
 use Rattle.qc_model.specs.Refuted.{refuted_by}
-use Rattle.qc_arguments.proofs.Boxes.{within_all}
+use Rattle.model_arguments.proofs.Boxes.{within_all}
 use Rattle.qc_refuter.specs.Met.{are_met}
 use Rattle.qc_refuter.proofs.Ready.{rule_met}
 use Rattle.qc_refuter.proofs.table.refutes.Goals as goal

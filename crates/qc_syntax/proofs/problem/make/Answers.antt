@@ -1,8 +1,8 @@
 use Rattle.std.proofs.Common.{List, sym, subst}
 use Rattle.qc_tokens.specs.declared.token.Token.{Token}
-use Rattle.qc_grammar.specs.Grammar.{IsProblem}
-use Rattle.qc_grammar.specs.Lexemes.{lexemes_of}
-use Rattle.qc_resolve.specs.Names.{declared}
+use Rattle.text_grammar.specs.Grammar.{IsProblem}
+use Rattle.text_grammar.specs.Lexemes.{lexemes_of}
+use Rattle.text_resolve.specs.Names.{declared}
 use Rattle.qc_syntax.proofs.Words.{names_are_words}
 use Rattle.qc_syntax.proofs.problem.make.Goals as goal
 

@@ -2,7 +2,7 @@ use Rattle.std.proofs.Common.{subst}
 use Rattle.qc_cascade.specs.Ahead.{IsEntered}
 use Rattle.search_box.specs.Looking.{scope_number, first_unseen}
 use Rattle.search_box.proofs.Looks.{nothing_ahead, horizon_ahead, trimmed_ahead}
-use Rattle.step_trim.specs.Trims.{Trims}
+use Rattle.search_trim.specs.Trims.{Trims}
 use Rattle.search_box.proofs.ahead.nearest_horizon.Goals as goal
 
 pub returns-in-None-clause-answer : goal.returns-in-None-clause-answer

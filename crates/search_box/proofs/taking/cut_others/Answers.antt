@@ -2,7 +2,7 @@ use Rattle.std.proofs.Common.{◌≡◌, ◌∙◌, ap, true}
 use Rattle.std.specs.Prelude.{negsuc, pos}
 use Rattle.qc_model.specs.Domains.{values_left, box_without}
 use Rattle.qc_model.specs.Valid.{is_number}
-use Rattle.qc_arguments.proofs.Values.{value_passes}
+use Rattle.model_arguments.proofs.Values.{value_passes}
 use Rattle.search_box.proofs.Keeping.{one_kept}
 use Rattle.box_laws.proofs.Numbers.{passed_before, passed_after, fits_before, fits_after}
 use Rattle.search_box.proofs.taking.cut_others.Goals as goal

@@ -1,4 +1,4 @@
-use Rattle.qc_commands.proofs.Written.{Wrote-weaker}
+use Rattle.qecode_commands.proofs.Written.{Wrote-weaker}
 use Rattle.tell_commands.proofs.allowed.list_at.Goals as goal
 
 pub returns-in-AfterAll-clause-wrote : goal.returns-in-AfterAll-clause-wrote

@@ -1,5 +1,5 @@
 use Rattle.std.proofs.Common.{inl, inr, subst}
-use Rattle.qc_commands.proofs.Written.{Wrote-weaker, wrote_from}
+use Rattle.qecode_commands.proofs.Written.{Wrote-weaker, wrote_from}
 use Rattle.tell_commands.specs.Allowed.{ListsBytes}
 use Rattle.tell_commands.proofs.allowed.list_file.Goals as goal
 

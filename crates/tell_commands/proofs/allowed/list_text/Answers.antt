@@ -1,6 +1,6 @@
 use Rattle.std.proofs.Common.{◌∙◌, inl, inr, subst}
-use Rattle.qc_commands.proofs.Played.{moves_down}
-use Rattle.qc_commands.proofs.Written.{Wrote-weaker}
+use Rattle.qecode_commands.proofs.Played.{moves_down}
+use Rattle.qecode_commands.proofs.Written.{Wrote-weaker}
 use Rattle.tell_commands.specs.Allowed.{ListsValues}
 use Rattle.tell_commands.proofs.allowed.list_text.Goals as goal
 

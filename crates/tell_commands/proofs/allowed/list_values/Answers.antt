@@ -1,5 +1,5 @@
 use Rattle.std.proofs.Common.{subst}
-use Rattle.qc_commands.proofs.Written.{Wrote-weaker}
+use Rattle.qecode_commands.proofs.Written.{Wrote-weaker}
 use Rattle.tell_commands.specs.Allowed.{ListsPlace}
 use Rattle.tell_commands.proofs.allowed.list_values.Goals as goal
 

@@ -1,7 +1,7 @@
 use Rattle.std.proofs.Common.{subst}
 use Rattle.proof_tree.specs.Shape.{tree_of}
 use Rattle.qc_play.specs.Evidence.{IsEvidence}
-use Rattle.qc_commands.proofs.Written.{Wrote-weaker}
+use Rattle.qecode_commands.proofs.Written.{Wrote-weaker}
 use Rattle.tell_commands.proofs.Begun.{plan_begun, counter_begun, left_open, not_shown}
 use Rattle.tell_commands.proofs.begin.begin_certificate.Goals as goal
 

@@ -1,6 +1,6 @@
 use Rattle.std.proofs.Common.{inl, inr}
 use Rattle.proof_tree.specs.Shape.{tree_of}
-use Rattle.qc_commands.proofs.Written.{Wrote-weaker, wrote_from}
+use Rattle.qecode_commands.proofs.Written.{Wrote-weaker, wrote_from}
 use Rattle.tell_commands.proofs.begin.begin_file.Goals as goal
 
 pub returns-in-Ok-clause-wrote : goal.returns-in-Ok-clause-wrote

@@ -1,7 +1,7 @@
 use Rattle.std.proofs.Common.{◌≡◌, inl, inr, subst}
 use Rattle.qc_io.specs.Counts.{RoseBy}
-use Rattle.qc_commands.proofs.Down.{rose_after}
-use Rattle.qc_commands.proofs.Written.{Wrote-weaker, wrote_from}
+use Rattle.qecode_commands.proofs.Down.{rose_after}
+use Rattle.qecode_commands.proofs.Written.{Wrote-weaker, wrote_from}
 use Rattle.tell_commands.specs.Opening.{BeginsFile}
 use Rattle.tell_commands.proofs.Begun.{begins_before}
 use Rattle.tell_commands.proofs.begin.begin_files.Goals as goal

@@ -6,7 +6,7 @@ use Rattle.qc_model.specs.Domains.{Box, is_sub_box, values_left, values_within, 
 use Rattle.fd_store.specs.declared.answer.Removed.{Removed}
 use Rattle.fd_store.specs.declared.answer.Removed.TheVariants.{Nothing, Emptied, Some}
 use Rattle.fd_store.specs.Held.{Held, removal}
-use Rattle.qc_arguments.proofs.Boxes.{sub_without}
+use Rattle.model_arguments.proofs.Boxes.{sub_without}
 use Rattle.box_laws.proofs.Emptying.{same_empty}
 use Rattle.check_box.proofs.Rooms.{room_now, room_followed}
 use Rattle.check_box.proofs.remains.Remains.cut.Goals as goal

@@ -2,7 +2,7 @@ use Rattle.std.proofs.Common.{◌≡◌, ◌∙◌, sym, ap, subst, List, IsTrue
 use Rattle.std.specs.Prelude.{slice_index_or}
 use Rattle.qc_model.specs.Content.{Game}
 use Rattle.qc_model.specs.Domains.{Box, declared_box}
-use Rattle.qc_arguments.specs.Asked.{is_box_of}
+use Rattle.model_arguments.specs.Asked.{is_box_of}
 use Rattle.box_laws.proofs.Declared.{declared_is}
 use Rattle.lemma_check.proofs.machine.LemmaMachine.new.Goals as goal
 

@@ -3,7 +3,7 @@ use Rattle.std.proofs.lemmas.Int.{to_z-of_z}
 use mir.Val.{SFits}
 use mir.Syntax.{w64}
 use Rattle.qc_model.specs.Domains.{Box, values_left, values_within, has_empty, box_within, declared_box}
-use Rattle.qc_arguments.proofs.Boxes.{set_full}
+use Rattle.model_arguments.proofs.Boxes.{set_full}
 use Rattle.fd_store.specs.Held.{Held}
 use Rattle.lemma_list.specs.Places.{is_answer}
 use Rattle.lemma_list.specs.Reasons.{reason_shows}

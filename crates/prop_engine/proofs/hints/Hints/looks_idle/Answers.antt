@@ -1,7 +1,7 @@
 use Rattle.std.proofs.Common.{◌≡◌, ◌∙◌, true, sym, ap, length, subst}
 use Rattle.std.specs.List.{list_all}
-use Rattle.qc_arguments.specs.Repeats.{has_place}
-use Rattle.qc_arguments.specs.Written.{args_at}
+use Rattle.model_arguments.specs.Repeats.{has_place}
+use Rattle.model_arguments.specs.Written.{args_at}
 use Rattle.prop_engine.specs.Literals.{StaysOpen, IsLiteralOf}
 use Rattle.prop_engine.specs.Watching.{IsHintsOf}
 use Rattle.prop_engine.proofs.Open.{items_placed, just_kept, hints_set}

@@ -1,5 +1,5 @@
 use Rattle.std.proofs.Common.{◌≡◌, ℕ, List, length}
-use Rattle.line_check.specs.Machine.{game_of, IsReady, left_at_most}
+use Rattle.check_lines.specs.Machine.{game_of, IsReady, left_at_most}
 use Rattle.qc_check.specs.Keeping.{IsSettling}
 use Rattle.qc_check.proofs.progress.Checker.end_nodes.Given as goal
 

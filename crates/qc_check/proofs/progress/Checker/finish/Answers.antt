@@ -1,5 +1,5 @@
 use Rattle.std.proofs.Common.{subst}
-use Rattle.line_check.specs.Machine.{game_of}
+use Rattle.check_lines.specs.Machine.{game_of}
 use Rattle.qc_check.specs.Checking.{IsCheckingBy}
 use Rattle.qc_check.proofs.progress.Checker.finish.Goals as goal
 

@@ -2,7 +2,7 @@ use Rattle.std.proofs.Common.{◌≡◌, subst, sym, ap, ◌∙◌}
 use Rattle.qc_model.specs.Content.{Game}
 use Rattle.qc_check.specs.Shown.{found_shows}
 use Rattle.qc_model.specs.Valid.{IsValid}
-use Rattle.line_check.specs.Machine.{game_of}
+use Rattle.check_lines.specs.Machine.{game_of}
 use Rattle.qc_check.specs.Checking.{IsCheckingBy}
 use Rattle.qc_check.proofs.Ends.{unended, some_head, judged, proof, no_proof, opposed}
 use Rattle.qc_check.proofs.progress.Checker.judged.Goals as goal

@@ -1,6 +1,6 @@
 use Rattle.std.proofs.Common.{sym, subst}
-use Rattle.qc_likeness.specs.Likeness.{IsLike}
-use Rattle.line_check.specs.Machine.{game_of}
+use Rattle.likeness.specs.Likeness.{IsLike}
+use Rattle.check_lines.specs.Machine.{game_of}
 use Rattle.qc_check.specs.Keeping.{values_due}
 use Rattle.qc_check.proofs.Beginning.{like_due}
 use Rattle.qc_check.proofs.progress.Checker.look_up.Goals as goal

@@ -1,7 +1,7 @@
 use Rattle.std.proofs.Common.{subst, sym, ◌++◌, take}
 use Rattle.proof_text.specs.Answers.{StandsFor}
-use Rattle.qc_likeness.proofs.Plain.{no_demands}
-use Rattle.line_check.specs.Machine.{game_of}
+use Rattle.likeness.proofs.Plain.{no_demands}
+use Rattle.check_lines.specs.Machine.{game_of}
 use Rattle.qc_check.proofs.Passing.{passed}
 use Rattle.qc_check.proofs.progress.Checker.pass_over.Goals as goal
 

@@ -1,5 +1,5 @@
 use Rattle.std.proofs.Common.{◌≡◌, ◌≤◌, ◌+◌, ◌-◌, ℕ, List, length, None}
-use Rattle.line_check.specs.Machine.{game_of, IsReady}
+use Rattle.check_lines.specs.Machine.{game_of, IsReady}
 use Rattle.qc_check.specs.Checking.{IsChecking}
 use Rattle.qc_check.specs.Keeping.{IsKeeping}
 use Rattle.qc_check.proofs.progress.Checker.read_keeping.Given as goal

@@ -1,6 +1,6 @@
 use Rattle.std.proofs.Common.{◌≡◌, ◌⊎◌, ◌∙◌, ◌∷◌, [], refl, sym, subst, arith, List}
 use Rattle.std.specs.Prelude.{IsTrue}
-use Rattle.qc_likeness.specs.Likeness.{line_looks}
+use Rattle.likeness.specs.Likeness.{line_looks}
 use Rattle.qc_check.specs.Places.{StartHeld}
 use Rattle.qc_check.proofs.Kept.{line_taken}
 use Rattle.qc_check.proofs.progress.Checker.read_line.Goals as goal

@@ -5,7 +5,7 @@ use Rattle.qc_model.specs.Valid.{IsValid}
 use Rattle.proof_tree.specs.Shape.{tree_of}
 use Rattle.proof_tree.specs.Counts.{turns_of}
 use Rattle.proof_tree.specs.Proves.{proves}
-use Rattle.line_check.specs.Machine.{game_of}
+use Rattle.check_lines.specs.Machine.{game_of}
 use Rattle.qc_check.specs.Shown.{found_shows, counts_turns, answer_of}
 use Rattle.qc_check.specs.declared.finding.Answer.TheVariants.{Yes}
 use Rattle.qc_check.proofs.Ends.{tree_judged}

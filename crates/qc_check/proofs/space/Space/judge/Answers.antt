@@ -2,7 +2,7 @@ use Rattle.std.proofs.Common.{◌≡◌, ◌∙◌, sym, subst, arith}
 use Rattle.qc_model.specs.Valid.{IsValid}
 use Rattle.proof_tree.specs.Shape.{tree_of}
 use Rattle.proof_tree.specs.Lines.{tree_lines}
-use Rattle.line_check.specs.Machine.{game_of}
+use Rattle.check_lines.specs.Machine.{game_of}
 use Rattle.qc_check.specs.Giving.{WasGivenLines}
 use Rattle.qc_check.proofs.TreeEnds.{tree_ends}
 use Rattle.qc_check.proofs.Given.{given_all, come_to, still_free}

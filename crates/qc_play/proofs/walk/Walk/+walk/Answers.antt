@@ -4,7 +4,7 @@ use Rattle.std.proofs.lemmas.Int.{to_z-of_z}
 use mir.Val.{SFits}
 use Rattle.qc_model.specs.Domains.{box_within, declared_box, has_empty, values_left}
 use Rattle.qc_model.specs.Verdict.{Seen}
-use Rattle.qc_joins.specs.Joins.{out_of, StandsAt}
+use Rattle.joins.specs.Joins.{out_of, StandsAt}
 use Rattle.fd_store.specs.Held.{Held}
 use Rattle.check_box.specs.Cases.{IsCase}
 use Rattle.box_laws.proofs.Numbers.{passed_after}
@@ -20,7 +20,7 @@ use Rattle.proof_tree.proofs.Shapes.{ending_branch}
 use Rattle.qc_play.specs.Shown.{Shows}
 use Rattle.qc_play.specs.Walk.{game_of, node_finding, part_leaves, marks_seen, CanReadNode, CanReadPart, CanReadEnd, CanReadCase, IsBack, HasSeen, Tells}
 use Rattle.qc_play.proofs.Backs.{back_self, back_then, back_below, within_back, within_kept_box}
-use Rattle.qc_arguments.proofs.Boxes.{left_small}
+use Rattle.model_arguments.proofs.Boxes.{left_small}
 use Rattle.box_laws.proofs.Firsts.{from_least}
 use Rattle.qc_play.proofs.Branching.{Branched, none_branched, one_branched, all_branched, first_piece, piece_case}
 use Rattle.qc_play.proofs.Outcomes.{on_ok, if_ok}

@@ -1,6 +1,6 @@
 use Rattle.std.proofs.Common.{◌≡◌, ◌∙◌, sym, ap, subst, suc, map, take, ◌++◌, ◌∷◌, []}
-use Rattle.qc_joins.specs.Joins.{out_of, LeafFits}
-use Rattle.qc_levels.specs.Seen.{verdict_of}
+use Rattle.joins.specs.Joins.{out_of, LeafFits}
+use Rattle.joins.specs.Seen.{verdict_of}
 use Rattle.proof_tree.specs.Finding.{leaf_node, seen_of}
 use Rattle.proof_tree.specs.Place.{position}
 use Rattle.check_box.proofs.Placing.{position_placed}

@@ -1,7 +1,7 @@
 use Rattle.std.proofs.Common.{◌≡◌, ◌∙◌, sym, ap, map, take}
 use Rattle.qc_model.specs.Content.{Game}
-use Rattle.qc_joins.specs.Joins.{out_of}
-use Rattle.qc_joins.specs.Verdicts.{verdict_at}
+use Rattle.joins.specs.Joins.{out_of}
+use Rattle.joins.specs.Verdicts.{verdict_at}
 use Rattle.proof_tree.specs.Finding.{seen_of}
 use Rattle.proof_tree.specs.Place.{position}
 use Rattle.check_box.proofs.Placing.{position_placed}

@@ -1,10 +1,10 @@
 use Rattle.std.proofs.Common.{sym, refl, subst, arith}
 use Rattle.qc_model.specs.Demands.{demands}
-use Rattle.qc_joins.specs.Joins.{out_of}
+use Rattle.joins.specs.Joins.{out_of}
 use Rattle.proof_tree.specs.Finding.{stuck_finding}
 use Rattle.proof_tree.specs.Place.{position}
-use Rattle.line_check.proofs.AtNodes.{drop_none}
-use Rattle.qc_levels.specs.declared.leaves.Found.TheVariants.{Lost}
+use Rattle.check_lines.proofs.AtNodes.{drop_none}
+use Rattle.joins.specs.declared.leaves.Found.TheVariants.{Lost}
 use Rattle.qc_play.specs.declared.counter.Counter.{End as Ended}
 use Rattle.qc_play.specs.declared.plan.Plan.{End}
 use Rattle.qc_play.specs.declared.shown.Shown.{Shown}

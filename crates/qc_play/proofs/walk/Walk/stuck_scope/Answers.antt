@@ -1,9 +1,9 @@
 use Rattle.std.proofs.Common.{◌≡◌, ◌∙◌, sym, ap, take, drop}
 use Rattle.qc_model.specs.Content.{Game}
 use Rattle.qc_model.specs.Demands.{demands}
-use Rattle.qc_joins.specs.Verdicts.{stuck_of}
+use Rattle.joins.specs.Verdicts.{stuck_of}
 use Rattle.proof_tree.specs.Place.{position}
-use Rattle.line_check.proofs.LedgerTurns.{stuck_comes}
+use Rattle.check_lines.proofs.LedgerTurns.{stuck_comes}
 use Rattle.check_box.proofs.Placing.{position_placed}
 use Rattle.qc_play.specs.Walk.{game_of}
 use Rattle.qc_play.proofs.AtLevels.{level_from, level_kind, stuck_strategy_at, stuck_counterstrategy_at}

@@ -6,7 +6,7 @@ use Rattle.qc_model.specs.declared.problem.Scope.{Scope}
 use Rattle.qc_model.specs.Content.{Game}
 use Rattle.qc_model.specs.Domains.{box_without, declared_box, is_none_left, values_left, values_within}
 use Rattle.qc_model.specs.Verdict.{Seen, seen_bound}
-use Rattle.qc_joins.specs.Joins.{StandsAt}
+use Rattle.joins.specs.Joins.{StandsAt}
 use Rattle.fd_store.specs.Held.{Held}
 use Rattle.proof_tree.specs.declared.tree.Step.TheVariants.{Bound}
 use Rattle.proof_tree.specs.Place.{tracked_variable}

@@ -4,7 +4,7 @@ use mir.Val.{SFits}
 use mir.Syntax.{w64}
 use Rattle.qc_model.specs.Domains.{box_without, declared_box}
 use Rattle.qc_model.specs.Verdict.{Seen}
-use Rattle.qc_joins.specs.Joins.{StandsAt}
+use Rattle.joins.specs.Joins.{StandsAt}
 use Rattle.proof_tree.specs.declared.tree.Step.TheVariants.{Bound}
 use Rattle.proof_tree.specs.Steps.{after_step}
 use Rattle.qc_play.specs.Walk.{game_of, steps_fit, marks_seen}

@@ -1,5 +1,5 @@
 use Rattle.std.proofs.Common.{◌≡◌, true, subst}
-use Rattle.qc_arguments.specs.Asked.{is_box_of}
+use Rattle.model_arguments.specs.Asked.{is_box_of}
 use Rattle.search_box.specs.Boxed.{Boxed}
 use Rattle.box_laws.proofs.Readings.{box_size}
 use Rattle.search_box.proofs.search_box.SearchBox.known.Goals as goal

@@ -3,7 +3,7 @@ use Rattle.std.proofs.lemmas.Int.{to_z-of_z}
 use mir.Val.{SFits}
 use mir.Syntax.{w64}
 use Rattle.qc_model.specs.Domains.{is_none_left, values_left}
-use Rattle.qc_arguments.proofs.Boxes.{some_left}
+use Rattle.model_arguments.proofs.Boxes.{some_left}
 use Rattle.search_box.specs.Boxed.{Boxed}
 use Rattle.search_box.specs.Rests.{IsLast}
 use Rattle.search_box.proofs.Orders.{last_is}

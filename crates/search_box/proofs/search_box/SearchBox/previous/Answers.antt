@@ -1,7 +1,7 @@
 use Rattle.std.proofs.Common.{◌≡◌, ◌∙◌, ◌-ℤ◌, ap, subst, true, pos}
 use Rattle.qc_model.specs.Domains.{values_left, has_value}
 use Rattle.qc_model.specs.Valid.{is_number}
-use Rattle.qc_arguments.proofs.Values.{value_passes}
+use Rattle.model_arguments.proofs.Values.{value_passes}
 use Rattle.fd_store.specs.Held.{values_up_to, greatest_of}
 use Rattle.search_box.specs.Boxed.{Boxed}
 use Rattle.search_box.specs.Rests.{IsPrevious}

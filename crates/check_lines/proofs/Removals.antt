@@ -1,0 +1,44 @@
+-- What the constraints of a span tell of a removal.
+use Rattle.std.proofs.Common.{◌≡◌, ℕ, zero, suc, ◌<◌, ◌≤◌, ◌+◌, Bool, true, false, not, ◌&&◌, cond, List, [], ◌∷◌, length, take, drop, set, refl, sym, ap, ◌∙◌, subst, arith, ℤ, Some, None, Option, add-one, w64, to_z, of_z}
+use Rattle.std.specs.Prelude.{slice_get, unsigned_abs, int_lt, filter, ◌==◌, pos, ◌+ℤ◌, ◌-ℤ◌}
+use Rattle.std.specs.List.{list_all}
+use Rattle.std.proofs.lemmas.Int.{ints}
+use Rattle.std.proofs.lemmas.Bool.Decides.{nat_tests}
+use Rattle.std.proofs.lemmas.List.{length-map}
+use Rattle.qc_model.specs.declared.problem.VarId.{VarId}
+use Rattle.qc_model.specs.declared.problem.ConId.{ConId}
+use Rattle.qc_model.specs.Content.{Game, Rule}
+use Rattle.qc_model.specs.Domains.{Values, Box, values_left, values_within, box_within, box_values, is_none_left, is_single, has_empty, least_from, least_value, declared_box, domain_values}
+use Rattle.qc_model.specs.Refuted.{refuted_by}
+use Rattle.qc_model.specs.Valid.{is_number, is_constraint, is_domain}
+use Rattle.qc_model.proofs.Readable.{first, second, together}
+use Rattle.qc_model.specs.Game.{restriction}
+use Rattle.model_arguments.proofs.Boxes.{sub_length, left_small}
+use Rattle.model_arguments.specs.Asked.{IsAsked, is_box_of}
+use Rattle.model_levels.specs.Spans.{IsSpanOf, is_between, is_rule_within}
+use Rattle.proof_tree.specs.Steps.{removes_some, is_refuted_within}
+
+pub all_at : {X : Type 0} (p : X → Bool) (xs : List X) (n : ℕ) (x : X) → list_all p xs ≡ true → slice_get xs n ≡ Some x → p x ≡ true
+all_at p [] n x h e = cc
+all_at p (y ∷ xs) zero x h e = let k : y ≡ x = cc in subst (λ z. p z ≡ true) k (first (p y) (list_all p xs) h)
+all_at p (y ∷ xs) (suc n) x h e = all_at p xs n x (second (p y) (list_all p xs) h) e
+
+-- the question that the refuter is asked
+pub asked : (g : Game) (box : Box) (c : ℕ) (rule : Rule) → list_all (is_constraint g.variables) g.constraints ≡ true → is_box_of g box ≡ true → has_empty box ≡ false → slice_get g.constraints c ≡ Some rule → IsAsked g rule box
+asked g box c rule valid declared full e = record { rule = all_at (is_constraint g.variables) g.constraints c rule valid e; declared = declared; full = full }
+
+pub legal_is : (g : Game) (box : Box) (start end i stop : ℕ) (x : VarId) (lo hi : ℤ) (c : ConId) (r : Bool) → IsSpanOf g i stop start end → has_empty box ≡ false →
+    not (is_none_left (values_within lo hi (values_left box x.0))) ≡ true → start ≤ c.0 → c.0 < end → ((rule : Rule) → slice_get g.constraints c.0 ≡ Some rule → r ≡ refuted_by rule (box_within box x.0 lo hi)) →
+    r ≡ (removes_some box x.0 lo hi && is_refuted_within i stop (slice_get g.constraints c.0) (box_within box x.0 lo hi))
+legal_is g box start end i stop x lo hi c r span full some low high says =
+    by (slice_get g.constraints c.0) refl (sym (span.numbers c.0) ∙ inside start end c.0 low high)
+    ∙ sym (ap (λ b. b && is_refuted_within i stop (slice_get g.constraints c.0) (box_within box x.0 lo hi)) (ap (λ b. not b && not (is_none_left (values_within lo hi (values_left box x.0)))) full ∙ some))
+  where
+    inside : (start end k : ℕ) → start ≤ k → k < end → is_between start end k ≡ true
+    inside start end k h l = grind (arith, nat_tests)
+
+    by : (o : Option Rule) → slice_get g.constraints c.0 ≡ o → is_rule_within i stop (slice_get g.constraints c.0) ≡ true → r ≡ is_refuted_within i stop (slice_get g.constraints c.0) (box_within box x.0 lo hi)
+    by None e k = let p : false ≡ true = sym (ap (is_rule_within i stop) e) ∙ k in cc
+    by (Some rule) e k =
+        says rule e
+        ∙ sym (ap (λ o. is_refuted_within i stop o (box_within box x.0 lo hi)) e ∙ ap (λ b. b && refuted_by rule (box_within box x.0 lo hi)) (sym (ap (is_rule_within i stop) e) ∙ k))

@@ -1,0 +1,72 @@
+use Rattle.std.proofs.Common.{◌≡◌, ◌∙◌, sym, ap, subst, rules, length, ◌∷◌}
+use Rattle.std.specs.Prelude.{pos, ◌+ℤ◌}
+use Rattle.std.proofs.lemmas.Int.{to_z-of_z}
+use mir.Val.{SFits}
+use mir.Syntax.{w64}
+use Rattle.qc_model.specs.Domains.{values_left, box_within, declared_box}
+use Rattle.fd_store.specs.Held.{Held}
+use Rattle.check_box.specs.Cases.{IsCase}
+use Rattle.check_lines.specs.declared.open.Open.TheVariants.{Branch}
+use Rattle.check_lines.specs.Places.{rest}
+use Rattle.check_lines.specs.Machine.{game_of}
+use Rattle.box_laws.proofs.Numbers.{passed_after}
+use Rattle.check_lines.proofs.Forks.{take_yes, take_no, take_within, take_into, variable_inside, inside_there}
+use Rattle.check_lines.proofs.machine.Machine.take_case.Goals as goal
+use Rattle.check_lines.proofs.machine.Machine.take_case.Goals.{After-keep, After-size, After-set_top}
+
+pub case_ends-requires : goal.case_ends-requires
+case_ends-requires c =
+    let m = c.args.self.now in
+    record { var = inside_there c.store.result.now m.remains c.args.x.0 c.store.ensures (variable_inside m c.args.x c.args.mark c.args.from (rest m.nesting) c.requires.top c.requires.fork) }
+
+found : (c : After-set_top) → IsCase (values_left c.args.self.now.remains.box c.args.x.0) c.args.from c.args.upto c.in-Some.ends.first c.in-Some.ends.last
+found c =
+    let from_fits : SFits w64 c.args.from = search rules in
+    let first_fits : SFits w64 c.in-Some.ends.first = search rules in
+    let last_fits : SFits w64 c.in-Some.ends.last = search rules in
+    let x = c.args.x in
+    let seen : IsCase (values_left c.store.result.now.box x.0) c.args.from c.args.upto c.in-Some.ends.first c.in-Some.ends.last = simp to_z-of_z at c.in-Some.ensures.some in
+    subst (λ (h : Held). IsCase (values_left h.box x.0) c.args.from c.args.upto c.in-Some.ends.first c.in-Some.ends.last) c.store.ensures seen
+
+kept : (c : After-keep) → c.keep.new.self.box ≡ box_within c.args.self.now.remains.box c.args.x.0 c.in-Some.ends.first c.in-Some.ends.last
+kept c =
+    let first_fits : SFits w64 c.in-Some.ends.first = search rules in
+    let last_fits : SFits w64 c.in-Some.ends.last = search rules in
+    simp to_z-of_z at c.keep.ensures.content
+
+top : (c : After-set_top) → c.set_top.new.self ≡ Branch c.args.x c.args.mark (c.in-Some.ends.last +ℤ pos 1) ∷ rest c.args.self.now.nesting
+top c = c.set_top.ensures ∙ ap (λ v. Branch c.args.x c.args.mark v ∷ rest c.args.self.now.nesting) (passed_after c.in-Some.ends.last (found c).last_number)
+
+before : (c : After-size) → c.size-before.result ≡ length (values_left c.args.self.now.remains.box c.args.x.0)
+before c = c.size-before.ensures ∙ ap (λ (h : Held). length (values_left h.box c.args.x.0)) c.store-2.ensures
+
+after : (c : After-size) → c.size.result ≡ length (values_left c.keep.new.self.box c.args.x.0)
+after c = c.size.ensures ∙ ap (λ (h : Held). length (values_left h.box c.args.x.0)) c.store-3.ensures
+
+pub returns-then-size-before-clause-taken : goal.returns-then-size-before-clause-taken
+returns-then-size-before-clause-taken c =
+    let m = c.args.self.now in
+    let at = goal.at.returns-then-size-before-clause-taken c in
+    sym (take_no m c.args.x c.args.mark c.args.from (rest m.nesting) c.requires.top c.requires.fork c.args.upto c.in-Some.ends.first c.in-Some.ends.last (found at.After-set_top) c.keep.new.self.box (kept at.After-keep)
+    (sym (after at.After-size) ∙ (c.if-size-before.true ∙ before at.After-size)))
+
+pub returns-clause-taken : goal.returns-clause-taken
+returns-clause-taken c =
+    let m = c.args.self.now in
+    let at = goal.at.returns-clause-taken c in
+    sym (take_yes m c.args.x c.args.mark c.args.from (rest m.nesting) c.requires.top c.requires.fork c.args.upto c.in-Some.ends.first c.in-Some.ends.last (found at.After-set_top) c.keep.new.self.box (kept at.After-keep)
+    (λ e. c.if-size-before.false (after at.After-size ∙ (e ∙ sym (before at.After-size)))))
+
+pub returns-clause-into : goal.returns-clause-into
+returns-clause-into c = λ yes.
+    let m = c.args.self.now in
+    let at = goal.at.returns-clause-into c in
+    take_into m c.args.x c.args.mark c.args.from (rest m.nesting) c.requires.top c.requires.fork c.args.upto c.in-Some.ends.first c.in-Some.ends.last (found at.After-set_top) c.keep.new.self c.set_top.new.self c.saturating_add-self.result
+    c.keep.ensures.past (c.keep.ensures.fewer (declared_box (game_of m)) c.requires.fork.sound.declared) (kept at.After-keep) (top at.After-set_top) c.saturating_add-self.ensures
+
+pub returns-clause-within : goal.returns-clause-within
+returns-clause-within c = λ yes.
+    let m = c.args.self.now in
+    let at = goal.at.returns-clause-within c in
+    take_within m c.args.x c.args.mark c.args.from (rest m.nesting) c.requires.top c.requires.fork c.args.upto c.in-Some.ends.first c.in-Some.ends.last (found at.After-set_top) c.keep.new.self c.set_top.new.self c.saturating_add-self.result
+    c.keep.ensures.past (c.keep.ensures.fewer (declared_box (game_of m)) c.requires.fork.sound.declared) (kept at.After-keep) (top at.After-set_top) c.saturating_add-self.ensures

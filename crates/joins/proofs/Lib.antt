@@ -1,0 +1,13 @@
+pub mod Compared
+pub mod Bests
+pub mod ExistsVerdicts
+pub mod Gathered
+pub mod ForallVerdicts
+pub mod DemandSteps
+pub mod Props
+pub mod Takings
+pub mod Placed
+pub mod AtScope
+pub mod Lengths
+pub mod Sizing
+pub mod Ends

@@ -1,0 +1,13 @@
+pub mod Order
+pub mod Seen
+pub mod Bests
+pub mod ExistsJoin
+pub mod Columns
+pub mod ForallJoin
+pub mod DemandLists
+pub mod Verdicts
+pub mod ScopeJoins
+pub mod Props
+pub mod Joins
+pub mod Sizes
+pub mod Ends

@@ -1,8 +1,0 @@
-use Rattle.line_check.proofs.LedgerRight.{told, only_told}
-use Rattle.line_check.proofs.ledgers.ledgers_are_right.Goals as goal
-
-pub returns-clause-trees : goal.returns-clause-trees
-returns-clause-trees c = λ g t deep placed. told g t deep placed
-
-pub returns-clause-others : goal.returns-clause-others
-returns-clause-others c = λ g ls d e w. only_told g ls d e w

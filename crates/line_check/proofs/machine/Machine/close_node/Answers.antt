@@ -1,5 +1,0 @@
-use Rattle.line_check.proofs.SameTold.{closed_tells}
-use Rattle.line_check.proofs.machine.Machine.close_node.Goals as goal
-
-pub returns-clause-tells : goal.returns-clause-tells
-returns-clause-tells c = closed_tells c.args.self.now

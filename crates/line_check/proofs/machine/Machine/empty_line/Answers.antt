@@ -1,6 +1,0 @@
-use Rattle.std.proofs.Common.{◌∙◌, sym}
-use Rattle.line_check.proofs.Parts.{empty_tells}
-use Rattle.line_check.proofs.machine.Machine.empty_line.Goals as goal
-
-pub returns-clause-tells : goal.returns-clause-tells
-returns-clause-tells c = empty_tells c.args.self.now c.close_part.new.self (sym c.is_empty.ensures ∙ c.if-not-is_empty.false) c.close_part.ensures.tells

@@ -1,5 +1,0 @@
-use Rattle.line_check.proofs.SameTold.{left_tells}
-use Rattle.line_check.proofs.machine.Machine.leave_node.Goals as goal
-
-pub returns-clause-tells : goal.returns-clause-tells
-returns-clause-tells c = λ p t. left_tells c.args.self.now c.go_up.new.self p c.requires.closed c.go_up.ensures.tells t

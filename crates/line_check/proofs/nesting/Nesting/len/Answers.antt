@@ -1,6 +1,0 @@
-use Rattle.std.proofs.Common.{◌∙◌, sym, ap, length}
-use Rattle.line_check.proofs.Stacks.{count}
-use Rattle.line_check.proofs.nesting.Nesting.len.Goals as goal
-
-pub returns-clause-size : goal.returns-clause-size
-returns-clause-size c = sym (count c.self.inside.places.items c.self.inside.depth) ∙ ap length c.self.view_is

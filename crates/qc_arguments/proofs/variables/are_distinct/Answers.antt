@@ -1,6 +1,0 @@
-use Rattle.qc_arguments.specs.Written.{variable_numbers}
-use Rattle.qc_arguments.proofs.Apart.{apart_distinct}
-use Rattle.qc_arguments.proofs.variables.are_distinct.Goals as goal
-
-pub returns : goal.returns
-returns c = rw c.are_apart.ensures (apart_distinct (variable_numbers c.args.variables.now))

@@ -1,8 +1,0 @@
-use Rattle.qc_assignment.proofs.Building.{Termed, Stood}
-use Rattle.qc_assignment.proofs.assignment.Assignment.new.Given as goal
-
-abbrev pub invariant-loop-k : goal.invariant-loop-k
-invariant-loop-k l = record {
-  terms : Termed l.problem l.k l.terms;
-  standings : Stood l.problem l.k l.standings.items;
-}

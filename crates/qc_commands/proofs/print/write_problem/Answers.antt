@@ -1,6 +1,0 @@
-use Rattle.qc_commands.proofs.Written.{Wrote-weaker}
-use Rattle.qc_commands.proofs.print.write_problem.Goals as goal
-
-pub returns-in-Ok-clause-wrote : goal.returns-in-Ok-clause-wrote
-returns-in-Ok-clause-wrote g c =
-    Wrote-weaker _ _ _ _ c.finish.result _ _ (λ s t is. rw (is.0, is.1) (rw c.deref.ensures.value c.in-Ok.ensures.text)) c.finish.ensures.wrote

@@ -1,5 +1,0 @@
-use Rattle.qc_grammar.proofs.Problems.{one_problem}
-use Rattle.qc_grammar.proofs.laws.texts_are_read_in_one_way.Goals as goal
-
-pub returns : goal.returns
-returns c = one_problem

@@ -1,5 +1,0 @@
-use Rattle.qc_grammar.proofs.TokenLoop.{HasRead}
-use Rattle.qc_grammar.proofs.read.read_items.Given as goal
-
-abbrev pub invariant-loop-token : goal.invariant-loop-token
-invariant-loop-token l = HasRead l.text l.tokens l.token-index l.reader

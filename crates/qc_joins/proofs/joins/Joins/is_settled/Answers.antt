@@ -1,7 +1,0 @@
-use Rattle.qc_joins.proofs.AtScope.{settled_read}
-use Rattle.qc_joins.proofs.joins.Joins.is_settled.Goals as goal
-
-pub returns : goal.returns
-returns c =
-    let j = c.args.self.now in
-    λ xs t. settled_read j.problem.now j.joins.items c.args.i.0 c.index.result.now xs c.is_settled.result j.joined c.requires c.index.ensures c.is_settled.ensures t

@@ -1,5 +1,0 @@
-use Rattle.qc_joins.proofs.Takings.{bound_kept}
-use Rattle.qc_joins.proofs.scope_join.ScopeJoin.add_bound.Goals as goal
-
-pub returns-in-Forall-clause-stands : goal.returns-in-Forall-clause-stands
-returns-in-Forall-clause-stands c = λ xs g. bound_kept c.args.self.now c.in-Forall._join c.args.best xs c.in-Forall.is g

@@ -1,6 +1,0 @@
-pub mod Verdicts
-pub mod ScopeJoins
-pub mod Props
-pub mod Joins
-pub mod Sizes
-pub mod Ends

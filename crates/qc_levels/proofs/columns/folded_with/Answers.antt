@@ -1,6 +1,0 @@
-use Rattle.std.proofs.Common.{rules}
-use Rattle.std.proofs.lemmas.Int.{wraps}
-use Rattle.qc_levels.proofs.columns.folded_with.Goals as goal
-
-pub returns-in-Sum : goal.returns-in-Sum
-returns-in-Sum c = search (rules, wraps)

@@ -1,7 +1,0 @@
-use Rattle.std.proofs.Common.{◌≡◌, [], map, take}
-use Rattle.qc_model.specs.Demands.{first_namings}
-use Rattle.qc_levels.specs.Columns.{fresh_column}
-use Rattle.qc_levels.proofs.columns.fresh_columns.Given as goal
-
-abbrev pub invariant-loop-entry : goal.invariant-loop-entry
-invariant-loop-entry l = l.columns.items ≡ map (fresh_column l.problem (first_namings [] l.list)) (take l.entry-index l.list)

@@ -1,6 +1,0 @@
-use Rattle.std.proofs.Common.{◌≡◌, drop}
-use Rattle.qc_levels.specs.Order.{vector_order}
-use Rattle.qc_levels.proofs.order.compare.Given as goal
-
-abbrev pub invariant-loop-k : goal.invariant-loop-k
-invariant-loop-k l = vector_order (drop l.k l.list) (drop l.k l.v) (drop l.k l.w) ≡ vector_order l.list l.v l.w

@@ -1,3 +1,0 @@
-pub mod Plain
-pub mod Likes
-pub mod Lines

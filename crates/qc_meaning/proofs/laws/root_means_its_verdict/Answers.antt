@@ -1,5 +1,0 @@
-use Rattle.qc_meaning.proofs.Outcomes.{root_verdict}
-use Rattle.qc_meaning.proofs.laws.root_means_its_verdict.Goals as goal
-
-pub returns : goal.returns
-returns c = root_verdict

@@ -1,6 +1,0 @@
-use Rattle.std.proofs.Common.{◌≡◌, drop}
-use Rattle.qc_resolve.specs.Numbers.{first_empty}
-use Rattle.qc_resolve.proofs.empty.first_empty.Given as goal
-
-abbrev pub invariant-loop-item : goal.invariant-loop-item
-invariant-loop-item l = first_empty (drop l.item-index l.items) ≡ first_empty l.items

@@ -1,5 +1,0 @@
-use Rattle.qc_rules.proofs.SpanLaws.{variables_all}
-use Rattle.qc_rules.proofs.levels.Levels.new.Goals as goal
-
-pub invariant_of-result-clause-has_all : goal.invariant_of-result-clause-has_all
-invariant_of-result-clause-has_all c = variables_all c.args.problem.now c.known.ensures

@@ -1,3 +1,0 @@
-pub mod Adding
-pub mod Owning
-pub mod Seeing

@@ -1,5 +1,0 @@
-use Rattle.qc_valid.proofs.Validity.{valid}
-use Rattle.qc_valid.proofs.laws.unrefused_is_valid.Goals as goal
-
-pub returns : goal.returns
-returns c = valid

@@ -1,0 +1,23 @@
+use Rattle.std.proofs.Common.{◌≡◌, ◌<◌, ◌≤◌, ◌-◌, length}
+use Rattle.check_lines.specs.Machine.{game_of}
+use Rattle.qc_check.specs.Keeping.{WasGiven}
+use Rattle.qc_io.specs.Counts.{RoseBy}
+use Rattle.qecode_commands.specs.Fed.{FedTo}
+use Rattle.qecode_commands.proofs.certificate.feed_file.Given as goal
+
+abbrev pub invariant-loop-at : goal.invariant-loop-at
+invariant-loop-at g l = record {
+  fed : FedTo (g.S.Shelf.told l.fn.shelf l.name) l.at l.checker;
+  was_given : WasGiven l.checker;
+  same : game_of l.checker.machine ≡ game_of l.fn.checker.machine;
+  read : l.checker.read ≤ l.at;
+  piece : 0 < length l.piece;
+  faults : g.S.Shelf.faults l.shelf ≡ g.S.Shelf.faults l.fn.shelf;
+  given : RoseBy l.at (g.S.Shelf.given l.fn.shelf) (g.S.Shelf.given l.shelf);
+  stays : g.S.Shelf.told l.shelf ≡ g.S.Shelf.told l.fn.shelf;
+  same_end : l.end ≡ 1073741825;
+  within : l.at ≤ 1073741825;
+}
+
+abbrev pub decreases-loop-at : goal.decreases-loop-at
+decreases-loop-at g l = l.end - l.at

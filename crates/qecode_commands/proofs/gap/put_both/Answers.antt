@@ -1,0 +1,34 @@
+use Rattle.std.proofs.Common.{◌≡◌, ◌∙◌, string_bytes}
+use Rattle.qc_io.proofs.Known.{moves_then, prefix_then, prefix_of, on_err}
+use Rattle.qecode_commands.proofs.Parts.{first_part, first_fault, moves_end, prefix_rest, ok_weaker, err_weaker}
+use Rattle.qecode_commands.proofs.gap.put_both.Goals as goal
+
+pub returns-in_err-put_all-clause-err : goal.returns-in_err-put_all-clause-err
+returns-in_err-put_all-clause-err g c =
+    let part = first_fault _ _ _ _ c.new-pieces.ensures (rw (c.as_bytes.ensures.value, c.as_str.ensures.value) at c.in_err-put_all.ensures.err) in
+    on_err _ (prefix_of _ _ _ _ (prefix_of _ _ _ _ part))
+
+pub returns-in_err-put_if_open-clause-err : goal.returns-in_err-put_if_open-clause-err
+returns-in_err-put_if_open-clause-err g c =
+    let first = first_part _ _ _ _ _ c.new-pieces.ensures (rw (c.as_bytes.ensures.value, c.as_str.ensures.value) at c.in_ok-put_all.ensures.ok) in
+    on_err _ (prefix_of _ _ _ _ (prefix_then _ _ _ _ _ _ first c.in_err-put_if_open.ensures.err))
+
+pub returns-in_err-put_if_open-2-clause-err : goal.returns-in_err-put_if_open-2-clause-err
+returns-in_err-put_if_open-2-clause-err g c =
+    let first = first_part _ _ _ _ _ c.new-pieces.ensures (rw (c.as_bytes.ensures.value, c.as_str.ensures.value) at c.in_ok-put_all.ensures.ok) in
+    let second = moves_then _ _ _ _ _ _ _ first c.in_ok-put_if_open.ensures.ok in
+    on_err _ (prefix_then _ _ _ _ _ _ second c.in_err-put_if_open-2.ensures.err)
+
+pub returns-clause-ok : goal.returns-clause-ok
+returns-clause-ok g c =
+    let first = first_part _ _ _ _ _ c.new-pieces.ensures (rw (c.as_bytes.ensures.value, c.as_str.ensures.value) at c.in_ok-put_all.ensures.ok) in
+    let second = moves_then _ _ _ _ _ _ _ first c.in_ok-put_if_open.ensures.ok in
+    let third = moves_then _ _ _ _ _ _ _ second c.in_ok-put_if_open-2.ensures.ok in
+    ok_weaker c.finish.result (moves_end _ _ _ _ _ third) c.finish.ensures.ok
+
+pub returns-clause-err : goal.returns-clause-err
+returns-clause-err g c =
+    let first = first_part _ _ _ _ _ c.new-pieces.ensures (rw (c.as_bytes.ensures.value, c.as_str.ensures.value) at c.in_ok-put_all.ensures.ok) in
+    let second = moves_then _ _ _ _ _ _ _ first c.in_ok-put_if_open.ensures.ok in
+    let third = moves_then _ _ _ _ _ _ _ second c.in_ok-put_if_open-2.ensures.ok in
+    err_weaker c.finish.result (prefix_rest _ _ _ _ _ third) c.finish.ensures.err

@@ -1,0 +1,16 @@
+use Rattle.std.proofs.Common.{◌∙◌, inl, inr, subst}
+use Rattle.qc_play.specs.Sides.{kind_of, choices_of}
+use Rattle.qecode_commands.specs.Plays.{PlaysMoves}
+use Rattle.qecode_commands.proofs.Written.{Wrote-weaker}
+use Rattle.qecode_commands.proofs.Played.{moves_down}
+use Rattle.qecode_commands.proofs.play.play_text.Goals as goal
+
+pub returns-in-Ok-clause-wrote : goal.returns-in-Ok-clause-wrote
+returns-in-Ok-clause-wrote g c =
+    Wrote-weaker _ _ _ _ c.play_moves.result _ _
+    (λ s t h. inr (c.in-Ok.ensures.good, subst (λ ms. PlaysMoves c.args.problem.now (kind_of c.args.side) (choices_of c.args.side) ms s t) (c.deref.ensures.value ∙ c.in-Ok.ensures.moves) h))
+    c.play_moves.ensures.wrote
+
+pub returns-in-Err-clause-wrote : goal.returns-in-Err-clause-wrote
+returns-in-Err-clause-wrote g c =
+    Wrote-weaker _ _ _ _ c.turn_moves_down.result _ _ (λ s t is. inl (moves_down c.args.text.now c.in-Err.fault s t c.in-Err.ensures.why is)) c.turn_moves_down.ensures.wrote

@@ -1,0 +1,12 @@
+use Rattle.std.proofs.Common.{inl, inr, subst}
+use Rattle.qecode_commands.specs.Answers.{SolvesProblem}
+use Rattle.qecode_commands.proofs.Written.{Wrote-weaker, wrote_from}
+use Rattle.qecode_commands.proofs.worst.oppose_problem.Goals as goal
+
+pub returns-in-Ok-clause-wrote : goal.returns-in-Ok-clause-wrote
+returns-in-Ok-clause-wrote g c =
+    wrote_from g.K.Sink.written g.K.Sink.faults c.args.out.now c.oppose.new.out _ _ c.solve_problem.result _ c.in-Ok.ensures.silent
+    (Wrote-weaker _ _ _ _ c.solve_problem.result _ _ (λ s t h. inr (c.in-Ok.ensures.reading, subst (λ q. SolvesProblem c.args.turns q s t) c.in-Ok.ensures.made h)) c.solve_problem.ensures.wrote)
+
+pub returns-in-Err-clause-wrote : goal.returns-in-Err-clause-wrote
+returns-in-Err-clause-wrote g c = Wrote-weaker _ _ _ _ c.in-Err.status _ _ (λ s t d. inl d) c.in-Err.ensures.refused

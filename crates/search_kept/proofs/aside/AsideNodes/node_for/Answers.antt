@@ -1,0 +1,33 @@
+use Rattle.std.proofs.Common.{◌≡◌, ◌≤◌, ◌<◌, ◌∙◌, refl, subst, sym, arith}
+use Rattle.qc_model.specs.Content.{Game}
+use Rattle.joins.specs.Seen.{verdict_of}
+use Rattle.proof_tree.specs.Counts.{turns_of}
+use Rattle.proof_tree.specs.Lines.{tree_lines}
+use Rattle.proof_tree.specs.Tree.{Tree}
+use Rattle.proof_tree.specs.Place.{position}
+use Rattle.search_box.specs.Looking.{scope_number}
+use Rattle.search_kept.specs.Aside.{IsAside}
+use Rattle.search_kept.proofs.Asides.{ended_aside}
+use Rattle.search_kept.proofs.aside.AsideNodes.node_for.Goals as goal
+
+pub invariant_of-result-clause-aside : goal.invariant_of-result-clause-aside
+invariant_of-result-clause-aside c =
+    let k = c.args.self.now.problem.now in
+    let l = c.args.level.now in
+    let g = l.problem.now in
+    let same : g ≡ k = c.requires.game in
+    let end = c.args.end in
+    let w = c.args.vector.now in
+    let v = verdict_of end.found w in
+    let box = c.args.remains.now.store.box in
+    let h = scope_number c.args.horizon in
+    let vs = position g l.number box in
+    let ls = c.args.lines.items in
+    let some : 0 < end.left = omega (arith, c.if-end-eq0.false) in
+    let fresh = c.if-not-is_fresh_here.ensures refl in
+    let turns = c.turns_in.result in
+    let few : (t : Tree) → ls ≡ tree_lines t → turns_of t ≤ turns = λ t e. c.turns_in.ensures t (c.as_slice.ensures.value ∙ e) in
+    let here = ended_aside g l.number box h v end.had end.left vs ls turns some few fresh c.requires.ended in
+    let there = subst (λ (u : Game). IsAside u l.number h vs v turns ls) same here in
+    let vector = subst (λ ws. IsAside k l.number h vs (verdict_of end.found ws) turns ls) (sym c.in_ok-from_slice-2.ensures.items) there in
+    subst (λ us. IsAside k l.number h us (verdict_of end.found c.in_ok-from_slice-2.field-0.items) turns ls) (sym (c.in_ok-from_slice.ensures.items ∙ c.values_before-here.ensures)) vector
