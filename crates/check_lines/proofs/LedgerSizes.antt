@@ -7,7 +7,7 @@ use Rattle.qc_model.specs.declared.problem.Sense.{Sense}
 use Rattle.qc_model.specs.declared.problem.Sense.TheVariants.{Min, Max}
 use Rattle.qc_model.specs.Content.{Game}
 use Rattle.qc_model.specs.Demands.{demands}
-use Rattle.qc_model.specs.Domains.{Values, Box, values_left, values_within, values_outside, is_within, least_from, greatest_from, least_value, box_values, box_without, has_empty, is_none_left, declared_box}
+use Rattle.qc_model.specs.Domains.{Values, Box, values_left, values_within, values_outside, is_within, greatest_from, least_value, box_values, box_without, has_empty, is_none_left, declared_box}
 use Rattle.qc_model.specs.Game.{allows, before}
 use Rattle.qc_model.specs.Valid.{IsValid, is_number, is_domain}
 use Rattle.qc_model.specs.Verdict.{Verdict, lost, exact, at_most, unknown, Seen, seen_barred, seen_skipped, seen_bound, seen_node}
@@ -29,7 +29,8 @@ use Rattle.joins.proofs.Lengths.{long_join, verdict_long, stuck_long, goal_long}
 use Rattle.joins.proofs.Sizing.{sizes_both, verdict_sized, stuck_sized, goal_sized}
 use Rattle.check_lines.specs.LedgerSizes.{HasNumbers, VerdictLaws, ScopeKeeps, EntriesKeep, PartKeeps, ClosesKeep, NodeKeeps, AwaitedKeeps, KeepsSizes, KeepsSizesAt, NodeFits}
 use Rattle.model_arguments.proofs.Boxes.{left_small}
-use Rattle.box_laws.proofs.Filters.{all_filter, all_take}
+use Rattle.box_laws.proofs.Filters.{all_filter, all_take, all_drop}
+use Rattle.box_laws.proofs.Readings.{least_number}
 use Rattle.check_lines.proofs.Facts.{both}
 use Rattle.box_laws.proofs.Declared.{declared_is}
 
@@ -56,14 +57,6 @@ pub step_numbers : (step : Step) (box : Box) → HasNumbers box → HasNumbers (
 step_numbers (PruneStep x low high c) box h = without_numbers box x.0 low high h
 step_numbers (BoundStep x low high) box h = without_numbers box x.0 low high h
 
-least_number : (n : ℤ) (vs : Values) → is_number n ≡ true → AreNumbers vs → is_number (least_from n vs) ≡ true
-least_number n [] e h = e
-least_number n (v ∷ vs) e h = let r = both (is_number v) (list_all is_number vs) h in least_number (cond (int_lt v n) v n) vs (one (int_lt v n) r.0) r.1
-  where
-    one : (b : Bool) → is_number v ≡ true → is_number (cond b v n) ≡ true
-    one true f = f
-    one false f = e
-
 greatest_number : (n : ℤ) (vs : Values) → is_number n ≡ true → AreNumbers vs → is_number (greatest_from n vs) ≡ true
 greatest_number n [] e h = e
 greatest_number n (v ∷ vs) e h = let r = both (is_number v) (list_all is_number vs) h in greatest_number (cond (int_lt n v) v n) vs (one (int_lt n v) r.0) r.1
@@ -74,7 +67,7 @@ greatest_number n (v ∷ vs) e h = let r = both (is_number v) (list_all is_numbe
 
 least_is : (vs : Values) → AreNumbers vs → is_number (least_value vs) ≡ true
 least_is [] h = refl
-least_is (v ∷ vs) h = let r = both (is_number v) (list_all is_number vs) h in least_number v vs r.0 r.1
+least_is (v ∷ vs) h = least_number (v ∷ vs) refl h
 
 best_is : (s : Sense) (vs : Values) → AreNumbers vs → is_number (best_value s vs) ≡ true
 best_is Min vs h = least_is vs h

@@ -4,7 +4,6 @@ pub mod ExistsVerdicts
 pub mod Gathered
 pub mod ForallVerdicts
 pub mod DemandSteps
-pub mod Props
 pub mod Takings
 pub mod Placed
 pub mod AtScope

@@ -15,7 +15,7 @@ ghost use Rattle.search_kept.specs.Props.{aside_prop};
 ghost use Rattle.search_parts.specs.Settled.{is_vague_verdict, beats_none};
 
 use crate::known::{LEAST_LINES, NodeEnd, is_decided, is_same};
-use crate::likeness::is_fresh;
+use crate::resemblance::is_fresh;
 use crate::turns::turns_in;
 use joins::Found;
 use model_levels::Level;

@@ -11,7 +11,7 @@ ghost use Rattle.search_kept.specs.Props.{known_prop};
 ghost use Rattle.search_kept.specs.Known.{IsFinished, IsKnown, StandsHere};
 ghost use Rattle.search_parts.specs.Settled.{is_vague_verdict, beats_none};
 
-use crate::likeness::{is_like, position_number, stand_alike};
+use crate::resemblance::{is_like, position_number, stand_alike};
 use crate::turns::turns_in;
 use joins::Found;
 use likeness::{Likeness, asks_nothing, is_won};

@@ -11,7 +11,7 @@
 
 mod aside;
 mod known;
-mod likeness;
+mod resemblance;
 mod turns;
 
 pub use aside::{AsideNode, AsideNodes};

@@ -3,7 +3,7 @@ use Rattle.qc_model.specs.Content.{Game}
 use Rattle.proof_tree.specs.Place.{position}
 use Rattle.likeness.specs.Likeness.{SeenAlike}
 use Rattle.likeness.proofs.Likes.{like_kept}
-use Rattle.search_kept.proofs.likeness.is_like.Goals as goal
+use Rattle.search_kept.proofs.resemblance.is_like.Goals as goal
 
 pub returns-then-is_like_itself : goal.returns-then-is_like_itself
 returns-then-is_like_itself c =

@@ -2,7 +2,7 @@ use Rattle.std.proofs.Common.{◌≡◌, ◌≤◌, ◌∙◌, length, ap, arith
 use Rattle.qc_model.specs.Content.{Game}
 use Rattle.qc_model.specs.Game.{before}
 use Rattle.search_kept.proofs.Knowing.{like_here}
-use Rattle.search_kept.proofs.likeness.is_like_itself.Goals as goal
+use Rattle.search_kept.proofs.resemblance.is_like_itself.Goals as goal
 
 pub returns : goal.returns
 returns c =
