@@ -28,17 +28,20 @@ not_all (false ∷ marks) zero h e = omega (arith, most marks)
 not_all (true ∷ marks) (suc k) h e = omega (arith, not_all marks k (omega arith) e)
 not_all (false ∷ marks) (suc k) h e = omega (arith, not_all marks k (omega arith) e)
 
--- an unmarked one has a place
-pub room_left : (n room : ℕ) (marks : List Bool) (k : ℕ) → HasRoom n room marks → k < length marks → get_or marks k false ≡ false → n < room
-room_left n room marks k r h e = omega (arith, r.few, r.places, not_all marks k h e)
+-- an unmarked one has a place in the queue that it comes to
+pub first_left : (m n room other : ℕ) (marks many : List Bool) (k : ℕ) → HasRoom m n room other marks many → k < length marks → get_or marks k false ≡ false → m < room
+first_left m n room other marks many k r h e = omega (arith, r.few, r.first_places, not_all marks k h e)
+
+pub later_left : (m n other room : ℕ) (marks many : List Bool) (k : ℕ) → HasRoom m n other room marks many → k < length marks → get_or marks k false ≡ false → n < room
+later_left m n other room marks many k r h e = omega (arith, r.few, r.later_places, not_all marks k h e)
 
 length_set : (marks : List Bool) (k : ℕ) (b : Bool) → length (set marks k b) ≡ length marks
 length_set [] k b = refl
 length_set (m ∷ marks) zero b = refl
 length_set (m ∷ marks) (suc k) b = omega (arith, length_set marks k b)
 
-pub room_added : (n m room : ℕ) (marks : List Bool) (k : ℕ) → HasRoom n room marks → k < length marks → get_or marks k false ≡ false → m ≡ n + 1 → HasRoom m room (set marks k true)
-room_added n m room marks k r h e q = record { few = omega (arith, r.few, one_more marks k h e, q); places = omega (arith, r.places, length_set marks k true) }
+pub room_added : (m n m' n' room other : ℕ) (marks many : List Bool) (k : ℕ) → HasRoom m n room other marks many → k < length marks → get_or marks k false ≡ false → m' + n' ≡ m + n + 1 → HasRoom m' n' room other (set marks k true) many
+room_added m n m' n' room other marks many k r h e q = record { few = omega (arith, r.few, one_more marks k h e, q); first_places = omega (arith, r.first_places, length_set marks k true); later_places = omega (arith, r.later_places, length_set marks k true); queues = omega (arith, r.queues, length_set marks k true) }
 
-pub room_taken : (n m room : ℕ) (marks : List Bool) (k : ℕ) → HasRoom n room marks → m + 1 ≡ n → HasRoom m room (set marks k false)
-room_taken n m room marks k r q = record { few = omega (arith, r.few, one_less marks k, q); places = omega (arith, r.places, length_set marks k false) }
+pub room_taken : (m n m' n' room other : ℕ) (marks many : List Bool) (k : ℕ) → HasRoom m n room other marks many → m' + n' + 1 ≡ m + n → HasRoom m' n' room other (set marks k false) many
+room_taken m n m' n' room other marks many k r q = record { few = omega (arith, r.few, one_less marks k, q); first_places = omega (arith, r.first_places, length_set marks k false); later_places = omega (arith, r.later_places, length_set marks k false); queues = omega (arith, r.queues, length_set marks k false) }

@@ -32,10 +32,12 @@ marked [] = 0
 marked (true ∷ marks) = marked marks + 1
 marked (false ∷ marks) = marked marks
 
--- no more wait than are marked, and there is a place for each mark
-pub record HasRoom (waiting room : ℕ) (marks : List Bool) : Type 0 where
-  pub few : waiting ≤ marked marks
-  pub places : length marks ≤ room
+-- no more wait in both queues than are marked, each queue has a place for each mark, and each mark's queue is known
+pub record HasRoom (first later first_room later_room : ℕ) (marks many : List Bool) : Type 0 where
+  pub few : first + later ≤ marked marks
+  pub first_places : length marks ≤ first_room
+  pub later_places : length marks ≤ later_room
+  pub queues : length many ≡ length marks
 
 abbrev pub is_marked : Waiting → ℕ → Bool
 is_marked w k = slice_index_or w.marks k false

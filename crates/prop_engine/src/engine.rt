@@ -206,7 +206,7 @@ impl Engine {
     {
         let watches = Watches::of_problem(alloc, problem)?;
         let hints = Hints::of_problem(alloc, problem)?;
-        let list = WorkList::new(alloc, problem.constraints())?;
+        let list = WorkList::of_problem(alloc, problem)?;
         Ok(Engine {
             watches,
             hints,

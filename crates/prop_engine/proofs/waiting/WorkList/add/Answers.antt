@@ -1,17 +1,30 @@
-use Rattle.std.proofs.Common.{◌≡◌, ℕ, ◌∙◌, sym, set, true, deque_len, ap, subst, get_or, length, false, arith}
+use Rattle.std.proofs.Common.{◌≡◌, ℕ, ◌∙◌, sym, set, true, deque_len, deque_capacity, ap, subst, get_or, length, false, arith}
 use Rattle.prop_engine.specs.Watching.{HasRoom}
-use Rattle.prop_engine.proofs.Room.{room_left, room_added}
+use Rattle.prop_engine.proofs.Room.{first_left, later_left, room_added}
 use Rattle.prop_engine.proofs.waiting.WorkList.add.Goals as goal
 
 pub push_back_reserved-requires : goal.push_back_reserved-requires
 push_back_reserved-requires c =
     let marks = c.self.inside.marks.items in
-    room_left _ _ marks c.args.c.0 c.self.invariant (omega (arith, c.requires.c, ap (λ w. length w.marks) c.self.view_is)) (subst (λ z. get_or marks c.args.c.0 z ≡ false) c.if-index.false (sym c.index.ensures ∙ c.if-index.false))
+    later_left _ _ _ _ marks _ c.args.c.0 c.self.invariant (omega (arith, c.requires.c, ap (λ w. length w.marks) c.self.view_is)) (subst (λ z. get_or marks c.args.c.0 z ≡ false) c.if-index.false (sym c.index.ensures ∙ c.if-index.false))
 
 pub invariant_of-self : goal.invariant_of-self
 invariant_of-self c =
     let marks = c.self.inside.marks.items in
     let e = c.push_back_reserved.ensures in
     let unset = subst (λ z. get_or marks c.args.c.0 z ≡ false) c.if-index.false (sym c.index.ensures ∙ c.if-index.false) in
-    let R : ℕ → Type 0 = λ n. HasRoom (deque_len c.push_back_reserved.new.self) n (set marks c.args.c.0 true) in
-    subst R (sym e.capacity) (room_added _ _ _ marks c.args.c.0 c.self.invariant (omega (arith, c.requires.c, ap (λ w. length w.marks) c.self.view_is)) unset e.len)
+    let R : ℕ → Type 0 = λ n. HasRoom (deque_len c.self.inside.first) (deque_len c.push_back_reserved.new.self) (deque_capacity c.self.inside.first) n (set marks c.args.c.0 true) c.self.inside.many.items in
+    subst R (sym e.capacity) (room_added _ _ _ _ _ _ marks _ c.args.c.0 c.self.invariant (omega (arith, c.requires.c, ap (λ w. length w.marks) c.self.view_is)) unset (omega (arith, e.len)))
+
+pub push_back_reserved-requires-2 : goal.push_back_reserved-requires-2
+push_back_reserved-requires-2 c =
+    let marks = c.self.inside.marks.items in
+    first_left _ _ _ _ marks _ c.args.c.0 c.self.invariant (omega (arith, c.requires.c, ap (λ w. length w.marks) c.self.view_is)) (subst (λ z. get_or marks c.args.c.0 z ≡ false) c.if-index.false (sym c.index.ensures ∙ c.if-index.false))
+
+pub invariant_of-self-2 : goal.invariant_of-self-2
+invariant_of-self-2 c =
+    let marks = c.self.inside.marks.items in
+    let e = c.push_back_reserved-2.ensures in
+    let unset = subst (λ z. get_or marks c.args.c.0 z ≡ false) c.if-index.false (sym c.index.ensures ∙ c.if-index.false) in
+    let R : ℕ → Type 0 = λ n. HasRoom (deque_len c.push_back_reserved-2.new.self) (deque_len c.self.inside.later) n (deque_capacity c.self.inside.later) (set marks c.args.c.0 true) c.self.inside.many.items in
+    subst R (sym e.capacity) (room_added _ _ _ _ _ _ marks _ c.args.c.0 c.self.invariant (omega (arith, c.requires.c, ap (λ w. length w.marks) c.self.view_is)) unset (omega (arith, e.len)))
