@@ -4,8 +4,8 @@ import re
 import unittest
 
 TOP = os.path.dirname(os.path.dirname(os.path.dirname(os.path.realpath(__file__))))
-# Crates of tests, and of what only tests are made of, promise nothing to a user.
-OF_TESTS = {"test_drafts", "test_libraries", "test_games", "test_certificates", "test_program", "test_tell", "test_dense"}
+# Crates of tests promise nothing to a user.
+OF_TESTS = {"test_libraries", "test_certificates", "test_program", "test_tell", "test_dense"}
 # What a row names that is no function: types and fields of contracts, clauses, and words of the prose.
 NAME = re.compile(r"`([a-z_]+)`")
 

@@ -96,7 +96,7 @@ fn comes_to(
     Ok(single == (fed, found) && seven == (fed, found) && whole == (fed, found))
 }
 
-fn problem_of(alloc: Global, text: &[u8]) -> Result<Problem, Fail>
+pub(crate) fn problem_of(alloc: Global, text: &[u8]) -> Result<Problem, Fail>
     requires { length text.now ≤ 65536 }
 {
     read_problem(alloc, text).map_err(|_| Fail::from("no problem"))

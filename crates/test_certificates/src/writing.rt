@@ -39,17 +39,19 @@ fn answered(alloc: Global, text: &[u8], turns: &str) -> Result<(Status, MemorySi
     Ok((status, sink))
 }
 
+// Whether the tree and the command's answer have the same bytes.
+fn is_same(alloc: Global, written: &[u8], turns: &str, status: Status) -> Result<bool, AllocError> {
+    let (answer, sink) = answered(alloc, ODD, turns)?;
+    Ok(answer == status && sink.bytes() == written)
+}
+
 // What five turns leave open, and six don't.
 #[test]
 fn trees_are_written_as_by_the_command(rt: HostRuntime) -> Result<(), Fail> {
     let alloc = rt.alloc();
     let five = written(alloc, ODD, 5)?;
-    let (status, sink) = answered(alloc, ODD, "5")?;
-    assert_eq!(rt; status, Status::Open);
-    assert!(rt; sink.bytes() == five.as_slice());
+    assert!(rt; is_same(alloc, &five, "5", Status::Open)?);
     let six = written(alloc, ODD, 6)?;
-    let (status, sink) = answered(alloc, ODD, "6")?;
-    assert_eq!(rt; status, Status::Done);
-    assert!(rt; sink.bytes() == six.as_slice());
+    assert!(rt; is_same(alloc, &six, "6", Status::Done)?);
     Ok(())
 }

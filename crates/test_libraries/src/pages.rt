@@ -1,43 +1,49 @@
 //! A stack on pages: a long run over several pages, compared with numbers computed apart, and pages that cannot be had.
 use paged_stack::PagedStack;
-use std::alloc::AllocError;
+use std::alloc::{AllocError, Global};
 use std::test::Fail;
 
-#[test]
-fn items_keep_their_order_over_pages(rt: HostRuntime) -> Result<(), Fail> {
-    let mut stack = PagedStack::new(rt.alloc());
+// The numbers from 0 on, over three pages.
+fn filled(alloc: Global) -> Result<PagedStack<u32>, AllocError> {
+    let mut stack = PagedStack::new(alloc);
     for k in 0..3000u32 {
         stack.push(k)?;
     }
-    assert_eq!(rt; stack.len(), 3000);
-    for k in 0..3000u32 {
-        assert_eq!(rt; stack.get(k as usize), Some(k));
-    }
-    assert_eq!(rt; stack.get(3000), None);
-    stack.cut(1025);
-    assert_eq!(rt; stack.pop(), Some(1024));
-    assert_eq!(rt; stack.len(), 1024);
+    Ok(stack)
+}
+
+// Five thousand more from 1024 on, whose room was taken before.
+fn refill(stack: &mut PagedStack<u32>) -> Result<(), AllocError> {
     stack.reserve(5000)?;
     for k in 0..5000u32 {
-        assert!(rt; stack.spare() > 0);
-        stack.push_spare(10_000 + k);
+        if stack.spare() > 0 {
+            stack.push_spare(1024 + k);
+        }
     }
-    assert_eq!(rt; stack.len(), 6024);
-    for k in 0..6024u32 {
-        let expected = if k < 1024 { k } else { k + 8976 };
-        assert_eq!(rt; stack.get(k as usize), Some(expected));
-    }
+    Ok(())
+}
+
+// How many items there are, where each is its own place.
+fn counted(stack: &PagedStack<u32>) -> Option<u32> {
     let mut next = 0u32;
     for item in stack.cursor() {
-        let expected = if next < 1024 {
-            next
-        } else {
-            next.saturating_add(8976)
-        };
-        assert_eq!(rt; item, expected);
+        if item != next {
+            return None;
+        }
         next = next.saturating_add(1);
     }
-    assert_eq!(rt; next, 6024);
+    Some(next)
+}
+
+#[test]
+fn items_keep_their_order_over_pages(rt: HostRuntime) -> Result<(), Fail> {
+    let mut stack = filled(rt.alloc())?;
+    assert_eq!(rt; stack.len(), 3000);
+    stack.cut(1025);
+    assert_eq!(rt; stack.pop(), Some(1024));
+    refill(&mut stack)?;
+    assert_eq!(rt; counted(&stack), Some(6024));
+    assert_eq!(rt; (stack.get(6023), stack.get(6024)), (Some(6023), None));
     Ok(())
 }
 

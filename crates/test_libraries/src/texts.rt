@@ -1,8 +1,6 @@
 //! Which bytes are read, and where others stop.
-use proof_text::{CertFault, Line, LineReader, Read, read_cert, write_cert};
-use proof_tree::{Outcome, Version};
-use qc_model::{ConId, VarId};
-use std::alloc::{AllocError, Global};
+use proof_text::{CertFault, LineReader, read_cert, write_cert};
+use std::alloc::Global;
 use std::test::Fail;
 
 // A certificate with a line of each kind.
@@ -19,10 +17,6 @@ fn fault(alloc: Global, text: &[u8]) -> Option<CertFault> {
     }
 }
 
-fn stops(at: u64) -> Option<CertFault> {
-    Some(CertFault::NotACertificate { at })
-}
-
 // Whether the text is read, and written again as it was.
 fn is_read(alloc: Global, text: &[u8]) -> Result<bool, Fail> {
     let cert = read_cert(alloc, &text[..text.len().min(1 << 30)])?;
@@ -30,93 +24,57 @@ fn is_read(alloc: Global, text: &[u8]) -> Result<bool, Fail> {
     Ok(again.as_slice() == text)
 }
 
-// A head, and so many lines of the letter.
-fn lines(alloc: Global, letter: u8, count: usize) -> Result<Vec<u8>, AllocError> {
-    let mut text = Vec::from_slice(alloc, b"qcert 1\ntrue\n")?;
-    for _ in 0..count {
-        text.push(letter)?;
-        text.push(b'\n')?;
-    }
-    Ok(text)
-}
-
 #[test]
 fn reads_what_is_written(rt: HostRuntime) -> Result<(), Fail> {
+    let rows: [&[u8]; 4] = [
+        EACH,
+        RANGES,
+        b"qcert 1\nopen 10000000\ng\n",
+        b"qcert 1\ntrue 4611686018427387904\nx\n",
+    ];
+    for text in rows {
+        assert!(rt; is_read(rt.alloc(), text)?, "at {text:?}");
+    }
+    Ok(())
+}
+
+// A tree as deep as one may be is read, written and let go.
+#[test]
+fn reads_the_deepest(rt: HostRuntime) -> Result<(), Fail> {
     let alloc = rt.alloc();
-    assert!(rt; is_read(alloc, EACH)?);
-    assert!(rt; is_read(alloc, RANGES)?);
-    assert!(rt; is_read(alloc, b"qcert 1\nopen 10000000\ng\n")?);
-    assert!(rt; is_read(alloc, b"qcert 1\ntrue 4611686018427387904\nx\n")?);
+    let mut text = Vec::from_slice(alloc, b"qcert 1\ntrue\n")?;
+    for _ in 0..1000 {
+        text.extend_from_slice(b"n\n")?;
+    }
+    text.extend_from_slice(b"t\n")?;
+    assert!(rt; is_read(alloc, &text)?);
     Ok(())
 }
 
 #[test]
 fn tells_places(rt: HostRuntime) {
-    let alloc = rt.alloc();
-    assert_eq!(rt; fault(alloc, b""), stops(0));
-    assert_eq!(rt; fault(alloc, b"qcert 1\r\n"), stops(7));
-    assert_eq!(rt; fault(alloc, b"qcert 1\nfalse\nv 01\n"), stops(16));
-    assert_eq!(rt; fault(alloc, b"qcert 1\nfalse\nv 501\n"), stops(18));
-    assert_eq!(rt; fault(alloc, b"qcert 1\nfalse\nb 1 -0 0\n"), stops(19));
-    assert_eq!(rt; fault(alloc, b"qcert 1\nopen 10000001\n"), stops(20));
-    assert_eq!(rt;
-        fault(alloc, b"qcert 1\ntrue 4611686018427387905\n"),
-        stops(31)
-    );
-    assert_eq!(rt; fault(alloc, b"qcert 1\nfalse\nh 1\nb"), stops(18));
-    assert_eq!(rt; fault(alloc, b"qcert 1\nfalse\n\0"), stops(14));
-    assert_eq!(rt; fault(alloc, b"qcert 1\nfalse\nt\ng\n"), stops(16));
-    assert_eq!(rt; fault(alloc, b"qcert 3\n"), stops(6));
-    assert_eq!(rt;
-        fault(alloc, b"qcert 1\ntrue\nv 1\nn\ng\nr 9\ns\n.\n"),
-        stops(21)
-    );
-    assert_eq!(rt; fault(alloc, b"qcert 2\ntrue\nv 1\nr 9\nr 9\n"), stops(21));
-}
-
-// A front of a text isn't ended, and no text goes on with another byte here.
-#[test]
-fn tells_places_of_fronts(rt: HostRuntime) -> Result<(), Fail> {
-    let alloc = rt.alloc();
-    for at in 0..EACH.len() {
-        assert_eq!(rt; fault(alloc, &EACH[..at]), stops(at as u64));
-        let mut text = Vec::from_slice(alloc, EACH)?;
-        text[at] = b'z';
-        assert_eq!(rt; fault(alloc, &text), stops(at as u64));
-    }
-    Ok(())
-}
-
-#[test]
-fn tells_what_nests_too_deep(rt: HostRuntime) -> Result<(), Fail> {
-    let alloc = rt.alloc();
-    let too_deep = Some(CertFault::TooDeep { at: 2013 });
-    assert_eq!(rt; fault(alloc, &lines(alloc, b'n', 1000)?), stops(2013));
-    assert_eq!(rt; fault(alloc, &lines(alloc, b'n', 1001)?), too_deep);
-    assert_eq!(rt; fault(alloc, &lines(alloc, b'n', 1_000_000)?), too_deep);
-    let mut deepest = lines(alloc, b'n', 1000)?;
-    deepest.extend_from_slice(b"t\n")?;
-    assert!(rt; is_read(alloc, &deepest)?);
-    Ok(())
-}
-
-// A variable's number goes on to three digits, and a scope's and a constraint's to what their ranges allow.
-#[test]
-fn tells_places_in_long_numbers(rt: HostRuntime) -> Result<(), Fail> {
-    let alloc = rt.alloc();
-    let rows: [(&[u8], u64); 3] = [
-        (b"qcert 1\nfalse\nv 1", 19),
-        (b"qcert 1\nfalse\nh 6", 18),
-        (b"qcert 1\nopen 1", 21),
+    let rows: [(&[u8], u64); 13] = [
+        (b"", 0),
+        (b"qcert 1\r\n", 7),
+        (b"qcert 1\nfalse\nv 01\n", 16),
+        (b"qcert 1\nfalse\nv 501\n", 18),
+        (b"qcert 1\nfalse\nb 1 -0 0\n", 19),
+        (b"qcert 1\nopen 10000001\n", 20),
+        (b"qcert 1\ntrue 4611686018427387905\n", 31),
+        (b"qcert 1\nfalse\nh 1\nb", 18),
+        (b"qcert 1\nfalse\n\0", 14),
+        (b"qcert 1\nfalse\nt\ng\n", 16),
+        (b"qcert 3\n", 6),
+        (b"qcert 1\ntrue\nv 1\nn\ng\nr 9\ns\n.\n", 21),
+        (b"qcert 2\ntrue\nv 1\nr 9\nr 9\n", 21),
     ];
-    for (front, at) in rows {
-        let mut text = Vec::from_slice(alloc, front)?;
-        for _ in 0..1000 {
-            text.push(b'0')?;
-        }
-        assert_eq!(rt; fault(alloc, &text), stops(at));
+    for (text, at) in rows {
+        let told = fault(rt.alloc(), text);
+        assert!(rt;
+            told == Some(CertFault::NotACertificate { at }),
+            "at {text:?}"
+        );
     }
-    Ok(())
 }
 
 // How many bytes are left where the first ones are read one by one, and then so many lines whole.
@@ -140,101 +98,13 @@ fn left(text: &[u8], first: usize, count: usize) -> usize {
 // Each line of a tree is read whole, but for one whose letter was read or that is cut.
 #[test]
 fn reads_lines_whole(rt: HostRuntime) {
-    assert_eq!(rt; left(EACH, 16, 15), 0);
-    assert_eq!(rt; left(RANGES, 14, 11), 0);
-    assert_eq!(rt; left(EACH, 17, 15), EACH.len() - 17);
-    assert_eq!(rt; left(b"qcert 1\nfalse\nv 1\nb 3 1 1", 14, 2), 7);
-}
-
-// How the bytes of a text are answered.
-#[derive(Drop)]
-struct Answered {
-    head: Option<(Version, Outcome, Option<i64>)>,
-    lines: Vec<Line>,
-    // where the first fault is
-    fault: Option<CertFault>,
-    ended: bool,
-}
-
-fn read_all(alloc: Global, text: &[u8]) -> Result<Answered, Fail> {
-    let mut reader = LineReader::new();
-    let mut answered = Answered {
-        head: None,
-        lines: Vec::new(alloc),
-        fault: None,
-        ended: false,
-    };
-    for at in 0..text.len() {
-        let place = at as u64;
-        match reader.byte(text[at]) {
-            Read::Within => (),
-            Read::Head {
-                version,
-                outcome,
-                optimum,
-            } => answered.head = Some((version, outcome, optimum)),
-            Read::Whole(line) => answered.lines.push(line)?,
-            Read::TooDeep => answered.fault = answered
-                .fault
-                .or(Some(CertFault::TooDeep { at: place })),
-            Read::Bad => answered.fault = answered.fault.or(stops(place)),
-        }
-    }
-    answered.ended = reader.is_ended();
-    Ok(answered)
-}
-
-#[test]
-fn tells_lines(rt: HostRuntime) -> Result<(), Fail> {
-    let alloc = rt.alloc();
-    let told = read_all(alloc, RANGES)?;
-    assert!(rt; told.ended);
-    assert!(rt; told.head == Some((Version::Two, Outcome::False, None)));
-    assert!(rt; told.fault.is_none());
-    let lines = [
-        Line::Branch { x: VarId(0) },
-        Line::Range { hi: 4 },
-        Line::Prune {
-            x: VarId(0),
-            lo: 0,
-            hi: 4,
-            c: ConId(0),
-        },
-        Line::Empty,
-        Line::Range { hi: 8 },
-        Line::Skip,
-        Line::Next,
-        Line::Stuck,
-        Line::Range { hi: 1_000_000_000 },
-        Line::Open,
-        Line::Dot,
+    let rows: [(&[u8], usize, usize, usize); 4] = [
+        (EACH, 16, 15, 0),
+        (RANGES, 14, 11, 0),
+        (EACH, 17, 15, EACH.len() - 17),
+        (b"qcert 1\nfalse\nv 1\nb 3 1 1", 14, 2, 7),
     ];
-    assert!(rt; told.lines.as_slice() == lines.as_slice());
-    let each = read_all(alloc, EACH)?;
-    assert!(rt; each.ended);
-    assert!(rt; each.head == Some((Version::One, Outcome::True, Some(-4))));
-    assert!(rt; each.lines.len() == 15);
-    Ok(())
-}
-
-// What is read at once and what is read byte by byte stop at the same places.
-#[test]
-fn stops_where_the_whole_does(rt: HostRuntime) -> Result<(), Fail> {
-    let alloc = rt.alloc();
-    for at in 0..EACH.len() {
-        let mut text = Vec::from_slice(alloc, EACH)?;
-        text[at] = b'0';
-        let told = read_all(alloc, &text)?;
-        let whole = fault(alloc, &text);
-        assert!(rt;
-            told.fault == whole
-                || (told.fault.is_none() && !told.ended && whole == stops(text.len() as u64))
-        );
+    for (text, first, count, rest) in rows {
+        assert_eq!(rt; left(text, first, count), rest, "at {first}");
     }
-    let told = read_all(alloc, &lines(alloc, b'n', 1001)?)?;
-    assert_eq!(rt; told.fault, Some(CertFault::TooDeep { at: 2013 }));
-    let after = read_all(alloc, b"qcert 1\nfalse\nt\ng")?;
-    assert_eq!(rt; after.fault, stops(16));
-    assert!(rt; !after.ended);
-    Ok(())
 }

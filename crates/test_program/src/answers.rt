@@ -1,5 +1,5 @@
 //! What commands answer and write for small games, texts and words.
-use crate::runs::{GAME, TRUE, answered, run};
+use crate::runs::{GAME, TRUE, begins, is_confirmed, run, writes};
 use qc_io::{MemoryShelf, MemorySink};
 use qecode_commands::Status;
 use std::test::Fail;
@@ -27,9 +27,11 @@ fn goals_and_single_moves_are_answered(rt: HostRuntime) -> Result<(), Fail> {
         ),
     ];
     for (text, written) in rows {
-        let (answer, sink) = answered(rt.alloc(), "solve", text)?;
-        assert_eq!(rt; answer, Status::Done, "at {text:?}");
-        assert!(rt; sink.bytes() == written);
+        let words = ["solve", "p"];
+        assert!(rt;
+            writes(rt.alloc(), &words, text, Status::Done, written)?,
+            "at {text:?}"
+        );
     }
     Ok(())
 }
@@ -84,9 +86,11 @@ fn games_are_answered(rt: HostRuntime) -> Result<(), Fail> {
         ),
     ];
     for (text, front) in rows {
-        let (answer, sink) = answered(rt.alloc(), "solve", text)?;
-        assert_eq!(rt; answer, Status::Done, "at {text:?}");
-        assert!(rt; sink.bytes().starts_with(front));
+        let words = ["solve", "p"];
+        assert!(rt;
+            begins(rt.alloc(), &words, text, Status::Done, front)?,
+            "at {text:?}"
+        );
     }
     Ok(())
 }
@@ -101,27 +105,19 @@ fn budgets_are_kept(rt: HostRuntime) -> Result<(), Fail> {
         ("5", Status::Open, b"qcert 2\nopen 5\n", b"yes open 5\n"),
         ("6", Status::Done, b"qcert 2\ntrue\n", b"yes true\n"),
     ];
-    let alloc = rt.alloc();
     for (turns, status, front, yes) in rows {
-        let mut shelf = MemoryShelf::new(alloc);
-        shelf.add("p", ODD)?;
-        let mut sink = MemorySink::new(alloc, 65_536, 65_536)?;
         let words = ["solve", "p", "--turns", turns];
-        let answer = run(alloc, &words, &mut shelf, &mut sink);
-        assert_eq!(rt; answer, status, "at {turns}");
-        assert!(rt; sink.bytes().starts_with(front));
-        shelf.add("c", sink.bytes())?;
-        let mut checked = MemorySink::new(alloc, 65_536, 65_536)?;
-        let answer = run(alloc, &["check", "p", "c"], &mut shelf, &mut checked);
-        assert_eq!(rt; answer, Status::Done);
-        assert!(rt; checked.bytes() == yes);
+        assert!(rt;
+            is_confirmed(rt.alloc(), &words, ODD, status, front, yes)?,
+            "at {turns}"
+        );
     }
     Ok(())
 }
 
 #[test]
 fn problems_are_printed(rt: HostRuntime) -> Result<(), Fail> {
-    let rows: [(&[u8], &[u8]); 5] = [
+    let rows: [(&[u8], &[u8]); 6] = [
         (
             b"exists;constraint int_le(x,3);var {2,0,1,2}: x; % c\ngoal;solve;",
             b"exists;\nvar 0..2: x;\nconstraint int_le(x,3);\ngoal;\nsolve;\n",
@@ -142,11 +138,18 @@ fn problems_are_printed(rt: HostRuntime) -> Result<(), Fail> {
             b"forall; var 0..1: t; aggregate f = sum(t); aggregate g = sum(t); goal; solve;",
             b"forall;\nvar 0..1: t;\naggregate f = sum(t);\naggregate g = sum(t);\ngoal;\nsolve;\n",
         ),
+        // as wide together as variables may be
+        (
+            b"exists; var 0..1048573: x; var 1..1048576: a; var 1..1048576: b; var 1..1048576: c; var bool: d; goal; solve;",
+            b"exists;\nvar 0..1048573: x;\nvar 1..1048576: a;\nvar 1..1048576: b;\nvar 1..1048576: c;\nvar bool: d;\ngoal;\nsolve;\n",
+        ),
     ];
     for (text, written) in rows {
-        let (answer, sink) = answered(rt.alloc(), "print", text)?;
-        assert_eq!(rt; answer, Status::Done, "at {text:?}");
-        assert!(rt; sink.bytes() == written, "at {text:?}");
+        let words = ["print", "p"];
+        assert!(rt;
+            writes(rt.alloc(), &words, text, Status::Done, written)?,
+            "at {text:?}"
+        );
     }
     Ok(())
 }
@@ -177,7 +180,6 @@ const USAGE: &[u8] =
 
 #[test]
 fn other_words_give_the_usage_line(rt: HostRuntime) -> Result<(), Fail> {
-    let alloc = rt.alloc();
     let rows: [&[&str]; 31] = [
         &[],
         &["solve"],
@@ -212,10 +214,10 @@ fn other_words_give_the_usage_line(rt: HostRuntime) -> Result<(), Fail> {
         &["play", "p", "", "m"],
     ];
     for words in rows {
-        let mut shelf = MemoryShelf::new(alloc);
-        let mut sink = MemorySink::new(alloc, 65_536, 65_536)?;
-        assert_eq!(rt; run(alloc, words, &mut shelf, &mut sink), Status::Usage);
-        assert!(rt; sink.bytes() == USAGE);
+        assert!(rt;
+            writes(rt.alloc(), words, b"", Status::Usage, USAGE)?,
+            "at {words:?}"
+        );
     }
     Ok(())
 }
@@ -224,13 +226,7 @@ fn other_words_give_the_usage_line(rt: HostRuntime) -> Result<(), Fail> {
 fn a_long_file_is_refused(rt: HostRuntime) -> Result<(), Fail> {
     let alloc = rt.alloc();
     let long = vec![in alloc; b' '; 4_194_305]?;
-    let mut shelf = MemoryShelf::new(alloc);
-    shelf.add("big", long.as_slice())?;
-    let mut sink = MemorySink::new(alloc, 65_536, 65_536)?;
-    assert_eq!(rt;
-        run(alloc, &["solve", "big"], &mut shelf, &mut sink),
-        Status::TooLong
-    );
-    assert!(rt; sink.bytes() == b"too long: big\n".as_slice());
+    let line: &[u8] = b"too long: p\n";
+    assert!(rt; writes(alloc, &["solve", "p"], &long, Status::TooLong, line)?);
     Ok(())
 }

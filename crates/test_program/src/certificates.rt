@@ -1,14 +1,7 @@
 //! What a check answers for certificates that were worked out by hand.
-use crate::runs::{GAME, UNLIKE, judged};
-use qc_io::MemorySink;
+use crate::runs::{GAME, UNLIKE, judges};
 use qecode_commands::Status;
-use std::alloc::{AllocError, Global};
 use std::test::Fail;
-
-// What a check of these bytes against the game answers and writes.
-fn checked(alloc: Global, certificate: &[u8]) -> Result<(Status, MemorySink), AllocError> {
-    judged(alloc, GAME, certificate)
-}
 
 #[test]
 fn certificates_are_answered(rt: HostRuntime) -> Result<(), Fail> {
@@ -46,9 +39,10 @@ fn certificates_are_answered(rt: HostRuntime) -> Result<(), Fail> {
         ),
     ];
     for (certificate, status, written) in rows {
-        let (answer, sink) = checked(rt.alloc(), certificate)?;
-        assert_eq!(rt; answer, status, "at {certificate:?}");
-        assert!(rt; sink.bytes() == written);
+        assert!(rt;
+            judges(rt.alloc(), GAME, certificate, status, written)?,
+            "at {certificate:?}"
+        );
     }
     Ok(())
 }
@@ -98,14 +92,15 @@ fn certificates_are_judged(rt: HostRuntime) -> Result<(), Fail> {
         ),
     ];
     for (problem, certificate, status, written) in rows {
-        let (answer, sink) = judged(rt.alloc(), problem, certificate)?;
-        assert_eq!(rt; answer, status, "at {certificate:?}");
-        assert!(rt; sink.bytes() == written, "at {certificate:?}");
+        assert!(rt;
+            judges(rt.alloc(), problem, certificate, status, written)?,
+            "at {certificate:?}"
+        );
     }
     Ok(())
 }
 
-// Removals that empty the player's domain; by the goal, which isn't in force where the opponent chooses; three values
+// A removal, and then a case that wins; removals that empty the player's domain; by the goal, which isn't in force where the opponent chooses; three values
 // for two numbers, and for three; two of one variable make an even number, but one removal alone empties nothing; a value
 // that isn't refuted.
 #[test]
@@ -115,64 +110,110 @@ fn steps_are_judged(rt: HostRuntime) -> Result<(), Fail> {
     let roomy: &[u8] =
         b"exists; var 1..2: a; var 1..2: b; var 1..3: c; constraint all_different_int([a,b,c]); goal; solve;";
     let parity: &[u8] = b"exists; var bool: b; goal; constraint array_bool_xor([b,b]); solve;";
-    let rows: [(&[u8], &[u8], &[u8]); 7] = [
+    let rows: [(&[u8], &[u8], Status, &[u8]); 8] = [
+        (
+            b"exists; var 0..3: x; constraint int_le(x,1); forall; var 0..1: y; goal; constraint int_le(y,x); solve;",
+            b"qcert 1\ntrue\np 1 2 3 1\nv 1\ns\nn\nv 2\nn\ng\nn\ng\n.\n.\n",
+            Status::Done,
+            b"yes true\n",
+        ),
         (
             b"exists; var 0..1: x; constraint int_lt(1,x); goal; solve;",
             b"qcert 1\nfalse\np 1 0 1 1\ne\n",
+            Status::Done,
             b"yes false\n",
         ),
         (
             b"forall; var 0..1: y; goal; constraint int_lt(y,0); solve;",
             b"qcert 1\ntrue\np 1 0 1 1\ne\n",
+            Status::NotProved,
             b"no\n",
         ),
-        (different, b"qcert 1\nfalse\np 1 1 2 1\ne\n", b"yes false\n"),
-        (roomy, b"qcert 1\nfalse\np 1 1 2 1\ne\n", b"no\n"),
+        (
+            different,
+            b"qcert 1\nfalse\np 1 1 2 1\ne\n",
+            Status::Done,
+            b"yes false\n",
+        ),
+        (
+            roomy,
+            b"qcert 1\nfalse\np 1 1 2 1\ne\n",
+            Status::NotProved,
+            b"no\n",
+        ),
         (
             parity,
             b"qcert 1\nfalse\np 1 0 0 1\np 1 1 1 1\ne\n",
+            Status::Done,
             b"yes false\n",
         ),
-        (parity, b"qcert 1\nfalse\np 1 0 1 1\ne\n", b"no\n"),
+        (
+            parity,
+            b"qcert 1\nfalse\np 1 0 1 1\ne\n",
+            Status::NotProved,
+            b"no\n",
+        ),
         (
             b"exists; var 0..3: x; constraint int_le(x,1); goal; solve;",
             b"qcert 1\ntrue\np 1 1 3 1\nn\ng\n",
+            Status::NotProved,
             b"no\n",
         ),
     ];
-    for (problem, certificate, written) in rows {
-        let (_, sink) = judged(rt.alloc(), problem, certificate)?;
-        assert!(rt; sink.bytes() == written, "at {certificate:?}");
+    for (problem, certificate, status, written) in rows {
+        assert!(rt;
+            judges(rt.alloc(), problem, certificate, status, written)?,
+            "at {certificate:?}"
+        );
     }
     Ok(())
 }
 
 // The player has no move at once; the player's last scope can't be passed, whatever was chosen before: with a case skipped
-// at the player's first, and without.
+// at the player's first, and without. The player has one value, and then none; and a value is left that no removal takes.
 #[test]
 fn horizons_are_judged(rt: HostRuntime) -> Result<(), Fail> {
     let blocked: &[u8] =
         b"exists; var 0..1: x; forall; var 0..1: y; exists; var 0..1: z; constraint int_lt(z,0); goal; solve;";
-    let rows: [(&[u8], &[u8], &[u8]); 3] = [
+    let stuck: &[u8] =
+        b"exists; var 0..0: x; exists; var 0..1: z; constraint int_le(z,-1); goal; solve;";
+    let rows: [(&[u8], &[u8], Status, &[u8]); 5] = [
         (
             b"exists; var 0..1: x; constraint int_lt(1,x); goal; solve;",
             b"qcert 1\nfalse\nh 1\np 1 0 1 1\n.\nt\n",
+            Status::Done,
             b"yes false\n",
         ),
         (
             blocked,
             b"qcert 1\nfalse\nh 3\np 3 0 1 1\n.\nv 1\nn\nv 2\nn\nt\ns\n.\ns\n.\n",
+            Status::NotProved,
             b"no\n",
         ),
         (
             blocked,
             b"qcert 1\nfalse\nh 3\np 3 0 1 1\n.\nv 1\nn\nv 2\nn\nt\ns\n.\nn\nv 2\nn\nt\ns\n.\n.\n",
+            Status::Done,
             b"yes false\n",
         ),
+        (
+            stuck,
+            b"qcert 1\nfalse\nh 2\np 2 0 1 1\n.\nn\nt\n",
+            Status::Done,
+            b"yes false\n",
+        ),
+        (
+            stuck,
+            b"qcert 1\nfalse\nh 2\np 2 0 0 1\n.\nn\nt\n",
+            Status::NotProved,
+            b"no\n",
+        ),
     ];
-    for (problem, certificate, written) in rows {
-        let (_, sink) = judged(rt.alloc(), problem, certificate)?;
-        assert!(rt; sink.bytes() == written, "at {certificate:?}");
+    for (problem, certificate, status, written) in rows {
+        assert!(rt;
+            judges(rt.alloc(), problem, certificate, status, written)?,
+            "at {certificate:?}"
+        );
     }
     Ok(())
 }
@@ -181,6 +222,7 @@ fn horizons_are_judged(rt: HostRuntime) -> Result<(), Fail> {
 // same values left out one by one.
 #[test]
 fn ranges_are_judged(rt: HostRuntime) -> Result<(), Fail> {
+    let roomy: &[u8] = b"exists; var 0..9: x; goal; solve;";
     let rows: [(&[u8], Status, &[u8]); 4] = [
         (
             b"qcert 2\ntrue\nv 1\nn\ng\nr 9\ns\n.\n",
@@ -204,13 +246,10 @@ fn ranges_are_judged(rt: HostRuntime) -> Result<(), Fail> {
         ),
     ];
     for (certificate, status, written) in rows {
-        let (answer, sink) = judged(
-            rt.alloc(),
-            b"exists; var 0..9: x; goal; solve;",
-            certificate,
-        )?;
-        assert_eq!(rt; answer, status, "at {certificate:?}");
-        assert!(rt; sink.bytes() == written, "at {certificate:?}");
+        assert!(rt;
+            judges(rt.alloc(), roomy, certificate, status, written)?,
+            "at {certificate:?}"
+        );
     }
     Ok(())
 }
@@ -223,8 +262,7 @@ fn a_deep_certificate_is_refused(rt: HostRuntime) -> Result<(), Fail> {
     for _ in 0..1_001 {
         deep.extend_from_slice(b"n\n")?;
     }
-    let (answer, sink) = checked(alloc, &deep)?;
-    assert_eq!(rt; answer, Status::BadCertificate);
-    assert!(rt; sink.bytes() == b"certificate too deep at 2013\n".as_slice());
+    let line: &[u8] = b"certificate too deep at 2013\n";
+    assert!(rt; judges(alloc, GAME, &deep, Status::BadCertificate, line)?);
     Ok(())
 }

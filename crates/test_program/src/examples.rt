@@ -1,7 +1,6 @@
 //! The texts of the project's examples, answered as their guide says. They are kept equal to the files
 //! of `examples/` by `examples/check`.
-use crate::runs::run;
-use qc_io::{MemoryShelf, MemorySink};
+use crate::runs::is_confirmed;
 use qecode_commands::Status;
 use std::test::Fail;
 
@@ -203,7 +202,6 @@ solve;
 
 #[test]
 fn examples_are_answered(rt: HostRuntime) -> Result<(), Fail> {
-    let alloc = rt.alloc();
     let won: &[u8] = b"qcert 2\ntrue\n";
     let lost: &[u8] = b"qcert 2\nfalse\n";
     let yes_won: &[u8] = b"yes true\n";
@@ -221,19 +219,8 @@ fn examples_are_answered(rt: HostRuntime) -> Result<(), Fail> {
         (TOLLS, b"qcert 2\ntrue 26\n", b"yes true 26\n"),
     ];
     for (text, front, yes) in rows {
-        let mut shelf = MemoryShelf::new(alloc);
-        shelf.add("p", text)?;
-        let mut sink = MemorySink::new(alloc, 65_536, 16_777_216)?;
-        let status = run(alloc, &["solve", "p"], &mut shelf, &mut sink);
-        assert_eq!(rt; status, Status::Done);
-        assert!(rt; sink.bytes().starts_with(front));
-        shelf.add("c", sink.bytes())?;
-        for _ in 0..2 {
-            let mut answer = MemorySink::new(alloc, 65_536, 65_536)?;
-            let status = run(alloc, &["check", "p", "c"], &mut shelf, &mut answer);
-            assert_eq!(rt; status, Status::Done);
-            assert!(rt; answer.bytes() == yes);
-        }
+        let words = ["solve", "p"];
+        assert!(rt; is_confirmed(rt.alloc(), &words, text, Status::Done, front, yes)?);
     }
     Ok(())
 }

@@ -1,23 +1,32 @@
 //! Files that end anywhere, or never; bytes that were changed; devices that fail at each of their calls.
 ghost use Rattle.std.specs.Prelude.{◌≡◌, ◌≤◌, length, None};
 
-use crate::runs::{ALONE, BOUNDED, TRUE, UNLIKE, answered, judged, run};
+use crate::runs::{ALONE, BOUNDED, TRUE, UNLIKE, begins, judges, run};
 use qc_io::{Failed, MemoryShelf, MemorySink, Shelf};
 use qecode_commands::{Status, run as run_over};
-use std::alloc::Global;
+use std::alloc::{AllocError, Global};
 use std::test::Fail;
 
 // The opponent's strategy against `UNLIKE`.
 const COUNTER: &[u8] = b"qcert 1\nfalse\nv 1\nn\nv 2\ns\nn\ng\n.\nn\nv 2\nn\ng\ns\n.\n.\n";
 
+// Whether this front of a certificate is told to end too early.
+fn is_cut_off(alloc: Global, front: &[u8]) -> Result<bool, AllocError> {
+    let end = front.len();
+    let wanted = format!(in alloc; "bad certificate at {end}\n")?;
+    judges(
+        alloc,
+        UNLIKE,
+        front,
+        Status::BadCertificate,
+        wanted.as_bytes(),
+    )
+}
+
 #[test]
 fn certificates_may_end_anywhere(rt: HostRuntime) -> Result<(), Fail> {
-    let alloc = rt.alloc();
     for end in 0..COUNTER.len() {
-        let (answer, sink) = judged(alloc, UNLIKE, &COUNTER[..end])?;
-        let wanted = format!(in alloc; "bad certificate at {end}\n")?;
-        assert_eq!(rt; answer, Status::BadCertificate, "at {end}");
-        assert!(rt; sink.bytes() == wanted.as_bytes(), "at {end}");
+        assert!(rt; is_cut_off(rt.alloc(), &COUNTER[..end])?, "at {end}");
     }
     Ok(())
 }
@@ -43,9 +52,10 @@ fn changed_certificates_are_refused(rt: HostRuntime) -> Result<(), Fail> {
         ),
     ];
     for (certificate, status, written) in rows {
-        let (answer, sink) = judged(rt.alloc(), UNLIKE, certificate)?;
-        assert_eq!(rt; answer, status, "at {certificate:?}");
-        assert!(rt; sink.bytes() == written, "at {certificate:?}");
+        assert!(rt;
+            judges(rt.alloc(), UNLIKE, certificate, status, written)?,
+            "at {certificate:?}"
+        );
     }
     Ok(())
 }
@@ -58,58 +68,64 @@ const TEXT: &[u8] =
 fn problems_may_end_anywhere(rt: HostRuntime) -> Result<(), Fail> {
     for end in 0..TEXT.len() {
         let text = &TEXT[..end];
-        let (answer, sink) = answered(rt.alloc(), "print", text)?;
         let wanted: &[u8] = if text.ends_with(b".") && !text.ends_with(b"..") {
             b"bad problem: 1 BadByte at "
         } else {
             b"bad problem: 3 Syntax at "
         };
-        assert_eq!(rt; answer, Status::BadProblem, "at {end}");
-        assert!(rt; sink.bytes().starts_with(wanted), "at {end}");
+        let words = ["print", "p"];
+        assert!(rt;
+            begins(rt.alloc(), &words, text, Status::BadProblem, wanted)?,
+            "at {end}"
+        );
     }
     Ok(())
+}
+
+// Whether this answer comes, and this is written, where this call of the shelf fails in a check.
+fn fails_at(alloc: Global, call: u64, status: Status, written: &[u8]) -> Result<bool, AllocError> {
+    let mut shelf = MemoryShelf::new(alloc);
+    shelf.add("p", ALONE)?;
+    shelf.add("c", BOUNDED)?;
+    shelf.fail_at(call)?;
+    let mut sink = MemorySink::new(alloc, 65_536, 65_536)?;
+    let answer = run(alloc, &["check", "p", "c"], &mut shelf, &mut sink);
+    Ok(answer == status && sink.bytes() == written)
 }
 
 // The problem and the certificate are read in two calls each: their bytes, and that there are no more.
 #[test]
 fn each_call_of_a_shelf_may_fail(rt: HostRuntime) -> Result<(), Fail> {
-    let alloc = rt.alloc();
-    for call in 1..6_u64 {
-        let mut shelf = MemoryShelf::new(alloc);
-        shelf.add("p", ALONE)?;
-        shelf.add("c", BOUNDED)?;
-        shelf.fail_at(call)?;
-        let mut sink = MemorySink::new(alloc, 65_536, 65_536)?;
-        let answer = run(alloc, &["check", "p", "c"], &mut shelf, &mut sink);
-        let (status, written): (Status, &[u8]) = if call < 5 {
-            (Status::ReadFault, b"")
-        } else {
-            (Status::Done, b"yes true 0\n")
-        };
-        assert_eq!(rt; answer, status, "at {call}");
-        assert!(rt; sink.bytes() == written, "at {call}");
+    for call in 1..5_u64 {
+        assert!(rt;
+            fails_at(rt.alloc(), call, Status::ReadFault, b"")?,
+            "at {call}"
+        );
     }
+    assert!(rt; fails_at(rt.alloc(), 5, Status::Done, b"yes true 0\n")?);
     Ok(())
 }
 
-// A sink that takes a byte a call.
-#[test]
-fn each_call_of_a_sink_may_fail(rt: HostRuntime) -> Result<(), Fail> {
-    let alloc = rt.alloc();
+// Whether this answer comes, and so much is written, where the call after those for so many bytes fails. The sink takes a
+// byte a call.
+fn stops_after(alloc: Global, taken: usize, status: Status) -> Result<bool, AllocError> {
     let mut shelf = MemoryShelf::new(alloc);
     shelf.add("p", b"goal; solve;")?;
-    for taken in 0..TRUE.len() + 1 {
-        let mut sink = MemorySink::new(alloc, 1, 100)?;
-        sink.fail_at(taken as u64 + 1)?;
-        let answer = run(alloc, &["solve", "p"], &mut shelf, &mut sink);
-        let status = if taken < TRUE.len() {
-            Status::WriteFault
-        } else {
-            Status::Done
-        };
-        assert_eq!(rt; answer, status, "at {taken}");
-        assert!(rt; sink.bytes() == &TRUE[..taken], "at {taken}");
+    let mut sink = MemorySink::new(alloc, 1, 100)?;
+    sink.fail_at((taken as u64).saturating_add(1))?;
+    let answer = run(alloc, &["solve", "p"], &mut shelf, &mut sink);
+    Ok(answer == status && sink.bytes() == &TRUE[..taken.min(TRUE.len())])
+}
+
+#[test]
+fn each_call_of_a_sink_may_fail(rt: HostRuntime) -> Result<(), Fail> {
+    for taken in 0..TRUE.len() {
+        assert!(rt;
+            stops_after(rt.alloc(), taken, Status::WriteFault)?,
+            "at {taken}"
+        );
     }
+    assert!(rt; stops_after(rt.alloc(), TRUE.len(), Status::Done)?);
     Ok(())
 }
 

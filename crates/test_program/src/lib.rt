@@ -26,6 +26,8 @@ mod refusals;
 #[cfg(test)]
 mod runs;
 #[cfg(test)]
+mod searched;
+#[cfg(test)]
 mod table;
 #[cfg(test)]
 mod worst;

@@ -1,7 +1,6 @@
 //! Problems made from a number: their summaries, and a text. The optimum is the sum over the links of the gap times the
 //! demands of the link's customers: 4 * 8 + 6 * 8 + 8 * 4, and 5 * 12 + 1 * 12 + 7 * 8.
-use crate::runs::{judged, run};
-use qc_io::{MemoryShelf, MemorySink};
+use crate::runs::{is_confirmed, writes};
 use qecode_commands::Status;
 use std::test::Fail;
 
@@ -45,13 +44,11 @@ const ROWS: [(&[&str], &[u8]); 3] = [
 // A fifth of a second a problem, as the gate builds it; a build that checks itself takes more than a minute.
 #[test]
 fn made_problems_are_answered(rt: HostRuntime) -> Result<(), Fail> {
-    let alloc = rt.alloc();
     for (words, written) in ROWS {
-        let mut shelf = MemoryShelf::new(alloc);
-        let mut sink = MemorySink::new(alloc, 65_536, 65_536)?;
-        let answer = run(alloc, words, &mut shelf, &mut sink);
-        assert_eq!(rt; answer, Status::Done, "at {words:?}");
-        assert!(rt; sink.bytes() == written, "at {words:?}");
+        assert!(rt;
+            writes(rt.alloc(), words, b"", Status::Done, written)?,
+            "at {words:?}"
+        );
     }
     Ok(())
 }
@@ -59,14 +56,9 @@ fn made_problems_are_answered(rt: HostRuntime) -> Result<(), Fail> {
 // The text by itself is solved, and the answer checked.
 #[test]
 fn a_made_text_is_solved(rt: HostRuntime) -> Result<(), Fail> {
-    let alloc = rt.alloc();
-    let mut shelf = MemoryShelf::new(alloc);
-    shelf.add("p", TEXT)?;
-    let mut sink = MemorySink::new(alloc, 65_536, 16_777_216)?;
-    let status = run(alloc, &["solve", "p"], &mut shelf, &mut sink);
-    assert_eq!(rt; status, Status::Done);
-    let (status, answer) = judged(alloc, TEXT, sink.bytes())?;
-    assert_eq!(rt; status, Status::Done);
-    assert!(rt; answer.bytes() == b"yes true 128\n".as_slice());
+    let words = ["solve", "p"];
+    let front: &[u8] = b"qcert 2\ntrue 128\n";
+    let yes: &[u8] = b"yes true 128\n";
+    assert!(rt; is_confirmed(rt.alloc(), &words, TEXT, Status::Done, front, yes)?);
     Ok(())
 }

@@ -1,6 +1,5 @@
 //! Games in which something is optimised: their best values, and what certificates say of them.
-use crate::runs::{ALONE, BOUNDED, judged, run};
-use qc_io::{MemoryShelf, MemorySink};
+use crate::runs::{ALONE, BOUNDED, is_confirmed, judges};
 use qecode_commands::Status;
 use std::test::Fail;
 
@@ -42,17 +41,12 @@ constraint int_lin_le([1,-1,-1],[t,z,w],0); goal; solve;",
 
 #[test]
 fn best_values_are_found(rt: HostRuntime) -> Result<(), Fail> {
-    let alloc = rt.alloc();
     for (text, front, yes) in GAMES {
-        let mut shelf = MemoryShelf::new(alloc);
-        shelf.add("p", text)?;
-        let mut sink = MemorySink::new(alloc, 65_536, 65_536)?;
-        let status = run(alloc, &["solve", "p"], &mut shelf, &mut sink);
-        assert_eq!(rt; status, Status::Done, "at {text:?}");
-        assert!(rt; sink.bytes().starts_with(front), "at {text:?}");
-        let (status, answer) = judged(alloc, text, sink.bytes())?;
-        assert_eq!(rt; status, Status::Done, "at {text:?}");
-        assert!(rt; answer.bytes() == yes, "at {text:?}");
+        let words = ["solve", "p"];
+        assert!(rt;
+            is_confirmed(rt.alloc(), &words, text, Status::Done, front, yes)?,
+            "at {text:?}"
+        );
     }
     Ok(())
 }
@@ -94,10 +88,11 @@ s
 ";
 
 // A bound that keeps the best, and one that removes it; a leader may not bound what a follower with a wish chooses; a
-// cut at the greatest, and the same at a sum; a wrong optimum, and none where one is owed; the rest skipped unseen.
+// cut at the greatest, and the same at a sum; a wrong optimum, and none where one is owed; the rest skipped unseen. Bounded choices that are no better, and one that may
+// be; a tie at a bound, which counts where no more is asked, and is open where more is; sums of the opponent's answers.
 #[test]
 fn optima_are_judged(rt: HostRuntime) -> Result<(), Fail> {
-    let rows: [(&[u8], &[u8], Status, &[u8]); 9] = [
+    let rows: [(&[u8], &[u8], Status, &[u8]); 14] = [
         (ALONE, BOUNDED, Status::Done, b"yes true 0\n"),
         (
             ALONE,
@@ -137,11 +132,42 @@ fn optima_are_judged(rt: HostRuntime) -> Result<(), Fail> {
             Status::NotProved,
             b"no\n",
         ),
+        (
+            b"exists minimize x; var 0..3: x; goal; constraint int_le(1,x); solve;",
+            b"qcert 1\ntrue 1\nb 1 2 3\nv 1\nn\ng\nn\ng\n.\n",
+            Status::Done,
+            b"yes true 1\n",
+        ),
+        (
+            b"exists minimize x; var 0..3: x; goal; constraint int_le(1,x); solve;",
+            b"qcert 1\ntrue 2\nb 1 1 1\nv 1\nn\ng\nn\ng\nn\ng\n.\n",
+            Status::NotProved,
+            b"no\n",
+        ),
+        (
+            b"exists; var 0..0: x; exists maximize y; var 0..1: y; var 0..1: z; goal; solve;",
+            b"qcert 1\ntrue\nn\nv 3\nv 2\nn\ng\nn\ng\n.\nb 2 1 1\nn\ng\n.\n",
+            Status::Done,
+            b"yes true\n",
+        ),
+        (
+            b"exists minimize x; var 0..0: x; exists maximize y; var 0..1: y; var 0..1: z; goal; solve;",
+            b"qcert 1\ntrue 0\nn\nv 3\nv 2\nn\ng\nn\ng\n.\nb 2 1 1\nn\ng\n.\n",
+            Status::NotProved,
+            b"no\n",
+        ),
+        (
+            b"exists maximize s; var 0..1: x; forall; var 0..2: y; constraint int_le(y,x); aggregate s = sum(y); goal; solve;",
+            b"qcert 1\ntrue 1\nv 1\nn\nv 2\nn\ng\nx\nx\n.\nn\nv 2\nn\ng\nn\ng\nx\n.\n.\n",
+            Status::Done,
+            b"yes true 1\n",
+        ),
     ];
     for (text, certificate, status, written) in rows {
-        let (answer, sink) = judged(rt.alloc(), text, certificate)?;
-        assert_eq!(rt; answer, status, "at {certificate:?}");
-        assert!(rt; sink.bytes() == written, "at {certificate:?}");
+        assert!(rt;
+            judges(rt.alloc(), text, certificate, status, written)?,
+            "at {certificate:?}"
+        );
     }
     Ok(())
 }

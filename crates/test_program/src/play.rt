@@ -13,7 +13,14 @@ const SKIPPED: &[u8] = b"qcert 1\nfalse\nv 1\nn\nv 2\ns\nn\ng\n.\ns\n.\n";
 
 const LEFT_OPEN: &[u8] = b"qcert 1\nopen 1\nv 1\nn\nv 2\no\no\n.\no\n.\n";
 
-const FILES: [(&str, &[u8]); 14] = [
+// The player chooses x, and it has to be more than 1.
+const MUCH: &[u8] = b"exists; var 0..1: x; constraint int_lt(1,x); goal; solve;";
+
+// The player answers with the same value.
+const ALIKE: &[u8] =
+    b"forall; var 0..1: x; exists; var 0..1: y; goal; constraint int_eq(x,y); solve;";
+
+const FILES: [(&str, &[u8]); 22] = [
     ("unlike", UNLIKE),
     ("other", OTHER),
     ("skipped", SKIPPED),
@@ -28,11 +35,22 @@ const FILES: [(&str, &[u8]); 14] = [
     ("none", b""),
     ("word", b"x"),
     ("later", b"1 7x 8"),
+    ("four", b"4"),
+    ("goal", b"goal; solve;"),
+    ("held", b"qcert 1\ntrue\ng\n"),
+    ("much", MUCH),
+    ("stopped", b"qcert 1\nfalse\nh 1\np 1 0 1 1\n.\nt\n"),
+    ("unproved", b"qcert 1\nfalse\nt\n"),
+    ("alike", ALIKE),
+    (
+        "same",
+        b"qcert 2\ntrue\nv 1\nn\nv 2\nn\ng\ns\n.\nn\nv 2\ns\nn\ng\n.\n.\n",
+    ),
 ];
 
 // `solved` is the certificate that is written for `game`, and `blank` and `long` are blanks: as many as a file of moves may
 // have, and one more.
-const PLAYS: [(&[&str], Status, &[u8]); 12] = [
+const PLAYS: [(&[&str], Status, &[u8]); 23] = [
     (
         &["play", "unlike", "other", "zero"],
         Status::Done,
@@ -93,10 +111,32 @@ const PLAYS: [(&[&str], Status, &[u8]); 12] = [
         Status::ReadFault,
         b"",
     ),
-];
-
-// What is answered before the moves are asked for.
-const OTHERS: [(&[&str], Status, &[u8]); 6] = [
+    (
+        &["play", "goal", "held", "four"],
+        Status::Done,
+        b"goal true\nunused 1\n",
+    ),
+    (
+        &["play", "much", "stopped", "one"],
+        Status::Done,
+        b"stuck 1\nunused 1\n",
+    ),
+    (
+        &["play", "alike", "same", "zero"],
+        Status::Done,
+        b"1 forall 0\n2 exists 0\ngoal true\nunused 0\n",
+    ),
+    (
+        &["play", "alike", "same", "one"],
+        Status::Done,
+        b"1 forall 1\n2 exists 1\ngoal true\nunused 0\n",
+    ),
+    // What is answered before the moves are asked for.
+    (
+        &["play", "much", "unproved", "missing"],
+        Status::NotProved,
+        b"no\n",
+    ),
     (
         &["play", "game", "open", "missing"],
         Status::Open,
@@ -144,35 +184,27 @@ fn filled(alloc: Global) -> Result<MemoryShelf, AllocError> {
     Ok(shelf)
 }
 
-// What a run of these words answers and writes.
-fn played(
+// Whether a run of these words answers this, and writes this and nothing else.
+fn is_played(
     alloc: Global,
     shelf: &mut MemoryShelf,
     words: &[&str],
-) -> Result<(Status, MemorySink), AllocError> {
+    status: Status,
+    written: &[u8],
+) -> Result<bool, AllocError> {
     let mut sink = MemorySink::new(alloc, 65_536, 65_536)?;
-    let status = run(alloc, words, shelf, &mut sink);
-    Ok((status, sink))
+    let answer = run(alloc, words, shelf, &mut sink);
+    Ok(answer == status && sink.bytes() == written)
 }
 
 #[test]
 fn games_are_played(rt: HostRuntime) -> Result<(), Fail> {
     let mut shelf = filled(rt.alloc())?;
     for (words, status, written) in PLAYS {
-        let (answer, sink) = played(rt.alloc(), &mut shelf, words)?;
-        assert_eq!(rt; answer, status, "at {words:?}");
-        assert!(rt; sink.bytes() == written, "at {words:?}");
-    }
-    Ok(())
-}
-
-#[test]
-fn others_are_answered(rt: HostRuntime) -> Result<(), Fail> {
-    let mut shelf = filled(rt.alloc())?;
-    for (words, status, written) in OTHERS {
-        let (answer, sink) = played(rt.alloc(), &mut shelf, words)?;
-        assert_eq!(rt; answer, status, "at {words:?}");
-        assert!(rt; sink.bytes() == written, "at {words:?}");
+        assert!(rt;
+            is_played(rt.alloc(), &mut shelf, words, status, written)?,
+            "at {words:?}"
+        );
     }
     Ok(())
 }

@@ -1,18 +1,8 @@
 //! Texts that are no problems, each with its kind and its place, which were counted by hand.
-use crate::runs::run;
-use qc_io::{MemoryShelf, MemorySink};
+use crate::runs::{begins, writes};
 use qecode_commands::Status;
 use std::alloc::{AllocError, Global};
 use std::test::Fail;
-
-// What `print` answers and writes for a text.
-fn printed(alloc: Global, text: &[u8]) -> Result<(Status, MemorySink), AllocError> {
-    let mut shelf = MemoryShelf::new(alloc);
-    shelf.add("p", text)?;
-    let mut sink = MemorySink::new(alloc, 65_536, 4_194_304)?;
-    let status = run(alloc, &["print", "p"], &mut shelf, &mut sink);
-    Ok((status, sink))
-}
 
 // A line each: what is written after `bad problem: `, a bar, and the text.
 const FORMS: &str = "1 BadByte at 6|goal; #
@@ -33,7 +23,18 @@ const FORMS: &str = "1 BadByte at 6|goal; #
 3 Syntax at 17|goal; constraint exists(1); solve;
 3 Syntax at 26|goal; constraint int_le(1,); solve;
 3 Syntax at 6|goal; var 0..1: x; solve;
-3 Syntax at 23|exists;% all is missing";
+3 Syntax at 23|exists;% all is missing
+1 BadByte at 0|-
+2 BadNumber at 2|0 -9223372036854775809
+3 Syntax at 0|solve;
+3 Syntax at 13|goal; solve; goal
+3 Syntax at 6|goal; var bool: x;
+3 Syntax at 7|forall minimize x;
+3 Syntax at 15|exists; var 0..: x;
+3 Syntax at 15|exists; var {1,}: x;
+3 Syntax at 8|exists; aggregate a
+3 Syntax at 30|forall; aggregate a = least(b);
+3 Syntax at 29|forall; aggregate a = sum(b) else 1;";
 
 const NAMES: &str = "4 DuplicateName at 31|exists; var 0..1: x; var 0..1: x; goal; solve;
 4 DuplicateName at 31|forall; var 0..1: t; aggregate t = sum(t); goal; solve;
@@ -75,18 +76,26 @@ const VALUES: &str = "8 OutOfRange at 12|exists; var 1000000001..1000000001: x; 
 14 BottleneckFirst at 81|exists minimize s; exists minimize m; forall; var 1..2: t; aggregate s = sum(z); aggregate m = greatest(w) else 0; exists; var 0..3: z; var 0..3: w; constraint int_lin_le([1,-1,-1],[t,z,w],0); goal; solve;
 14 BottleneckFirst at 90|exists minimize m; exists minimize n; forall; var 0..1: t; aggregate m = least(t) else 0; aggregate n = greatest(t) else 0; goal; solve;";
 
+// Whether `print` refuses the text with this line.
+fn is_refused(alloc: Global, text: &[u8], told: &str) -> Result<bool, AllocError> {
+    let wanted = format!(in alloc; "bad problem: {told}\n")?;
+    writes(
+        alloc,
+        &["print", "p"],
+        text,
+        Status::BadProblem,
+        wanted.as_bytes(),
+    )
+}
+
 #[test]
 fn refusals_have_their_places(rt: HostRuntime) -> Result<(), Fail> {
-    let alloc = rt.alloc();
     for lines in [FORMS, NAMES, VALUES] {
         for line in lines.lines() {
             let Some((told, text)) = line.split_once('|') else {
                 continue;
             };
-            let wanted = format!(in alloc; "bad problem: {told}\n")?;
-            let (status, sink) = printed(alloc, text.as_bytes())?;
-            assert_eq!(rt; status, Status::BadProblem, "at {text}");
-            assert!(rt; sink.bytes() == wanted.as_bytes(), "at {text}");
+            assert!(rt; is_refused(rt.alloc(), text.as_bytes(), told)?, "at {text}");
         }
     }
     Ok(())
@@ -109,101 +118,128 @@ fn repeated(
     Ok(text)
 }
 
+// What is repeated in a text, how often at most, and what is told of one more.
+const LIMITS: [(&str, &str, usize, &str, &str); 6] = [
+    ("", "forall; ", 64, "goal; solve;", "11 TooMany at 512"),
+    (
+        "goal; ",
+        "constraint int_le(0,0); ",
+        20_000,
+        "solve;",
+        "11 TooMany at 480006",
+    ),
+    (
+        "goal;constraint all_different_int([",
+        "1,",
+        999,
+        "1]);solve;",
+        "11 TooMany at 34",
+    ),
+    (
+        "goal;constraint array_bool_xor([",
+        "true,",
+        999,
+        "true]);solve;",
+        "11 TooMany at 31",
+    ),
+    (
+        "goal;constraint set_in(1,{",
+        "1,",
+        99_999,
+        "1});solve;",
+        "11 TooMany at 25",
+    ),
+    (
+        "goal;constraint array_int_element(1,[",
+        "1,",
+        99_999,
+        "1],1);solve;",
+        "11 TooMany at 36",
+    ),
+];
+
+// Whether the piece so many times is printed, and once more is refused with this line.
+fn is_limit(
+    alloc: Global,
+    front: &str,
+    piece: &str,
+    count: usize,
+    back: &str,
+    told: &str,
+) -> Result<bool, AllocError> {
+    let most = repeated(alloc, front, piece, count, back)?;
+    if !begins(alloc, &["print", "p"], &most, Status::Done, b"")? {
+        return Ok(false);
+    }
+    let more = repeated(alloc, front, piece, count.saturating_add(1), back)?;
+    is_refused(alloc, &more, told)
+}
+
 // At a limit a text is printed; past it the place is that of the first thing that is too much.
 #[test]
 fn limits_are_kept(rt: HostRuntime) -> Result<(), Fail> {
-    let alloc = rt.alloc();
-    let rows: [(&str, &str, usize, &str, usize); 6] = [
-        ("", "forall; ", 64, "goal; solve;", 512),
-        (
-            "goal; ",
-            "constraint int_le(0,0); ",
-            20_000,
-            "solve;",
-            480_006,
-        ),
-        (
-            "goal;constraint all_different_int([",
-            "1,",
-            999,
-            "1]);solve;",
-            34,
-        ),
-        (
-            "goal;constraint array_bool_xor([",
-            "true,",
-            999,
-            "true]);solve;",
-            31,
-        ),
-        ("goal;constraint set_in(1,{", "1,", 99_999, "1});solve;", 25),
-        (
-            "goal;constraint array_int_element(1,[",
-            "1,",
-            99_999,
-            "1],1);solve;",
-            36,
-        ),
-    ];
-    for (front, piece, count, back, at) in rows {
-        let most = repeated(alloc, front, piece, count, back)?;
-        assert_eq!(rt; printed(alloc, &most)?.0, Status::Done, "at {front}");
-        let more = repeated(alloc, front, piece, count + 1, back)?;
-        let wanted = format!(in alloc; "bad problem: 11 TooMany at {at}\n")?;
+    for (front, piece, count, back, told) in LIMITS {
         assert!(rt;
-            printed(alloc, &more)?.1.bytes() == wanted.as_bytes(),
+            is_limit(rt.alloc(), front, piece, count, back, told)?,
             "at {front}"
         );
     }
     Ok(())
 }
 
-fn variables(alloc: Global, count: usize) -> Result<Vec<u8>, AllocError> {
-    let mut text = repeated(alloc, "exists;\n", "", 0, "")?;
+// A scope's head, and so many lines of a front, a number from 0 on, and a back.
+fn numbered(
+    alloc: Global,
+    head: &str,
+    front: &str,
+    back: &str,
+    count: usize,
+) -> Result<Vec<u8>, AllocError> {
+    let mut text = Vec::new(alloc);
+    text.extend_from_slice(head.as_bytes())?;
     for k in 0..count {
-        let line = format!(in alloc; "var bool: x{k};\n")?;
+        let line = format!(in alloc; "{front}{k}{back}\n")?;
         text.extend_from_slice(line.as_bytes())?;
     }
     text.extend_from_slice(b"goal;\nsolve;\n")?;
     Ok(text)
 }
 
-// Five hundred variables, x0 to x499, take 8 + 10 * 14 + 90 * 15 + 400 * 16 bytes with the head.
-#[test]
-fn variables_have_a_limit(rt: HostRuntime) -> Result<(), Fail> {
-    let alloc = rt.alloc();
-    let most = variables(alloc, 500)?;
-    let (status, sink) = printed(alloc, &most)?;
-    assert_eq!(rt; status, Status::Done);
-    assert!(rt; sink.bytes() == most.as_slice());
-    let more = variables(alloc, 501)?;
-    assert!(rt;
-        printed(alloc, &more)?.1.bytes() == b"bad problem: 11 TooMany at 7898\n".as_slice()
-    );
-    Ok(())
-}
-
-fn aggregates(alloc: Global, count: usize) -> Result<Vec<u8>, AllocError> {
-    let mut text = repeated(alloc, "forall;\nvar 0..1: t;\n", "", 0, "")?;
-    for k in 0..count {
-        let line = format!(in alloc; "aggregate g{k} = sum(t);\n")?;
-        text.extend_from_slice(line.as_bytes())?;
+// Whether so many are printed as they are, and one more is refused with this line.
+fn is_most(
+    alloc: Global,
+    head: &str,
+    front: &str,
+    back: &str,
+    count: usize,
+    told: &str,
+) -> Result<bool, AllocError> {
+    let most = numbered(alloc, head, front, back, count)?;
+    if !writes(alloc, &["print", "p"], &most, Status::Done, &most)? {
+        return Ok(false);
     }
-    text.extend_from_slice(b"goal;\nsolve;\n")?;
-    Ok(text)
+    let more = numbered(alloc, head, front, back, count.saturating_add(1))?;
+    is_refused(alloc, &more, told)
 }
 
-// All in one scope, g0 to g254 take 10 * 23 + 90 * 24 + 155 * 25 bytes, after 21 others.
+// Five hundred variables, x0 to x499, take 8 + 10 * 14 + 90 * 15 + 400 * 16 bytes with the head. All in one scope, g0 to
+// g254 take 10 * 23 + 90 * 24 + 155 * 25 bytes, after 21 others.
 #[test]
-fn aggregates_have_a_limit(rt: HostRuntime) -> Result<(), Fail> {
-    let alloc = rt.alloc();
-    let most = aggregates(alloc, 255)?;
-    let (status, sink) = printed(alloc, &most)?;
-    assert_eq!(rt; status, Status::Done);
-    assert!(rt; sink.bytes() == most.as_slice());
-    let more = aggregates(alloc, 256)?;
-    assert!(rt;
-        printed(alloc, &more)?.1.bytes() == b"bad problem: 11 TooMany at 6286\n".as_slice()
-    );
+fn variables_and_aggregates_have_a_limit(rt: HostRuntime) -> Result<(), Fail> {
+    for (head, front, back, count, told) in [
+        ("exists;\n", "var bool: x", ";", 500, "11 TooMany at 7898"),
+        (
+            "forall;\nvar 0..1: t;\n",
+            "aggregate g",
+            " = sum(t);",
+            255,
+            "11 TooMany at 6286",
+        ),
+    ] {
+        assert!(rt;
+            is_most(rt.alloc(), head, front, back, count, told)?,
+            "at {front}"
+        );
+    }
     Ok(())
 }

@@ -29,28 +29,70 @@ pub(crate) fn run(
 }
 
 // What a run of these words over one file `p` answers and writes.
-pub(crate) fn answered(
+pub(crate) fn ran(
     alloc: Global,
-    word: &str,
+    words: &[&str],
     text: &[u8],
 ) -> Result<(Status, MemorySink), AllocError> {
     let mut shelf = MemoryShelf::new(alloc);
     shelf.add("p", text)?;
-    let mut sink = MemorySink::new(alloc, 65_536, 4_194_304)?;
-    let status = run(alloc, &[word, "p"], &mut shelf, &mut sink);
+    let mut sink = MemorySink::new(alloc, 65_536, 16_777_216)?;
+    let status = run(alloc, words, &mut shelf, &mut sink);
     Ok((status, sink))
 }
 
-// What a check of a certificate against a problem answers and writes.
-pub(crate) fn judged(
+// Whether such a run answers this, and writes this and nothing else.
+pub(crate) fn writes(
+    alloc: Global,
+    words: &[&str],
+    text: &[u8],
+    status: Status,
+    written: &[u8],
+) -> Result<bool, AllocError> {
+    let (answer, sink) = ran(alloc, words, text)?;
+    Ok(answer == status && sink.bytes() == written)
+}
+
+// Whether such a run answers this, and what it writes begins with this.
+pub(crate) fn begins(
+    alloc: Global,
+    words: &[&str],
+    text: &[u8],
+    status: Status,
+    front: &[u8],
+) -> Result<bool, AllocError> {
+    let (answer, sink) = ran(alloc, words, text)?;
+    Ok(answer == status && sink.bytes().starts_with(front))
+}
+
+// Whether a check of a certificate against a problem answers this, and writes this and nothing else.
+pub(crate) fn judges(
     alloc: Global,
     problem: &[u8],
     certificate: &[u8],
-) -> Result<(Status, MemorySink), AllocError> {
+    status: Status,
+    written: &[u8],
+) -> Result<bool, AllocError> {
     let mut shelf = MemoryShelf::new(alloc);
     shelf.add("p", problem)?;
     shelf.add("c", certificate)?;
     let mut sink = MemorySink::new(alloc, 65_536, 65_536)?;
-    let status = run(alloc, &["check", "p", "c"], &mut shelf, &mut sink);
-    Ok((status, sink))
+    let answer = run(alloc, &["check", "p", "c"], &mut shelf, &mut sink);
+    Ok(answer == status && sink.bytes() == written)
+}
+
+// Whether a run of these words answers this with what begins so, and a check of that says yes with this line.
+pub(crate) fn is_confirmed(
+    alloc: Global,
+    words: &[&str],
+    text: &[u8],
+    status: Status,
+    front: &[u8],
+    yes: &[u8],
+) -> Result<bool, AllocError> {
+    let (answer, sink) = ran(alloc, words, text)?;
+    if answer != status || !sink.bytes().starts_with(front) {
+        return Ok(false);
+    }
+    judges(alloc, text, sink.bytes(), Status::Done, yes)
 }

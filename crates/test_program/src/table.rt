@@ -1,7 +1,7 @@
 //! The predicates on values, through problem texts that have no scope. The truths were computed by hand.
-use crate::runs::run;
-use qc_io::{MemoryShelf, MemorySink};
+use crate::runs::writes;
 use qecode_commands::Status;
+use std::alloc::{AllocError, Global};
 use std::test::Fail;
 
 const COMPARISONS: &str = "1 int_eq(2,2)
@@ -40,7 +40,14 @@ const COMPARISONS: &str = "1 int_eq(2,2)
 1 bool_le_reif(true,false,false)
 0 bool_le_reif(true,false,true)
 1 bool_lt_reif(false,true,true)
-0 bool_lt_reif(true,true,true)";
+0 bool_lt_reif(true,true,true)
+1 int_eq(3,3)
+0 int_eq(3,0)
+0 int_ne(5,5)
+1 int_ne(-1,1)
+1 int_lt(-5,-4)
+1 int_le_reif(3,2,false)
+1 bool_eq_reif(true,false,false)";
 
 const SUMS: &str = "1 int_lin_eq([2,3],[4,5],23)
 0 int_lin_eq([2,3],[4,5],22)
@@ -83,7 +90,23 @@ const SUMS: &str = "1 int_lin_eq([2,3],[4,5],23)
 1 int_mod(7,-2,1)
 0 int_mod(-7,2,1)
 0 int_mod(7,0,0)
-1 int_mod(-7,-2,-1)";
+1 int_mod(-7,-2,-1)
+1 int_lin_eq([2,-1],[3,5],1)
+1 int_lin_eq([1,1],[2,2],4)
+0 int_lin_ne([2,-1],[3,5],1)
+1 int_lin_ne([],[],1)
+1 int_lin_le([1,1],[2,1],3)
+1 int_times(-3,-3,9)
+0 int_times(1000000000,1000000000,0)
+1 int_abs(-7,7)
+0 int_abs(7,-7)
+1 int_min(2,-3,-3)
+0 int_min(2,-3,2)
+1 int_max(2,-3,2)
+0 int_max(2,-3,-3)
+0 int_div(0,0,0)
+0 int_mod(5,0,5)
+1 int_lin_le_reif([1],[3],2,false)";
 
 const ARRAYS: &str = "1 array_int_element(2,[5,6,7],6)
 0 array_int_element(0,[5,6],5)
@@ -116,7 +139,33 @@ const ARRAYS: &str = "1 array_int_element(2,[5,6,7],6)
 1 all_different_int([])
 1 table_int([1,2],[3,4,1,2])
 0 table_int([2,1],[3,4,1,2])
-0 table_int([1],[])";
+0 table_int([1],[])
+1 array_int_element(2,[5,7],7)
+0 array_int_element(0,[5,7],5)
+0 array_int_element(-1,[5,7],5)
+0 array_int_element(2,[5,7],5)
+0 array_int_element(3,[5,7],7)
+1 array_bool_element(2,[false,true],true)
+1 array_var_int_element(3,[9,4,9],9)
+0 array_var_int_element(2,[9,4],9)
+1 array_var_int_element(3,[4,3,0],0)
+1 array_int_minimum(3,[3,4])
+0 array_int_minimum(2,[3,4])
+1 array_int_minimum(0,[4,3,4,0])
+1 array_int_maximum(4,[3,4])
+0 array_int_maximum(5,[3,4])
+1 set_in(3,1..3)
+0 set_in(4,1..3)
+1 set_in(4,{1,4,9})
+0 set_in(5,{1,4,9})
+0 set_in(0,{})
+1 all_different_int([-4,1,8,15,22,4,11,18,25,7,14,21,3,10,17,24,6,13,20,2,9,16,23,5,12,19])
+0 all_different_int([24,1,8,15,22,4,11,18,25,7,14,21,3,10,17,24,6,13,20,2,9,16,23,5,12,19])
+1 table_int([3,4],[1,2,3,4])
+0 table_int([2,3],[1,2,3,4])
+0 table_int([1,4],[1,2,3,4])
+0 table_int([0,0],[])
+1 set_in_reif(2,{1,4},false)";
 
 const GATES: &str = "1 bool_and(true,true,true)
 0 bool_and(true,false,true)
@@ -143,27 +192,38 @@ const GATES: &str = "1 bool_and(true,true,true)
 0 bool_clause([],[])
 1 bool_clause_reif([],[],false)
 1 bool_clause_reif([true],[],true)
-0 bool_clause_reif([],[],true)";
+0 bool_clause_reif([],[],true)
+1 bool_or(false,true,true)
+0 bool_or(false,false,true)
+0 array_bool_or([false,false],true)
+1 array_bool_xor([false,false,true])
+1 bool_clause([false],[false])
+1 bool_clause_reif([false],[false],true)";
+
+// Whether the game of this one constraint alone is answered by this truth.
+fn is_answered(alloc: Global, call: &str, truth: &str) -> Result<bool, AllocError> {
+    let text = format!(in alloc; "goal; constraint {call}; solve;")?;
+    let wanted: &[u8] = match truth {
+        "1" => b"qcert 2\ntrue\ng\n",
+        _ => b"qcert 2\nfalse\ng\n",
+    };
+    writes(
+        alloc,
+        &["solve", "p"],
+        text.as_bytes(),
+        Status::Done,
+        wanted,
+    )
+}
 
 #[test]
 fn predicates_are_answered(rt: HostRuntime) -> Result<(), Fail> {
-    let alloc = rt.alloc();
     for lines in [COMPARISONS, SUMS, ARRAYS, GATES] {
         for line in lines.lines() {
             let Some((truth, call)) = line.split_once(' ') else {
                 continue;
             };
-            let text = format!(in alloc; "goal; constraint {call}; solve;")?;
-            let wanted: &[u8] = match truth {
-                "1" => b"qcert 2\ntrue\ng\n",
-                _ => b"qcert 2\nfalse\ng\n",
-            };
-            let mut shelf = MemoryShelf::new(alloc);
-            shelf.add("p", text.as_bytes())?;
-            let mut sink = MemorySink::new(alloc, 64, 64)?;
-            let status = run(alloc, &["solve", "p"], &mut shelf, &mut sink);
-            assert_eq!(rt; status, Status::Done, "at {call}");
-            assert!(rt; sink.bytes() == wanted, "at {call}");
+            assert!(rt; is_answered(rt.alloc(), call, truth)?, "at {call}");
         }
     }
     Ok(())

@@ -31,96 +31,85 @@ fn run(alloc: Global, words: &[&str], shelf: &mut MemoryShelf, sink: &mut Memory
     run_over(alloc, words, shelf, sink)
 }
 
-// What is answered and written for the words, over a problem `p` and a certificate or a position `q`.
-fn answered(
+// Whether the words, over a problem `p` and a certificate or a position `q`, are answered so, and just this is written.
+fn writes(
     alloc: Global,
     words: &[&str],
     problem: &[u8],
     other: &[u8],
-) -> Result<(Status, MemorySink), AllocError> {
+    status: Status,
+    written: &[u8],
+) -> Result<bool, AllocError> {
     let mut shelf = MemoryShelf::new(alloc);
     shelf.add("p", problem)?;
     shelf.add("q", other)?;
     let mut sink = MemorySink::new(alloc, 65_536, 65_536)?;
-    let status = run(alloc, words, &mut shelf, &mut sink);
-    Ok((status, sink))
+    let answer = run(alloc, words, &mut shelf, &mut sink);
+    Ok(answer == status && sink.bytes() == written)
 }
 
-// Whether just this was written.
-fn wrote(sink: &MemorySink, text: &[u8]) -> bool {
-    sink.bytes() == text
-}
+const FIRST: &[&str] = &["first", "p", "q"];
 
-#[test]
-fn strategy_begins_with_its_tuple(rt: HostRuntime) -> Result<(), Fail> {
-    let (status, sink) = answered(rt.alloc(), &["first", "p", "q"], GAME, WON)?;
-    assert_eq!(rt; status, Status::Done);
-    assert!(rt; wrote(&sink, b"yes true\nx = 1\n"));
-    Ok(())
-}
+const ALLOWED: &[&str] = &["allowed", "p", "q"];
 
-#[test]
-fn counterstrategy_waits_for_the_player(rt: HostRuntime) -> Result<(), Fail> {
-    let (status, sink) = answered(rt.alloc(), &["first", "p", "q"], UNLIKE, LOST)?;
-    assert_eq!(rt; status, Status::Done);
-    assert!(rt; wrote(&sink, b"yes false\nthe player moves first\n"));
-    Ok(())
-}
-
-#[test]
-fn certificate_of_another_game_is_refused(rt: HostRuntime) -> Result<(), Fail> {
-    let (status, sink) = answered(rt.alloc(), &["first", "p", "q"], GAME, LOST)?;
-    assert_eq!(rt; status, Status::NotProved);
-    assert!(rt; wrote(&sink, b"no\n"));
-    Ok(())
-}
-
-#[test]
-fn tuples_are_listed(rt: HostRuntime) -> Result<(), Fail> {
-    let words = ["allowed", "p", "q", "--most", "7"];
-    let (status, sink) = answered(rt.alloc(), &words, PAIR, b"")?;
-    assert_eq!(rt; status, Status::Done);
-    assert!(rt; wrote(&sink, b"0 -1\n0 1\n1 -1\n1 0\n2 -1\n2 0\n2 1\n"));
-    Ok(())
-}
-
-#[test]
-fn more_tuples_than_asked_for_are_told(rt: HostRuntime) -> Result<(), Fail> {
-    let words = ["allowed", "p", "q", "--most", "3"];
-    let (status, sink) = answered(rt.alloc(), &words, PAIR, b"")?;
-    assert_eq!(rt; status, Status::Done);
-    assert!(rt; wrote(&sink, b"0 -1\n0 1\n1 -1\nmore\n"));
-    Ok(())
-}
-
-#[test]
-fn next_scope_is_listed(rt: HostRuntime) -> Result<(), Fail> {
-    let (status, sink) = answered(rt.alloc(), &["allowed", "p", "q"], PAIR, b"0 -1")?;
-    assert_eq!(rt; status, Status::Done);
-    assert!(rt; wrote(&sink, b"3\n4\n5\n"));
-    Ok(())
-}
-
-#[test]
-fn equal_values_are_refused(rt: HostRuntime) -> Result<(), Fail> {
-    let (status, sink) = answered(rt.alloc(), &["allowed", "p", "q"], PAIR, b"0 0")?;
-    assert_eq!(rt; status, Status::BadMoves);
-    assert!(rt; wrote(&sink, b"move not allowed at scope 1\n"));
-    Ok(())
-}
+// A strategy's first tuple; a counterstrategy, which waits for the player; a certificate of another game. All tuples, the
+// first of them, those of the next scope, and none where values are equal; a scope that has one alone. A gap without a
+// condition.
+const ROWS: [(&[&str], &[u8], &[u8], Status, &[u8]); 9] = [
+    (FIRST, GAME, WON, Status::Done, b"yes true\nx = 1\n"),
+    (
+        FIRST,
+        UNLIKE,
+        LOST,
+        Status::Done,
+        b"yes false\nthe player moves first\n",
+    ),
+    (FIRST, GAME, LOST, Status::NotProved, b"no\n"),
+    (
+        &["allowed", "p", "q", "--most", "7"],
+        PAIR,
+        b"",
+        Status::Done,
+        b"0 -1\n0 1\n1 -1\n1 0\n2 -1\n2 0\n2 1\n",
+    ),
+    (
+        &["allowed", "p", "q", "--most", "3"],
+        PAIR,
+        b"",
+        Status::Done,
+        b"0 -1\n0 1\n1 -1\nmore\n",
+    ),
+    (ALLOWED, PAIR, b"0 -1", Status::Done, b"3\n4\n5\n"),
+    (
+        ALLOWED,
+        PAIR,
+        b"0 0",
+        Status::BadMoves,
+        b"move not allowed at scope 1\n",
+    ),
+    (
+        ALLOWED,
+        TIGHT,
+        b"",
+        Status::Done,
+        b"1 1 1 1 1 1 1 1 1 1 1 1 1 1 1 1 1 1 1 1\n",
+    ),
+    (
+        &["gap", "p", "1", "--sure"],
+        GAME,
+        b"",
+        Status::NoReading,
+        b"no condition\n",
+    ),
+];
 
 #[test]
-fn tight_scope_is_listed_at_once(rt: HostRuntime) -> Result<(), Fail> {
-    let (status, sink) = answered(rt.alloc(), &["allowed", "p", "q"], TIGHT, b"")?;
-    assert_eq!(rt; status, Status::Done);
-    assert!(rt; wrote(&sink, b"1 1 1 1 1 1 1 1 1 1 1 1 1 1 1 1 1 1 1 1\n"));
-    Ok(())
-}
-
-#[test]
-fn gap_without_a_condition_is_refused(rt: HostRuntime) -> Result<(), Fail> {
-    let (status, sink) = answered(rt.alloc(), &["gap", "p", "1", "--sure"], GAME, b"")?;
-    assert_eq!(rt; status, Status::NoReading);
-    assert!(rt; wrote(&sink, b"no condition\n"));
+fn words_and_files_are_answered(rt: HostRuntime) -> Result<(), Fail> {
+    for (words, problem, other, status, written) in ROWS {
+        assert!(rt;
+            writes(rt.alloc(), words, problem, other, status, written)?,
+            "at {written:?}"
+        );
+    }
     Ok(())
 }
