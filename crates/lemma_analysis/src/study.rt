@@ -1,7 +1,7 @@
 //! The analysis of a conflict as the search calls it.
 use crate::climbing::{Slope, slope_of};
 use crate::resolving::Settled;
-use lemma_engine::{Cause, Conflict, Engine, Known};
+use lemma_engine::{AS_A_LOOK, Cause, Conflict, Engine, Known};
 use lemma_needs::{
     Bench, Marks, Needs, Question, changes_of, needed, needed_for_clause, needed_for_lemma,
 };
@@ -48,9 +48,6 @@ const TOO_MUCH: f64 = 1e100;
 
 const LITTLE: f64 = 1e-100;
 
-// To go over so many counts as a look.
-const AS_A_LOOK: u64 = 128;
-
 impl<'p> Analyst<'p> {
     /// An analyst for this problem, which gives up once so many constraints and lemmas were looked at, by the engine and by
     /// itself. It fails only where memory runs out.
@@ -94,8 +91,13 @@ impl<'p> Analyst<'p> {
     /// Whether there were as many looks as there may be: those of the engine, the questions what a constraint needs, and for
     /// what else was gone over as many as take about as long.
     pub fn is_spent(&self, engine: &Engine) -> bool {
+        engine.looks() >= self.looks_left()
+    }
+
+    /// How many looks the engine may come to: all but those that the analysis took.
+    pub fn looks_left(&self) -> u64 {
         let own = self.tests.saturating_add(self.gone_over / AS_A_LOOK);
-        engine.work.saturating_add(own) >= self.budget
+        self.budget.saturating_sub(own)
     }
 
     /// Counts what was gone over.

@@ -61,8 +61,10 @@ pub struct Engine<'p> {
     pub scope: usize,
     /// The value that each variable had last.
     pub saved: Vec<Option<i64>>,
-    /// Constraints and lemmas that were looked at.
-    pub work: u64,
+    // Constraints and lemmas that were looked at.
+    pub(crate) work: u64,
+    // What was passed over besides: watched conditions, lemmas, and constraints that mention a variable.
+    passed_over: u64,
     /// Lemmas that are looked at.
     pub live: usize,
     pub(crate) watches: Vec<Vec<Watch>>,
@@ -74,6 +76,9 @@ pub struct Engine<'p> {
 
 // A constraint of so many variables takes long.
 const MANY: usize = 4;
+
+/// To pass over so many things counts as a look.
+pub const AS_A_LOOK: u64 = 128;
 
 impl<'p> Engine<'p> {
     /// The declared domains, before any decision; all constraints that speak there wait. It fails only where memory runs out.
@@ -113,6 +118,7 @@ impl<'p> Engine<'p> {
             scope: 0,
             saved,
             work: 0,
+            passed_over: 0,
             live: 0,
             watches,
             by_place,
@@ -125,6 +131,16 @@ impl<'p> Engine<'p> {
         Ok(engine)
     }
 
+    /// How many constraints and lemmas were looked at. What was passed over counts for as many as take about as long.
+    pub fn looks(&self) -> u64 {
+        self.work.saturating_add(self.passed_over / AS_A_LOOK)
+    }
+
+    /// Counts what is passed over.
+    pub(crate) fn pass_over(&mut self, count: usize) {
+        self.passed_over = self.passed_over.saturating_add(count as u64);
+    }
+
     /// Whether a constraint speaks where the next scope is this one.
     pub(crate) fn is_active_at(&self, c: ConId, scope: usize) -> bool {
         let own = self.facts.rule_scope(c);
@@ -133,7 +149,9 @@ impl<'p> Engine<'p> {
 
     /// Lets all constraints wait that speak here and didn't at an earlier scope.
     pub(crate) fn wake_active(&mut self, earlier: Option<usize>) -> Result<(), AllocError> {
-        for k in 0..self.facts.rules() {
+        let count = self.facts.rules();
+        self.pass_over(count);
+        for k in 0..count {
             let c = rule_at(k);
             let did = match earlier {
                 Some(scope) => self.is_active_at(c, scope),
@@ -150,7 +168,9 @@ impl<'p> Engine<'p> {
     pub(crate) fn wake(&mut self, x: VarId, least: i64, greatest: i64) -> Result<(), AllocError> {
         let is_raised = self.boxes.least(x) > least;
         let is_lowered = self.boxes.greatest(x) < greatest;
-        for k in 0..self.facts.wakers_of(x).len() {
+        let count = self.facts.wakers_of(x).len();
+        self.pass_over(count);
+        for k in 0..count {
             let Some(waker) = self.facts.wakers_of(x).get(k).copied() else {
                 break;
             };
@@ -199,9 +219,13 @@ impl<'p> Engine<'p> {
         }
     }
 
-    /// Looks at all that waits, until nothing does or a conflict is found.
-    pub fn propagate(&mut self) -> Result<Option<Conflict>, AllocError> {
+    /// Looks at all that waits, until nothing does, a conflict is found, or there were so many looks in all. In large domains
+    /// constraints may take one value after the other out, so that nothing else would end this soon.
+    pub fn propagate(&mut self, most: u64) -> Result<Option<Conflict>, AllocError> {
         for _ in 0..u64::MAX {
+            if self.looks() >= most {
+                return Ok(None);
+            }
             let Some(found) = self.look_at_next()? else {
                 return Ok(None);
             };

@@ -316,9 +316,11 @@ impl<'p> Engine<'p> {
             return Ok(None);
         };
         let mut watches = mem::replace(place, Vec::new(self.alloc));
+        let count = watches.len();
+        self.pass_over(count);
         let mut kept = 0usize;
         let mut found = None;
-        for k in 0..watches.len() {
+        for k in 0..count {
             let Some(watch) = watches.get(k).copied() else {
                 break;
             };

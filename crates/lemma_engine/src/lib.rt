@@ -17,5 +17,5 @@ mod moving;
 mod rules;
 mod waiting;
 
-pub use engine::{Cause, Choice, Conflict, Engine};
+pub use engine::{AS_A_LOOK, Cause, Choice, Conflict, Engine};
 pub use known::{Condition, Finish, Known, Range, SumCondition, Taken};

@@ -44,7 +44,9 @@ impl<'p> Engine<'p> {
             return Ok(None);
         }
         for place in self.scope.saturating_add(1)..self.by_place.len() {
-            for k in 0..self.by_place.get(place).map_or(0, |list| list.len()) {
+            let count = self.by_place.get(place).map_or(0, |list| list.len());
+            self.pass_over(count);
+            for k in 0..count {
                 let Some(n) = self.lemma_at(place, k) else {
                     continue;
                 };

@@ -77,8 +77,13 @@ fn one_turn(
     analyst: &mut Analyst,
     pace: &mut Pace,
 ) -> Result<Turn, AllocError> {
-    if let Some(conflict) = engine.propagate()? {
+    let most = analyst.looks_left();
+    if let Some(conflict) = engine.propagate(most)? {
         return Ok(Turn::Met(conflict));
+    }
+    // else what still waits would be taken for looked at
+    if analyst.is_spent(engine) || pace.keeps_too_much() {
+        return Ok(Turn::Spent);
     }
     if engine.advance()? {
         return match engine.visit_new_lemmas()? {
@@ -92,9 +97,6 @@ fn one_turn(
             cause: Cause::Goal,
             choices: Vec::new(engine.alloc),
         }));
-    }
-    if analyst.is_spent(engine) || pace.keeps_too_much() {
-        return Ok(Turn::Spent);
     }
     if pace.is_over() && engine.trail.levels() > 0 {
         engine.go_back(0);
