@@ -1,5 +1,5 @@
 -- A run in which nothing failed answers what was asked.
-use Rattle.std.proofs.Common.{◌≡◌, ◌≤◌, ℕ, List, Option, Some, None, true, false, inl, inr, refl, ap, subst, ◌∙◌, IsTrue}
+use Rattle.std.proofs.Common.{◌≡◌, ◌≤◌, ℕ, List, Option, Some, None, inl, inr, refl, ap, subst, sym, ◌∙◌, IsTrue}
 use Rattle.qc_io.specs.Counts.{Rose, NoneRose}
 use Rattle.qc_model.specs.declared.problem.Kind.{Kind}
 use Rattle.qc_model.specs.Content.{Game}
@@ -10,6 +10,9 @@ use Rattle.qdimacs.specs.Refusals.{formula_of}
 use Rattle.lemma_list.specs.Lemmas.{Entry}
 use Rattle.lemma_list.specs.InPlace.{proves}
 use Rattle.lemma_text.specs.Places.{IsText, NeverBoth, IsOneList}
+use Rattle.best_text.specs.Text.{IsBestText}
+use Rattle.best_judge.specs.Proof.{IsBestProof}
+use Rattle.best_judge.specs.Laws.{NeverBoth as NeverBothBest}
 use Rattle.qecode_commands.specs.declared.status.Status.{Status}
 use Rattle.qecode_commands.specs.declared.status.Status.TheVariants.{Done, NotProved, Usage, BadCertificate, ReadFault, WriteFault, Memory}
 use Rattle.qecode_commands.specs.Complete.{TellsProof as TellsTreeProof}
@@ -17,15 +20,18 @@ use Rattle.qecode_commands.specs.Files.{IsFile, Wrote}
 use Rattle.qecode_commands.proofs.Told.{told_bytes, never_unread}
 use Rattle.qecode_commands.proofs.Completeness.{Laws as ProblemLaws, for_problem, for_formula, solves_done, decides_done, checks_done as tree_file_done, no_fault}
 use Rattle.dense_commands.specs.Words.{Asked, solves, decides, checks}
-use Rattle.dense_commands.specs.Answers.{SolvesGame, DecidesGame, Denies, IsNoList, ChecksBytes, ChecksListFile, ChecksFile, is_list_head, HasHead, Answers}
-use Rattle.dense_commands.specs.Complete.{TellsProof, IsComplete}
-use Rattle.dense_commands.proofs.Heads.{list_begins, tree_begins}
+use Rattle.dense_commands.specs.declared.head.Heading.{Heading}
+use Rattle.dense_commands.specs.declared.head.Heading.TheVariants.{Lemmas, Optimum, Tree}
+use Rattle.dense_commands.specs.Answers.{Solves, SolvesGame, DecidesGame, Denies, IsNoList, ChecksBytes, DeniesBest, IsNoBest, ChecksBestBytes, ChecksListFile, ChecksBestFile, ChecksAs, ChecksFile, heading_in, HasHead, Answers}
+use Rattle.dense_commands.specs.Complete.{TellsProof, TellsBest, TellsAny, IsComplete}
+use Rattle.dense_commands.proofs.Heads.{list_begins, best_begins, tree_begins}
 
 -- the laws of the texts
 pub record Laws : Type 0 where
   pub problems : ProblemLaws
   pub never : NeverBoth
   pub one : IsOneList
+  pub best : NeverBothBest
 
 moved : (g : Game) (k l : Kind) (es fs : List Entry) → k ≡ l → es ≡ fs → IsTrue (proves g k es) → IsTrue (proves g l fs)
 moved g k l es fs a b h = rw (← a, ← b) h
@@ -60,38 +66,75 @@ list_file_done l name told gave g proof s t h m r =
       | inr (bytes, file, c) ↦ confirms_done l told g bytes proof file s t c
     ]
 
--- a file that has a list begins as lists do
-never_a_tree : (told : Option (List ℕ)) (g : Game) → TellsProof told g → HasHead false told → ⊥
-never_a_tree told g proof head =
-    let e : false ≡ is_list_head proof.bytes = subst (HasHead false) proof.told_is head in
-    let k : is_list_head proof.bytes ≡ true = ap is_list_head proof.read.spelled ∙ list_begins proof.loser proof.entries in
-    let c : false ≡ true = e ∙ k in cc
+-- the text of a value and two lists that proves isn't turned down
+best_never_denied : (told : Option (List ℕ)) (g : Game) (bytes t : List ℕ) → TellsBest told g → IsFile 1073741824 told bytes → DeniesBest g bytes t → ⊥
+best_never_denied told g bytes t proof file d =
+    let e : bytes ≡ proof.bytes = told_bytes told proof.bytes bytes proof.told_is file.same in
+    d.no_proof.fails proof.value (subst (λ q. IsBestProof g q proof.value) (sym e) proof.proof)
 
--- and one that has another certificate doesn't
-never_a_list : (told : Option (List ℕ)) (g : Game) → TellsTreeProof told g → HasHead true told → ⊥
-never_a_list told g proof head =
-    let e : true ≡ is_list_head proof.bytes = subst (HasHead true) proof.told_is head in
-    let k : is_list_head proof.bytes ≡ false = ap is_list_head proof.read.spelled ∙ tree_begins proof.version proof.outcome proof.optimum proof.root in
-    let c : true ≡ false = e ∙ k in cc
+best_never_faulty : NeverBothBest → (told : Option (List ℕ)) (g : Game) (bytes t : List ℕ) → TellsBest told g → IsFile 1073741824 told bytes → IsNoBest bytes t → ⊥
+best_never_faulty never told g bytes t proof file faulty =
+    let e : bytes ≡ proof.bytes = told_bytes told proof.bytes bytes proof.told_is file.same in
+    let p = proof.proof in
+    never bytes proof.value p.first p.second faulty.place (subst (λ q. IsBestText q proof.value p.first p.second) (sym e) p.text) faulty.fault
+
+best_confirms_done : Laws → (told : Option (List ℕ)) (g : Game) (bytes : List ℕ) → TellsBest told g → IsFile 1073741824 told bytes →
+    (s : Status) (t : List ℕ) → ChecksBestBytes g bytes s t → s ≡ Done
+best_confirms_done l told g bytes proof file Done t c = refl
+best_confirms_done l told g bytes proof file NotProved t c = absurd (best_never_denied told g bytes t proof file c)
+best_confirms_done l told g bytes proof file BadCertificate t c = absurd (best_never_faulty l.best told g bytes t proof file c)
+best_confirms_done l told g bytes proof file s t c = absurd c
+
+best_file_done : Laws → (name : List ℕ) (told : Option (List ℕ)) (gave : ℕ → Type 0) (g : Game) → TellsBest told g →
+    (s : Status) (t : List ℕ) → ChecksBestFile name told gave g s t → ¬ (s ≡ Memory) → ¬ (s ≡ ReadFault) → s ≡ Done
+best_file_done l name told gave g proof s t h m r =
+    elim h [
+      | inl d ↦ absurd (never_unread 1073741824 name told gave proof.bytes proof.told_is proof.within s t d m r)
+      | inr (bytes, file, c) ↦ best_confirms_done l told g bytes proof file s t c
+    ]
+
+-- what the first bytes of each kind of certificate tell
+list_heading : (told : Option (List ℕ)) (g : Game) (heading : Heading) → TellsProof told g → HasHead heading told → heading ≡ Lemmas
+list_heading told g heading proof head = subst (HasHead heading) proof.told_is head ∙ ap heading_in proof.read.spelled ∙ list_begins proof.loser proof.entries
+
+best_heading : (told : Option (List ℕ)) (g : Game) (heading : Heading) → TellsBest told g → HasHead heading told → heading ≡ Optimum
+best_heading told g heading proof head =
+    let p = proof.proof in
+    subst (HasHead heading) proof.told_is head ∙ ap heading_in p.text.spelled ∙ best_begins proof.value p.first p.second
+
+tree_heading : (told : Option (List ℕ)) (g : Game) (heading : Heading) → TellsTreeProof told g → HasHead heading told → heading ≡ Tree
+tree_heading told g heading proof head =
+    subst (HasHead heading) proof.told_is head ∙ ap heading_in proof.read.spelled ∙ tree_begins proof.version proof.outcome proof.optimum proof.root
 
 list_done : Laws → (name : List ℕ) (told : Option (List ℕ)) (gave : ℕ → Type 0) (g : Game) → TellsProof told g →
     (s : Status) (t : List ℕ) → ChecksFile name told gave g s t → ¬ (s ≡ Memory) → ¬ (s ≡ ReadFault) → s ≡ Done
-list_done l name told gave g proof s t h m r =
-    elim h [
-      | inl (head, k) ↦ list_file_done l name told gave g proof s t k m r
-      | inr (head, k) ↦ absurd (never_a_tree told g proof head)
-    ]
+list_done l name told gave g proof s t (heading, head, h) m r =
+    list_file_done l name told gave g proof s t (subst (λ k. ChecksAs k name told gave g s t) (list_heading told g heading proof head) h) m r
+
+best_done : Laws → (name : List ℕ) (told : Option (List ℕ)) (gave : ℕ → Type 0) (g : Game) → TellsBest told g →
+    (s : Status) (t : List ℕ) → ChecksFile name told gave g s t → ¬ (s ≡ Memory) → ¬ (s ≡ ReadFault) → s ≡ Done
+best_done l name told gave g proof s t (heading, head, h) m r =
+    best_file_done l name told gave g proof s t (subst (λ k. ChecksAs k name told gave g s t) (best_heading told g heading proof head) h) m r
 
 tree_done : Laws → (name : List ℕ) (told : Option (List ℕ)) (gave : ℕ → Type 0) (g : Game) → TellsTreeProof told g →
     (s : Status) (t : List ℕ) → ChecksFile name told gave g s t → ¬ (s ≡ Memory) → ¬ (s ≡ ReadFault) → s ≡ Done
-tree_done l name told gave g proof s t h m r =
-    elim h [
-      | inl (head, k) ↦ absurd (never_a_list told g proof head)
-      | inr (head, k) ↦ tree_file_done l.problems name told gave g proof s t k m r
+tree_done l name told gave g proof s t (heading, head, h) m r =
+    tree_file_done l.problems name told gave g proof s t (subst (λ k. ChecksAs k name told gave g s t) (tree_heading told g heading proof head) h) m r
+
+any_done : Laws → (name : List ℕ) (told : Option (List ℕ)) (gave : ℕ → Type 0) (g : Game) → TellsAny told g →
+    (s : Status) (t : List ℕ) → ChecksFile name told gave g s t → ¬ (s ≡ Memory) → ¬ (s ≡ ReadFault) → s ≡ Done
+any_done l name told gave g proof s t h m r =
+    elim proof [
+      | inl p ↦ list_done l name told gave g p s t h m r
+      | inr (inl p) ↦ best_done l name told gave g p s t h m r
+      | inr (inr p) ↦ tree_done l name told gave g p s t h m r
     ]
 
 game_done : (turns : ℕ) (g : Game) (s : Status) (t : List ℕ) → SolvesGame turns g s t → ¬ (s ≡ Memory) → full_turns_of g ≤ turns → s ≡ Done
 game_done turns g s t h m f = elim h [ inl list ↦ list.done | inr k ↦ solves_done turns g s t k m f ]
+
+solved_done : (turns : ℕ) (g : Game) (s : Status) (t : List ℕ) → Solves turns g s t → ¬ (s ≡ Memory) → full_turns_of g ≤ turns → s ≡ Done
+solved_done turns g s t h m f = elim h [ inl best ↦ best.done | inr k ↦ game_done turns g s t k m f ]
 
 formula_done : (turns : ℕ) (φ : Formula) (s : Status) (t : List ℕ) → DecidesGame turns φ s t → ¬ (s ≡ Memory) → full_turns_of (game_of φ) ≤ turns → s ≡ Done
 formula_done turns φ s t h m f = elim h [ inl d ↦ d.list.done | inr k ↦ decides_done turns φ s t k m f ]
@@ -103,17 +146,14 @@ asked_done l None told gave s t h m r = words s h where
   words Usage h = refl
   words s h = absurd h
 asked_done l (Some (solves name turns)) told gave s t h m r =
-    λ g tells f. game_done turns g s t (for_problem l.problems (SolvesGame turns) name (told name) gave g tells s t h m r) m f
+    λ g tells f. solved_done turns g s t (for_problem l.problems (Solves turns) name (told name) gave g tells s t h m r) m f
 asked_done l (Some (decides name turns)) told gave s t h m r =
     λ f tells full. formula_done turns (formula_of f) s t (for_formula l.problems (DecidesGame turns) name (told name) gave f tells s t h m r) m full
 asked_done l (Some (checks name certificate)) told gave s t h m r =
     λ g tells proof.
     let k : ChecksFile certificate (told certificate) gave g s t =
     for_problem l.problems (ChecksFile certificate (told certificate) gave) name (told name) gave g tells s t h m r in
-    elim proof [
-      | inl p ↦ list_done l certificate (told certificate) gave g p s t k m r
-      | inr p ↦ tree_done l certificate (told certificate) gave g p s t k m r
-    ]
+    any_done l certificate (told certificate) gave g proof s t k m r
 
 -- the answer was written, and nothing failed
 pub run_done : Laws → (asked : Option Asked) (told : List ℕ → Option (List ℕ)) (gave : ℕ → Type 0) (old new : Option (List ℕ)) (before now missed misses : ℕ) (s : Status) →

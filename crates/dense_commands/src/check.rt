@@ -5,7 +5,8 @@ ghost use Rattle.qecode_commands.specs.Answers.{AnswersProblem};
 ghost use Rattle.qecode_commands.specs.Files.{Wrote};
 ghost use Rattle.dense_commands.specs.Answers.{ChecksFile, HasHead};
 
-use crate::head::begins_list;
+use crate::best::check_best;
+use crate::head::{Heading, heading_of};
 use crate::list::check_list;
 use qc_io::{Failed, Shelf, Sink};
 use qc_model::Problem;
@@ -47,31 +48,31 @@ fn check_file<S: Shelf, K: Sink>(
     ensures read_fault { result ≡ Status.ReadFault → Rose (S.faults shelf.old) (S.faults shelf.new) }
     ensures no_read_fault { result ≢ Status.ReadFault → S.faults shelf.new ≡ S.faults shelf.old }
 {
-    match begins_list(shelf, name) {
-        Ok(is_list) => check_as(alloc, problem, name, is_list, shelf, out),
+    match heading_of(shelf, name) {
+        Ok(heading) => check_as(alloc, problem, name, heading, shelf, out),
         Err(Failed) => Status::ReadFault,
     }
 }
 
-// Checks the file of a list, or one that has none.
+// Checks the file of a certificate that begins so.
 fn check_as<S: Shelf, K: Sink>(
     alloc: Global,
     problem: &Problem,
     name: &str,
-    is_list: bool,
+    heading: Heading,
     shelf: &mut S,
     out: &mut K,
 ) -> Status
-    requires { HasHead is_list (S.told shelf.old name.now) }
+    requires { HasHead heading (S.told shelf.old name.now) }
     ensures wrote { Wrote (K.written out.old) (K.written out.new) (K.faults out.old) (K.faults out.new) result
         (ChecksFile name.now (S.told shelf.old name.now) (λ n. RoseBy n (S.given shelf.old) (S.given shelf.new)) problem.now) }
     ensures usage { result ≢ Status.Usage }
     ensures read_fault { result ≡ Status.ReadFault → Rose (S.faults shelf.old) (S.faults shelf.new) }
     ensures no_read_fault { result ≢ Status.ReadFault → S.faults shelf.new ≡ S.faults shelf.old }
 {
-    if is_list {
-        check_list(alloc, problem, name, shelf, out)
-    } else {
-        check_problem(alloc, problem, name, shelf, out)
+    match heading {
+        Heading::Lemmas => check_list(alloc, problem, name, shelf, out),
+        Heading::Optimum => check_best(alloc, problem, name, shelf, out),
+        Heading::Tree => check_problem(alloc, problem, name, shelf, out),
     }
 }

@@ -1,19 +1,25 @@
-//! `solve`: who wins a game, by a list of lemmas or by a certificate of `qecode`.
+//! `solve`: who wins a game, and what its optimum is, by lists of lemmas or by a certificate of `qecode`.
 ghost use Rattle.std.specs.Prelude.{◌≡◌, ◌≢◌, ◌≤◌, IfSome};
 ghost use Rattle.qc_io.specs.Counts.{Rose, RoseBy};
+ghost use Rattle.best_solver.specs.Best.{IsBest};
 ghost use Rattle.lemma_solver.specs.Believed.{IsBelieved};
 ghost use Rattle.qecode_commands.specs.Answers.{AnswersProblem};
 ghost use Rattle.qecode_commands.specs.Files.{Wrote};
-ghost use Rattle.dense_commands.specs.Answers.{SolvesGame};
+ghost use Rattle.dense_commands.specs.Answers.{Solves, SolvesGame};
 
+use best_solver::{Best, best_by_lemmas};
 use lemma_solver::{Believed, solve_by_lemmas};
 use qc_io::{Shelf, Sink};
 use qc_model::Problem;
 use qecode_commands::{Status, finish, open_problem, solve_problem};
 use std::alloc::{AllocError, Global};
 
-/// How many looks at constraints and lemmas the search for a list is given for each turn.
-const LOOKS_A_TURN: u64 = 64;
+/// How many looks at constraints and lemmas the search for a list is given for each turn. Where a game is over in
+/// many small positions a list may be out of reach, and is given up after some seconds with the usual turns.
+const LOOKS_A_TURN: u64 = 12;
+
+/// How many of these it is given for each turn at each value that may be the optimum, of which some 31 are tried at most.
+const LOOKS_A_VALUE: u64 = 2;
 
 /// Solves the problem of a file within so many turns.
 pub(crate) fn solve_file<S: Shelf, K: Sink>(
@@ -25,14 +31,45 @@ pub(crate) fn solve_file<S: Shelf, K: Sink>(
 ) -> Status
     requires turns { (1 ≤ turns) × (turns ≤ 10000000) }
     ensures wrote { Wrote (K.written out.old) (K.written out.new) (K.faults out.old) (K.faults out.new) result
-        (AnswersProblem (SolvesGame turns) name.now (S.told shelf.old name.now) (λ n. RoseBy n (S.given shelf.old) (S.given shelf.new))) }
+        (AnswersProblem (Solves turns) name.now (S.told shelf.old name.now) (λ n. RoseBy n (S.given shelf.old) (S.given shelf.new))) }
     ensures usage { result ≢ Status.Usage }
     ensures read_fault { result ≡ Status.ReadFault → Rose (S.faults shelf.old) (S.faults shelf.new) }
     ensures no_read_fault { result ≢ Status.ReadFault → S.faults shelf.new ≡ S.faults shelf.old }
 {
     match open_problem(alloc, name, shelf, out) {
-        Ok(problem) => solve_game(alloc, &problem, turns, out),
+        Ok(problem) => solve_best(alloc, &problem, turns, out),
         Err(status) => status,
+    }
+}
+
+// Solves a game: its optimum by two lists, where both sides care for one quantity and the lists are found, and else as any game.
+fn solve_best<K: Sink>(alloc: Global, problem: &Problem, turns: u64, out: &mut K) -> Status
+    requires turns { (1 ≤ turns) × (turns ≤ 10000000) }
+    ensures wrote { Wrote (K.written out.old) (K.written out.new) (K.faults out.old) (K.faults out.new) result (Solves turns problem.now) }
+    ensures rows { (result ≢ Status.Usage) × (result ≢ Status.ReadFault) }
+{
+    match best_by_lemmas(alloc, problem, turns.saturating_mul(LOOKS_A_VALUE)) {
+        Ok(found) => write_best_or_search(alloc, problem, turns, found, out),
+        Err(AllocError) => Status::Memory,
+    }
+}
+
+// Writes the lists that were found. Where there are none, the game is solved as any other.
+fn write_best_or_search<K: Sink>(
+    alloc: Global,
+    problem: &Problem,
+    turns: u64,
+    found: Option<Best>,
+    out: &mut K,
+) -> Status
+    requires turns { (1 ≤ turns) × (turns ≤ 10000000) }
+    requires best { IfSome found (λ it. IsBest problem.now it) }
+    ensures wrote { Wrote (K.written out.old) (K.written out.new) (K.faults out.old) (K.faults out.new) result (Solves turns problem.now) }
+    ensures rows { (result ≢ Status.Usage) × (result ≢ Status.ReadFault) }
+{
+    match found {
+        Some(best) => finish(out, best.text.as_slice(), Status::Done),
+        None => solve_game(alloc, problem, turns, out),
     }
 }
 

@@ -10,6 +10,7 @@ use crate::check::check_files;
 use crate::formula::decide_file;
 use crate::solve::solve_file;
 use crate::words::{Command, command_of};
+use best_judge::texts_have_no_fault;
 use lemma_text::bytes_are_one_list_or_have_one_fault;
 use proof_text::bytes_are_one_text_or_have_one_fault;
 use qc_io::{Shelf, Sink};
@@ -24,7 +25,7 @@ const USAGE: &[u8] =
 /// Does what the words ask for.
 ///
 /// Where nothing failed and memory sufficed, a problem is solved, and a formula decided, within as many turns as the whole game
-/// can take, and a certificate that proves what it states is confirmed, be it a list of lemmas or a tree.
+/// can take, and a certificate that proves what it states is confirmed, of whatever version it is.
 pub fn run<S: Shelf, K: Sink>(alloc: Global, words: &[&str], shelf: &mut S, out: &mut K) -> Status
     ensures wrote { Wrote (K.written out.old) (K.written out.new) (K.faults out.old) (K.faults out.new) result
         (Answers (asked_of (map (λ w. w.now) words.now)) (S.told shelf.old) (λ n. RoseBy n (S.given shelf.old) (S.given shelf.new))) }
@@ -40,6 +41,7 @@ pub fn run<S: Shelf, K: Sink>(alloc: Global, words: &[&str], shelf: &mut S, out:
     texts_say_one_thing();
     bytes_are_one_text_or_have_one_fault();
     bytes_are_one_list_or_have_one_fault();
+    texts_have_no_fault();
     texts_get_one_answer();
     answer(alloc, words, shelf, out)
 }

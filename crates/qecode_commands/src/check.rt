@@ -147,7 +147,8 @@ fn confirm<K: Sink>(out: &mut K, outcome: Outcome, optimum: Option<i64>) -> Stat
     }
 }
 
-fn confirm_true<K: Sink>(out: &mut K, optimum: Option<i64>) -> Status
+/// The line that confirms that the game is won, with its optimum where there is one.
+pub fn confirm_true<K: Sink>(out: &mut K, optimum: Option<i64>) -> Status
     ensures wrote { Wrote (K.written out.old) (K.written out.new) (K.faults out.old) (K.faults out.new) result
         (λ s t. (s ≡ Status.Done) × (t ≡ codes "yes " ++ outcome_text Outcome.True optimum)) }
     ensures rows { (result ≡ Status.Done) ⊎ (result ≡ Status.WriteFault) }

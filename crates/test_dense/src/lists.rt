@@ -1,7 +1,8 @@
 //! Lists of lemmas against small games.
-use crate::runs::{judged, run};
+use crate::runs::{judges, run};
 use qc_io::{MemoryShelf, MemorySink};
 use qecode_commands::Status;
+use std::alloc::{AllocError, Global};
 use std::test::Fail;
 
 // The player takes x, then the opponent y, at most x; y may not be 1.
@@ -59,9 +60,10 @@ fn lists_are_judged(rt: HostRuntime) -> Result<(), Fail> {
         (LOW, b"qcert 3\ntrue\n", Status::NotProved, b"no\n"),
     ];
     for (problem, list, status, line) in rows {
-        let (answer, sink) = judged(rt.alloc(), problem, list)?;
-        assert_eq!(rt; answer, status, "at {list:?}");
-        assert!(rt; sink.bytes() == line, "at {list:?}");
+        assert!(rt;
+            judges(rt.alloc(), problem, list, status, line)?,
+            "at {list:?}"
+        );
     }
     Ok(())
 }
@@ -78,16 +80,35 @@ fn faults_have_places(rt: HostRuntime) -> Result<(), Fail> {
         (b"qcert 3\ntrue\nw 1 0", b"bad certificate at 18\n"),
     ];
     for (list, line) in rows {
-        let (answer, sink) = judged(rt.alloc(), LOW, list)?;
-        assert_eq!(rt; answer, Status::BadCertificate, "at {list:?}");
-        assert!(rt; sink.bytes() == line, "at {list:?}");
+        assert!(rt;
+            judges(rt.alloc(), LOW, list, Status::BadCertificate, line)?,
+            "at {list:?}"
+        );
     }
     Ok(())
 }
 
+// Whether the words over a game and its list are answered so, and just this is written, where this call of the shelf fails.
+fn ends(
+    alloc: Global,
+    words: &[&str],
+    failing: Option<u64>,
+    status: Status,
+    written: &[u8],
+) -> Result<bool, AllocError> {
+    let mut shelf = MemoryShelf::new(alloc);
+    shelf.add("p", LOW)?;
+    shelf.add("c", LOW_LIST)?;
+    if let Some(call) = failing {
+        shelf.fail_at(call)?;
+    }
+    let mut sink = MemorySink::new(alloc, 65_536, 65_536)?;
+    let answer = run(alloc, words, &mut shelf, &mut sink);
+    Ok(answer == status && sink.bytes() == written)
+}
+
 #[test]
 fn other_words_get_the_usage_line(rt: HostRuntime) -> Result<(), Fail> {
-    let alloc = rt.alloc();
     let rows: [&[&str]; 11] = [
         &[],
         &["solve"],
@@ -102,13 +123,10 @@ fn other_words_get_the_usage_line(rt: HostRuntime) -> Result<(), Fail> {
         &["check", "p", "c", "c"],
     ];
     for words in rows {
-        let mut shelf = MemoryShelf::new(alloc);
-        shelf.add("p", LOW)?;
-        shelf.add("c", LOW_LIST)?;
-        let mut sink = MemorySink::new(alloc, 65_536, 65_536)?;
-        let answer = run(alloc, words, &mut shelf, &mut sink);
-        assert_eq!(rt; answer, Status::Usage);
-        assert!(rt; sink.bytes() == USAGE);
+        assert!(rt;
+            ends(rt.alloc(), words, None, Status::Usage, USAGE)?,
+            "at {words:?}"
+        );
     }
     Ok(())
 }
@@ -117,16 +135,12 @@ fn other_words_get_the_usage_line(rt: HostRuntime) -> Result<(), Fail> {
 // two calls.
 #[test]
 fn calls_that_fail_are_told(rt: HostRuntime) -> Result<(), Fail> {
-    let alloc = rt.alloc();
     for call in [1, 2, 3, 4, 5] {
-        let mut shelf = MemoryShelf::new(alloc);
-        shelf.add("p", LOW)?;
-        shelf.add("c", LOW_LIST)?;
-        shelf.fail_at(call)?;
-        let mut sink = MemorySink::new(alloc, 65_536, 65_536)?;
-        let answer = run(alloc, &["check", "p", "c"], &mut shelf, &mut sink);
-        assert_eq!(rt; answer, Status::ReadFault, "at {call}");
-        assert!(rt; sink.bytes().is_empty());
+        let words = ["check", "p", "c"];
+        assert!(rt;
+            ends(rt.alloc(), &words, Some(call), Status::ReadFault, b"")?,
+            "at {call}"
+        );
     }
     Ok(())
 }

@@ -14,22 +14,8 @@ pub(crate) fn run(
     run_over(alloc, words, shelf, sink)
 }
 
-// What a check of a certificate against a problem answers and writes.
-pub(crate) fn judged(
-    alloc: Global,
-    problem: &[u8],
-    certificate: &[u8],
-) -> Result<(Status, MemorySink), AllocError> {
-    let mut shelf = MemoryShelf::new(alloc);
-    shelf.add("p", problem)?;
-    shelf.add("c", certificate)?;
-    let mut sink = MemorySink::new(alloc, 65_536, 65_536)?;
-    let status = run(alloc, &["check", "p", "c"], &mut shelf, &mut sink);
-    Ok((status, sink))
-}
-
 // What is answered and written for words over one file.
-pub(crate) fn answered(
+fn answered(
     alloc: Global,
     words: &[&str],
     text: &[u8],
@@ -41,23 +27,48 @@ pub(crate) fn answered(
     Ok((status, sink))
 }
 
-// Whether just this was written.
-pub(crate) fn wrote(sink: &MemorySink, text: &[u8]) -> bool {
-    sink.bytes() == text
+// Whether the words over one file are answered so, and what is written begins with this.
+pub(crate) fn begins(
+    alloc: Global,
+    words: &[&str],
+    text: &[u8],
+    status: Status,
+    front: &[u8],
+) -> Result<bool, AllocError> {
+    let (answer, sink) = answered(alloc, words, text)?;
+    Ok(answer == status && sink.bytes().starts_with(front))
 }
 
-// Whether what was written begins so.
-pub(crate) fn begins(sink: &MemorySink, front: &[u8]) -> bool {
-    sink.bytes().starts_with(front)
-}
-
-// Whether a check of a certificate against a problem answers with this line.
-pub(crate) fn confirmed(
+// Whether a check of a certificate against a problem is answered so, and just this is written.
+pub(crate) fn judges(
     alloc: Global,
     problem: &[u8],
     certificate: &[u8],
-    line: &[u8],
+    status: Status,
+    written: &[u8],
 ) -> Result<bool, AllocError> {
-    let (status, sink) = judged(alloc, problem, certificate)?;
-    Ok(status == Status::Done && sink.bytes() == line)
+    let mut shelf = MemoryShelf::new(alloc);
+    shelf.add("p", problem)?;
+    shelf.add("c", certificate)?;
+    let mut sink = MemorySink::new(alloc, 65_536, 65_536)?;
+    let answer = run(alloc, &["check", "p", "c"], &mut shelf, &mut sink);
+    Ok(answer == status && sink.bytes() == written)
+}
+
+// Whether the words over one file are answered so with what begins with this, and a check of that against this game says yes
+// with this line.
+pub(crate) fn is_confirmed(
+    alloc: Global,
+    words: &[&str],
+    text: &[u8],
+    status: Status,
+    front: &[u8],
+    game: &[u8],
+    yes: &[u8],
+) -> Result<bool, AllocError> {
+    let (answer, sink) = answered(alloc, words, text)?;
+    if answer != status || !sink.bytes().starts_with(front) {
+        return Ok(false);
+    }
+    judges(alloc, game, sink.bytes(), Status::Done, yes)
 }

@@ -5,8 +5,8 @@ use Rattle.dense_commands.proofs.head.read_head.Given as goal
 
 abbrev pub invariant-loop-filled : goal.invariant-loop-filled
 invariant-loop-filled g l = record {
-  seven : length l.head ≡ 7;
-  within : l.filled ≤ 7;
+  nine : length l.head ≡ 9;
+  within : l.filled ≤ 9;
   front : IsFront (g.S.Shelf.told l.fn.shelf l.name) (take l.filled l.head);
   faults : g.S.Shelf.faults l.shelf ≡ g.S.Shelf.faults l.fn.shelf;
   given : RoseBy 0 (g.S.Shelf.given l.fn.shelf) (g.S.Shelf.given l.shelf);
@@ -14,4 +14,4 @@ invariant-loop-filled g l = record {
 }
 
 abbrev pub decreases-loop-filled : goal.decreases-loop-filled
-decreases-loop-filled g l = 7 - l.filled
+decreases-loop-filled g l = 9 - l.filled

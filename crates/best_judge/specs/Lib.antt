@@ -1,0 +1,4 @@
+pub mod Asked
+pub mod Proof
+pub mod Parts
+pub mod Laws
