@@ -1,12 +1,13 @@
 """Lists of lemmas that a search wrote, and damaged ones, against a player that goes over all moves.
 
-    bench/run lemmas SEARCH [--games N] [--seed S] [--mutants M] [--qdense PATH]
+    bench/run lemmas SEARCH [--games N] [--seed S] [--mutants M] [--qdense PATH] [--optima]
     bench/run lemmas --judge PROBLEM LIST..
 
 SEARCH says how a search is called that writes a list of lemmas for a plain game: `"PROGRAM solve PROBLEM"`, where it writes
 the list to its output, `"PROGRAM PROBLEM -o LIST"`, or `PROGRAM` for the same. It solves small games that are made at random,
-every other one with many weak constraints; the oracle's reader of lists (tools/oracle/lemmas.py) has to believe each list,
-and it has to prove the outcome that the oracle finds by going over all moves. Then lists are damaged, and held against other
+every other one with many weak constraints, and with `--optima` such in which both sides care for one quantity; the oracle's
+reader (tools/oracle/lemmas.py, optima.py) has to believe each list, and it has to prove the outcome that the oracle finds by
+going over all moves. Then lists are damaged, and held against other
 games: none may prove another outcome. With `--qdense` that program checks each list as well, and has to say what the oracle's
 reader says.
 
@@ -24,7 +25,7 @@ from collections import Counter
 from compare.player import Maker, argument_text, damaged
 from compare.searches import Search
 from oracle.games import Game
-from oracle.lemmas import judged
+from oracle.optima import judged
 from oracle.predicates import SIGNATURES
 
 OTHERS = 3
@@ -64,6 +65,36 @@ class Denser(Maker):
         return self.random.sample(of_kind, min(count, len(of_kind)))
 
 
+class Rivals(Maker):
+    """Makes games in which both sides care for one quantity: a variable, or what the worst branches leave of one."""
+
+    SCOPES = [1, 2, 2, 3, 3, 4]
+
+    def declare(self):
+        self.kinds[0] = "exists"
+        super().declare()
+        self.sense, self.inner = self.random.choice(["minimize", "maximize"]), {}
+        self.wish = self.quantity(0)
+
+    def quantity(self, i):
+        """What scope i may care for: a variable of a scope before the opponent's next one, or there the worst of its branches."""
+        later = [j for j, kind in enumerate(self.kinds) if kind == "forall" and j > i]
+        names = [x for x, owner in self.owner.items() if x[0] == "x" and (not later or owner < later[0])]
+        inner = self.quantity(later[0]) if later and (not names or self.likely(0.6)) else None
+        if not inner:
+            return self.random.choice(names or [None])
+        self.folds.append((f"q{later[0]}", later[0]))
+        self.inner[f"q{later[0]}"] = inner
+        return f"q{later[0]}"
+
+    def head(self, i):
+        return f"exists {self.sense} {self.wish};" if i == 0 and self.wish else f"{self.kinds[i]};"
+
+    def aggregate(self, name, i):
+        fold = "greatest" if self.sense == "minimize" else "least"
+        return f"aggregate {name} = {fold}({self.inner[name]}) else {self.random.randrange(-3, 6)};"
+
+
 class Trials:
     """Plays games, and gathers what was met and what is wrong."""
 
@@ -74,8 +105,9 @@ class Trials:
 
     def play(self, number):
         chance = random.Random(f"{self.options.seed} {number}")
-        game = (Denser if number % 2 else Maker)(chance, True).game()
-        outcome = game.outcome().split()[0]
+        makers = (Rivals, Rivals) if self.options.optima else (Maker, Denser)
+        game = makers[number % 2](chance, True).game()
+        outcome = game.outcome()
         self.predicates.update({constraint.name for constraint in game.constraints})
         data, status = self.solved(game)
         if data is None or data.startswith(b"qcert 2"):
@@ -83,11 +115,13 @@ class Trials:
             return
         self.met.update(f"solved, with a line {line[:1].decode()}" for line in {line[:1] for line in data.splitlines()[2:]})
         self.judge(number, game, data, "solved", outcome, (outcome,))
+        # A list that is damaged or of another game may still tell who wins.
+        right = (outcome, outcome.split()[0], "no")
         self.lists = (self.lists + [data])[-20:]
         for _ in range(self.options.mutants):
-            self.judge(number, game, damaged(chance, data), "damaged", outcome, (outcome, "no"))
+            self.judge(number, game, damaged(chance, data), "damaged", outcome, right)
         for other in chance.sample(self.lists, min(OTHERS, len(self.lists))):
-            self.judge(number, game, other, "of some game", outcome, (outcome, "no"))
+            self.judge(number, game, other, "of some game", outcome, right)
 
     def solved(self, game):
         with open(self.problem, "wb") as file:
@@ -97,7 +131,7 @@ class Trials:
     def judge(self, number, game, data, what, outcome, right):
         judgement = judged(game, data)
         answer = judgement.partition(":")[0]
-        self.met[f"{what}: {answer}"] += 1
+        self.met[f"{what}: {answer.partition(' ')[0]}{' with an optimum' * (' ' in answer)}"] += 1
         told = answered(self.options.qdense, self.problem, self.found, data) if self.options.qdense else answer
         # A damaged head may make it a tree, which the program reads too.
         agree = told == answer if data.startswith(b"qcert 3") else told in right
@@ -111,7 +145,9 @@ def answered(program, problem, path, data):
     with open(path, "wb") as file:
         file.write(data)
     done = subprocess.run([program, "check", problem, path], stdout=subprocess.PIPE, check=False)
-    return {b"yes true\n": "true", b"yes false\n": "false"}.get(done.stdout, "no" if done.returncode in (1, 5) else "nothing")
+    if done.returncode:
+        return "no" if done.returncode in (1, 5) else "nothing"
+    return done.stdout.decode().removeprefix("yes ").rstrip("\n")
 
 
 def main(words):
@@ -121,6 +157,7 @@ def main(words):
     options.add_argument("--games", type=int, default=1000)
     options.add_argument("--seed", default="1")
     options.add_argument("--mutants", type=int, default=12)
+    options.add_argument("--optima", action="store_true", help="games in which both sides care for one quantity")
     options.add_argument("--qdense", metavar="PATH", help="the program that has to say the same")
     options = options.parse_args(words)
     if options.judge:

@@ -7,7 +7,8 @@ Nothing here is part of the gate.
 The runs are `solve` of examples/tolls.qc, `check` of what that writes, `print` of a small text, and `generate 0`. Where an
 allocation is refused, the program has to end with status 9 and nothing written, or as it does when none is. An allocation is a call of
 malloc or realloc. The first 300 are refused in turn, the last 20 too, and about 300 between them. With `--qdense` it is that
-program's `solve` of examples/schedule.qc, `check` of the list that it writes, and `qbf` of a formula.
+program's `solve` of examples/schedule.qc and of a wish whose optimum two lists show, `check` of what it writes, and `qbf` of
+a formula.
 
 How it is run: the program takes its memory from the C library, so refuse.c, which is compiled by cc, is loaded
 before that library (LD_PRELOAD) and refuses the Nth call. So the built program itself is tried, in milliseconds.
@@ -33,6 +34,8 @@ REFUSER = os.path.join(os.path.dirname(os.path.realpath(__file__)), "refuse.c")
 REFUSED = 9
 LAST = 20
 SMALL = "exists;constraint int_le(x,3);var {2,0,1,2}: x; % c\ngoal;solve;"
+WISH = """exists maximize x; var 0..4: x; forall; var 0..4: y; constraint int_le(y,x);
+goal; constraint int_le(y,2); solve;"""
 TOLLS = os.path.join(TOP, "examples", "tolls.qc")
 SCHEDULE = os.path.join(TOP, "examples", "schedule.qc")
 FORMULA = os.path.join(TOP, "examples", "formulas", "copycat.qdimacs")
@@ -103,13 +106,15 @@ def try_built(options, folder):
 
 
 def try_lists(options, folder):
-    """The same for `qdense`: lists that it writes for a schedule and a formula, and checks."""
-    certificate = os.path.join(folder, "schedule.list")
+    """The same for `qdense`: what it writes for a formula, a schedule and a wish, and checks."""
+    certificate, wish = os.path.join(folder, "certificate"), os.path.join(folder, "wish.qc")
+    write(wish, WISH.encode())
     built = Built(Program(options.qdense), folder, options.on)
-    solved, wrong = tried(options, built, ["solve", SCHEDULE])
-    write(certificate, solved)
-    for words in ["check", SCHEDULE, certificate], ["qbf", FORMULA]:
-        wrong += tried(options, built, words)[1]
+    wrong = tried(options, built, ["qbf", FORMULA])[1]
+    for problem in SCHEDULE, wish:
+        solved, more = tried(options, built, ["solve", problem])
+        write(certificate, solved)
+        wrong += more + tried(options, built, ["check", problem, certificate])[1]
     return wrong
 
 
