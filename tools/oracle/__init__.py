@@ -6,4 +6,6 @@ that reads them and knows the predicates. The tools for people use it, and the c
     games         who wins, and what is optimal, by going over all moves
     certificates  reads certificates, and says what they prove
     promises      what `solve` promises of its certificates besides
+    lemmas        reads lists of lemmas, and says what they prove
+    optima        what a value and two such lists prove, where both sides care for one quantity
 """
