@@ -45,7 +45,7 @@ own_is g i s xs e = let l = scopes_from g.scopes i s e in ap (λ (ss : List Scop
 settled_is : (g : Game) (i : ℕ) (s : Scope) (xs : List Seen) → slice_get g.scopes i ≡ Some s → kind_settled s.kind s.condition g (demands g i) xs ≡ settled_at g i xs
 settled_is g i s xs e = let l = scopes_from g.scopes i s e in ap (λ (ss : List Scope). scope_settled ss g (demands g i) xs) (sym l.1)
 
-wishes_is : (g : Game) (i : ℕ) (s : Scope) → slice_get g.scopes i ≡ Some s → kind_wishes s.kind s.condition g (demands g i) ≡ wishes_at g i
+pub wishes_is : (g : Game) (i : ℕ) (s : Scope) → slice_get g.scopes i ≡ Some s → kind_wishes s.kind s.condition g (demands g i) ≡ wishes_at g i
 wishes_is g i s e = let l = scopes_from g.scopes i s e in ap (λ (ss : List Scope). scope_wishes ss g (demands g i)) (sym l.1)
 
 incumbent_is : (g : Game) (i : ℕ) (s : Scope) (xs : List Seen) → slice_get g.scopes i ≡ Some s → kind_incumbent s.kind s.condition g (demands g i) xs ≡ incumbent_at g i xs

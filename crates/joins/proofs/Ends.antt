@@ -1,5 +1,5 @@
 -- What comes from ends is no larger than they make it.
-use Rattle.std.proofs.Common.{◌≡◌, ℕ, zero, suc, ◌+◌, ◌*◌, ◌≤◌, Bool, true, false, ◌&&◌, ◌||◌, cond, Option, Some, None, List, [], ◌∷◌, ◌++◌, drop, refl, sym, ap, ◌∙◌, subst, arith}
+use Rattle.std.proofs.Common.{◌≡◌, ℕ, zero, suc, ◌+◌, ◌*◌, ◌≤◌, Bool, true, false, ◌&&◌, ◌||◌, Option, Some, None, List, [], ◌∷◌, ◌++◌, drop, refl, sym, ap, ◌∙◌, subst, arith}
 use Rattle.std.specs.Prelude.{slice_get, ℤ}
 use Rattle.qc_model.specs.declared.problem.Sense.{Sense}
 use Rattle.qc_model.specs.declared.problem.Kind.{Kind}
@@ -12,11 +12,11 @@ use Rattle.qc_model.specs.declared.problem.Scope.{Scope}
 use Rattle.qc_model.specs.Content.{Game}
 use Rattle.qc_model.specs.Valid.{IsValid}
 use Rattle.qc_model.specs.Demands.{demands, demands_after}
-use Rattle.qc_model.specs.Verdict.{Verdict, lost, exact, at_most, unknown, Seen, seen_barred, seen_skipped, seen_bound, seen_node, is_lost, is_exact, is_unknown, some_node, each_node}
+use Rattle.qc_model.specs.Verdict.{Verdict, lost, exact, at_most, unknown, Seen, seen_barred, seen_skipped, seen_bound, seen_node, is_lost, is_exact, some_node, each_node}
 use Rattle.qc_model.specs.ExistsVerdict.{some_open, exists_verdict}
 use Rattle.qc_model.specs.ForallVerdict.{known_numbers, is_known, one_sided, first_entry_bound, bounded_forall, forall_verdict}
 use Rattle.joins.specs.Verdicts.{kind_verdict, scope_verdict, verdict_at}
-use Rattle.joins.specs.Sizes.{IsSized, nodes_at, marks_at, HasSizes, AreNumbers}
+use Rattle.joins.specs.Sizes.{IsSized, HasSizes, AreNumbers}
 use Rattle.joins.specs.Ends.{tells_nothing, HasEnds, IsOfEnds, HasPart}
 use Rattle.joins.proofs.Sizing.{nodes_join, marks_join, node_nodes, verdict_sized}
 

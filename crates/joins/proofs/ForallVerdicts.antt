@@ -42,7 +42,7 @@ values_among g d (x ∷ e) a ws (c ∷ cs) q t =
     ap (λ (z : ℤ). z ∷ values_by a cs) (value_is g d x.target c.source c.total a ws h t.0)
     ∙ ap (λ (zs : List ℤ). entry_value g a (numbers_for d ws) x.target ∷ zs) (values_among g d e a ws cs r t.1)
 
-side_is : (s : Sense) (p : Aggregate) (ns : List ℤ) → cond (not (is_none_of ns)) (side_by s p.fold (fold_of p.fold ns)) unknown ≡ one_sided s (Some p) ns
+pub side_is : (s : Sense) (p : Aggregate) (ns : List ℤ) → cond (not (is_none_of ns)) (side_by s p.fold (fold_of p.fold ns)) unknown ≡ one_sided s (Some p) ns
 side_is s p [] = refl
 side_is s p (n ∷ ns) = by s p.fold
   where

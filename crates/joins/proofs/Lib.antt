@@ -10,3 +10,5 @@ pub mod AtScope
 pub mod Lengths
 pub mod Sizing
 pub mod Ends
+pub mod Permuted
+pub mod AnyOrder

@@ -5,15 +5,19 @@
 //! than those of the leaves together. So it is enough to count: a position and a number in place of an aggregate over no
 //! branch are values of variables, at most 10^9, and a game in which so many leaves and bounds are seen that they reach
 //! 2^62 isn't gone through.
-ghost use Rattle.std.specs.Prelude.{◌≡◌, ◌≤◌, ◌<◌, ◌+◌, ℕ, suc, Bool, List, [], ◌∷◌, ◌++◌, length, drop, ℤ, unsigned_abs};
+ghost use Rattle.std.specs.Prelude.{◌≡◌, ◌≤◌, ◌<◌, ◌+◌, ℕ, suc, Bool, List, [], ◌∷◌, ◌++◌, length, drop, ℤ, unsigned_abs, IsTrue, IsFalse, IsPermutation};
+ghost use Rattle.qc_model.specs.declared.problem.Condition.{Condition};
+ghost use Rattle.qc_model.specs.declared.problem.Scope.{Scope};
 ghost use Rattle.qc_model.specs.Content.{Game};
 ghost use Rattle.qc_model.specs.Valid.{IsValid};
 ghost use Rattle.qc_model.specs.Demands.{demands};
-ghost use Rattle.qc_model.specs.Verdict.{Verdict, Seen, seen_barred, seen_skipped, seen_bound, seen_node};
+ghost use Rattle.qc_model.specs.Verdict.{Verdict, unknown, Seen, seen_barred, seen_skipped, seen_bound, seen_node};
+ghost use Rattle.qc_model.specs.ExistsVerdict.{some_open};
 ghost use Rattle.qc_model.specs.ForallVerdict.{goal_verdict};
 ghost use Rattle.joins.specs.Columns.{IsSmall};
-ghost use Rattle.joins.specs.Verdicts.{verdict_at, stuck_of};
-ghost use Rattle.joins.specs.Joins.{IsLong, LeafFits};
+ghost use Rattle.joins.specs.Verdicts.{scope_verdict, verdict_at, stuck_of, scope_settled, scope_wishes, wishes_at};
+ghost use Rattle.joins.specs.Joins.{IsLong, LeafFits, StandsAt, game_of};
+ghost use Rattle.joins.specs.declared.joins.Joins.{Joins};
 ghost use Rattle.joins.specs.Sizes.{AreLong, IsSized, HasSizes, AreNumbers};
 ghost use Rattle.joins.specs.Ends.{HasEnds, IsOfEnds, HasPart};
 
@@ -65,4 +69,17 @@ pub fn numbers_come_from_ends()
     ensures node { (n : ℕ) (v : Verdict) → IsOfEnds n v → HasEnds n (seen_node v ∷ []) }
     ensures join { (m n : ℕ) (xs ys : List Seen) → HasEnds m xs → HasEnds n ys → HasEnds (m + n) (xs ++ ys) }
     ensures sizes { (n : ℕ) (xs : List Seen) → HasEnds n xs → HasSizes (n + 1) xs }
+{}
+
+/// Where nothing is demanded after a scope of the player, and in each scope of the opponent, whatever his list, what the scope comes
+/// to doesn't depend on the order of its leaves and bounds; nor does what its join stands for.
+pub fn order_changes_nothing()
+    ensures verdict { (g : Game) (later : List Scope) (d : List Condition) (a : List ℤ) (xs ys : List Seen) → scope_wishes later g d ≡ [] → IsPermutation xs ys → scope_verdict later g d a ys ≡ scope_verdict later g d a xs }
+    ensures stands { (joins : Joins) (i : ℕ) (xs ys : List Seen) → wishes_at (game_of joins) i ≡ [] → IsPermutation xs ys → StandsAt joins i xs → StandsAt joins i ys }
+{}
+
+/// Where nothing is demanded before and after a scope, nothing is known of it while a leaf is open and it isn't settled, whatever else
+/// was seen.
+pub fn open_scopes_are_unknown()
+    ensures { (g : Game) (later : List Scope) (a : List ℤ) (xs : List Seen) → scope_wishes later g [] ≡ [] → IsTrue (some_open xs) → IsFalse (scope_settled later g [] xs) → scope_verdict later g [] a xs ≡ unknown }
 {}

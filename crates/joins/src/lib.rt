@@ -41,8 +41,8 @@ pub use exists_join::ExistsJoin;
 pub use forall_join::ForallJoin;
 pub use joins::Joins;
 pub use laws::{
-    leaves_fit, lengths_join, numbers_come_from_ends, sizes_join, verdicts_are_long,
-    verdicts_are_sized,
+    leaves_fit, lengths_join, numbers_come_from_ends, open_scopes_are_unknown,
+    order_changes_nothing, sizes_join, verdicts_are_long, verdicts_are_sized,
 };
 pub use leaves::{Found, Leaf};
 pub use order::compare;
