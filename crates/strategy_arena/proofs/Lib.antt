@@ -1,5 +1,4 @@
 mod Parts
-mod FittingLines
 mod ReadParts
 mod Shorts
 pub mod UniqueLines

@@ -5,10 +5,6 @@ use Rattle.std.specs.Io.KnownBytes.{Appends}
 use Rattle.qc_io.specs.Sink.{AppendsPrefix, Moves}
 use Rattle.qc_io.proofs.Known.{Appends-append, moves_then, prefix_then, prefix_of}
 
-pub on_ok : {T E P : Type 0} (r : Result T E) → P → OnOk r P
-on_ok (Ok x) p = p
-on_ok (Err e) p = tt
-
 pub map_ok : {T E P Q : Type 0} (r : Result T E) → (P → Q) → OnOk r P → OnOk r Q
 map_ok (Ok x) f p = f p
 map_ok (Err e) f p = tt

@@ -1,6 +1,5 @@
 -- Short lines stand for the same when wide ones are appended, and when they are taken apart and put together.
 use Rattle.std.proofs.Common.{◌≡◌, ◌∙◌, refl, sym, ap, ℕ, ◌≤◌, ◌<◌, ◌+◌, zero, suc, List, [], ◌∷◌, ◌++◌, length, map, take, drop, arith, subst, get_or, flat_map, append_assoc, Result, OnOk}
-use Rattle.std.proofs.Math.Seq.{take-length, take-append_seam}
 use Rattle.std.proofs.lemmas.List.{get_or-take, length-take, map-append, take-map, drop-map, take_more, take-append-le}
 use Rattle.proof_tree.specs.declared.line.Line.{Line}
 use Rattle.proof_tree.specs.declared.line.Line.TheVariants.{Dot as DotLine}
@@ -17,12 +16,6 @@ texts_of wide (s ∷ ss) = ap (λ bs. line_text (line_of wide s) ++ bs) (texts_o
 -- the same, where the wide ones are given as a slice
 pub slice_texts : (slice wide : List Line) (ss : List Short) (now : List Line) → slice ≡ wide → lines_of wide ss ≡ now → flat_map (short_text slice) ss ≡ flat_map line_text now
 slice_texts slice wide ss now e p = texts_of slice ss ∙ (ap (λ w. flat_map line_text (lines_of w ss)) e ∙ ap (λ ls. flat_map line_text ls) p)
-
-pub extends_itself : (wide : List Line) → Extends wide wide
-extends_itself wide = sym (take-length wide)
-
-pub extends_by : (wide more : List Line) → Extends wide (wide ++ more)
-extends_by wide more = sym (take-append_seam wide more)
 
 pub no_shorter : (old new : List Line) → Extends old new → length old ≤ length new
 no_shorter old new e = let q = ap length e ∙ length-take (length old) new in omega (arith, q)
@@ -138,3 +131,7 @@ cut_back reserved put cut ss n e f g h = g ∙ (ap (λ k. take k put) e ∙ (sym
 
 pub appended_as : {T E : Type 0} (r : Result T E) (new old xs ys : List Line) → xs ≡ ys → OnOk r (new ≡ old ++ xs) → OnOk r (new ≡ old ++ ys)
 appended_as r new old xs ys e p = subst (λ (ls : List Line). OnOk r (new ≡ old ++ ls)) e p
+
+-- one line more of those that are carried over
+pub one_more_carried : (next now rest all : List Line) (line : Line) → next ≡ now ++ line ∷ [] → now ++ line ∷ rest ≡ all → next ++ rest ≡ all
+one_more_carried next now rest all line e f = ap (λ ls. ls ++ rest) e ∙ (append_assoc now (line ∷ []) rest ∙ f)

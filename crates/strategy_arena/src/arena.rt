@@ -6,7 +6,7 @@ ghost use Rattle.proof_tree.specs.Tree.{Tree};
 ghost use Rattle.strategy_arena.specs.Certificate.{IsOneTree};
 
 use crate::line_cursor::LineCursor;
-use crate::moving::{append, gather, keep_all, lengthen_from, put_each};
+use crate::moving::{append, carry_each, gather, keep_all, lengthen_from, put_each};
 use crate::read::node;
 use crate::short::{Short, keep, lengthen};
 use paged_stack::PagedStack;
@@ -89,6 +89,46 @@ impl Arena {
         self.lines.cut(start);
         append(&mut self.lines, self.room.as_slice());
         Ok(())
+    }
+
+    /// Takes the lines from place `start` on off, and puts them behind those of another arena, in order. It goes over those lines
+    /// alone. It asks for memory where the other arena has no room for them, at once for all, and for each whose numbers do not
+    /// fit 32 bits; the room that they had is kept. After a refusal neither arena has changed.
+    pub fn put_by(&mut self, start: usize, aside: &mut Arena) -> Result<(), AllocError>
+        requires { start ≤ length self.old }
+        ensures left { OnOk result (self.new ≡ take start self.old) }
+        ensures aside { OnOk result (aside.new ≡ aside.old ++ drop start self.old) }
+        ensures refused { OnErr result ((self.new ≡ self.old) × (aside.new ≡ aside.old)) }
+    {
+        aside.lines.reserve(self.lines.len() - start)?;
+        let before = aside.lines.len();
+        match carry_each(
+            &self.lines,
+            start,
+            self.wide.as_slice(),
+            &mut aside.lines,
+            &mut aside.wide,
+        ) {
+            Ok(()) => {
+                self.cut(start);
+                Ok(())
+            }
+            Err(refused) => {
+                aside.lines.cut(before);
+                Err(refused)
+            }
+        }
+    }
+
+    /// Puts the lines that another arena has from place `start` on behind those here, in order, and takes them off there: those that
+    /// were put by while it had `start` lines come back. Of memory and refusals the same holds as of `put_by`.
+    pub fn bring_back(&mut self, start: usize, aside: &mut Arena) -> Result<(), AllocError>
+        requires { start ≤ length aside.old }
+        ensures back { OnOk result (self.new ≡ self.old ++ drop start aside.old) }
+        ensures left { OnOk result (aside.new ≡ take start aside.old) }
+        ensures refused { OnErr result ((self.new ≡ self.old) × (aside.new ≡ aside.old)) }
+    {
+        aside.put_by(start, self)
     }
 
     /// Takes the last line off. It takes no memory, and keeps the room for later ones. `None` comes exactly where there

@@ -5,7 +5,7 @@ ghost use Rattle.proof_tree.specs.declared.tree.Version.{Version};
 ghost use Rattle.proof_tree.specs.Lines.{tree_lines};
 ghost use Rattle.proof_tree.specs.Text.{tree_fits};
 ghost use Rattle.proof_tree.specs.Tree.{Tree};
-ghost use Rattle.strategy_arena.specs.Certificate.{line_fits};
+ghost use Rattle.proof_text.specs.LineRanges.{line_fits};
 
 /// The lines of a tree that has a text fit it, so that an arena of them can be written: what is written is the
 /// certificate's one text.

@@ -8,6 +8,9 @@
 //! - `put` and `put_all` append lines, and ask for memory: a page for each 1,024 lines, and none where a cut left room.
 //! - `replace` puts lines in place of others in the midst. It moves all that come after, and asks for memory for these too,
 //!   which it keeps for the next time.
+//! - `put_by` moves the last lines to another arena, and `bring_back` moves them from there to the end: so lines that are known
+//!   early wait for those that stand before them. A pair of calls copies each line twice, and asks for memory only where an arena
+//!   gets longer than it ever was, and for each line whose numbers do not fit 32 bits.
 //! - `cut` keeps the first lines, `len` counts them, and `copy_from` copies the last ones.
 //! - `write_from` writes the text of the certificate that has a head and these lines. It takes no memory: each line
 //!   is spelled into a buffer on the stack, and 65,536 bytes are gathered before a sink gets them.

@@ -2,7 +2,7 @@
 ghost use Rattle.std.specs.Prelude.{◌≡◌, ◌≤◌, ◌++◌, [], length, take, drop, OnOk};
 ghost use Rattle.strategy_arena.specs.Short.{AllStand, Extends, lines_of};
 
-use crate::short::{Short, keep, lengthen};
+use crate::short::{Short, carry, keep, lengthen};
 use paged_stack::PagedStack;
 use proof_tree::Line;
 use std::alloc::AllocError;
@@ -68,6 +68,30 @@ pub(crate) fn append(lines: &mut PagedStack<Short>, more: &[Short])
     for short in more {
         lines.push_spare(*short);
     }
+}
+
+/// Appends the lines from place `start` of others on, of which the wide ones are known, and for which there is room. After a refusal
+/// some of them are there.
+pub(crate) fn carry_each(
+    from: &PagedStack<Short>,
+    start: usize,
+    known: &[Line],
+    lines: &mut PagedStack<Short>,
+    wide: &mut Vec<Line>,
+) -> Result<(), AllocError>
+    requires start { start ≤ length from.now.items }
+    requires room { length (drop start from.now.items) ≤ lines.old.spare }
+    requires stand { AllStand (length wide.old.items) lines.old.items }
+    ensures put { OnOk result (lines_of wide.new.items lines.new.items ≡ lines_of wide.old.items lines.old.items ++ lines_of known.now (drop start from.now.items)) }
+    ensures stand { AllStand (length wide.new.items) lines.new.items }
+    ensures first { lines.old.items ≡ take (length lines.old.items) lines.new.items }
+    ensures grown { Extends wide.old.items wide.new.items }
+{
+    for short in from.cursor_from(start) {
+        let carried = carry(short, known, wide)?;
+        lines.push_spare(carried);
+    }
+    Ok(())
 }
 
 /// Appends the lines that those from place `start` on stand for.

@@ -140,6 +140,19 @@ pub(crate) fn lengthen(short: Short, wide: &[Line]) -> Line
     }
 }
 
+/// The short line that stands for the same beside other wide ones, where those that it stands beside are known. After a refusal
+/// nothing has changed.
+#[inline(always)]
+pub(crate) fn carry(short: Short, known: &[Line], wide: &mut Vec<Line>) -> Result<Short, AllocError>
+    ensures kept { IfOk result (λ s. (line_of wide.new.items s ≡ line_of known.now short) × (reach s ≤ length wide.new.items)) }
+    ensures grown { Extends wide.old.items wide.new.items }
+{
+    match short {
+        Short::Wide { at } => keep(wide, &wide_at(known, at)),
+        narrow => Ok(narrow),
+    }
+}
+
 #[inline(never)]
 fn wide_at(wide: &[Line], at: u32) -> Line
     ensures { result ≡ slice_index_or wide.now at Dot }

@@ -6,7 +6,8 @@ ghost use Rattle.qc_io.specs.Counts.{HasCause};
 ghost use Rattle.qc_io.specs.Sink.{AppendsPrefix, Moves};
 ghost use Rattle.proof_tree.specs.Text.{line_text, outcome_text, version_text, outcome_fits};
 ghost use Rattle.proof_tree.specs.declared.tree.Version.TheVariants.{Two};
-ghost use Rattle.strategy_arena.specs.Certificate.{text_of_lines, line_fits};
+ghost use Rattle.proof_text.specs.LineRanges.{line_fits};
+ghost use Rattle.strategy_arena.specs.Certificate.{text_of_lines};
 ghost use Rattle.strategy_arena.specs.Short.{short_text};
 
 use crate::Arena;

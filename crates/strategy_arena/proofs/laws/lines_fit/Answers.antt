@@ -1,4 +1,4 @@
-use Rattle.strategy_arena.proofs.FittingLines.{tree_fitting}
+use Rattle.proof_text.proofs.FittingLines.{tree_fitting}
 use Rattle.strategy_arena.proofs.laws.lines_fit.Goals as goal
 
 pub returns : goal.returns
