@@ -9,6 +9,8 @@ pub mod Outdone
 pub mod Covers
 pub mod Fitting
 pub mod Stepping
+pub mod Elsewhere
 pub mod Nodes
 pub mod Branching
 pub mod Progress
+pub mod Waiting

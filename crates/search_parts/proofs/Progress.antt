@@ -23,6 +23,7 @@ use Rattle.joins.proofs.Sizing.{sizes_both}
 use Rattle.search_parts.specs.Settled.{is_settled, is_ended}
 use Rattle.search_parts.specs.Uppers.{upto_all}
 use Rattle.search_parts.specs.Made.{CasesMade, PartMade}
+use Rattle.search_parts.specs.Progress.{Progress}
 use Rattle.search_parts.specs.Written.{CasesWritten, PartWritten}
 use Rattle.search_parts.proofs.Branching.{none_made, go_made, skip_made, open_made, first_skipped, cut_more}
 use Rattle.search_parts.proofs.Covers.{covers_all}
@@ -53,7 +54,7 @@ pub drop_front : (xs ys : List Line) → drop (length xs) (xs ++ ys) ≡ ys
 drop_front [] ys = refl
 drop_front (x ∷ xs) ys = drop_front xs ys
 
-cut_lines : (old now next_now new written part first : List Line) → now ≡ old ++ written → next_now ≡ now ++ part → new ≡ take (length old) next_now ++ (first ++ drop (length now) next_now) → new ≡ old ++ (first ++ part)
+pub cut_lines : (old now next_now new written part first : List Line) → now ≡ old ++ written → next_now ≡ now ++ part → new ≡ take (length old) next_now ++ (first ++ drop (length now) next_now) → new ≡ old ++ (first ++ part)
 cut_lines old now next_now new written part first e f q =
     let whole : next_now ≡ old ++ (written ++ part) = f ∙ (ap (λ ls. ls ++ part) e ∙ append_assoc old written part) in
     let front : take (length old) next_now ≡ old = ap (take (length old)) whole ∙ take_front old (written ++ part) in
@@ -64,19 +65,6 @@ regroup : (old : List Line) (u : Option ℤ) (steps : List Step) (e : Ending) (b
     (old ++ ((upto_lines u ++ Skip ∷ []) ++ (map step_line steps ++ ending_lines e))) ++ branches_lines bs ≡ old ++ branches_lines (piece u skip (piece None (go steps e) bs))
 regroup old None steps e bs = append_assoc old (Skip ∷ (map step_line steps ++ ending_lines e)) (branches_lines bs)
 regroup old (Some high) steps e bs = append_assoc old (Range high ∷ Skip ∷ (map step_line steps ++ ending_lines e)) (branches_lines bs)
-
--- cases for the values here are owed; what was seen, the turns and the lines are at seen, left and now
-pub record Progress (cuts : Bool) (above : ℤ → Bool) (g : Game) (later : List Scope) (i : ℕ) (d : List Condition) (box : Box) (h : Option ℕ) (x : ℕ) (vs : Values) (before : List Seen) (had : ℕ) (old : List Line)
-    (here : Values) (seen : List Seen) (left : ℕ) (now : List Line) : Type 0 where
-  -- the turns only fall, and what was seen is no larger than those used can make it
-  pub used : ℕ
-  pub fell : used + left ≤ had
-  pub sizes : HasSizes (2 * used) seen
-  -- the lines are those before and more
-  pub written : List Line
-  pub now_is : now ≡ old ++ written
-  pub ends : (bs : Branches) (rest : List Seen) (last : ℕ) (new : List Line) → CasesMade cuts above g later i d box h x here (is_settled later (list_after g later d) seen) (before ++ seen) rest left last bs → new ≡ now ++ branches_lines bs →
-      CasesWritten cuts above g later i d box h x vs before (seen ++ rest) had last old new
 
 module _ (cuts : Bool) (above : ℤ → Bool) (g : Game) (later : List Scope) (i : ℕ) (d : List Condition) (box : Box) (h : Option ℕ) (x : ℕ) (vs : Values) (before : List Seen) (had : ℕ) (old : List Line) where
   abbrev At : Values → List Seen → ℕ → List Line → Type 0
@@ -108,7 +96,7 @@ module _ (cuts : Bool) (above : ℤ → Bool) (g : Game) (later : List Scope) (i
   sizes_in : (v : ℤ) (seen : List Seen) (ms : List ℤ) (more : List Seen) (left last : ℕ) (now new : List Line) → (w : Part v seen ms more left last now new) → HasSizes (2 * suc (ending_turns w.ending)) more
   sizes_in v seen ms more left last now new w = part_sizes cuts above g later i d (box_to box x (v ∷ [])) h (before ++ seen) ms more left last w.steps w.ending w.made
 
-  sizes_with : (m n : ℕ) (xs ys : List Seen) → HasSizes (2 * m) xs → HasSizes (2 * n) ys → HasSizes (2 * (m + n)) (xs ++ ys)
+  pub sizes_with : (m n : ℕ) (xs ys : List Seen) → HasSizes (2 * m) xs → HasSizes (2 * n) ys → HasSizes (2 * (m + n)) (xs ++ ys)
   sizes_with m n xs ys a b = subst (λ k. HasSizes k (xs ++ ys)) (twice m n) (sizes_both (2 * m) (2 * n) xs ys a b)
     where
       twice : (m n : ℕ) → 2 * m + 2 * n ≡ 2 * (m + n)
@@ -200,7 +188,7 @@ module _ (cuts : Bool) (above : ℤ → Bool) (g : Game) (later : List Scope) (i
       less m n h l = omega arith
 
   -- it settles the scope by itself, so it may have been gone into after more
-  cut_here : cuts ≡ true → list_all is_number vs ≡ true → (u : Option ℤ) (rest : Values) (v : ℤ) (seen : List Seen) (ms : List ℤ) (more : List Seen) (left next_left : ℕ) (now next_now new : List Line) → 1 < length (values_left box x) →
+  pub cut_here : cuts ≡ true → list_all is_number vs ≡ true → (u : Option ℤ) (rest : Values) (v : ℤ) (seen : List Seen) (ms : List ℤ) (more : List Seen) (left next_left : ℕ) (now next_now new : List Line) → 1 < length (values_left box x) →
       is_cover u vs ≡ true → uncovered u vs ≡ v ∷ rest → Settled more ≡ true → ¬ (left ≡ 0) → left ≤ had → (w : Part v seen ms more (left - 1) next_left now next_now) →
       new ≡ old ++ ((upto_lines u ++ Skip ∷ []) ++ (map step_line w.steps ++ ending_lines w.ending)) → At rest (seen_skipped ∷ more) next_left new
   cut_here cut numbers u rest v seen ms more left next_left now next_now new many case leaves settled some fell w new_is =

@@ -5,3 +5,4 @@ pub mod Bounded
 pub mod Uppers
 pub mod Made
 pub mod Written
+pub mod Progress

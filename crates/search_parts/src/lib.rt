@@ -6,9 +6,12 @@
 //! that of cases case by case (`Progress`). Nothing here speaks of how a search goes on, or of its box.
 //!
 //! What the leaves of a scope come to, beside what was seen of them, stands in `Joining`, `Outdone`, `Sure` and `Beating`; the laws
-//! that say most are clauses of functions here, which do nothing.
+//! that say most are clauses of functions here, which do nothing. `Elsewhere` and `Waiting` have what holds of a case that was
+//! searched before those that stand before it.
 #![tactic(auto)]
 
 mod laws;
 
-pub use laws::{ended_scopes_are_known, marks_change_nothing};
+pub use laws::{
+    cases_stand_behind, ended_scopes_are_known, marks_change_nothing, parts_stand_elsewhere,
+};
