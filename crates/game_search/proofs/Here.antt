@@ -56,6 +56,7 @@ use Rattle.search_parts.specs.Settled.{is_settled, is_outdone, is_ended, is_vagu
 use Rattle.search_parts.specs.Uppers.{upto_all, upto_between, skipped_between, seen_between, without_before}
 use Rattle.search_parts.specs.Made.{NodeMade, EndingMade, StepsMade}
 use Rattle.search_parts.specs.Written.{NodeWritten, PartWritten}
+use Rattle.game_search.specs.Later.{Passing}
 use Rattle.game_search.specs.Here.{Here, here_at, in_box, at_horizon, with_above}
 use Rattle.game_search.specs.Put.{IsReady, IsTold, EndingPut, StepsTold, BoundedSteps, PartPut, BoundedPut, FirstPut, CasePut, CasesPut, BodyPut, NodePut}
 use Rattle.search_parts.proofs.Beating.{no_worse_yet}
@@ -65,7 +66,7 @@ use Rattle.search_parts.proofs.Nodes.{goal_made, node_made, part_known, more_bea
 use Rattle.search_parts.specs.Bounded.{Outdoes}
 use Rattle.search_parts.proofs.Outdone.{ended_last}
 use Rattle.game_search.proofs.Places.{next_at}
-use Rattle.search_parts.proofs.Progress.{Progress, start, taken_from, none, skipped, opened, cut_after, jump_after, jump_behind}
+use Rattle.search_parts.proofs.Progress.{start, taken_from, none, skipped, opened, cut_after, jump_after, jump_behind}
 use Rattle.search_parts.proofs.Sizes.{sizes_none, sizes_skipped, own_sized, own_sized_as}
 use Rattle.search_parts.proofs.Stepping.{bare_part, bounded_says, bounded_long, part_long, ending_more}
 use Rattle.search_parts.proofs.Sure.{without_marks, vectors_marks, sure_anyway}
@@ -84,7 +85,7 @@ module _ (g : Game) (i : ℕ) where
   abbrev Later : List Scope
   Later = drop i g.scopes
 
-  abbrev Settled : List Seen → Bool
+  abbrev pub Settled : List Seen → Bool
   Settled xs = is_settled Later (list_after g Later (demands g i)) xs
 
   pub settled_here : (xs : List Seen) → settled_at g i xs ≡ Settled xs
@@ -94,11 +95,11 @@ module _ (g : Game) (i : ℕ) where
   settled_more xs ys e = settled_here (xs ++ ys) ∙ (settled-append Later (list_after g Later (demands g i)) xs ys ∙ or_first (Settled xs) (Settled ys) (sym (settled_here xs) ∙ e))
 
   -- what settles the scope after something that doesn't
-  settled_last : (xs ys : List Seen) → settled_at g i xs ≡ false → settled_at g i (xs ++ ys) ≡ true → Settled ys ≡ true
+  pub settled_last : (xs ys : List Seen) → settled_at g i xs ≡ false → settled_at g i (xs ++ ys) ≡ true → Settled ys ≡ true
   settled_last xs ys e f =
       sym (ap (λ b. b || Settled ys) (sym (settled_here xs) ∙ e)) ∙ (sym (settled-append Later (list_after g Later (demands g i)) xs ys) ∙ (sym (settled_here (xs ++ ys)) ∙ f))
 
-  settled_then : (xs ys : List Seen) → Settled ys ≡ true → settled_at g i (xs ++ ys) ≡ true
+  pub settled_then : (xs ys : List Seen) → Settled ys ≡ true → settled_at g i (xs ++ ys) ≡ true
   settled_then xs ys e = settled_here (xs ++ ys) ∙ (settled-append Later (list_after g Later (demands g i)) xs ys ∙ or_second (Settled xs) (Settled ys) e)
 
   -- the join stands for what was seen
@@ -106,7 +107,7 @@ module _ (g : Game) (i : ℕ) where
   all_told joins xs ys h e = record { stood = xs; stands = h; same = inl e }
 
   -- the join of a scope that isn't settled stands for all that was seen
-  unsettled_stands : (joins : Joins) (xs : List Seen) (b : Bool) → ((ys : List Seen) → StandsAt joins i ys → b ≡ settled_at g i ys) → b ≡ false → IsTold g i joins xs → StandsAt joins i xs × (settled_at g i xs ≡ false)
+  pub unsettled_stands : (joins : Joins) (xs : List Seen) (b : Bool) → ((ys : List Seen) → StandsAt joins i ys → b ≡ settled_at g i ys) → b ≡ false → IsTold g i joins xs → StandsAt joins i xs × (settled_at g i xs ≡ false)
   unsettled_stands joins xs b asked e t = by t.same
     where
       no : settled_at g i t.stood ≡ false
@@ -117,7 +118,7 @@ module _ (g : Game) (i : ℕ) where
       by (inr q) = let f : true ≡ false = sym q.0 ∙ no in cc
 
   -- the join of a settled one stands for something that settles it, as what was seen does
-  settled_told : (joins : Joins) (xs : List Seen) (b : Bool) → ((ys : List Seen) → StandsAt joins i ys → b ≡ settled_at g i ys) → b ≡ true → (t : IsTold g i joins xs) → (settled_at g i t.stood ≡ true) × (settled_at g i xs ≡ true)
+  pub settled_told : (joins : Joins) (xs : List Seen) (b : Bool) → ((ys : List Seen) → StandsAt joins i ys → b ≡ settled_at g i ys) → b ≡ true → (t : IsTold g i joins xs) → (settled_at g i t.stood ≡ true) × (settled_at g i xs ≡ true)
   settled_told joins xs b asked e t = by t.same
     where
       yes : settled_at g i t.stood ≡ true
@@ -134,12 +135,6 @@ module _ (g : Game) (i : ℕ) where
       by : ((t.stood ≡ xs) ⊎ ((settled_at g i t.stood ≡ true) × (settled_at g i xs ≡ true))) → (t.stood ++ more ≡ xs ++ more) ⊎ ((settled_at g i (t.stood ++ more) ≡ true) × (settled_at g i (xs ++ more) ≡ true))
       by (inl q) = inl (ap (λ ys. ys ++ more) q)
       by (inr q) = inr (settled_more t.stood more q.0, settled_more xs more q.1)
-
--- the cases of a branch on x so far: what was seen in them, and what the join stands for
-pub record Passing (node : Here) (x : ℕ) (vs : Values) (before : List Seen) (had : ℕ) (old : List Line) (here : Values) (left : ℕ) (now : List Line) (joins : Joins) : Type 0 where
-  pub seen : List Seen
-  pub progress : Progress node.cuts node.above node.game (drop node.number node.game.scopes) node.number (demands node.game node.number) node.box node.horizon x vs before had old here seen left now
-  pub told : IsTold node.game node.number joins (before ++ seen)
 
 -- what the join answers when it is asked whether the scope is settled
 abbrev pub Answers : Game → ℕ → Joins → Bool → Type 0

@@ -14,3 +14,5 @@ pub mod Spread
 pub mod OwnTrees
 pub mod Searched
 pub mod Branching
+pub mod Ahead
+pub mod AheadCases

@@ -1,6 +1,6 @@
 -- The box of a search on the way through a scope's own tree, and back.
 use Rattle.std.proofs.Common.{◌≡◌, ◌≤◌, ◌<◌, ◌∙◌, ◌+◌, ◌-◌, ◌++◌, ℕ, zero, suc, Bool, true, false, not, List, [], ◌∷◌, length, take, drop, refl, sym, ap, subst, arith, ℤ, length-set, Option, None, Some, append_assoc}
-use Rattle.std.proofs.lemmas.List.{append-nil}
+use Rattle.std.proofs.lemmas.List.{append-nil, length-append, length-take-le, take-append-drop}
 use Rattle.std.specs.List.{list_all}
 use Rattle.qc_model.specs.declared.problem.VarId.{VarId}
 use Rattle.qc_model.specs.Block.{constraints_in_force}
@@ -26,7 +26,8 @@ use Rattle.search_box.specs.Entered.{IsEntered, IsWithin}
 use Rattle.search_box.proofs.Entering.{fixed_within}
 use Rattle.search_box.proofs.Goings.{closed_now, closed_before, kept_fewer}
 use Rattle.search_box.proofs.Places.{fixed_none, fixed_both, fixed_more}
-use Rattle.game_search.specs.Going.{GoesOn}
+use Rattle.game_search.specs.Going.{GoesOn, IsGoing}
+use Rattle.game_search.specs.Later.{cut_to}
 use Rattle.game_search.specs.Put.{IsBack}
 use Rattle.search_parts.specs.Uppers.{upto_between, without_before}
 use Rattle.game_search.specs.declared.walk.Walk.{Walk}
@@ -263,3 +264,56 @@ same_back g i a b c p remains joins lines left = line_back g i a b c p remains j
 -- from a walk that has the same of all this
 pub back_from : (g : Game) (i : ℕ) (a r b : Walk) → IsBack g i r b → r.remains ≡ a.remains → r.joins ≡ a.joins → r.lines ≡ a.lines → r.left ≡ a.left → IsBack g i a b
 back_from g i a r b p remains joins lines left = both_back g i a r b (same_back g i a a r (none_back g i a) remains joins lines left) p
+
+-- from the walk with its first lines alone
+pub cut_front : (g : Game) (i : ℕ) (a : Walk) (start : ℕ) → IsBack g i (cut_to start a) a
+cut_front g i a start = record {
+  problem = refl;
+  box = refl;
+  past = refl;
+  kept = refl;
+  game = refl;
+  joins = λ j xs h s. s;
+  written = drop start a.lines;
+  lines = sym (take-append-drop start a.lines);
+  left = omega arith;
+}
+
+pub cut_length : (a : Walk) (start : ℕ) → start ≤ length a.lines → start ≡ length (cut_to start a).lines
+cut_length a start h = sym (length-take-le start a.lines h)
+
+-- after the later cases of a branch that began with the walk a
+pub later_back : (g : Game) (i : ℕ) (a b c : Walk) (start : ℕ) → start ≡ length a.lines → IsBack g i a b → IsBack g i (cut_to start b) c → IsBack g i a c
+later_back g i a b c start e p q = both_back g i a (cut_to start b) c (cut_back g i a b (cut_to start b) p refl refl (taken_back a.lines b.lines p.written start p.lines e) refl) q
+
+-- after a case that settled the scope stands without those before it, and those after it are skipped
+pub dropped_back : (g : Game) (i : ℕ) (a b c : Walk) → IsBack g i a b → c.remains ≡ b.remains → c.joins ≡ b.joins → c.left ≡ b.left → (last : Option ℤ) (first : ℤ) (start at : ℕ) → start ≡ length a.lines → (mid : List Line) → mid ≡ without_before last first start at b.lines → (more : List Line) → c.lines ≡ mid ++ more → IsBack g i a c
+dropped_back g i a b c p remains joins left last first start at e mid q more lines =
+    let stand = dropped_lines a.lines b.lines mid p.written last first start at p.lines e q in
+    record {
+      problem = ap (λ (r : Boxed). r.game) remains ∙ p.problem;
+      box = ap (λ (r : Boxed). r.store.box) remains ∙ p.box;
+      past = ap (λ (r : Boxed). r.store.past) remains ∙ p.past;
+      kept = ap (λ (r : Boxed). take (before g i) r.values) remains ∙ p.kept;
+      game = ap game_of joins ∙ p.game;
+      joins = λ j xs h s. subst (λ js. StandsAt js j xs) (sym joins) (p.joins j xs h s);
+      written = stand.0 ++ more;
+      lines = lines_both a.lines mid c.lines stand.0 more stand.1 lines;
+      left = omega (arith, p.left, left);
+    }
+
+-- where a scope's own tree goes on, it does after a part
+pub going_back : (g : Game) (i x : ℕ) (a b : Walk) → IsBack g i a b → IsGoing g i x a.remains → IsGoing g i x b.remains
+going_back g i x a b p going =
+    let w = going.within in
+    record {
+      within = record { here = entered_back g i a b p w.here; from = w.from; upto = w.upto; fixed = subst (λ (d : Box). list_all is_single (drop (before g i) (take x d)) ≡ true) (sym p.box) w.fixed };
+      closed = subst (λ (d : Box). IsClosedAt g i d) (sym p.box) going.closed;
+    }
+
+-- lines that were appended to more than the first ones
+pub longer : (old mid new first second : List Line) (start : ℕ) → start ≡ length old → mid ≡ old ++ first → new ≡ mid ++ second → start ≤ length new
+longer old mid new first second start e p q =
+    let m = ap length p ∙ length-append old first in
+    let n = ap length q ∙ length-append mid second in
+    omega (arith, e, m, n)

@@ -1,5 +1,5 @@
 -- The values left at a branch, and how the machine passes them.
-use Rattle.std.proofs.Common.{◌≡◌, ◌∙◌, ℕ, true, false, List, ◌∷◌, sym, ap, subst, ℤ, w64, to_z, of_z}
+use Rattle.std.proofs.Common.{◌≡◌, ◌∙◌, ℕ, true, false, List, ◌∷◌, Option, None, Some, sym, ap, subst, ℤ, w64, to_z, of_z}
 use Rattle.std.specs.List.{list_all}
 use Rattle.qc_model.specs.declared.problem.Variable.{Variable}
 use Rattle.qc_model.specs.Content.{Game}
@@ -10,10 +10,10 @@ use Rattle.model_arguments.specs.Asked.{is_box_of}
 use Rattle.model_arguments.proofs.Boxes.{sub_ascending, left_small}
 use Rattle.fd_store.specs.Held.{values_from}
 use Rattle.search_box.specs.Boxed.{Boxed}
-use Rattle.search_box.specs.Rests.{IsAfter, IsFirst, IsLast}
+use Rattle.search_box.specs.Rests.{IsAfter, IsFirst, IsLast, IsPrevious}
 use Rattle.search_parts.specs.Uppers.{upto_all, upto_between}
 use Rattle.search_parts.proofs.Fitting.{number_among}
-use Rattle.game_search.proofs.Covering.{rest_of}
+use Rattle.game_search.proofs.Covering.{ComesAfter, rest_of}
 
 -- values that a text can have, in order
 pub record IsSpread (vs : Values) : Type 0 where
@@ -51,3 +51,8 @@ pub rest_on : (vs : Values) (v u : ℤ) → IsSpread vs → has_value vs v ≡ t
 rest_on vs v u s h l =
     let r = rest_of vs v u s.rises s.numbers h l in
     record { some = r.some; numbers = r.numbers; upto = ap (upto_between v) (passed_on vs u s l.left) ∙ sym r.upto }
+
+-- what comes before v
+pub comes_after : (vs : Values) (v : ℤ) (before : Option ℤ) → IsPrevious vs v before → ComesAfter vs before v
+comes_after vs v None first = first.all
+comes_after vs v (Some u) before = record { left = before.left; rest = before.after.rest }

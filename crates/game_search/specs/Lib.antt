@@ -9,3 +9,5 @@ pub mod Aims
 pub mod Props
 pub mod Narrowed
 pub mod Rivals
+pub mod Stops
+pub mod Later

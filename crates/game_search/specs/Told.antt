@@ -1,5 +1,5 @@
 -- What the calls of the search say of the walk before and after. Each is a record of `Put`, where the walk is.
-use Rattle.std.specs.Prelude.{IfSome, slice_get, ◌≡◌, ◌<◌, ◌*◌, ◌+◌, ◌++◌, ℕ, suc, Bool, true, Option, List, [], ◌∷◌, length, drop, ℤ, IsTrue, IsFalse}
+use Rattle.std.specs.Prelude.{IfSome, None, slice_get, ◌≡◌, ◌<◌, ◌*◌, ◌+◌, ◌++◌, ℕ, suc, Bool, true, Option, List, [], ◌∷◌, length, drop, ℤ, IsTrue, IsFalse}
 use Rattle.qc_model.specs.declared.problem.ScopeId.{ScopeId}
 use Rattle.qc_model.specs.Content.{Game}
 use Rattle.qc_model.specs.Demands.{demands}
@@ -91,6 +91,10 @@ NodeFinished g i h end start w = end.had < 2147483648 → IsFinished g i w.remai
 
 abbrev pub BelowFinished : Stage → NodeEnd → ℕ → Walk → Type 0
 BelowFinished s end start w = end.had < 2147483648 → IsEnded s.level.now.problem.now (suc s.level.now.number) w.remains.store.box (scope_number s.horizon) (came_to end.found w) end.had end.left (drop start w.lines)
+
+-- the scope has nothing to keep up with
+abbrev pub HasNoRival : Stage → Type 0
+HasNoRival s = s.rival ≡ None
 
 -- no further leaf of the scope counts
 abbrev pub NoLeafCounts : Stage → Joins → Type 0

@@ -1,14 +1,15 @@
 //! The lines of a certificate within a budget of turns.
-ghost use Rattle.std.specs.Prelude.{◌≡◌, ◌≤◌, ◌<◌, IfOk, None, List, ℤ, not, length};
+ghost use Rattle.std.specs.Prelude.{◌≡◌, ◌≤◌, ◌<◌, IfOk, IfSome, IsFalse, false, true, None, List, ℤ, length};
 ghost use Rattle.qc_model.specs.Verdict.{Seen};
 ghost use Rattle.joins.specs.Seen.{verdict_of};
 ghost use Rattle.joins.specs.Joins.{game_of, StandsAt};
 ghost use Rattle.joins.specs.Verdicts.{own_at};
-ghost use Rattle.search_parts.specs.Settled.{beats_none};
+ghost use Rattle.search_parts.specs.Settled.{beats_none, is_vague_verdict};
 ghost use Rattle.game_search.specs.Solution.{SolutionLines, outcome_by};
 ghost use Rattle.game_search.specs.Attempted.{Attempted};
 
 use crate::search::node;
+use crate::stop::Stop;
 use crate::walk::Walk;
 use joins::{Found, Joins};
 use model_levels::Levels;
@@ -51,13 +52,46 @@ fn two_passes(alloc: Global, levels: &Levels, turns: u64) -> Result<Flat, AllocE
     cases_are_few();
     outcomes_are_true();
     lines_fit();
-    let first = attempt(alloc, levels, turns, true)?;
-    if is_decided(first.found) {
+    if let Some(first) = first_pass(alloc, levels, turns)? {
         return Ok(answer(first, turns));
     }
-    drop(first);
-    let second = attempt(alloc, levels, turns, false)?;
+    let second = second_pass(alloc, levels, turns)?;
     Ok(answer(second, turns))
+}
+
+/// Goes through the game with cuts: what that came to, where it is decided.
+fn first_pass(alloc: Global, levels: &Levels, turns: u64) -> Result<Option<Root>, AllocError>
+    requires { turns ≤ 10000000 }
+    ensures attempted { IfOk result (λ first. IfSome first (λ root. Attempted true levels.now.problem.now turns root.found root.own root.arena)) }
+    ensures decided { IfOk result (λ first. IfSome first (λ root. (v : List ℤ) → IsFalse (is_vague_verdict beats_none (verdict_of root.found v)))) }
+{
+    match attempt(alloc, levels, turns, true) {
+        Ok(root) => Ok(decided(root)),
+        Err(Stop::Turns) => Ok(None),
+        Err(Stop::Memory(refused)) => Err(refused),
+    }
+}
+
+fn decided(root: Root) -> Option<Root>
+    ensures same { IfSome result (λ r. r ≡ root) }
+    ensures decided { IfSome result (λ r. (v : List ℤ) → IsFalse (is_vague_verdict beats_none (verdict_of r.found v))) }
+{
+    if is_decided(root.found) {
+        Some(root)
+    } else {
+        None
+    }
+}
+
+/// Goes through the game without cuts. No case goes first there, so that it never ends for want of turns: what ends it is memory.
+fn second_pass(alloc: Global, levels: &Levels, turns: u64) -> Result<Root, AllocError>
+    requires { turns ≤ 10000000 }
+    ensures { IfOk result (λ root. Attempted false levels.now.problem.now turns root.found root.own root.arena) }
+{
+    match attempt(alloc, levels, turns, false) {
+        Ok(root) => Ok(root),
+        Err(_) => Err(AllocError),
+    }
 }
 
 /// What one way through the game came to, the best value of the first scope where that is exact and the scope
@@ -83,12 +117,7 @@ fn answer(root: Root, turns: u64) -> Flat
 
 /// Goes through the game within so many turns. With `cuts` settled nodes keep the case that settled them alone,
 /// so that the turns of the lines may be fewer than those that were done.
-pub(crate) fn attempt(
-    alloc: Global,
-    levels: &Levels,
-    turns: u64,
-    cuts: bool,
-) -> Result<Root, AllocError>
+pub(crate) fn attempt(alloc: Global, levels: &Levels, turns: u64, cuts: bool) -> Result<Root, Stop>
     requires { turns ≤ 10000000 }
     ensures { IfOk result (λ root. Attempted cuts levels.now.problem.now turns root.found root.own root.arena) }
 {

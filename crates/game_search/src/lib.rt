@@ -25,6 +25,7 @@ mod narrowing;
 mod rival;
 mod search;
 mod stage;
+mod stop;
 mod tries;
 mod walk;
 mod writing;

@@ -1,14 +1,16 @@
 //! When something is tried first at a node, and which value of a variable that is.
-ghost use Rattle.std.specs.Prelude.{◌≡◌, ◌<◌, false, IfSome, IsTrue};
+ghost use Rattle.std.specs.Prelude.{◌≡◌, ◌<◌, [], false, IfSome, IsTrue};
 ghost use Rattle.qc_model.specs.Domains.{has_value, values_left};
 ghost use Rattle.joins.specs.Joins.{game_of};
+ghost use Rattle.joins.specs.Verdicts.{wishes_at};
 ghost use Rattle.game_search.specs.Aims.{IsSpan};
-ghost use Rattle.game_search.specs.Told.{GoesFrom};
+ghost use Rattle.game_search.specs.Told.{GoesFrom, HasNoRival};
 
 use crate::aim::{Aim, Worse, worse_than_found};
 use crate::rival::is_outdone;
 use crate::stage::Stage;
 use crate::walk::Walk;
+use joins::Joins;
 use model_levels::Level;
 use qc_model::{ScopeId, VarId};
 use search_advice::{Advice, Sought};
@@ -22,20 +24,64 @@ const MOST_TRIES: usize = 3;
 
 /// Whether a tuple is tried first at a node. Without cuts none is.
 pub(crate) fn is_advised(stage: &Stage, walk: &Walk) -> bool
+    requires joins { game_of walk.now.joins ≡ stage.now.level.now.problem.now }
     ensures { IsTrue result → IsTrue stage.now.cuts }
 {
-    stage.cuts && walk.advice.is_asked(stage.level)
+    stage.cuts && !is_free(stage, &walk.joins) && walk.advice.is_asked(stage.level)
 }
 
-/// Whether the own tree is gone into: without `tries` always, and with them where a tuple is chosen.
-pub(crate) fn is_ready(tries: bool, level: &Level, remains: &SearchBox, advice: &mut Advice) -> bool
+/// Whether the values of the scope may be gone into in any order: in the first pass, where one leaf settles it, and no rival counts
+/// what the others come to.
+pub(crate) fn is_free(stage: &Stage, joins: &Joins) -> bool
+    requires joins { game_of joins.now ≡ stage.now.level.now.problem.now }
+    ensures cuts { IsTrue result → IsTrue stage.now.cuts }
+    ensures alone { IsTrue result → HasNoRival stage.now }
+    ensures nothing { IsTrue result → wishes_at stage.now.level.now.problem.now stage.now.level.now.number ≡ [] }
+{
+    stage.cuts && stage.rival.is_none() && joins.wishes(ScopeId(stage.level.number)).is_empty()
+}
+
+/// Whether the own tree is gone into: without `tries` always, and with them where a tuple is chosen. Where its values may go in any
+/// order it is chosen which go first.
+pub(crate) fn is_ready(
+    tries: bool,
+    is_free: bool,
+    level: &Level,
+    remains: &SearchBox,
+    advice: &mut Advice,
+) -> bool
     requires game { remains.now.game ≡ level.now.problem.now }
     ensures tries { result ≡ false → IsTrue tries }
 {
-    if !tries {
-        return true;
+    if tries {
+        return advice.choose(level, remains);
     }
-    advice.choose(level, remains)
+    if is_free {
+        advice.order(level, remains);
+    }
+    true
+}
+
+/// The value of x that is gone into before all others, where that isn't the first one.
+pub(crate) fn value_ahead(stage: &Stage, x: VarId, walk: &Walk) -> Option<i64>
+    requires var { x.0 < stage.now.level.now.stop }
+    requires going { GoesFrom stage.now x.0 walk.now.remains }
+    requires joins { game_of walk.now.joins ≡ stage.now.level.now.problem.now }
+    ensures cuts { IfSome result (λ v. IsTrue stage.now.cuts) }
+    ensures alone { IfSome result (λ v. HasNoRival stage.now) }
+    ensures nothing { IfSome result (λ v. wishes_at stage.now.level.now.problem.now stage.now.level.now.number ≡ []) }
+    ensures turn { IfSome result (λ v. 0 < walk.now.left) }
+    ensures value { IfSome result (λ v. IsTrue (has_value (values_left walk.now.remains.store.box x.0) v)) }
+{
+    walk.remains.known();
+    if walk.left == 0 || !is_free(stage, &walk.joins) {
+        return None;
+    }
+    let value = walk.advice.value_first(stage.level, x, &walk.remains)?;
+    if value == walk.remains.first(x) {
+        return None;
+    }
+    Some(value)
 }
 
 /// How many tuples are tried at most.

@@ -2,7 +2,8 @@
 //!
 //! It is the tuple that ended the same position before (`residues`, `positions`), where one is kept; else the latest of the last
 //! tuples that ended nodes of the scope (`tuples`) whose values are all left, or what a free search finds (`looks`); and before
-//! there is one, what most clauses want (`signs`). A tuple ends a node where it settles it, or gives a bound that the incumbent of
+//! there is one, what most clauses want (`signs`). Where the values of a scope may go in any order, it tells in the same way which
+//! goes first at each branch. A tuple ends a node where it settles it, or gives a bound that the incumbent of
 //! the scope right above beats. What is tried is proved as any case is, so bad advice costs turns and time, and nothing else.
 ghost use Rattle.std.specs.Prelude.{◌≡◌, ◌<◌, length, IfSome, IsTrue, IsFalse};
 ghost use Rattle.qc_model.specs.Domains.{has_empty, has_value, values_left};
@@ -18,6 +19,9 @@ use model_levels::{Level, Levels};
 use qc_model::{Kind, ScopeId, VarId};
 use search_box::SearchBox;
 use std::alloc::{AllocError, Global};
+
+/// Where signs of literals alone tell which value of the opponent's goes first, at most so many variables of the scope follow.
+const MOST_AHEAD: usize = 10;
 
 /// A value that no domain has.
 const NO_VALUE: i64 = i64::MIN;
@@ -166,6 +170,92 @@ impl<'p> Advice<'p> {
         true
     }
 
+    /// Chooses the values that go first at the branches of the node, one variable after the other, where any order will do: those of
+    /// the tuple that ended the position, else of one of the last that are left whole, else of the latest; and before there is one
+    /// what the signs of literals say.
+    pub fn order(&mut self, level: &Level, remains: &SearchBox)
+        requires game { remains.now.game ≡ level.now.problem.now }
+    {
+        let Some(standing) = self.scopes.get(level.number as usize) else {
+            return;
+        };
+        if let Some(number) = self.kept(level) {
+            return self.take_kept(level, number);
+        }
+        if !standing.is_known {
+            return self.take_signs(level);
+        }
+        if !standing.has_order() {
+            return self.take_none(level);
+        }
+        if !self.take_last(level, 0, remains) {
+            self.take_latest(level);
+        }
+    }
+
+    /// Takes the latest tuple.
+    fn take_latest(&mut self, level: &Level) {
+        for x in level.from..level.stop {
+            let value = self.tuples.value(0, x);
+            self.put(x, value);
+        }
+        if let Some(standing) = self.scopes.get_mut(level.number as usize) {
+            standing.source = Source::Last;
+        }
+    }
+
+    /// Takes no value.
+    fn take_none(&mut self, level: &Level) {
+        for x in level.from..level.stop {
+            self.put(x, NO_VALUE);
+        }
+        if let Some(standing) = self.scopes.get_mut(level.number as usize) {
+            standing.source = Source::Nowhere;
+        }
+    }
+
+    /// The value of x that goes first at a branch, one that is left to it, where that may still serve.
+    pub fn value_first(&self, level: &Level, x: VarId, remains: &SearchBox) -> Option<i64>
+        requires var { x.0 < length remains.now.store.box }
+        requires full { IsFalse (has_empty remains.now.store.box) }
+        ensures { IfSome result (λ v. IsTrue (has_value (values_left remains.now.store.box x.0) v)) }
+    {
+        let standing = self.scopes.get(level.number as usize)?;
+        if !standing.is_hopeful() || self.is_rash(level, x) {
+            return None;
+        }
+        self.value(level, x, remains)
+    }
+
+    /// Whether only signs of literals tell which value of x goes first, in a scope of the opponent of which many variables follow: as
+    /// long as nothing settled such a scope, its values all count more often than not, and then the lines of half a tree are moved.
+    fn is_rash(&self, level: &Level, x: VarId) -> bool {
+        match level.kind {
+            Kind::Exists => false,
+            Kind::Forall => {
+                self.is_loose(level) && level.stop.saturating_sub(x.0 as usize) > MOST_AHEAD
+            }
+        }
+    }
+
+    /// Learns that the value that went first at a branch of the scope settled it.
+    pub fn tell_first(&mut self, level: &Level) {
+        if let Some(standing) = self.scopes.get_mut(level.number as usize) {
+            standing.tell_order(true);
+        }
+    }
+
+    /// Learns that it didn't, and whether another one did after it.
+    pub fn tell_others(&mut self, level: &Level, settled: bool) {
+        if let Some(standing) = self.scopes.get_mut(level.number as usize) {
+            if settled {
+                standing.tell_order(false);
+            } else {
+                standing.tell_in_vain();
+            }
+        }
+    }
+
     /// Takes for each variable the value that its owner wants by the signs of its literals.
     fn take_signs(&mut self, level: &Level) {
         for x in level.from..level.stop {
@@ -263,7 +353,7 @@ impl<'p> Advice<'p> {
             return;
         }
         if let Some(standing) = self.scopes.get_mut(level.number as usize) {
-            standing.is_known = true;
+            standing.tell_ended();
         }
         self.tuples.keep(level, values);
         if let Some(number) = self.position(level) {

@@ -13,6 +13,14 @@ const LOST_TRUST: u8 = 2;
 /// How many positions of a scope are kept before it is asked whether that serves.
 const FIRST_NOTES: u32 = 1024;
 
+/// How far the order of values by the last tuples is trusted before it was tried, and how much it can be.
+const FIRST_ORDER: u8 = 16;
+
+const MOST_ORDER: u8 = 64;
+
+/// At so many branches another value than the first may go first in vain, until the scope is settled again.
+const MOST_IN_VAIN: u32 = 4096;
+
 /// One in so many of the positions that are kept has to have been met before, else no more are.
 const LEAST_SHARE: u32 = 8;
 
@@ -42,6 +50,10 @@ pub(crate) struct Standing {
     pub(crate) kept: u8,
     /// How far the signs of literals are, where no tuple ended a node yet.
     pub(crate) signs: u8,
+    /// How far the order of values by the last tuples is trusted.
+    order: u8,
+    /// At how many branches another value than the first went first in vain, since the scope was settled last.
+    vain: u32,
     /// How many positions were kept, and how many of them had been met before.
     notes: u32,
     met: u32,
@@ -61,6 +73,8 @@ impl Standing {
             last: FIRST_TRUST,
             kept: FIRST_TRUST,
             signs: 0,
+            order: FIRST_ORDER,
+            vain: 0,
             notes: 0,
             met: 0,
             was_met: false,
@@ -71,6 +85,38 @@ impl Standing {
     /// From now on signs are trusted, until a tuple is known.
     pub(crate) fn trust_signs(&mut self) {
         self.signs = FIRST_TRUST;
+    }
+
+    /// Whether values go in the order of the last tuples.
+    pub(crate) fn has_order(&self) -> bool {
+        self.order > 0
+    }
+
+    /// Whether it may still serve to go into another value than the first at a branch.
+    pub(crate) fn is_hopeful(&self) -> bool {
+        self.vain < MOST_IN_VAIN
+    }
+
+    /// Learns whether the value that went first at a branch settled the scope, or another one did after it.
+    pub(crate) fn tell_order(&mut self, served: bool) {
+        if let Source::Last = self.source {
+            self.order = if served {
+                self.order.saturating_add(1).min(MOST_ORDER)
+            } else {
+                self.order.saturating_sub(LOST_TRUST)
+            };
+        }
+    }
+
+    /// Learns that at a branch another value than the first went first, and that none settled the scope.
+    pub(crate) fn tell_in_vain(&mut self) {
+        self.vain = self.vain.saturating_add(1);
+    }
+
+    /// Learns that a tuple ended a node of the scope.
+    pub(crate) fn tell_ended(&mut self) {
+        self.is_known = true;
+        self.vain = 0;
     }
 
     /// Whether tuples of positions are kept, and asked for.

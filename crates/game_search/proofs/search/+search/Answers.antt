@@ -1,10 +1,10 @@
-use Rattle.std.proofs.Common.{rules, add-one, take, ℤ, ◌≡◌, ◌∙◌, sym, ap, refl, subst, ◌+◌, ◌-◌, suc, length, drop, w64, to_z, of_z, arith, true, [], ◌∷◌, ◌++◌, Option, IfSome, map}
+use Rattle.std.proofs.Common.{rules, add-one, take, ℤ, ◌≡◌, ◌∙◌, sym, ap, refl, subst, ◌+◌, ◌-◌, suc, length, drop, w64, to_z, of_z, arith, true, false, [], ◌∷◌, ◌++◌, Option, None, Some, IfSome, map}
 use Rattle.std.proofs.lemmas.Int.{to_z-of_z}
 use Rattle.std.proofs.lemmas.List.{append-nil}
 use Rattle.std.proofs.lemmas.Result.{on_ok_weaker, IfOk-weaker}
 use mir.Val.{SFits}
 use Rattle.qc_model.specs.Content.{Game}
-use Rattle.qc_model.specs.Domains.{Box, has_empty, values_left}
+use Rattle.qc_model.specs.Domains.{Box, has_empty, has_value, is_single, values_left}
 use Rattle.qc_model.specs.Game.{before}
 use Rattle.fd_store.specs.Held.{Held, values_from}
 use Rattle.prop_engine.specs.declared.answer.Closed.{Closed}
@@ -18,7 +18,8 @@ use Rattle.joins.specs.Joins.{game_of, KeepsOthers, LeafFits, out_of}
 use Rattle.search_box.specs.Closes.{IsPruned, IsClosedAt}
 use Rattle.search_box.specs.Entered.{IsEntered}
 use Rattle.search_box.specs.Looking.{scope_number}
-use Rattle.search_box.specs.Rests.{IsAfter}
+use Rattle.search_box.specs.Rests.{IsAfter, IsNext}
+use Rattle.search_parts.specs.Uppers.{skipped_between, without_before}
 use Rattle.search_box.proofs.Goings.{follows_on}
 use Rattle.game_search.specs.Going.{GoesOn}
 use Rattle.game_search.specs.Aims.{tracked_at, IsAimed}
@@ -29,12 +30,15 @@ use Rattle.game_search.specs.Rivals.{above_at, outdoes, IsRival}
 use Rattle.search_parts.specs.Settled.{beats_none, is_outdone}
 use Rattle.game_search.specs.Trimmed.{TrimmedPut}
 use Rattle.game_search.specs.Here.{here_of, in_box, node_of}
-use Rattle.game_search.specs.Put.{BoundedPut}
+use Rattle.game_search.specs.Put.{BoundedPut, CasePut}
 use Rattle.search_kept.specs.Known.{IsEnded}
 use Rattle.search_parts.specs.Written.{NodeWritten}
 use Rattle.joins.specs.declared.joins.Joins.{Joins}
 use Rattle.search_box.specs.Complete.{IsClosedAtGoal}
-use Rattle.game_search.proofs.Spread.{first_case, next_case, spread_here}
+use Rattle.game_search.proofs.Spread.{comes_after, first_case, next_case, passed_on, spread_here}
+use Rattle.game_search.proofs.Branching.{passed_here}
+use Rattle.game_search.proofs.Ahead.{Owed}
+use Rattle.game_search.proofs.AheadCases.{another, ended_by, gone_on, home, later_done, is_free, none_owed, reached, settled_there, still_owed, went_first, went_past}
 use Rattle.qc_model.specs.Demands.{demands}
 use Rattle.proof_tree.specs.Steps.{after_steps}
 use Rattle.game_search.proofs.Trimming.{needed_made}
@@ -43,8 +47,9 @@ use Rattle.game_search.proofs.Knowing.{kept_told, node_finished, told_ends}
 use Rattle.search_parts.proofs.Marks.{firsts_marks}
 use Rattle.game_search.proofs.Places.{goal_closed}
 use Rattle.search_parts.proofs.Bools.{both}
-use Rattle.game_search.proofs.Remains.{as_many, none_back, both_back, back_after, back_below, back_more, case_back, cut_back, entered_back, line_back, lines_both, one_fewer, taken_back, told_back, tuple_back, undone_back, back_from, same_back}
+use Rattle.game_search.proofs.Remains.{as_many, none_back, both_back, back_after, back_below, back_more, case_back, cut_back, cut_front, cut_length, dropped_back, entered_back, going_back, later_back, line_back, longer, lines_both, one_fewer, taken_back, told_back, tuple_back, undone_back, back_from, same_back}
 use Rattle.game_search.proofs.Branching.{IsGone, HasAround, alone_ended, alone_settled, case_passed, cases_begun, cases_ended, left_open, left_outdone, left_settled}
+use Rattle.game_search.specs.Later.{SoFar, cut_to}
 use Rattle.game_search.proofs.OwnTrees.{bounded_ended, case_by_part, may_branch, part_again, searched_at, tree_again, tree_ended}
 use Rattle.game_search.proofs.Searched.{below_back, below_ended, below_told, node_put, node_searched, same_place}
 use Rattle.game_search.proofs.search.+search.Goals as goal
@@ -131,60 +136,69 @@ after_tuple-returns-clause-told t c =
     let fixed = subst (λ n. is_fixed_to g l.number n b.store.box ≡ true) l.has_stop within.fixed in
     let w = c.below_tuple.new.walk in
     let v = verdict_of c.in_ok-found.found (out_of w.joins) in
-    on_ok_weaker c.keep_aside.result
-    (λ q xs ready worse.
+    λ xs ready worse.
     let few = few_turns node xs a.left a.lines a.joins ready in
     let below = subst (λ (s : Held). NodeWritten cuts (above_at g (suc l.number) xs) g (drop (suc l.number) g.scopes) (suc l.number) (demands g (suc l.number)) s.box h v a.left w.left c.put-2.new.self w.lines) c.tuple_allowed.ensures.store (c.in_ok-found.ensures.told few xs ready.stands) in
     let told = next_told node xs a.left a.lines a.joins ready l.is_scope v w.left c.put-2.new.self w.lines w.joins c.add_node.new.self within.here.full fixed
     (sym c.tuple_allowed.ensures.allowed ∙ c.if-not-tuple_allowed.false) worse c.in_ok-put-2.ensures.put below (c.in_ok-found.ensures.back.joins l.number xs (omega arith))
     (λ ys s fits. c.add_node.ensures.stands ys s (subst (λ (f : Game). LeafFits f l.number ys v) (sym (c.in_ok-found.ensures.back.game ∙ c.requires.joins)) fits)) in
-    ending_kept node xs a.left w.left _ a.lines w.lines _ c.add_node.new.self _ c.keep_aside.ensures.left q c.keep_aside.ensures.joins told)
-    c.keep_aside.ensures.lines
+    ending_kept node xs a.left w.left _ a.lines w.lines _ c.add_node.new.self _ c.keep_aside.ensures.left c.in_ok-keep_aside.ensures.lines c.keep_aside.ensures.joins told
 
 pub after_tuple-returns-clause-back : goal.after_tuple-returns-clause-back
 after_tuple-returns-clause-back t c =
     let l = c.args.stage.now.level.now in
     let k = c.keep_aside in
-    on_ok_weaker k.result
-    (λ q. back_below l.problem.now l.problem.now l.number refl c.args.walk.now _ c.below_tuple.new.walk k.new.walk c.requires.going.within.here c.tuple_allowed.ensures.entered c.tuple_allowed.ensures.store c.tuple_allowed.ensures.kept refl refl _ c.in_ok-put-2.ensures.put c.in_ok-found.ensures.back
-    k.ensures.remains q k.ensures.left (ap game_of k.ensures.joins ∙ c.add_node.ensures.same)
-    (subst (λ (js : Joins). KeepsOthers l.number c.below_tuple.new.walk.joins js) (sym k.ensures.joins) c.add_node.ensures.others))
-    k.ensures.lines
+    back_below l.problem.now l.problem.now l.number refl c.args.walk.now _ c.below_tuple.new.walk k.new.walk c.requires.going.within.here c.tuple_allowed.ensures.entered c.tuple_allowed.ensures.store c.tuple_allowed.ensures.kept refl refl _ c.in_ok-put-2.ensures.put c.in_ok-found.ensures.back
+    k.ensures.remains c.in_ok-keep_aside.ensures.lines k.ensures.left (ap game_of k.ensures.joins ∙ c.add_node.ensures.same)
+    (subst (λ (js : Joins). KeepsOthers l.number c.below_tuple.new.walk.joins js) (sym k.ensures.joins) c.add_node.ensures.others)
 
-pub cases-values-init : goal.cases-values-init
-cases-values-init t c =
+pub cases-returns-clause-told : goal.cases-returns-clause-told
+cases-returns-clause-told t c =
     let s = c.args.stage.now in
     let a = c.args.walk.now in
     let x = c.args.x.0 in
     let vs = values_left a.remains.store.box x in
     let spread = spread_here s.level.now.problem.now a.remains x c.known.ensures.domains c.requires.going.within.here.game c.known-2.ensures.declared in
     let first = first_case vs c.first-first.result spread c.first-first.ensures in
+    on_ok_weaker c.later_cases.result (λ told. told a.left a.lines a.joins c.len-start.ensures (cases_begun s x a _ first.1)) c.later_cases.ensures.told
+
+pub cases-returns-clause-back : goal.cases-returns-clause-back
+cases-returns-clause-back t c =
+    let l = c.args.stage.now.level.now in
+    let a = c.args.walk.now in
+    on_ok_weaker c.later_cases.result (λ back. later_back l.problem.now l.number a a c.later_cases.new.walk c.len-start.result c.len-start.ensures (none_back l.problem.now l.number a) back) c.later_cases.ensures.back
+
+pub later_cases-values-init : goal.later_cases-values-init
+later_cases-values-init t c =
+    let s = c.args.stage.now in
+    let a = c.args.walk.now in
+    let x = c.args.x.0 in
+    let vs = values_left a.remains.store.box x in
+    let spread = spread_here s.level.now.problem.now a.remains x c.known.ensures.domains c.requires.going.within.here.game c.known-2.ensures.declared in
+    let same = sym (passed_on vs c.args.from spread c.requires.value) in
     record {
-      start = c.len-start.ensures;
-      back = record { problem = refl; box = refl; past = refl; kept = refl; game = refl; joins = λ j xs h s. s; written = []; lines = sym (append-nil a.lines); left = omega arith };
-      left = first.0;
-      after = first.1;
-      goes = cases_begun s x a _ first.1;
+      back = cut_front s.level.now.problem.now s.level.now.number a c.args.start;
+      left = subst (λ v. has_value vs v ≡ true) same c.requires.value;
+      after = comes_after vs (to_z w64 (of_z w64 c.args.from)) c.previous-before.result c.previous-before.ensures;
+      goes = λ had old first e goes. goes;
     }
 
-pub cases-returns-then-is_settled-clause-told : goal.cases-returns-then-is_settled-clause-told
-cases-returns-then-is_settled-clause-told t c =
+pub later_cases-returns-then-is_settled-clause-told : goal.later_cases-returns-then-is_settled-clause-told
+later_cases-returns-then-is_settled-clause-told t c =
     let s = c.args.stage.now in
     let a = c.args.walk.now in
     let x = c.args.x.0 in
     let spread = spread_here s.level.now.problem.now a.remains x c.known.ensures.domains c.requires.going.within.here.game c.known-2.ensures.declared in
     let now = c.values.invariant in
-    on_ok_weaker c.leave_out.result
-    (λ lines. left_settled s x a c.values.walk (to_z w64 c.values.value-bits) c.last-last.result spread now.left c.last-last.ensures (now.back.game ∙ c.requires.joins) c.is_settled.result c.leave_out.new.lines c.is_settled.ensures c.if-is_settled.true now.goes lines)
-    c.leave_out.ensures
+    λ had old first e goes. left_settled s x a c.values.walk had old first (to_z w64 c.values.value-bits) c.last-last.result spread now.left c.last-last.ensures (now.back.game ∙ c.requires.joins) c.is_settled.result c.leave_out.new.lines c.is_settled.ensures c.if-is_settled.true (now.goes had old first e (passed_here s a x had old first c.args.from spread c.requires.value goes))
+    c.in_ok-leave_out.ensures
 
-pub cases-returns-then-is_settled-clause-back : goal.cases-returns-then-is_settled-clause-back
-cases-returns-then-is_settled-clause-back t c =
-    on_ok_weaker c.leave_out.result
-    (λ e. back_more c.args.stage.now.level.now.problem.now c.args.stage.now.level.now.number c.args.walk.now c.values.walk _ c.values.invariant.back refl refl (λ j xs h s. s) _ e (as_many c.values.walk.left)) c.leave_out.ensures
+pub later_cases-returns-then-is_settled-clause-back : goal.later_cases-returns-then-is_settled-clause-back
+later_cases-returns-then-is_settled-clause-back t c =
+    back_more c.args.stage.now.level.now.problem.now c.args.stage.now.level.now.number (cut_to c.args.start c.args.walk.now) c.values.walk _ c.values.invariant.back refl refl (λ j xs h s. s) _ c.in_ok-leave_out.ensures (as_many c.values.walk.left)
 
-pub cases-returns-then-is_outdone-clause-told : goal.cases-returns-then-is_outdone-clause-told
-cases-returns-then-is_outdone-clause-told t c =
+pub later_cases-returns-then-is_outdone-clause-told : goal.later_cases-returns-then-is_outdone-clause-told
+later_cases-returns-then-is_outdone-clause-told t c =
     let s = c.args.stage.now in
     let a = c.args.walk.now in
     let x = c.args.x.0 in
@@ -193,38 +207,30 @@ cases-returns-then-is_outdone-clause-told t c =
     let same = now.back.game ∙ c.requires.joins in
     let i = s.level.now.number in
     let ends = outdone_ends (outdoes s.level.now.problem.now i s.rival) s.level.now.problem.now i c.values.walk.joins (λ ys h. subst (λ (f : Game). is_outdone (outdoes f i s.rival) ys ≡ true) same (c.is_outdone.ensures c.if-is_outdone.true ys h)) in
-    on_ok_weaker c.leave_out-then-is_outdone.result
-    (λ lines. left_outdone s x a c.values.walk (to_z w64 c.values.value-bits) c.last-last.result spread now.left c.last-last.ensures same c.leave_out-then-is_outdone.new.lines c.add_skipped.new.self ends c.add_skipped.ensures.stands now.goes lines)
-    c.leave_out-then-is_outdone.ensures
+    λ had old first e goes. left_outdone s x a c.values.walk had old first (to_z w64 c.values.value-bits) c.last-last.result spread now.left c.last-last.ensures same c.leave_out-then-is_outdone.new.lines c.add_skipped.new.self ends c.add_skipped.ensures.stands (now.goes had old first e (passed_here s a x had old first c.args.from spread c.requires.value goes))
+    c.in_ok-leave_out-2.ensures
 
-pub cases-returns-then-is_outdone-clause-back : goal.cases-returns-then-is_outdone-clause-back
-cases-returns-then-is_outdone-clause-back t c =
-    on_ok_weaker c.leave_out-then-is_outdone.result
-    (λ e. told_back c.args.stage.now.level.now.problem.now c.args.stage.now.level.now.number c.args.walk.now c.values.walk _ c.values.invariant.back refl c.add_skipped.ensures.same c.add_skipped.ensures.others
-    _ e (as_many c.values.walk.left))
-    c.leave_out-then-is_outdone.ensures
+pub later_cases-returns-then-is_outdone-clause-back : goal.later_cases-returns-then-is_outdone-clause-back
+later_cases-returns-then-is_outdone-clause-back t c =
+    told_back c.args.stage.now.level.now.problem.now c.args.stage.now.level.now.number (cut_to c.args.start c.args.walk.now) c.values.walk _ c.values.invariant.back refl c.add_skipped.ensures.same c.add_skipped.ensures.others _ c.in_ok-leave_out-2.ensures (as_many c.values.walk.left)
 
-pub cases-returns-then-walk-eq0-clause-told : goal.cases-returns-then-walk-eq0-clause-told
-cases-returns-then-walk-eq0-clause-told t c =
+pub later_cases-returns-then-walk-eq0-clause-told : goal.later_cases-returns-then-walk-eq0-clause-told
+later_cases-returns-then-walk-eq0-clause-told t c =
     let s = c.args.stage.now in
     let a = c.args.walk.now in
     let x = c.args.x.0 in
     let spread = spread_here s.level.now.problem.now a.remains x c.known.ensures.domains c.requires.going.within.here.game c.known-2.ensures.declared in
     let now = c.values.invariant in
-    on_ok_weaker c.leave_out-then-walk-eq0.result
-    (λ lines. left_open s x a c.values.walk (to_z w64 c.values.value-bits) c.last-last.result spread now.left c.last-last.ensures (now.back.game ∙ c.requires.joins) c.is_settled.result c.leave_out-then-walk-eq0.new.lines c.add_skipped-then-walk-eq0.new.self c.is_settled.ensures c.if-is_settled.false c.if-walk-eq0.true
-    c.add_skipped-then-walk-eq0.ensures.stands now.goes lines)
-    c.leave_out-then-walk-eq0.ensures
+    λ had old first e goes. left_open s x a c.values.walk had old first (to_z w64 c.values.value-bits) c.last-last.result spread now.left c.last-last.ensures (now.back.game ∙ c.requires.joins) c.is_settled.result c.leave_out-then-walk-eq0.new.lines c.add_skipped-then-walk-eq0.new.self c.is_settled.ensures c.if-is_settled.false
+    c.if-walk-eq0.true c.add_skipped-then-walk-eq0.ensures.stands (now.goes had old first e (passed_here s a x had old first c.args.from spread c.requires.value goes)) c.in_ok-leave_out-3.ensures
 
-pub cases-returns-then-walk-eq0-clause-back : goal.cases-returns-then-walk-eq0-clause-back
-cases-returns-then-walk-eq0-clause-back t c =
-    on_ok_weaker c.leave_out-then-walk-eq0.result
-    (λ e. told_back c.args.stage.now.level.now.problem.now c.args.stage.now.level.now.number c.args.walk.now c.values.walk _ c.values.invariant.back refl c.add_skipped-then-walk-eq0.ensures.same c.add_skipped-then-walk-eq0.ensures.others
-    _ e (as_many c.values.walk.left))
-    c.leave_out-then-walk-eq0.ensures
+pub later_cases-returns-then-walk-eq0-clause-back : goal.later_cases-returns-then-walk-eq0-clause-back
+later_cases-returns-then-walk-eq0-clause-back t c =
+    told_back c.args.stage.now.level.now.problem.now c.args.stage.now.level.now.number (cut_to c.args.start c.args.walk.now) c.values.walk _ c.values.invariant.back refl c.add_skipped-then-walk-eq0.ensures.same c.add_skipped-then-walk-eq0.ensures.others _ c.in_ok-leave_out-3.ensures
+    (as_many c.values.walk.left)
 
-pub cases-returns-in_default-clause-told : goal.cases-returns-in_default-clause-told
-cases-returns-in_default-clause-told t c =
+pub later_cases-returns-in_default-clause-told : goal.later_cases-returns-in_default-clause-told
+later_cases-returns-in_default-clause-told t c =
     let s = c.args.stage.now in
     let a = c.args.walk.now in
     let x = c.args.x.0 in
@@ -233,33 +239,35 @@ cases-returns-in_default-clause-told t c =
     let z = c.with_value.new.walk in
     let v = to_z w64 c.values.value-bits in
     let part = c.in_ok-with_value.ensures.back in
-    let gone : IsGone s x a c.values.walk z c.first-first.result v c.values.before c.last_to_drop-dropped.result c.is_settled.result c.is_settled-in-values.result c.len-start.result c.len-at.result = record {
+    let same : values_left z.remains.store.box x ≡ values_left a.remains.store.box x = ap (λ (d : Box). values_left d x) (part.box ∙ now.back.box) in
+    λ had old first e goes.
+    let gone : IsGone s x a c.values.walk z old c.first-first.result v c.values.before c.last_to_drop-dropped.result c.is_settled.result c.is_settled-in-values.result c.args.start c.len-at.result = record {
       spread = spread;
       free = c.requires.free;
       first = c.first-first.ensures;
       left = now.left;
       after = now.after;
-      joins = c.requires.joins;
-      back = now.back;
+      same = now.back.game ∙ c.requires.joins;
+      box = now.back.box;
       game = part.game;
       asked = c.is_settled.ensures;
       unsettled = c.if-is_settled.false;
       some = c.if-walk-eq0.false;
       asked_then = c.is_settled-in-values.ensures;
       drops = c.last_to_drop-dropped.ensures;
-      begun = now.start;
+      begun = e;
       reached = c.len-at.ensures;
     } in
-    let same : values_left z.remains.store.box x ≡ values_left a.remains.store.box x = ap (λ (d : Box). values_left d x) (part.box ∙ now.back.box) in
-    let passed = case_passed s x a c.values.walk z c.first-first.result v c.values.before c.last_to_drop-dropped.result c.is_settled.result c.is_settled-in-values.result c.len-start.result c.len-at.result gone c.drop_before.new.lines c.in_ok-drop_before.ensures (c.in_ok-with_value.ensures.told (λ q. cc)) in
-    cases_ended s x a z.left c.drop_before.new.lines z.joins (passed [] (subst (λ us. values_from v us ≡ v ∷ []) same c.in_default.ensures) now.goes)
+    let passed = case_passed s x a c.values.walk z had old first c.first-first.result v c.values.before c.last_to_drop-dropped.result c.is_settled.result c.is_settled-in-values.result c.args.start c.len-at.result gone c.drop_before.new.lines c.in_ok-drop_before.ensures (c.in_ok-with_value.ensures.told (λ q. cc)) in
+    cases_ended (here_of s a) x had old first z.left c.drop_before.new.lines z.joins (passed [] (subst (λ us. values_from v us ≡ v ∷ []) same c.in_default.ensures) (now.goes had old first e (passed_here s a x had old first c.args.from spread c.requires.value goes)))
 
-pub cases-returns-in_default-clause-back : goal.cases-returns-in_default-clause-back
-cases-returns-in_default-clause-back t c =
-    case_back c.args.stage.now.level.now.problem.now c.args.stage.now.level.now.number c.args.walk.now c.values.walk _ c.with_value.new.walk _ c.values.invariant.back refl refl refl (one_fewer c.values.walk.left) c.in_ok-with_value.ensures.back refl refl refl c.last_to_drop-dropped.result (to_z w64 (of_z w64 c.first-first.result)) c.len-start.result c.len-at.result c.values.invariant.start c.in_ok-drop_before.ensures
+pub later_cases-returns-in_default-clause-back : goal.later_cases-returns-in_default-clause-back
+later_cases-returns-in_default-clause-back t c =
+    let a = c.args.walk.now in
+    case_back c.args.stage.now.level.now.problem.now c.args.stage.now.level.now.number (cut_to c.args.start a) c.values.walk _ c.with_value.new.walk _ c.values.invariant.back refl refl refl (one_fewer c.values.walk.left) c.in_ok-with_value.ensures.back refl refl refl c.last_to_drop-dropped.result (to_z w64 (of_z w64 c.first-first.result)) c.args.start c.len-at.result (cut_length a c.args.start c.requires.start) c.in_ok-drop_before.ensures
 
-pub cases-values-preserved : goal.cases-values-preserved
-cases-values-preserved t c =
+pub later_cases-values-preserved : goal.later_cases-values-preserved
+later_cases-values-preserved t c =
     let s = c.args.stage.now in
     let a = c.args.walk.now in
     let x = c.args.x.0 in
@@ -268,34 +276,34 @@ cases-values-preserved t c =
     let z = c.with_value.new.walk in
     let v = to_z w64 c.values.value-bits in
     let part = c.in_ok-with_value.ensures.back in
-    let gone : IsGone s x a c.values.walk z c.first-first.result v c.values.before c.last_to_drop-dropped.result c.is_settled.result c.is_settled-in-values.result c.len-start.result c.len-at.result = record {
-      spread = spread;
-      free = c.requires.free;
-      first = c.first-first.ensures;
-      left = now.left;
-      after = now.after;
-      joins = c.requires.joins;
-      back = now.back;
-      game = part.game;
-      asked = c.is_settled.ensures;
-      unsettled = c.if-is_settled.false;
-      some = c.if-walk-eq0.false;
-      asked_then = c.is_settled-in-values.ensures;
-      drops = c.last_to_drop-dropped.ensures;
-      begun = now.start;
-      reached = c.len-at.ensures;
-    } in
-    let same : values_left z.remains.store.box x ≡ values_left a.remains.store.box x = ap (λ (d : Box). values_left d x) (part.box ∙ now.back.box) in
-    let passed = case_passed s x a c.values.walk z c.first-first.result v c.values.before c.last_to_drop-dropped.result c.is_settled.result c.is_settled-in-values.result c.len-start.result c.len-at.result gone c.drop_before.new.lines c.in_ok-drop_before.ensures (c.in_ok-with_value.ensures.told (λ q. cc)) in
     let vs = values_left a.remains.store.box x in
+    let same : values_left z.remains.store.box x ≡ vs = ap (λ (d : Box). values_left d x) (part.box ∙ now.back.box) in
     let after = subst (λ us. IsAfter us v c.in-Some.next) same c.in-Some.ensures in
     let next = next_case vs v c.in-Some.next spread after in
     record {
-      start = now.start;
-      back = case_back s.level.now.problem.now s.level.now.number a c.values.walk _ z _ now.back refl refl refl (one_fewer c.values.walk.left) part refl refl refl c.last_to_drop-dropped.result (to_z w64 (of_z w64 c.first-first.result)) c.len-start.result c.len-at.result now.start c.in_ok-drop_before.ensures;
+      back = case_back s.level.now.problem.now s.level.now.number (cut_to c.args.start a) c.values.walk _ z _ now.back refl refl refl (one_fewer c.values.walk.left) part refl refl refl c.last_to_drop-dropped.result (to_z w64 (of_z w64 c.first-first.result)) c.args.start c.len-at.result (cut_length a c.args.start c.requires.start) c.in_ok-drop_before.ensures;
       left = next.0;
       after = record { left = now.left; rest = next.1 };
-      goes = passed (values_from (to_z w64 (of_z w64 c.in-Some.next)) vs) next.1 now.goes;
+      goes = λ had old first e goes.
+          let gone : IsGone s x a c.values.walk z old c.first-first.result v c.values.before c.last_to_drop-dropped.result c.is_settled.result c.is_settled-in-values.result c.args.start c.len-at.result = record {
+            spread = spread;
+            free = c.requires.free;
+            first = c.first-first.ensures;
+            left = now.left;
+            after = now.after;
+            same = now.back.game ∙ c.requires.joins;
+            box = now.back.box;
+            game = part.game;
+            asked = c.is_settled.ensures;
+            unsettled = c.if-is_settled.false;
+            some = c.if-walk-eq0.false;
+            asked_then = c.is_settled-in-values.ensures;
+            drops = c.last_to_drop-dropped.ensures;
+            begun = e;
+            reached = c.len-at.ensures;
+          } in
+          case_passed s x a c.values.walk z had old first c.first-first.result v c.values.before c.last_to_drop-dropped.result c.is_settled.result c.is_settled-in-values.result c.args.start c.len-at.result gone c.drop_before.new.lines c.in_ok-drop_before.ensures (c.in_ok-with_value.ensures.told (λ q. cc))
+          (values_from (to_z w64 (of_z w64 c.in-Some.next)) vs) next.1 (now.goes had old first e goes);
     }
 
 pub searched_node-returns-then-is_here-clause-told : goal.searched_node-returns-then-is_here-clause-told
@@ -307,9 +315,9 @@ searched_node-returns-then-is_here-clause-told t c =
     let below = scope_number c.in_ok-below.below in
     let ahead = c.in_ok-ahead.ensures.answer in
     let horizon : is_horizon below level.number ≡ true = ap (is_horizon below) c.level-level.ensures.number ∙ (sym c.is_here.ensures ∙ c.if-is_here.true) in
-    IfOk-weaker c.stuck.result _ _
-    (λ found told few up stands. node_put (node_of c.args.cuts (above_at g i up) g i (scope_number c.args.horizon) a) _ below c.in_ok-ahead.ahead found a c.stuck.new.walk c.put_horizon.new.lines (same_place c.args.cuts (above_at g i up) level.problem.now g level.number i c.look_ahead.new.self.store.box a.remains.store.box below c.level-level.ensures.problem c.level-level.ensures.number c.look_ahead.ensures.content) ahead c.in_ok-below.ensures.below c.in_ok-below.ensures.lines (told c.args.cuts (above_at g i up) below horizon))
-    c.stuck.ensures.told
+    let found = c.in_ok-stuck.field-0 in
+    let told = c.in_ok-stuck.ensures.told in
+    λ few up stands. node_put (node_of c.args.cuts (above_at g i up) g i (scope_number c.args.horizon) a) _ below c.in_ok-ahead.ahead found a c.stuck.new.walk c.put_horizon.new.lines (same_place c.args.cuts (above_at g i up) level.problem.now g level.number i c.look_ahead.new.self.store.box a.remains.store.box below c.level-level.ensures.problem c.level-level.ensures.number c.look_ahead.ensures.content) ahead c.in_ok-below.ensures.below c.in_ok-below.ensures.lines (told c.args.cuts (above_at g i up) below horizon)
 
 pub searched_node-returns-then-is_here-clause-ended : goal.searched_node-returns-then-is_here-clause-ended
 searched_node-returns-then-is_here-clause-ended t c =
@@ -320,16 +328,15 @@ searched_node-returns-then-is_here-clause-ended t c =
     let below = scope_number c.in_ok-below.below in
     let ahead = c.in_ok-ahead.ensures.answer in
     let horizon : is_horizon below level.number ≡ true = ap (is_horizon below) c.level-level.ensures.number ∙ (sym c.is_here.ensures ∙ c.if-is_here.true) in
-    IfOk-weaker c.stuck.result _ _
-    (λ found told cut few. told_ends (node_of c.args.cuts beats_none g i (scope_number c.args.horizon) a) found a c.stuck.new.walk cut
-    (node_put (node_of c.args.cuts beats_none g i (scope_number c.args.horizon) a) _ below c.in_ok-ahead.ahead found a c.stuck.new.walk c.put_horizon.new.lines (same_place c.args.cuts beats_none level.problem.now g level.number i c.look_ahead.new.self.store.box a.remains.store.box below c.level-level.ensures.problem c.level-level.ensures.number c.look_ahead.ensures.content) ahead c.in_ok-below.ensures.below c.in_ok-below.ensures.lines (told c.args.cuts beats_none below horizon)))
-    c.stuck.ensures.told
+    let found = c.in_ok-stuck.field-0 in
+    let told = c.in_ok-stuck.ensures.told in
+    λ cut few. told_ends (node_of c.args.cuts beats_none g i (scope_number c.args.horizon) a) found a c.stuck.new.walk cut
+    (node_put (node_of c.args.cuts beats_none g i (scope_number c.args.horizon) a) _ below c.in_ok-ahead.ahead found a c.stuck.new.walk c.put_horizon.new.lines (same_place c.args.cuts beats_none level.problem.now g level.number i c.look_ahead.new.self.store.box a.remains.store.box below c.level-level.ensures.problem c.level-level.ensures.number c.look_ahead.ensures.content) ahead c.in_ok-below.ensures.below c.in_ok-below.ensures.lines (told c.args.cuts beats_none below horizon))
 
 pub searched_node-returns-then-is_here-clause-back : goal.searched_node-returns-then-is_here-clause-back
 searched_node-returns-then-is_here-clause-back t c =
     let look = c.in_ok-ahead.ensures in
-    on_ok_weaker c.stuck.result
-    (λ e. back_after c.args.levels.now.problem.now _ c.args.number _ c.level-level.ensures.problem c.level-level.ensures.number c.args.walk.now _ c.stuck.new.walk look.game look.content look.past look.values refl refl _ c.in_ok-below.ensures.lines e) c.stuck.ensures.back
+    back_after c.args.levels.now.problem.now _ c.args.number _ c.level-level.ensures.problem c.level-level.ensures.number c.args.walk.now _ c.stuck.new.walk look.game look.content look.past look.values refl refl _ c.in_ok-below.ensures.lines c.in_ok-stuck.ensures.back
 
 pub searched_node-invariant_of-stage-clause-aimed : goal.searched_node-invariant_of-stage-clause-aimed
 searched_node-invariant_of-stage-clause-aimed t c =
@@ -414,9 +421,7 @@ over_values-returns-clause-told t c =
     let a = c.args.walk.now in
     let x = c.args.x in
     let may = may_branch s x a c.known.ensures c.requires.going c.requires.own c.requires.free c.requires.var in
-    on_ok_weaker c.put-2.result
-    (λ lines xs ready worse. branch_told (here_of s a) xs a.left c.cases.new.walk.left a.lines c.put.new.self c.cases.new.walk.lines c.put-2.new.self c.cases.new.walk.joins x may worse c.in_ok-put.ensures.put lines (c.in_ok-cases.ensures.told xs ready))
-    c.put-2.ensures.put
+    λ xs ready worse. branch_told (here_of s a) xs a.left c.cases.new.walk.left a.lines c.put.new.self c.cases.new.walk.lines c.put-2.new.self c.cases.new.walk.joins x may worse c.in_ok-put.ensures.put c.in_ok-put-2.ensures.put (c.in_ok-cases.ensures.told xs ready)
 
 pub own_tree-returns-clause-told : goal.own_tree-returns-clause-told
 own_tree-returns-clause-told t c = c.in_ok-found.ensures.told
@@ -714,7 +719,7 @@ over_values-returns-clause-back t c =
     let a = c.args.walk.now in
     let begun = line_back g i a a _ (none_back g i a) refl refl refl _ c.in_ok-put.ensures.put in
     let gone = both_back g i a _ c.cases.new.walk begun c.in_ok-cases.ensures.back in
-    on_ok_weaker c.put-2.result (λ e. line_back g i a c.cases.new.walk _ gone refl refl refl _ e) c.put-2.ensures.put
+    line_back g i a c.cases.new.walk _ gone refl refl refl _ c.in_ok-put-2.ensures.put
 
 pub after_tuple-returns-then-not-tuple_allowed-clause-back : goal.after_tuple-returns-then-not-tuple_allowed-clause-back
 after_tuple-returns-then-not-tuple_allowed-clause-back t c =
@@ -837,3 +842,214 @@ try_against_rival-returns-clause-told t c =
     } in
     λ w. alone_ended s x a z v low high before next around c.requires.cuts c.requires.turn c.skip_and_tell.new.lines c.skip_and_tell-2.new.lines c.skip_and_tell.new.joins c.skip_and_tell-2.new.joins (c.is_ended.ensures c.if-not-is_ended.false) c.skip_and_tell.ensures.told c.skip_and_tell-2.ensures.told
     c.in_ok-skip_and_tell.ensures.lines (c.in_ok-with_value.ensures.told (λ q. c.if-not-branch.false)) c.in_ok-skip_and_tell-2.ensures.lines
+
+-- ---- a value that goes first
+pub cases_ahead-returns-then-is_settled-clause-told : goal.cases_ahead-returns-then-is_settled-clause-told
+cases_ahead-returns-then-is_settled-clause-told t c =
+    let s = c.args.stage.now in
+    let a = c.args.walk.now in
+    let x = c.args.x.0 in
+    let v = c.args.ahead in
+    let low = c.first-first.result in
+    let high = c.last-last.result in
+    let before = c.previous-before.result in
+    let next = c.next-next.result in
+    let z = c.with_value.new.walk in
+    let around : HasAround (values_left a.remains.store.box x) v low high before next = record {
+      spread = spread_here s.level.now.problem.now a.remains x c.known.ensures.domains c.requires.going.within.here.game c.known-2.ensures.declared;
+      free = c.requires.free;
+      here = c.requires.value;
+      first = c.first-first.ensures;
+      last = c.last-last.ensures;
+      previous = c.previous-before.ensures;
+      following = c.next-next.ensures;
+    } in
+    alone_settled s x a z v low high before next around c.requires.cuts c.requires.turn c.skip_between.new.lines c.skip_between-then-is_settled.new.lines c.is_settled.result (c.in_ok-with_value.ensures.back.game ∙ c.requires.joins) c.is_settled.ensures c.if-is_settled.true
+    c.in_ok-skip_between.ensures (c.in_ok-with_value.ensures.told (λ q. cc)) c.in_ok-skip_between-2.ensures
+
+pub cases_ahead-returns-then-is_settled-clause-back : goal.cases_ahead-returns-then-is_settled-clause-back
+cases_ahead-returns-then-is_settled-clause-back t c =
+    let l = c.args.stage.now.level.now in
+    let a = c.args.walk.now in
+    let gone = both_back l.problem.now l.number a _ c.with_value.new.walk (back_more l.problem.now l.number a a _ (none_back l.problem.now l.number a) refl refl (λ j xs h s. s) _ c.in_ok-skip_between.ensures (one_fewer a.left)) c.in_ok-with_value.ensures.back in
+    line_back l.problem.now l.number a c.with_value.new.walk _ gone refl refl refl _ c.in_ok-skip_between-2.ensures
+
+pub cases_ahead-earlier-init : goal.cases_ahead-earlier-init
+cases_ahead-earlier-init t c =
+    let s = c.args.stage.now in
+    let l = s.level.now in
+    let g = l.problem.now in
+    let a = c.args.walk.now in
+    let x = c.args.x.0 in
+    let vs = values_left a.remains.store.box x in
+    let z = c.with_value.new.walk in
+    let mid = c.skip_between.new.lines in
+    let spread = spread_here g a.remains x c.known.ensures.domains c.requires.going.within.here.game c.known-2.ensures.declared in
+    let free = is_free s x a c.requires.cuts c.requires.alone c.requires.nothing spread c.requires.free in
+    let first = first_case vs c.first-first.result spread c.first-first.ensures in
+    let part = c.in_ok-with_value.ensures.back in
+    let gone = both_back g l.number a _ z (back_more g l.number a a _ (none_back g l.number a) refl refl (λ j xs h s. s) _ c.in_ok-skip_between.ensures (one_fewer a.left)) part in
+    let there = ap (take c.len-start.result) (c.in_ok-put_by.ensures.left ∙ taken_back mid z.lines part.written c.len-at.result part.lines c.len-at.ensures) ∙ taken_back a.lines mid _ c.len-start.result c.in_ok-skip_between.ensures c.len-start.ensures in
+    let lines : c.cut.new.self ≡ a.lines = c.cut.ensures ∙ there in
+    let kept : c.put_by.new.aside ≡ drop (length mid) z.lines = c.in_ok-put_by.ensures.aside ∙ (ap (λ ls. ls ++ drop c.len-at.result z.lines) c.requires.none_waits ∙ ap (λ n. drop n z.lines) c.len-at.ensures) in
+    let ahead = to_z w64 (of_z w64 c.args.ahead) in
+    let has : has_value vs ahead ≡ true = subst (λ v. has_value vs v ≡ true) (sym (passed_on vs c.args.ahead spread c.requires.value)) c.requires.value in
+    let owes = went_first s x a free z ahead mid c.put_by.new.aside c.is_settled.result has c.requires.turn (part.game ∙ c.requires.joins) c.is_settled.ensures c.if-is_settled.false (c.in_ok-with_value.ensures.told (λ q. cc)) kept in
+    record {
+      back = cut_back g l.number a z _ gone refl refl lines refl;
+      left = first.0;
+      after = first.1;
+      owed = subst (λ us. has_value us ahead ≡ true) (sym first.1) has;
+      goes = λ xs ready. subst (λ us. Owed (here_of s a) x vs xs a.left a.lines ahead c.put_by.new.aside None us z.left c.cut.new.self z.joins) (sym first.1)
+          (subst (λ ls. Owed (here_of s a) x vs xs a.left a.lines ahead c.put_by.new.aside None vs z.left ls z.joins) (sym lines) (owes xs ready));
+    }
+
+pub cases_ahead-earlier-preserved : goal.cases_ahead-earlier-preserved
+cases_ahead-earlier-preserved t c =
+    let s = c.args.stage.now in
+    let l = s.level.now in
+    let g = l.problem.now in
+    let a = c.args.walk.now in
+    let x = c.args.x.0 in
+    let vs = values_left a.remains.store.box x in
+    let spread = spread_here g a.remains x c.known.ensures.domains c.requires.going.within.here.game c.known-2.ensures.declared in
+    let free = is_free s x a c.requires.cuts c.requires.alone c.requires.nothing spread c.requires.free in
+    let now = c.earlier.invariant in
+    let w = c.earlier.walk in
+    let z = c.with_value-in-earlier.new.walk in
+    let v = to_z w64 c.earlier.value-bits in
+    let part = c.in_ok-with_value-2.ensures.back in
+    let same : values_left z.remains.store.box x ≡ vs = ap (λ (d : Box). values_left d x) (part.box ∙ now.back.box) in
+    let after = subst (λ us. IsAfter us v c.in-Some.later) same c.in-Some.ensures in
+    let next = next_case vs v c.in-Some.later spread after in
+    let ahead = to_z w64 (of_z w64 c.args.ahead) in
+    let there = subst (λ us. has_value us ahead ≡ true) next.1 now.owed in
+    let other = another c.args.ahead c.earlier.value-bits c.earlier.auto.value-fits.fits (passed_on vs c.args.ahead spread c.requires.value) c.earlier-test.true in
+    record {
+      back = same_back g l.number a z _ (both_back g l.number a _ z (back_more g l.number a w _ now.back refl refl (λ j xs h s. s) [] (sym (append-nil w.lines)) (one_fewer w.left)) part) refl refl refl refl;
+      left = next.0;
+      after = record { left = now.left; rest = next.1 };
+      owed = still_owed v ahead (values_from (to_z w64 (of_z w64 c.in-Some.later)) vs) other there;
+      goes = went_past s x a free w z ahead v c.put_by.new.aside c.earlier.passed (values_from (to_z w64 (of_z w64 c.in-Some.later)) vs) c.is_settled-in-earlier.result now.left next.1 now.back.box c.if-walk-eq0.false (part.game ∙ (now.back.game ∙ c.requires.joins)) c.is_settled-in-earlier.ensures c.if-is_settled-2.false
+          (c.in_ok-with_value-2.ensures.told (λ q. cc)) now.goes;
+    }
+
+pub cases_ahead-unreachable-requires : goal.cases_ahead-unreachable-requires
+cases_ahead-unreachable-requires t c =
+    let s = c.args.stage.now in
+    let g = s.level.now.problem.now in
+    let a = c.args.walk.now in
+    let x = c.args.x.0 in
+    let vs = values_left a.remains.store.box x in
+    let now = c.earlier.invariant in
+    let z = c.with_value-in-earlier.new.walk in
+    let v = to_z w64 c.earlier.value-bits in
+    let same : values_left z.remains.store.box x ≡ vs = ap (λ (d : Box). values_left d x) (c.in_ok-with_value-2.ensures.back.box ∙ now.back.box) in
+    let last : values_from v vs ≡ v ∷ [] = subst (λ us. values_from v us ≡ v ∷ []) same c.in_default.ensures in
+    let spread = spread_here g a.remains x c.known.ensures.domains c.requires.going.within.here.game c.known-2.ensures.declared in
+    let ahead = to_z w64 (of_z w64 c.args.ahead) in
+    let there = subst (λ us. has_value us ahead ≡ true) last now.owed in
+    let other = another c.args.ahead c.earlier.value-bits c.earlier.auto.value-fits.fits (passed_on vs c.args.ahead spread c.requires.value) c.earlier-test.true in
+    none_owed ahead (still_owed v ahead [] other there)
+
+pub cases_ahead-returns-then-is_settled-2-clause-told : goal.cases_ahead-returns-then-is_settled-2-clause-told
+cases_ahead-returns-then-is_settled-2-clause-told t c =
+    let s = c.args.stage.now in
+    let g = s.level.now.problem.now in
+    let a = c.args.walk.now in
+    let x = c.args.x.0 in
+    let vs = values_left a.remains.store.box x in
+    let spread = spread_here g a.remains x c.known.ensures.domains c.requires.going.within.here.game c.known-2.ensures.declared in
+    let free = is_free s x a c.requires.cuts c.requires.alone c.requires.nothing spread c.requires.free in
+    let now = c.earlier.invariant in
+    let w = c.earlier.walk in
+    let z = c.with_value-in-earlier.new.walk in
+    let v = to_z w64 c.earlier.value-bits in
+    let part = c.in_ok-with_value-2.ensures.back in
+    let same : values_left z.remains.store.box x ≡ vs = ap (λ (d : Box). values_left d x) (part.box ∙ now.back.box) in
+    let next = subst (λ us. IsNext us v c.next-rest.result) same c.next-rest.ensures in
+    let low : to_z w64 (of_z w64 c.first-first.result) ≡ c.first-first.result = passed_on vs c.first-first.result spread c.first-first.ensures.left in
+    let high : to_z w64 (of_z w64 c.last-last.result) ≡ c.last-last.result = passed_on vs c.last-last.result spread c.last-last.ensures.left in
+    let new = c.drop_before.new.lines in
+    let dropped = c.in_ok-drop_before.ensures ∙ (ap (λ u. without_before c.earlier.passed u c.len-start.result c.len-at-in-earlier.result z.lines) low ∙ (ap (λ n. without_before c.earlier.passed c.first-first.result n c.len-at-in-earlier.result z.lines) c.len-start.ensures ∙ ap (λ n. without_before c.earlier.passed c.first-first.result (length a.lines) n z.lines) c.len-at-in-earlier.ensures)) in
+    let skipped = c.in_ok-skip_between-3.ensures ∙ ap (λ u. new ++ skipped_between c.next-rest.result (Some u)) high in
+    settled_there s x a free w z (to_z w64 (of_z w64 c.args.ahead)) v c.first-first.result c.last-last.result c.put_by.new.aside new c.skip_between-then-is_settled-2.new.lines c.earlier.passed c.next-rest.result c.is_settled-in-earlier.result now.left c.first-first.ensures c.last-last.ensures now.after next now.back.box c.if-walk-eq0.false
+    (part.game ∙ (now.back.game ∙ c.requires.joins)) c.is_settled-in-earlier.ensures c.if-is_settled-2.true (c.in_ok-with_value-2.ensures.told (λ q. cc)) now.goes dropped skipped
+
+pub cases_ahead-returns-then-is_settled-2-clause-back : goal.cases_ahead-returns-then-is_settled-2-clause-back
+cases_ahead-returns-then-is_settled-2-clause-back t c =
+    let l = c.args.stage.now.level.now in
+    let g = l.problem.now in
+    let a = c.args.walk.now in
+    let w = c.earlier.walk in
+    let z = c.with_value-in-earlier.new.walk in
+    let back = c.earlier.invariant.back in
+    let gone = both_back g l.number a _ z (back_more g l.number a w _ back refl refl (λ j xs h s. s) [] (sym (append-nil w.lines)) (one_fewer w.left)) c.in_ok-with_value-2.ensures.back in
+    dropped_back g l.number a z _ gone refl refl refl c.earlier.passed (to_z w64 (of_z w64 c.first-first.result)) c.len-start.result c.len-at-in-earlier.result c.len-start.ensures c.drop_before.new.lines c.in_ok-drop_before.ensures _ c.in_ok-skip_between-3.ensures
+
+pub cases_ahead-returns-in-None-clause-told : goal.cases_ahead-returns-in-None-clause-told
+cases_ahead-returns-in-None-clause-told t c =
+    let s = c.args.stage.now in
+    let g = s.level.now.problem.now in
+    let a = c.args.walk.now in
+    let x = c.args.x.0 in
+    let vs = values_left a.remains.store.box x in
+    let spread = spread_here g a.remains x c.known.ensures.domains c.requires.going.within.here.game c.known-2.ensures.declared in
+    let free = is_free s x a c.requires.cuts c.requires.alone c.requires.nothing spread c.requires.free in
+    let now = c.earlier.invariant in
+    let w = c.earlier.walk in
+    let ahead = to_z w64 (of_z w64 c.args.ahead) in
+    let has : has_value vs ahead ≡ true = subst (λ v. has_value vs v ≡ true) (sym (passed_on vs c.args.ahead spread c.requires.value)) c.requires.value in
+    let owes = reached s x a free ahead (to_z w64 c.earlier.value-bits) c.put_by.new.aside c.earlier.passed w (ap (to_z w64) c.earlier-test.false) now.goes in
+    cases_ended (here_of s a) x a.left a.lines a.joins w.left c.bring_back.new.self w.joins
+    (home s x a free ahead c.put_by.new.aside c.earlier.passed [] w.left w.lines c.bring_back.new.self w.joins has (ended_by vs ahead c.next-next.result c.next-next.ensures c.in-None.is) (now.back.game ∙ c.requires.joins) c.if-walk-eq0-2.false owes c.in_ok-bring_back.ensures.back)
+
+pub cases_ahead-returns-in-None-clause-back : goal.cases_ahead-returns-in-None-clause-back
+cases_ahead-returns-in-None-clause-back t c =
+    let l = c.args.stage.now.level.now in
+    line_back l.problem.now l.number c.args.walk.now c.earlier.walk _ c.earlier.invariant.back refl refl refl _ c.in_ok-bring_back.ensures.back
+
+pub cases_ahead-returns-in_ok-later_cases-in-Some-next-clause-told : goal.cases_ahead-returns-in_ok-later_cases-in-Some-next-clause-told
+cases_ahead-returns-in_ok-later_cases-in-Some-next-clause-told t c =
+    let s = c.args.stage.now in
+    let g = s.level.now.problem.now in
+    let a = c.args.walk.now in
+    let x = c.args.x.0 in
+    let vs = values_left a.remains.store.box x in
+    let spread = spread_here g a.remains x c.known.ensures.domains c.requires.going.within.here.game c.known-2.ensures.declared in
+    let free = is_free s x a c.requires.cuts c.requires.alone c.requires.nothing spread c.requires.free in
+    let now = c.earlier.invariant in
+    let w = c.earlier.walk in
+    let ahead = to_z w64 (of_z w64 c.args.ahead) in
+    let n = c.in-Some-next.next in
+    let has : has_value vs ahead ≡ true = subst (λ v. has_value vs v ≡ true) (sym (passed_on vs c.args.ahead spread c.requires.value)) c.requires.value in
+    let owes = reached s x a free ahead (to_z w64 c.earlier.value-bits) c.put_by.new.aside c.earlier.passed w (ap (to_z w64) c.earlier-test.false) now.goes in
+    let rest = (next_case vs ahead n spread (gone_on vs ahead n c.next-next.result c.next-next.ensures c.in-Some-next.is)).1 in
+    let goes = home s x a free ahead c.put_by.new.aside c.earlier.passed (values_from (to_z w64 (of_z w64 n)) vs) w.left w.lines c.bring_back.new.self w.joins has rest (now.back.game ∙ c.requires.joins) c.if-walk-eq0-2.false owes c.in_ok-bring_back.ensures.back in
+    later_done s x a free w.remains.store.box w.left c.bring_back.new.self w.joins c.later_cases.new.walk c.len-start.result (to_z w64 (of_z w64 n)) now.back.box c.len-start.ensures c.in_ok-later_cases-in-Some-next.ensures.told goes
+
+pub cases_ahead-returns-in_ok-later_cases-in-Some-next-clause-back : goal.cases_ahead-returns-in_ok-later_cases-in-Some-next-clause-back
+cases_ahead-returns-in_ok-later_cases-in-Some-next-clause-back t c =
+    let l = c.args.stage.now.level.now in
+    let g = l.problem.now in
+    let a = c.args.walk.now in
+    let back = line_back g l.number a c.earlier.walk _ c.earlier.invariant.back refl refl refl _ c.in_ok-bring_back.ensures.back in
+    same_back g l.number a c.later_cases.new.walk _ (later_back g l.number a _ c.later_cases.new.walk c.len-start.result c.len-start.ensures back c.in_ok-later_cases-in-Some-next.ensures.back) refl refl refl refl
+
+pub cases_ahead-later_cases-requires : goal.cases_ahead-later_cases-requires
+cases_ahead-later_cases-requires t c =
+    let s = c.args.stage.now in
+    let l = s.level.now in
+    let g = l.problem.now in
+    let a = c.args.walk.now in
+    let x = c.args.x.0 in
+    let vs = values_left a.remains.store.box x in
+    let spread = spread_here g a.remains x c.known.ensures.domains c.requires.going.within.here.game c.known-2.ensures.declared in
+    let back = c.earlier.invariant.back in
+    let w = c.earlier.walk in
+    let ahead = to_z w64 (of_z w64 c.args.ahead) in
+    let n = c.in-Some-next.next in
+    let has = (next_case vs ahead n spread (gone_on vs ahead n c.next-next.result c.next-next.ensures c.in-Some-next.is)).0 in (
+      omega arith,
+      (c.requires.var, (going_back g l.number x a w back c.requires.going, (subst (λ (d : Box). is_single (values_left d x) ≡ false) (sym back.box) c.requires.free, (subst (λ (d : Box). has_value (values_left d x) (to_z w64 (of_z w64 n)) ≡ true) (sym back.box) has, (back.game ∙ c.requires.joins, longer a.lines w.lines c.bring_back.new.self back.written _ c.len-start.result c.len-start.ensures back.lines c.in_ok-bring_back.ensures.back))))),
+    )
