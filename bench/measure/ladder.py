@@ -1,4 +1,4 @@
-"""Measures the program on the ladder: 54 problems in eight families, each with its known answer (rungs.py).
+"""Measures the program on the ladder: 62 problems in nine families, each with its known answer (rungs.py).
 
     bench/run ladder [--list] [--only FAMILY] [--seed S] [--program PATH] [--seconds N] [--texts FOLDER]
                      [--save FILE] [--compare FILE] [--model PATH] [--runs N]

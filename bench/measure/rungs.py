@@ -1,4 +1,4 @@
-"""The problems of the ladder (ladder.py): eight families, each graded by size, each problem with its known answer.
+"""The problems of the ladder (ladder.py): nine families, each graded by size, each problem with its known answer.
 
 A known answer never comes from the program. It is found here by a plain method that shares nothing with a search over
 constraints: going over all choices, shortest ways, largest flows, tables of dynamic programming, theory, or a published
@@ -505,6 +505,7 @@ def is_true(blocks, clauses):
     return value == 1
 
 
+@cache
 def ones(x, count):
     width = 2 << x
     pattern = ((1 << (1 << x)) - 1) << (1 << x)
@@ -518,6 +519,43 @@ def formula_text(blocks, clauses):
     scopes = [[kind, declared("bool", *(f"x{x}" for x in block))] for kind, block in blocks]
     sides = ([[f"x{x}" for x, positive in clause if positive == side] for side in (True, False)] for clause in clauses)
     return game(*scopes, ["goal", rules(*(f"bool_clause({listed(yes)},{listed(no)})" for yes, no in sides))])
+
+
+# ---- Quantified Boolean formulas at random, of clauses of five literals of any variables. The first block is gone over, and of what
+# is left there is a table of all values.
+
+
+def long_formulas(pick):
+    for sizes, clauses in (
+        ((10, 10, 10), 60),
+        ((10, 10, 10), 80),
+        ((10, 10, 10), 100),
+        ((10, 10, 10), 120),
+        ((6, 8, 8, 8), 36),
+        ((6, 8, 8, 8), 44),
+        ((6, 8, 8, 8), 52),
+        ((6, 8, 8, 8), 60),
+    ):
+        blocks, last = [], 0
+        for k, size in enumerate(sizes):
+            blocks.append(("exists" if (len(sizes) - k) % 2 else "forall", range(last, last + size)))
+            last += size
+        chosen = [[(x, pick.random() < 0.5) for x in pick.sample(range(last), 5)] for _ in range(clauses)]
+        name = "formula of five " + "-".join(map(str, sizes)) + f" {clauses}"
+        yield name, formula_text(blocks, chosen), true_where(is_true_by_parts(blocks, chosen))
+
+
+def is_true_by_parts(blocks, clauses):
+    (kind, first), *rest = blocks
+    below = [(kind, range(block.start - first.stop, block.stop - first.stop)) for kind, block in rest]
+    parts = (is_true(below, part) for part in map(lambda a: restricted(clauses, first, a), range(1 << len(first))))
+    return any(parts) if kind == "exists" else all(parts)
+
+
+def restricted(clauses, first, values):
+    """What is left of the clauses where the variables of the first block have the bits of these values; the others count from 0."""
+    left = [clause for clause in clauses if not any(x < first.stop and (values >> x & 1) == positive for x, positive in clause)]
+    return [[(x - first.stop, positive) for x, positive in clause if x >= first.stop] for clause in left]
 
 
 # ---- One scope: queens, Golomb rulers, bins filled to the brim.
@@ -588,5 +626,5 @@ def packing_text(sizes, bins):
 
 
 FAMILIES = {
-    family.__name__: family for family in (pricing, interdiction, shop, knapsack, nim, boards, formulas, puzzles)
+    family.__name__: family for family in (pricing, interdiction, shop, knapsack, nim, boards, formulas, long_formulas, puzzles)
 }
