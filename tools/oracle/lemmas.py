@@ -273,6 +273,8 @@ class Proof:
         args = [boxed(kind, arg, box) for kind, arg in zip(SIGNATURES[c.name], c.args)]
         if c.name in ENTAILED and ENTAILED[c.name](*args):
             return True
+        if c.name in ("array_var_int_element", "array_var_bool_element") and is_picked(*args):
+            return True
         if all(len(box[x]) == 1 for x in variables(c.args)) and not refutes(c, box):
             return True
         form = linear(c)
@@ -280,6 +282,12 @@ class Proof:
             return False
         least, greatest = self.sum_known(k, None, box)
         return greatest <= form[2] and (not form[3] or least >= form[2])
+
+
+def is_picked(index, items, result):
+    """Whether the index has one value, and the item there and the result have one, the same."""
+    place = min(index) - 1
+    return len(index) == len(result) == 1 and 0 <= place < len(items) and set(items[place]) == set(result)
 
 
 def follows(before, x, low):

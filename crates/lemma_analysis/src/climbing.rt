@@ -1,8 +1,7 @@
 //! Other values of the player's last variables by which the goal holds as well, and rests on fewer values of the opponent's.
 //!
-//! In a game in which the opponent moves first and the player answers, a lemma of the player's is the better the fewer of the
-//! opponent's values it needs. So where all values are taken and the goal holds, values of the player's are turned over as long
-//! as more clauses are true by the player's own values then.
+//! A lemma of the player's is the better the fewer of the opponent's values it needs. So where all values are taken and the goal
+//! holds, values that the player takes last are turned over as long as more clauses are true by the player's own values then.
 use crate::study::Analyst;
 use lemma_engine::Engine;
 use lemma_ground::TruthOf;
@@ -65,10 +64,7 @@ pub(crate) fn slope_of(engine: &Engine, last_forall: usize) -> Result<Slope, All
         }
     }
     for scope in 0..engine.facts.goal() {
-        let is_players = engine.facts.side_at(scope) == Kind::Exists;
-        if scope < last_forall && is_players
-            || scope > last_forall && engine.facts.is_restricted(scope)
-        {
+        if scope > last_forall && engine.facts.is_restricted(scope) {
             is_open = false;
         }
     }

@@ -112,6 +112,9 @@ impl<'p> Analyst<'p> {
     ) -> Option<(Rank, VarId)> {
         let mut best: Option<(Rank, VarId)> = None;
         for item in engine.facts.items_of(c) {
+            if matches!(best, Some((Rank::Free, _))) {
+                break;
+            }
             if let Some(rank) = self.rank_of(engine, item, below, loser) {
                 let is_better = match best {
                     Some((before, _)) => rank < before,
@@ -123,6 +126,12 @@ impl<'p> Analyst<'p> {
             }
         }
         best
+    }
+
+    // Whether a clause is true by a value of which nothing more has to be said.
+    fn has_free_item(&self, engine: &Engine, c: ConId, below: usize, loser: Kind) -> bool {
+        engine.facts.items_of(c).iter().any(|item| self.rank_of(engine, item, below, loser)
+            == Some(Rank::Free))
     }
 
     // Marks variables by which all these clauses are true, each time the one that makes most of them so.
@@ -139,10 +148,7 @@ impl<'p> Analyst<'p> {
             self.go_over(engine.facts.variables());
             let mut left = Vec::new(engine.alloc);
             for c in open.as_slice() {
-                if !matches!(
-                    self.best_item(engine, *c, below, loser),
-                    Some((Rank::Free, _)) | None
-                ) {
+                if !self.has_free_item(engine, *c, below, loser) {
                     left.push(*c)?;
                 }
             }

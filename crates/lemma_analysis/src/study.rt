@@ -7,6 +7,7 @@ use lemma_needs::{
 };
 use qc_model::{Kind, Problem, VarId};
 use std::alloc::{AllocError, Global};
+use std::mem;
 
 /// What a conflict teaches: a lemma, to how many decisions to go back, and the loser's variable whose condition isn't met
 /// there.
@@ -96,8 +97,12 @@ impl<'p> Analyst<'p> {
 
     /// How many looks the engine may come to: all but those that the analysis took.
     pub fn looks_left(&self) -> u64 {
-        let own = self.tests.saturating_add(self.gone_over / AS_A_LOOK);
-        self.budget.saturating_sub(own)
+        self.budget.saturating_sub(self.looks())
+    }
+
+    /// How many looks the analysis took.
+    pub fn looks(&self) -> u64 {
+        self.tests.saturating_add(self.gone_over / AS_A_LOOK)
     }
 
     /// Counts what was gone over.
@@ -149,6 +154,23 @@ impl<'p> Analyst<'p> {
             }
             self.weight *= LITTLE;
         }
+    }
+
+    /// How much conflicts rested on each variable of late, by the most of all, which is 1. Nothing of it is left.
+    pub fn take_activity(&mut self, alloc: Global) -> Vec<f64> {
+        let mut taken = mem::replace(&mut self.activity, Vec::new(alloc));
+        let mut most = 0.0f64;
+        for activity in taken.iter() {
+            if *activity > most {
+                most = *activity;
+            }
+        }
+        if most > 0.0 {
+            for activity in taken.iter_mut() {
+                *activity /= most;
+            }
+        }
+        taken
     }
 
     /// Marks what was found to be needed.

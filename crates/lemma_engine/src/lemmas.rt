@@ -312,21 +312,25 @@ impl<'p> Engine<'p> {
     }
 
     fn visit_list(&mut self, list: usize, x: VarId) -> Result<Option<Conflict>, AllocError> {
+        let count = self.watches.get(list).map_or(0, |watches| watches.len());
+        self.pass_over(count);
+        let quiet = self.quiet_watches(list, x);
+        if quiet >= count {
+            return Ok(None);
+        }
         let Some(place) = self.watches.get_mut(list) else {
             return Ok(None);
         };
         let mut watches = mem::replace(place, Vec::new(self.alloc));
-        let count = watches.len();
-        self.pass_over(count);
-        let mut kept = 0usize;
+        let mut kept = quiet;
         let mut found = None;
-        for k in 0..count {
+        for k in quiet..count {
             let Some(watch) = watches.get(k).copied() else {
                 break;
             };
             let mut stays = Some(watch);
-            if found.is_none() {
-                let (left, conflict) = self.visit(watch, x)?;
+            if found.is_none() && !self.is_quiet(&watch, x) {
+                let (left, conflict) = self.visit(watch)?;
                 stays = left;
                 found = conflict;
             }
@@ -344,21 +348,31 @@ impl<'p> Engine<'p> {
         Ok(found)
     }
 
+    // How many watches of a list there are before the first whose lemma may have something to say.
+    fn quiet_watches(&self, list: usize, x: VarId) -> usize {
+        let mut quiet = 0usize;
+        if let Some(watches) = self.watches.get(list) {
+            for watch in watches.as_slice() {
+                if !self.is_quiet(watch, x) {
+                    break;
+                }
+                quiet = quiet.saturating_add(1);
+            }
+        }
+        quiet
+    }
+
+    // Whether the watched condition of x may not be met yet, or the other one can't be any more, by their ends.
+    fn is_quiet(&self, watch: &Watch, x: VarId) -> bool {
+        self.boxes.least(x) < watch.lo
+            || self.boxes.greatest(x) > watch.hi
+            || watch.other.0 != x.0
+                && (self.boxes.greatest(watch.other) < watch.other_lo
+                    || self.boxes.least(watch.other) > watch.other_hi)
+    }
+
     // What is left of a watch, and a conflict.
-    fn visit(
-        &mut self,
-        watch: Watch,
-        x: VarId,
-    ) -> Result<(Option<Watch>, Option<Conflict>), AllocError> {
-        if self.boxes.least(x) < watch.lo || self.boxes.greatest(x) > watch.hi {
-            return Ok((Some(watch), None));
-        }
-        if watch.other.0 != x.0
-            && (self.boxes.greatest(watch.other) < watch.other_lo
-                || self.boxes.least(watch.other) > watch.other_hi)
-        {
-            return Ok((Some(watch), None));
-        }
+    fn visit(&mut self, watch: Watch) -> Result<(Option<Watch>, Option<Conflict>), AllocError> {
         let Some(lemma) = self.known.get(watch.lemma) else {
             return Ok((None, None));
         };

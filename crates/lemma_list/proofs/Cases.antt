@@ -5,7 +5,7 @@ use Rattle.qc_model.specs.declared.problem.Kind.{Kind}
 use Rattle.qc_model.specs.declared.problem.Kind.TheVariants.{Exists, Forall}
 use Rattle.qc_model.specs.declared.problem.Arg.TheVariants.{Num}
 use Rattle.qc_model.specs.declared.problem.Argument.TheVariants.{One, Many, Numbers}
-use Rattle.qc_model.specs.declared.problem.Pred.TheVariants.{IntLe, IntLt, IntNe, IntPlus, IntLinEq, IntLinLe, BoolClause}
+use Rattle.qc_model.specs.declared.problem.Pred.TheVariants.{IntLe, IntLt, IntNe, IntPlus, IntLinEq, IntLinLe, ArrayVarIntElement, BoolClause}
 use Rattle.qc_model.specs.declared.problem.Domain.TheVariants.{Bits, Range}
 use Rattle.qc_model.specs.Content.{Game}
 use Rattle.qc_model.specs.Game.{allows}
@@ -330,3 +330,30 @@ not_three = refl
 -- a sum is of a linear constraint
 no_sum : proves (not_that (pos 0)) Forall (with_sums Forall [] (sum 0 (pos 0) (pos 1) ∷ []) (choose 0 (pos 1) ∷ []) Goal ∷ loses Forall [] (choose 0 (pos 1) ∷ []) Goal ∷ []) ≡ false
 no_sum = refl
+
+-- exists; var 0..1: a; var 0..1: b; constraint int_lin_le([1,1],[a,b],1); forall; var 1..2: i;
+-- constraint array_var_int_element(i,[a,b],0); goal; constraint int_lt(1,0); solve;
+abbrev pub picks : Game
+picks = record {
+  scopes = scope Exists ∷ scope Forall ∷ [];
+  variables =
+      variable 0 (codes "a") (Range (pos 0) (pos 1)) ∷ variable 0 (codes "b") (Range (pos 0) (pos 1))
+      ∷ variable 1 (codes "i") (Range (pos 1) (pos 2)) ∷ [];
+  aggregates = [];
+  constraints =
+      rule 0 IntLinLe (Numbers (pos 1 ∷ pos 1 ∷ []) ∷ Many (var 0 ∷ var 1 ∷ []) ∷ One (Num (pos 1)) ∷ [])
+      ∷ rule 1 ArrayVarIntElement (One (var 2) ∷ Many (var 0 ∷ var 1 ∷ []) ∷ One (Num (pos 0)) ∷ [])
+      ∷ rule 2 IntLt (One (Num (pos 1)) ∷ One (Num (pos 0)) ∷ []) ∷ [];
+}
+
+-- where a is 0 the opponent takes 1 for i, whatever b is; and where it is 1, so that b is 0, 2
+by_index : proves picks Exists
+    (loses Exists (is 0 (pos 0) (pos 0) ∷ []) (choose 2 (pos 1) ∷ []) (lost (constraint 2))
+    ∷ loses Exists [] (cut 0 (pos 0) (pos 0) (lemma 0) ∷ cut 1 (pos 1) (pos 1) (constraint 0) ∷ choose 2 (pos 2) ∷ []) (lost (constraint 2)) ∷ []) ≡ true
+by_index = refl
+
+-- where b is 0 it may not take 1, since a may be 1
+another_index : proves picks Exists
+    (loses Exists (is 1 (pos 0) (pos 0) ∷ []) (choose 2 (pos 1) ∷ []) (lost (constraint 2))
+    ∷ loses Exists [] (cut 1 (pos 0) (pos 0) (lemma 0) ∷ cut 0 (pos 1) (pos 1) (constraint 0) ∷ choose 2 (pos 1) ∷ []) (lost (constraint 2)) ∷ []) ≡ false
+another_index = refl

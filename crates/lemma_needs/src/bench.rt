@@ -1,18 +1,21 @@
 //! Boxes that are made of some changes, to ask what these alone show.
 use lemma_engine::{Choice, Engine};
 use lemma_ground::{Boxes, Change, Cut};
-use qc_model::{ConId, Problem, VarId};
+use model_arguments::{arguments, items_at, one_at};
+use qc_model::{Arg, Argument, ConId, Meaning, Problem, VarId, meaning_of};
 use std::alloc::{AllocError, Global};
 
 /// A box to try changes on. Between two tries it is the declared one.
 #[derive(Drop)]
 pub struct Bench<'p> {
+    problem: &'p Problem,
     boxes: Boxes<'p>,
 }
 
 impl<'p> Bench<'p> {
     pub fn new(alloc: Global, problem: &'p Problem) -> Result<Bench<'p>, AllocError> {
         Ok(Bench {
+            problem,
             boxes: Boxes::new(alloc, problem)?,
         })
     }
@@ -66,11 +69,48 @@ impl<'p> Bench<'p> {
         if let Some(linear) = engine.facts.linear_of(c) {
             return linear.is_kept_by(linear.total(&self.boxes), &self.boxes);
         }
+        if self.is_picked(c) {
+            return true;
+        }
         engine
             .facts
             .own_of(c)
             .iter()
             .all(|x| self.boxes.is_fixed(*x))
             && !self.boxes.refutes(c)
+    }
+
+    // Whether it is an element of variables whose index has one value, and the item there and the result have one, the same.
+    fn is_picked(&self, c: ConId) -> bool {
+        self.problem.known();
+        if c.0 as usize >= self.problem.constraints() {
+            return false;
+        }
+        let rule = self.problem.constraint(c);
+        let row = meaning_of(rule.pred);
+        if row.reified || row.meaning != Meaning::VariableElement {
+            return false;
+        }
+        let args = arguments(rule);
+        let Some(item) = self.item_of(args) else {
+            return false;
+        };
+        let value = self.value_of(item);
+        value.is_some() && value == self.value_of(one_at(args, 2))
+    }
+
+    // The item at the index, where that has one value.
+    fn item_of(&self, args: &[Argument]) -> Option<Arg> {
+        let place = self.value_of(one_at(args, 0))?;
+        match usize::try_from(place.saturating_sub(1)) {
+            Ok(k) => items_at(args, 1).get(k).copied(),
+            Err(_) => None,
+        }
+    }
+
+    // The value of an argument that has one.
+    fn value_of(&self, arg: Arg) -> Option<i64> {
+        let (least, greatest) = self.boxes.ends(arg);
+        if least == greatest { Some(least) } else { None }
     }
 }

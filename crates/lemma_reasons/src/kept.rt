@@ -15,6 +15,7 @@ ghost use Rattle.lemma_reasons.specs.Known.{compared};
 
 use crate::aim::Aim;
 use crate::forms::linear_sum;
+use crate::picked::entailed_by_index;
 use crate::sums::{Given, Sum};
 use fd_store::Store;
 use model_arguments::arguments;
@@ -124,15 +125,15 @@ fn are_settled(args: &[Argument], store: &Store) -> bool
     true
 }
 
-// Whether the box alone entails a constraint: by the table, or since it has one value for each argument and doesn't refute
-// the constraint.
+// Whether the box alone entails a constraint: by the table, an element by its index, or since it has one value for each argument
+// and doesn't refute the constraint.
 fn is_entailed(aim: &Aim, c: ConId, rule: &Constraint, store: &Store) -> bool
     requires rule { slice_get aim.now.problem.now.constraints c.0 ≡ Some rule.now }
     requires asked { IsAsked aim.now.problem.now rule.now store.now.box }
     ensures { result ≡ entailed_by rule.now store.now.box }
 {
     aim.problem.known();
-    if entails(aim.problem, rule, store) {
+    if entails(aim.problem, rule, store) || entailed_by_index(aim.problem, rule, store) {
         return true;
     }
     are_settled(arguments(rule), store) && !refutes(aim.problem, c, store)

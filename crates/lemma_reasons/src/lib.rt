@@ -11,6 +11,7 @@ mod clauses;
 mod forms;
 mod kept;
 mod literals;
+mod picked;
 mod places;
 mod reasons;
 mod rules;

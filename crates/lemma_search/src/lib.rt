@@ -4,11 +4,13 @@
 //! has it checked, and falls back to another search where it isn't believed.
 #![tactic(auto)]
 
+mod attempt;
 mod deciding;
 mod listing;
 mod pacing;
 mod replay;
 mod search;
+mod shortening;
 
 pub use listing::{List, Shown};
 pub use search::learn;

@@ -1,7 +1,9 @@
 //! The search.
-use crate::deciding::{first_values, next_choice};
-use crate::listing::{List, listed};
+use crate::attempt::Attempt;
+use crate::deciding::next_choice;
+use crate::listing::List;
 use crate::pacing::Pace;
+use crate::shortening::shortest;
 use lemma_analysis::Analyst;
 use lemma_engine::{Cause, Conflict, Engine};
 use qc_model::{Kind, Problem};
@@ -11,6 +13,9 @@ use std::alloc::{AllocError, Global};
 /// isn't plain, where the search gives up, where it has looked at as many constraints and lemmas as the budget says, and where
 /// it keeps too much. Nothing is promised of a list that comes. It fails only where memory runs out.
 ///
+/// Once it is known who wins, it is found again from the values with which the search ended, as long as that is quick and looks
+/// are left, and the shortest list is given.
+///
 /// What is gone over besides counts for the budget too, so much of it for a look as takes about as long. All lemmas learnt are
 /// kept with the steps that show them, up to 12,000,000 literals, sums and steps, where each lemma counts as 16 more: together
 /// with the list they take about 1 GB at most. What the values of the variables take, and what one lemma may take, of some
@@ -19,13 +24,12 @@ pub fn learn(alloc: Global, problem: &Problem, budget: u64) -> Result<Option<Lis
     if !is_plain(problem) {
         return Ok(None);
     }
-    let mut engine = Engine::new(alloc, problem)?;
-    let mut analyst = Analyst::new(alloc, problem, &engine, budget)?;
-    engine.saved = first_values(alloc, &engine)?;
-    if !is_decided(&mut engine, &mut analyst)? {
+    let mut attempt = Attempt::first(alloc, problem, budget)?;
+    let Some(list) = attempt.list()? else {
         return Ok(None);
-    }
-    listed(alloc, problem, &engine)
+    };
+    let left = budget.saturating_sub(attempt.looks());
+    Ok(Some(shortest(&mut attempt, list, left)?))
 }
 
 fn is_plain(problem: &Problem) -> bool {
@@ -52,8 +56,8 @@ enum Turn {
     Spent,
 }
 
-// Goes on until the last lemma says who wins, or it gives up.
-fn is_decided(engine: &mut Engine, analyst: &mut Analyst) -> Result<bool, AllocError> {
+/// Goes on until the last lemma says who wins, or it gives up.
+pub(crate) fn is_decided(engine: &mut Engine, analyst: &mut Analyst) -> Result<bool, AllocError> {
     let mut pace = Pace::new();
     for _ in 0..u64::MAX {
         match one_turn(engine, analyst, &mut pace)? {
