@@ -5,7 +5,7 @@ import unittest
 
 TOP = os.path.dirname(os.path.dirname(os.path.dirname(os.path.realpath(__file__))))
 # Crates of tests promise nothing to a user.
-OF_TESTS = {"test_libraries", "test_certificates", "test_program", "test_tell", "test_dense"}
+OF_TESTS = {"test_libraries", "test_certificates", "test_rows"}
 # What a row names that is no function: types and fields of contracts, clauses, and words of the prose.
 NAME = re.compile(r"`([a-z_]+)`")
 

@@ -1,0 +1,17 @@
+% Three gates. I post at most two guards. An attacker who sees them then attacks at most two gates.
+% Then I move a reserve of one. Can I post the guards so that every attacked gate is held?
+exists;
+  var 0..1: guard1; var 0..1: guard2; var 0..1: guard3;
+  constraint int_lin_le([1,1,1],[guard1,guard2,guard3],2);
+forall;
+  var 0..1: attack1; var 0..1: attack2; var 0..1: attack3;
+  constraint int_lin_le([1,1,1],[attack1,attack2,attack3],2);
+exists;
+  var 0..1: reserve1; var 0..1: reserve2; var 0..1: reserve3;
+  constraint int_lin_le([1,1,1],[reserve1,reserve2,reserve3],1);
+goal;
+  % an attack is at most a guard plus the reserve
+  constraint int_lin_le([1,-1,-1],[attack1,guard1,reserve1],0);
+  constraint int_lin_le([1,-1,-1],[attack2,guard2,reserve2],0);
+  constraint int_lin_le([1,-1,-1],[attack3,guard3,reserve3],0);
+solve;
