@@ -2,7 +2,7 @@
 //!
 //! Each module tries the public calls of one crate. They stand in a crate of their own, since a crate with tests is
 //! proved twice. It has nothing but tests. What a clause says for every input is not tried again: most calls of the
-//! libraries succeed in the trials of the commands (`test_program`), which go through all layers.
+//! libraries succeed in the trials of the commands (`test_rows`), which go through all layers.
 #![tactic(auto)]
 
 #[cfg(test)]
