@@ -4,7 +4,6 @@ use Rattle.std.specs.Prelude.{pos, slice_get}
 use Rattle.std.specs.List.{list_all, list_any}
 use Rattle.qc_model.specs.declared.problem.Arg.TheVariants.{Num}
 use Rattle.qc_model.specs.declared.problem.Argument.{Argument}
-use Rattle.qc_model.specs.declared.problem.Pred.TheVariants.{BoolClause, BoolClauseReif}
 use Rattle.qc_model.specs.declared.problem.Variable.{Variable}
 use Rattle.qc_model.specs.declared.signature.ArgKind.{ArgKind}
 use Rattle.qc_model.specs.declared.signature.ArgKind.TheVariants.{Boolean as boolean, Booleans as booleans}
@@ -12,7 +11,7 @@ use Rattle.qc_model.specs.Content.{Game, Rule}
 use Rattle.qc_model.specs.Domains.{Box, has_value}
 use Rattle.qc_model.specs.Entailed.{entailed_as}
 use Rattle.qc_model.specs.Left.{is_only, lefts_at}
-use Rattle.qc_model.specs.Meaning.{clause, meaning_of}
+use Rattle.qc_model.specs.Meaning.{clause, reified, meaning_of}
 use Rattle.qc_model.specs.Refuted.{left_to, refuted_as}
 use Rattle.qc_model.specs.Valid.{is_boolean, is_of_sort, are_of_sorts}
 use Rattle.qc_model.proofs.Readable.{second}
@@ -58,20 +57,20 @@ clause_kinds = booleans ∷ booleans ∷ []
 abbrev told_kinds : List ArgKind
 told_kinds = booleans ∷ booleans ∷ boolean ∷ []
 
-pub clause_few : (g : Game) (c : Rule) (box : Box) → IsAsked g c box → c.pred ≡ BoolClause → length (args_at c.args 0) + length (args_at c.args 1) ≤ 2000
-clause_few g c box a e = both_few g c clause_kinds (of_kinds g c box BoolClause a e) refl refl
+pub clause_few : (g : Game) (c : Rule) (box : Box) → IsAsked g c box → meaning_of c.pred ≡ clause → length (args_at c.args 0) + length (args_at c.args 1) ≤ 2000
+clause_few g c box a e = both_few g c clause_kinds (of_kinds g c box clause clause_kinds a e (λ k. k)) refl refl
 
-pub clause_says : (g : Game) (c : Rule) (box : Box) → IsAsked g c box → c.pred ≡ BoolClause → IsDisjunction g c (literals (args_at c.args 0) (args_at c.args 1)) (plain (Num (pos 1)))
+pub clause_says : (g : Game) (c : Rule) (box : Box) → IsAsked g c box → meaning_of c.pred ≡ clause → IsDisjunction g c (literals (args_at c.args 0) (args_at c.args 1)) (plain (Num (pos 1)))
 clause_says g c box a e =
-    let s = of_kinds g c box BoolClause a e in
+    let s = of_kinds g c box clause clause_kinds a e (λ k. k) in
     record {
       truths = λ other b. literals_truths g c other b (args_at c.args 0) (args_at c.args 1) (array_boolean g c clause_kinds 0 s refl) (array_boolean g c clause_kinds 1 s refl);
-      refuted = λ other b. ap (λ p. refuted_as (meaning_of p) (lefts other c.args)) e ∙ all_fail c other;
+      refuted = λ other b. ap (λ m. refuted_as m (lefts other c.args)) e ∙ all_fail c other;
     }
 
 -- the last argument says whether the clause holds
-pub told_few : (g : Game) (c : Rule) (box : Box) → IsAsked g c box → c.pred ≡ BoolClauseReif → length (args_at c.args 0) + length (args_at c.args 1) ≤ 2000
-told_few g c box a e = both_few g c told_kinds (of_kinds g c box BoolClauseReif a e) refl refl
+pub told_few : (g : Game) (c : Rule) (box : Box) → IsAsked g c box → meaning_of c.pred ≡ reified clause → length (args_at c.args 0) + length (args_at c.args 1) ≤ 2000
+told_few g c box a e = both_few g c told_kinds (of_kinds g c box (reified clause) told_kinds a e (λ k. k)) refl refl
 
 last_third : (xs : List Variable) (args : List Argument) → are_of_sorts xs told_kinds args ≡ true → last_arg args ≡ arg_at args 2
 last_third xs [] h = cc
@@ -83,9 +82,9 @@ last_third xs (a ∷ b ∷ d ∷ z ∷ args) h =
     let m = is_of_sort xs boolean d && false in
     let e = second (is_of_sort xs boolean d) false (second (is_of_sort xs booleans b) m (second (is_of_sort xs booleans a) (is_of_sort xs booleans b && m) h)) in cc
 
-pub told_says : (g : Game) (c : Rule) (box : Box) → IsAsked g c box → c.pred ≡ BoolClauseReif → IsDisjunction g c (literals (args_at c.args 0) (args_at c.args 1)) (plain (last_arg c.args))
+pub told_says : (g : Game) (c : Rule) (box : Box) → IsAsked g c box → meaning_of c.pred ≡ reified clause → IsDisjunction g c (literals (args_at c.args 0) (args_at c.args 1)) (plain (last_arg c.args))
 told_says g c box a e =
-    let s = of_kinds g c box BoolClauseReif a e in
+    let s = of_kinds g c box (reified clause) told_kinds a e (λ k. k) in
     let r = last_arg c.args in
     let ls = literals (args_at c.args 0) (args_at c.args 1) in
     let truth = ap (is_boolean g.variables) (last_third g.variables c.args s) ∙ one_boolean g.variables told_kinds c.args 2 s refl in
@@ -95,7 +94,7 @@ told_says g c box a e =
           let all = list_all (surely_fails other) ls in
           let some = list_any (surely_holds other) ls in
           let d = left_to other r in
-          ap (λ p. refuted_as (meaning_of p) (lefts other c.args)) e
+          ap (λ m. refuted_as m (lefts other c.args)) e
           ∙ (ap (λ z. (not (has_value z (pos 1)) || refuted_as clause (lefts other c.args)) && (not (has_value z (pos 0)) || entailed_as clause (lefts other c.args))) (last_written other c.args)
           ∙ (ap (λ z. (not (has_value d (pos 1)) || z) && (not (has_value d (pos 0)) || entailed_as clause (lefts other c.args))) (all_fail c other)
           ∙ (ap (λ z. (not (has_value d (pos 1)) || all) && (not (has_value d (pos 0)) || z)) (some_holds c other)

@@ -1,16 +1,16 @@
 -- Conjunctions and disjunctions of truth values.
-use Rattle.std.proofs.Common.{◌≡◌, Bool, true, false, ◌&&◌, ◌||◌, List, [], ◌∷◌, length, map, refl, sym, ap, ◌∙◌}
-use Rattle.std.specs.Prelude.{pos, nat_le}
+use Rattle.std.proofs.Common.{◌≡◌, Bool, true, false, ◌&&◌, ◌||◌, List, [], ◌∷◌, length, map, refl, sym, ap, ◌∙◌, subst}
+use Rattle.std.specs.Prelude.{pos, nat_le, ⊤}
 use Rattle.std.specs.List.{list_all, list_any}
 use Rattle.qc_model.specs.declared.problem.Arg.{Arg}
 use Rattle.qc_model.specs.declared.problem.Pred.{Pred}
-use Rattle.qc_model.specs.declared.problem.Pred.TheVariants.{BoolAnd, BoolOr, ArrayBoolAnd, ArrayBoolOr}
+use Rattle.qc_model.specs.declared.problem.Pred.TheVariants.{IntEq}
 use Rattle.qc_model.specs.declared.signature.ArgKind.{ArgKind}
 use Rattle.qc_model.specs.declared.signature.ArgKind.TheVariants.{Boolean as boolean, Booleans as booleans}
 use Rattle.qc_model.specs.Content.{Game, Rule}
 use Rattle.qc_model.specs.Domains.{Box}
 use Rattle.qc_model.specs.Left.{span, is_only, range_at, least_range, greatest_range}
-use Rattle.qc_model.specs.Meaning.{meaning_of}
+use Rattle.qc_model.specs.Meaning.{Meaning, both, either, exactly_one, all_items, some_item, odd_items, clause, reified, meaning_of}
 use Rattle.qc_model.specs.Ranges.{Range, point, ranges_miss, smaller_range, greater_range}
 use Rattle.qc_model.specs.Refuted.{left_to, refuted_as}
 use Rattle.qc_model.specs.Signature.{arg_kinds_of}
@@ -82,8 +82,30 @@ heads_truths g c box l xs ys a h k m = together (is_truth_at box l) (list_all (i
 abbrev array_kinds : List ArgKind
 array_kinds = booleans ∷ boolean ∷ []
 
-pub of_kinds : (g : Game) (c : Rule) (box : Box) (p : Pred) → IsAsked g c box → c.pred ≡ p → are_of_sorts g.variables (arg_kinds_of p) c.args ≡ true
-of_kinds g c box p a e = ap (λ q. are_of_sorts g.variables (arg_kinds_of q) c.args) (sym e) ∙ sorted g c box a
+-- two and a result
+abbrev pub three_kinds : List ArgKind
+three_kinds = boolean ∷ boolean ∷ boolean ∷ []
+
+-- the kinds of the arguments where a predicate means this
+abbrev AreKindsOf : Meaning → List ArgKind → Type 0
+AreKindsOf both kinds = kinds ≡ three_kinds
+AreKindsOf either kinds = kinds ≡ three_kinds
+AreKindsOf exactly_one kinds = kinds ≡ three_kinds
+AreKindsOf all_items kinds = kinds ≡ array_kinds
+AreKindsOf some_item kinds = kinds ≡ array_kinds
+AreKindsOf odd_items kinds = kinds ≡ booleans ∷ []
+AreKindsOf clause kinds = kinds ≡ booleans ∷ booleans ∷ []
+AreKindsOf (reified clause) kinds = kinds ≡ booleans ∷ booleans ∷ boolean ∷ []
+AreKindsOf _ kinds = ⊤
+
+are_kinds_of : (p : Pred) → AreKindsOf (meaning_of p) (arg_kinds_of p)
+are_kinds_of IntEq = tt
+are_kinds_of _ = assumption
+
+pub of_kinds : (g : Game) (c : Rule) (box : Box) (m : Meaning) (kinds : List ArgKind) → IsAsked g c box → meaning_of c.pred ≡ m → (AreKindsOf m (arg_kinds_of c.pred) → arg_kinds_of c.pred ≡ kinds) → are_of_sorts g.variables kinds c.args ≡ true
+of_kinds g c box m kinds a e f =
+    let these = f (subst (λ z. AreKindsOf z (arg_kinds_of c.pred)) e (are_kinds_of c.pred)) in
+    ap (λ ks. are_of_sorts g.variables ks c.args) (sym these) ∙ sorted g c box a
 
 array_items : (g : Game) (c : Rule) → are_of_sorts g.variables array_kinds c.args ≡ true → (nat_le (length (args_at c.args 0)) 1000 && list_all (is_boolean g.variables) (args_at c.args 0)) ≡ true
 array_items g c s = items_boolean g.variables array_kinds c.args 0 s refl
@@ -91,35 +113,31 @@ array_items g c s = items_boolean g.variables array_kinds c.args 0 s refl
 array_result : (g : Game) (c : Rule) → are_of_sorts g.variables array_kinds c.args ≡ true → is_boolean g.variables (arg_at c.args 1) ≡ true
 array_result g c s = one_boolean g.variables array_kinds c.args 1 s refl
 
-pub all_items_say : (g : Game) (c : Rule) (box : Box) → IsAsked g c box → c.pred ≡ ArrayBoolAnd → IsDisjunction g c (literals [] (args_at c.args 0)) (negated (arg_at c.args 1))
+pub all_items_say : (g : Game) (c : Rule) (box : Box) → IsAsked g c box → meaning_of c.pred ≡ all_items → IsDisjunction g c (literals [] (args_at c.args 0)) (negated (arg_at c.args 1))
 all_items_say g c box a e =
-    let s = of_kinds g c box ArrayBoolAnd a e in
+    let s = of_kinds g c box all_items array_kinds a e (λ k. k) in
     let xs = booleans_of g.variables (args_at c.args 0) (array_items g c s) in
     record {
       truths = λ other b. heads_truths g c other (negated (arg_at c.args 1)) [] (args_at c.args 0) b (array_result g c s) refl xs;
       refuted = λ other b.
-          ap (λ p. refuted_as (meaning_of p) (lefts other c.args)) e
+          ap (λ m. refuted_as m (lefts other c.args)) e
           ∙ (ap (λ ds. ranges_miss (least_range (point (pos 1)) ds) (range_at (lefts other c.args) 1)) (lefts_written other c.args 0)
           ∙ (ap (λ d. ranges_miss (least_range (point (pos 1)) (map (left_to other) (args_at c.args 0))) (span d)) (left_written other c.args 1)
           ∙ all_says g c other (args_at c.args 0) (arg_at c.args 1) b xs (array_result g c s)));
     }
 
-pub some_item_says : (g : Game) (c : Rule) (box : Box) → IsAsked g c box → c.pred ≡ ArrayBoolOr → IsDisjunction g c (literals (args_at c.args 0) []) (plain (arg_at c.args 1))
+pub some_item_says : (g : Game) (c : Rule) (box : Box) → IsAsked g c box → meaning_of c.pred ≡ some_item → IsDisjunction g c (literals (args_at c.args 0) []) (plain (arg_at c.args 1))
 some_item_says g c box a e =
-    let s = of_kinds g c box ArrayBoolOr a e in
+    let s = of_kinds g c box some_item array_kinds a e (λ k. k) in
     let xs = booleans_of g.variables (args_at c.args 0) (array_items g c s) in
     record {
       truths = λ other b. heads_truths g c other (plain (arg_at c.args 1)) (args_at c.args 0) [] b (array_result g c s) xs refl;
       refuted = λ other b.
-          ap (λ p. refuted_as (meaning_of p) (lefts other c.args)) e
+          ap (λ m. refuted_as m (lefts other c.args)) e
           ∙ (ap (λ ds. ranges_miss (greatest_range (point (pos 0)) ds) (range_at (lefts other c.args) 1)) (lefts_written other c.args 0)
           ∙ (ap (λ d. ranges_miss (greatest_range (point (pos 0)) (map (left_to other) (args_at c.args 0))) (span d)) (left_written other c.args 1)
           ∙ some_says g c other (args_at c.args 0) (arg_at c.args 1) b xs (array_result g c s)));
     }
-
--- two and a result
-abbrev pub three_kinds : List ArgKind
-three_kinds = boolean ∷ boolean ∷ boolean ∷ []
 
 abbrev pub two_args : Rule → List Arg
 two_args c = arg_at c.args 0 ∷ arg_at c.args 1 ∷ []
@@ -137,27 +155,27 @@ spans_at op c box =
     ∙ (ap (λ d. ranges_miss (op (span (left_to box (arg_at c.args 0))) (span d)) (range_at (lefts box c.args) 2)) (left_written box c.args 1)
     ∙ ap (λ d. ranges_miss (op (span (left_to box (arg_at c.args 0))) (span (left_to box (arg_at c.args 1)))) (span d)) (left_written box c.args 2))
 
-pub both_say : (g : Game) (c : Rule) (box : Box) → IsAsked g c box → c.pred ≡ BoolAnd → IsDisjunction g c (literals [] (two_args c)) (negated (arg_at c.args 2))
+pub both_say : (g : Game) (c : Rule) (box : Box) → IsAsked g c box → meaning_of c.pred ≡ both → IsDisjunction g c (literals [] (two_args c)) (negated (arg_at c.args 2))
 both_say g c box a e =
-    let s = of_kinds g c box BoolAnd a e in
+    let s = of_kinds g c box both three_kinds a e (λ k. k) in
     let r = one_boolean g.variables three_kinds c.args 2 s refl in
     record {
       truths = λ other b. heads_truths g c other (negated (arg_at c.args 2)) [] (two_args c) b r refl (two_boolean g c s);
       refuted = λ other b.
-          ap (λ p. refuted_as (meaning_of p) (lefts other c.args)) e
+          ap (λ m. refuted_as m (lefts other c.args)) e
           ∙ (spans_at smaller_range c other
           ∙ (ap (λ z. ranges_miss z (span (left_to other (arg_at c.args 2)))) (least_of_two (left_to other (arg_at c.args 0)) (left_to other (arg_at c.args 1)) (truth_of g c other b (arg_at c.args 1) (one_boolean g.variables three_kinds c.args 1 s refl)))
           ∙ all_says g c other (two_args c) (arg_at c.args 2) b (two_boolean g c s) r));
     }
 
-pub either_says : (g : Game) (c : Rule) (box : Box) → IsAsked g c box → c.pred ≡ BoolOr → IsDisjunction g c (literals (two_args c) []) (plain (arg_at c.args 2))
+pub either_says : (g : Game) (c : Rule) (box : Box) → IsAsked g c box → meaning_of c.pred ≡ either → IsDisjunction g c (literals (two_args c) []) (plain (arg_at c.args 2))
 either_says g c box a e =
-    let s = of_kinds g c box BoolOr a e in
+    let s = of_kinds g c box either three_kinds a e (λ k. k) in
     let r = one_boolean g.variables three_kinds c.args 2 s refl in
     record {
       truths = λ other b. heads_truths g c other (plain (arg_at c.args 2)) (two_args c) [] b r (two_boolean g c s) refl;
       refuted = λ other b.
-          ap (λ p. refuted_as (meaning_of p) (lefts other c.args)) e
+          ap (λ m. refuted_as m (lefts other c.args)) e
           ∙ (spans_at greater_range c other
           ∙ (ap (λ z. ranges_miss z (span (left_to other (arg_at c.args 2)))) (greatest_of_two (left_to other (arg_at c.args 0)) (left_to other (arg_at c.args 1)) (truth_of g c other b (arg_at c.args 1) (one_boolean g.variables three_kinds c.args 1 s refl)))
           ∙ some_says g c other (two_args c) (arg_at c.args 2) b (two_boolean g c s) r));

@@ -4,13 +4,12 @@ use Rattle.std.specs.Prelude.{pos}
 use Rattle.std.specs.Ordering.{int_eq}
 use Rattle.std.specs.List.{list_all}
 use Rattle.qc_model.specs.declared.problem.Arg.{Arg}
-use Rattle.qc_model.specs.declared.problem.Pred.TheVariants.{BoolXor, ArrayBoolXor}
 use Rattle.qc_model.specs.declared.signature.ArgKind.TheVariants.{Booleans as booleans}
 use Rattle.qc_model.specs.Content.{Game, Rule}
 use Rattle.qc_model.specs.Domains.{Values, Box, is_single, least_value}
 use Rattle.qc_model.specs.Holds.{same_truth, odd_ones, is_one}
 use Rattle.qc_model.specs.Left.{left_at}
-use Rattle.qc_model.specs.Meaning.{meaning_of}
+use Rattle.qc_model.specs.Meaning.{exactly_one, odd_items, meaning_of}
 use Rattle.qc_model.specs.Refuted.{left_to, refuted_as}
 use Rattle.qc_model.specs.Valid.{is_boolean}
 use Rattle.qc_model.proofs.Readable.{together}
@@ -28,14 +27,14 @@ least_mapped : (box : Box) (xs : List Arg) → map least_value (map (left_to box
 least_mapped box [] = refl
 least_mapped box (a ∷ xs) = ap (λ ns. least_value (left_to box a) ∷ ns) (least_mapped box xs)
 
-pub odd_items_say : (g : Game) (c : Rule) (box : Box) → IsAsked g c box → c.pred ≡ ArrayBoolXor → IsParity g c (args_at c.args 0) true
+pub odd_items_say : (g : Game) (c : Rule) (box : Box) → IsAsked g c box → meaning_of c.pred ≡ odd_items → IsParity g c (args_at c.args 0) true
 odd_items_say g c box a e =
     let xs = args_at c.args 0 in
-    let h = booleans_of g.variables xs (items_boolean g.variables (booleans ∷ []) c.args 0 (of_kinds g c box ArrayBoolXor a e) refl) in
+    let h = booleans_of g.variables xs (items_boolean g.variables (booleans ∷ []) c.args 0 (of_kinds g c box odd_items (booleans ∷ []) a e (λ k. k)) refl) in
     record {
       truths = λ other b. sym (all_left is_truth_left other xs) ∙ truths_left g c other b xs h;
       refuted = λ other b.
-          ap (λ p. refuted_as (meaning_of p) (lefts other c.args)) e
+          ap (λ m. refuted_as m (lefts other c.args)) e
           ∙ (ap (λ ds. list_all is_single ds && not (odd_ones (map least_value ds))) (lefts_written other c.args 0)
           ∙ (ap (λ z. z && not (odd_ones (map least_value (map (left_to other) xs)))) (all_left is_single other xs)
           ∙ ap (λ ns. are_single other xs && not (odd_ones ns)) (least_mapped other xs)));
@@ -71,9 +70,9 @@ said_counted d e f h k m =
     e k)
     d h
 
-pub exactly_one_says : (g : Game) (c : Rule) (box : Box) → IsAsked g c box → c.pred ≡ BoolXor → IsParity g c (three_args c) false
+pub exactly_one_says : (g : Game) (c : Rule) (box : Box) → IsAsked g c box → meaning_of c.pred ≡ exactly_one → IsParity g c (three_args c) false
 exactly_one_says g c box a e =
-    let s = of_kinds g c box BoolXor a e in
+    let s = of_kinds g c box exactly_one three_kinds a e (λ k. k) in
     let truth : (other : Box) (k : Arg) → IsAsked g c other → is_boolean g.variables k ≡ true → is_truth_left (left_to other k) ≡ true = λ other k b h. truth_of g c other b k h in
     let first = one_boolean g.variables three_kinds c.args 0 s refl in
     let second = one_boolean g.variables three_kinds c.args 1 s refl in
@@ -87,7 +86,7 @@ exactly_one_says g c box a e =
           together (t (arg_at c.args 0)) (t (arg_at c.args 1) && (t (arg_at c.args 2) && true)) x
           (together (t (arg_at c.args 1)) (t (arg_at c.args 2) && true) y (together (t (arg_at c.args 2)) true z refl));
       refuted = λ other b.
-          ap (λ p. refuted_as (meaning_of p) (lefts other c.args)) e
+          ap (λ m. refuted_as m (lefts other c.args)) e
           ∙ (ap (λ d. said_by d (left_at (lefts other c.args) 1) (left_at (lefts other c.args) 2)) (left_written other c.args 0)
           ∙ (ap (λ d. said_by (left_to other (arg_at c.args 0)) d (left_at (lefts other c.args) 2)) (left_written other c.args 1)
           ∙ (ap (λ d. said_by (left_to other (arg_at c.args 0)) (left_to other (arg_at c.args 1)) d) (left_written other c.args 2)

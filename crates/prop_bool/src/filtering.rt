@@ -1,7 +1,10 @@
 //! The filter.
 ghost use Rattle.std.specs.Prelude.{◌≡◌, ◌<◌, length, IfOk, slice_get, Some};
 ghost use Rattle.qc_model.specs.Content.{Rule};
+ghost use Rattle.qc_model.specs.Meaning.{meaning_of as meaning_in_spec, reified};
+ghost use Rattle.qc_model.specs.RowMeaning.{plain_meaning};
 ghost use Rattle.model_arguments.specs.Asked.{IsAsked};
+ghost use Rattle.prop_base.specs.Filtering.{Answers, Fits, Prunes};
 ghost use Rattle.prop_base.specs.Pruning.{IsPruning, IsFiltered, is_just};
 
 use crate::predicates::{
@@ -12,14 +15,63 @@ use fd_store::Store;
 use proof_tree::StepList;
 use prop_base::{Asked, Filtered, RuleFilter, filter_by_ends};
 use prop_compare::{Comparison, Table, filter_comparison, filter_reified};
-use qc_model::{ConId, Pred, Problem};
+use qc_model::{ConId, Meaning, Problem, meaning_of};
 use std::alloc::{AllocError, Global};
+
+fn filter_plain(
+    meaning: Meaning,
+    asked: Asked,
+    store: &mut Store,
+    steps: &mut StepList,
+) -> Result<Filtered, AllocError>
+    requires meaning { meaning_in_spec asked.rule.now.pred ≡ plain_meaning meaning }
+    requires fits { Fits asked store.old }
+    ensures pruning { Prunes asked.entry store.old store.new steps.old steps.new }
+    ensures answer { Answers asked.entry store.new steps.old steps.new result }
+{
+    match meaning {
+        Meaning::Equal => filter_comparison(asked, Comparison::Equal, store, steps),
+        Meaning::Different => filter_comparison(asked, Comparison::Different, store, steps),
+        Meaning::AtMost => filter_comparison(asked, Comparison::AtMost, store, steps),
+        Meaning::Below => filter_comparison(asked, Comparison::Below, store, steps),
+        Meaning::Clause => filter_clause(asked, store, steps),
+        Meaning::AllItems => filter_all_items(asked, store, steps),
+        Meaning::SomeItem => filter_some_item(asked, store, steps),
+        Meaning::Both => filter_both(asked, store, steps),
+        Meaning::Either => filter_either(asked, store, steps),
+        Meaning::ExactlyOne => filter_exactly_one(asked, store, steps),
+        Meaning::OddItems => filter_odd_items(asked, store, steps),
+        _ => filter_by_ends(&Table {}, asked, store, steps),
+    }
+}
+
+fn filter_told(
+    meaning: Meaning,
+    asked: Asked,
+    store: &mut Store,
+    steps: &mut StepList,
+) -> Result<Filtered, AllocError>
+    requires meaning { meaning_in_spec asked.rule.now.pred ≡ reified (plain_meaning meaning) }
+    requires fits { Fits asked store.old }
+    ensures pruning { Prunes asked.entry store.old store.new steps.old steps.new }
+    ensures answer { Answers asked.entry store.new steps.old steps.new result }
+{
+    match meaning {
+        Meaning::Equal => filter_reified(asked, Comparison::Equal, store, steps),
+        Meaning::Different => filter_reified(asked, Comparison::Different, store, steps),
+        Meaning::AtMost => filter_reified(asked, Comparison::AtMost, store, steps),
+        Meaning::Below => filter_reified(asked, Comparison::Below, store, steps),
+        Meaning::Clause => filter_told_clause(asked, store, steps),
+        _ => filter_by_ends(&Table {}, asked, store, steps),
+    }
+}
 
 // Truth values.
 #[derive(Clone, Copy)]
 struct Bools {}
 
 impl RuleFilter for Bools {
+    #[tactic(auto, using(qc_model::proofs::Saying::plainly_said, qc_model::proofs::Saying::said_as_told))]
     fn filter_rule(
         &self,
         asked: Asked,
@@ -27,24 +79,11 @@ impl RuleFilter for Bools {
         steps: &mut StepList,
     ) -> Result<Filtered, AllocError> {
         let rule = asked.rule;
-        match rule.pred {
-            Pred::BoolEq => filter_comparison(asked, Comparison::Equal, store, steps),
-            Pred::Bool2int => filter_comparison(asked, Comparison::Equal, store, steps),
-            Pred::BoolNot => filter_comparison(asked, Comparison::Different, store, steps),
-            Pred::BoolLe => filter_comparison(asked, Comparison::AtMost, store, steps),
-            Pred::BoolLt => filter_comparison(asked, Comparison::Below, store, steps),
-            Pred::BoolClause => filter_clause(asked, store, steps),
-            Pred::BoolClauseReif => filter_told_clause(asked, store, steps),
-            Pred::ArrayBoolAnd => filter_all_items(asked, store, steps),
-            Pred::ArrayBoolOr => filter_some_item(asked, store, steps),
-            Pred::BoolAnd => filter_both(asked, store, steps),
-            Pred::BoolOr => filter_either(asked, store, steps),
-            Pred::BoolXor => filter_exactly_one(asked, store, steps),
-            Pred::ArrayBoolXor => filter_odd_items(asked, store, steps),
-            Pred::BoolEqReif => filter_reified(asked, Comparison::Equal, store, steps),
-            Pred::BoolLeReif => filter_reified(asked, Comparison::AtMost, store, steps),
-            Pred::BoolLtReif => filter_reified(asked, Comparison::Below, store, steps),
-            _ => filter_by_ends(&Table {}, asked, store, steps),
+        let said = meaning_of(rule.pred);
+        if said.reified {
+            filter_told(said.meaning, asked, store, steps)
+        } else {
+            filter_plain(said.meaning, asked, store, steps)
         }
     }
 }

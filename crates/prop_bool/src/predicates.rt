@@ -1,6 +1,6 @@
-//! The predicates by what they say of their arguments.
+//! The filters of truth values, one for each meaning.
 ghost use Rattle.std.specs.Prelude.{◌≡◌};
-ghost use Rattle.qc_model.specs.declared.problem.Pred.TheVariants.{ArrayBoolAnd, ArrayBoolOr, ArrayBoolXor, BoolAnd, BoolClause, BoolClauseReif, BoolOr, BoolXor};
+ghost use Rattle.qc_model.specs.Meaning.{all_items, both, clause, either, exactly_one, meaning_of, odd_items, reified, some_item};
 ghost use Rattle.prop_base.specs.Filtering.{Answers, Fits, Prunes};
 
 use crate::disjunctions::filter_disjunction;
@@ -19,7 +19,7 @@ pub(crate) fn filter_clause(
     store: &mut Store,
     steps: &mut StepList,
 ) -> Result<Filtered, AllocError>
-    requires pred { asked.rule.now.pred ≡ BoolClause }
+    requires meaning { meaning_of asked.rule.now.pred ≡ clause }
     requires fits { Fits asked store.old }
     ensures pruning { Prunes asked.entry store.old store.new steps.old steps.new }
     ensures answer { Answers asked.entry store.new steps.old steps.new result }
@@ -40,7 +40,7 @@ pub(crate) fn filter_told_clause(
     store: &mut Store,
     steps: &mut StepList,
 ) -> Result<Filtered, AllocError>
-    requires pred { asked.rule.now.pred ≡ BoolClauseReif }
+    requires meaning { meaning_of asked.rule.now.pred ≡ reified clause }
     requires fits { Fits asked store.old }
     ensures pruning { Prunes asked.entry store.old store.new steps.old steps.new }
     ensures answer { Answers asked.entry store.new steps.old steps.new result }
@@ -61,7 +61,7 @@ pub(crate) fn filter_all_items(
     store: &mut Store,
     steps: &mut StepList,
 ) -> Result<Filtered, AllocError>
-    requires pred { asked.rule.now.pred ≡ ArrayBoolAnd }
+    requires meaning { meaning_of asked.rule.now.pred ≡ all_items }
     requires fits { Fits asked store.old }
     ensures pruning { Prunes asked.entry store.old store.new steps.old steps.new }
     ensures answer { Answers asked.entry store.new steps.old steps.new result }
@@ -81,7 +81,7 @@ pub(crate) fn filter_some_item(
     store: &mut Store,
     steps: &mut StepList,
 ) -> Result<Filtered, AllocError>
-    requires pred { asked.rule.now.pred ≡ ArrayBoolOr }
+    requires meaning { meaning_of asked.rule.now.pred ≡ some_item }
     requires fits { Fits asked store.old }
     ensures pruning { Prunes asked.entry store.old store.new steps.old steps.new }
     ensures answer { Answers asked.entry store.new steps.old steps.new result }
@@ -101,7 +101,7 @@ pub(crate) fn filter_both(
     store: &mut Store,
     steps: &mut StepList,
 ) -> Result<Filtered, AllocError>
-    requires pred { asked.rule.now.pred ≡ BoolAnd }
+    requires meaning { meaning_of asked.rule.now.pred ≡ both }
     requires fits { Fits asked store.old }
     ensures pruning { Prunes asked.entry store.old store.new steps.old steps.new }
     ensures answer { Answers asked.entry store.new steps.old steps.new result }
@@ -121,7 +121,7 @@ pub(crate) fn filter_either(
     store: &mut Store,
     steps: &mut StepList,
 ) -> Result<Filtered, AllocError>
-    requires pred { asked.rule.now.pred ≡ BoolOr }
+    requires meaning { meaning_of asked.rule.now.pred ≡ either }
     requires fits { Fits asked store.old }
     ensures pruning { Prunes asked.entry store.old store.new steps.old steps.new }
     ensures answer { Answers asked.entry store.new steps.old steps.new result }
@@ -141,7 +141,7 @@ pub(crate) fn filter_odd_items(
     store: &mut Store,
     steps: &mut StepList,
 ) -> Result<Filtered, AllocError>
-    requires pred { asked.rule.now.pred ≡ ArrayBoolXor }
+    requires meaning { meaning_of asked.rule.now.pred ≡ odd_items }
     requires fits { Fits asked store.old }
     ensures pruning { Prunes asked.entry store.old store.new steps.old steps.new }
     ensures answer { Answers asked.entry store.new steps.old steps.new result }
@@ -156,7 +156,7 @@ pub(crate) fn filter_exactly_one(
     store: &mut Store,
     steps: &mut StepList,
 ) -> Result<Filtered, AllocError>
-    requires pred { asked.rule.now.pred ≡ BoolXor }
+    requires meaning { meaning_of asked.rule.now.pred ≡ exactly_one }
     requires fits { Fits asked store.old }
     ensures pruning { Prunes asked.entry store.old store.new steps.old steps.new }
     ensures answer { Answers asked.entry store.new steps.old steps.new result }

@@ -7,7 +7,7 @@ use Rattle.qc_model.specs.declared.problem.Arg.{Arg}
 use Rattle.qc_model.specs.declared.problem.Argument.{Argument}
 use Rattle.qc_model.specs.declared.problem.Argument.TheVariants.{One, Many, Numbers, Members}
 use Rattle.qc_model.specs.declared.problem.Pred.{Pred}
-use Rattle.qc_model.specs.declared.problem.Pred.TheVariants.{IntEq, IntNe, IntLe, IntLt, IntLinEq, IntLinNe, IntLinLe, IntPlus, IntTimes, IntAbs, IntMin, IntMax, IntDiv, IntMod, BoolEq, Bool2int, BoolNot, BoolLe, BoolLt, ArrayIntElement, ArrayBoolElement, ArrayVarIntElement, ArrayVarBoolElement, ArrayIntMinimum, ArrayIntMaximum, SetIn, BoolAnd, BoolOr, BoolXor, ArrayBoolAnd, ArrayBoolOr, ArrayBoolXor, BoolClause, AllDifferentInt, TableInt, IntEqReif, IntNeReif, IntLeReif, IntLtReif, IntLinEqReif, IntLinNeReif, IntLinLeReif, SetInReif, BoolEqReif, BoolLeReif, BoolLtReif, BoolClauseReif}
+use Rattle.qc_model.specs.declared.problem.Pred.TheVariants.{IntEq}
 use Rattle.qc_model.specs.declared.problem.Variable.{Variable}
 use Rattle.qc_model.specs.declared.signature.ArgKind.{ArgKind}
 use Rattle.qc_model.specs.declared.signature.ArgKind.TheVariants.{Integer as integer, Boolean as boolean, Integers as integers, Booleans as booleans, Numbers as numbers, Truths as truths, Members as members}
@@ -50,52 +50,7 @@ are_two_kinds _ = false
 
 two_kinds : (p : Pred) → is_compared (meaning_of p) ≡ true → are_two_kinds (arg_kinds_of p) ≡ true
 two_kinds IntEq h = refl
-two_kinds IntNe h = refl
-two_kinds IntLe h = refl
-two_kinds IntLt h = refl
-two_kinds IntLinEq h = cc
-two_kinds IntLinNe h = cc
-two_kinds IntLinLe h = cc
-two_kinds IntPlus h = cc
-two_kinds IntTimes h = cc
-two_kinds IntAbs h = cc
-two_kinds IntMin h = cc
-two_kinds IntMax h = cc
-two_kinds IntDiv h = cc
-two_kinds IntMod h = cc
-two_kinds BoolEq h = refl
-two_kinds Bool2int h = refl
-two_kinds BoolNot h = refl
-two_kinds BoolLe h = refl
-two_kinds BoolLt h = refl
-two_kinds ArrayIntElement h = cc
-two_kinds ArrayBoolElement h = cc
-two_kinds ArrayVarIntElement h = cc
-two_kinds ArrayVarBoolElement h = cc
-two_kinds ArrayIntMinimum h = cc
-two_kinds ArrayIntMaximum h = cc
-two_kinds SetIn h = cc
-two_kinds BoolAnd h = cc
-two_kinds BoolOr h = cc
-two_kinds BoolXor h = cc
-two_kinds ArrayBoolAnd h = cc
-two_kinds ArrayBoolOr h = cc
-two_kinds ArrayBoolXor h = cc
-two_kinds BoolClause h = cc
-two_kinds AllDifferentInt h = cc
-two_kinds TableInt h = cc
-two_kinds IntEqReif h = cc
-two_kinds IntNeReif h = cc
-two_kinds IntLeReif h = cc
-two_kinds IntLtReif h = cc
-two_kinds IntLinEqReif h = cc
-two_kinds IntLinNeReif h = cc
-two_kinds IntLinLeReif h = cc
-two_kinds SetInReif h = cc
-two_kinds BoolEqReif h = cc
-two_kinds BoolLeReif h = cc
-two_kinds BoolLtReif h = cc
-two_kinds BoolClauseReif h = cc
+two_kinds _ h = cc
 
 pub compared_meant : (k : Comparison) → is_compared (meant_by k) ≡ true
 compared_meant Equal = refl

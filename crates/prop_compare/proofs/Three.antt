@@ -11,7 +11,7 @@ use Rattle.qc_model.specs.declared.problem.Argument.TheVariants.{One, Many, Numb
 use Rattle.qc_model.specs.declared.problem.Domain.{Domain}
 use Rattle.qc_model.specs.declared.problem.Domain.TheVariants.{Bits, Range, Listed}
 use Rattle.qc_model.specs.declared.problem.Pred.{Pred}
-use Rattle.qc_model.specs.declared.problem.Pred.TheVariants.{IntEq, IntNe, IntLe, IntLt, IntLinEq, IntLinNe, IntLinLe, IntPlus, IntTimes, IntAbs, IntMin, IntMax, IntDiv, IntMod, BoolEq, Bool2int, BoolNot, BoolLe, BoolLt, ArrayIntElement, ArrayBoolElement, ArrayVarIntElement, ArrayVarBoolElement, ArrayIntMinimum, ArrayIntMaximum, SetIn, BoolAnd, BoolOr, BoolXor, ArrayBoolAnd, ArrayBoolOr, ArrayBoolXor, BoolClause, AllDifferentInt, TableInt, IntEqReif, IntNeReif, IntLeReif, IntLtReif, IntLinEqReif, IntLinNeReif, IntLinLeReif, SetInReif, BoolEqReif, BoolLeReif, BoolLtReif, BoolClauseReif}
+use Rattle.qc_model.specs.declared.problem.Pred.TheVariants.{IntEq}
 use Rattle.qc_model.specs.declared.problem.Variable.{Variable}
 use Rattle.qc_model.specs.declared.signature.ArgKind.{ArgKind}
 use Rattle.qc_model.specs.declared.signature.ArgKind.TheVariants.{Integer as integer, Boolean as boolean, Integers as integers, Booleans as booleans, Numbers as numbers, Truths as truths, Members as members}
@@ -50,52 +50,7 @@ are_told_kinds _ = false
 
 told_kinds : (p : Pred) → is_told (meaning_of p) ≡ true → are_told_kinds (arg_kinds_of p) ≡ true
 told_kinds IntEq h = cc
-told_kinds IntNe h = cc
-told_kinds IntLe h = cc
-told_kinds IntLt h = cc
-told_kinds IntLinEq h = cc
-told_kinds IntLinNe h = cc
-told_kinds IntLinLe h = cc
-told_kinds IntPlus h = cc
-told_kinds IntTimes h = cc
-told_kinds IntAbs h = cc
-told_kinds IntMin h = cc
-told_kinds IntMax h = cc
-told_kinds IntDiv h = cc
-told_kinds IntMod h = cc
-told_kinds BoolEq h = cc
-told_kinds Bool2int h = cc
-told_kinds BoolNot h = cc
-told_kinds BoolLe h = cc
-told_kinds BoolLt h = cc
-told_kinds ArrayIntElement h = cc
-told_kinds ArrayBoolElement h = cc
-told_kinds ArrayVarIntElement h = cc
-told_kinds ArrayVarBoolElement h = cc
-told_kinds ArrayIntMinimum h = cc
-told_kinds ArrayIntMaximum h = cc
-told_kinds SetIn h = cc
-told_kinds BoolAnd h = cc
-told_kinds BoolOr h = cc
-told_kinds BoolXor h = cc
-told_kinds ArrayBoolAnd h = cc
-told_kinds ArrayBoolOr h = cc
-told_kinds ArrayBoolXor h = cc
-told_kinds BoolClause h = cc
-told_kinds AllDifferentInt h = cc
-told_kinds TableInt h = cc
-told_kinds IntEqReif h = refl
-told_kinds IntNeReif h = refl
-told_kinds IntLeReif h = refl
-told_kinds IntLtReif h = refl
-told_kinds IntLinEqReif h = cc
-told_kinds IntLinNeReif h = cc
-told_kinds IntLinLeReif h = cc
-told_kinds SetInReif h = cc
-told_kinds BoolEqReif h = refl
-told_kinds BoolLeReif h = refl
-told_kinds BoolLtReif h = refl
-told_kinds BoolClauseReif h = cc
+told_kinds _ h = cc
 
 -- a truth value's argument
 pub record IsTruthArg (xs : List Variable) (arg : Argument) : Type 0 where

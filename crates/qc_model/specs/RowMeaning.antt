@@ -1,8 +1,8 @@
--- What a row of the table of predicates means.
+-- What a predicate of the code says, as a meaning.
 use Rattle.std.specs.Prelude.{cond}
 use Rattle.qc_model.specs.declared.predicates.Meaning.{Meaning as MeaningOfCode}
 use Rattle.qc_model.specs.declared.predicates.Meaning.TheVariants.{Equal, Different, AtMost, Below, SumEqual, SumDifferent, SumAtMost, Plus, Times, AbsoluteValue, Smaller, Greater, Quotient, Remainder, Element, VariableElement, Minimum, Maximum, Member, Both, Either, ExactlyOne, AllItems, SomeItem, OddItems, Clause, AllDifferent, Table}
-use Rattle.qc_model.specs.declared.predicates.Row.{Row}
+use Rattle.qc_model.specs.declared.predicates.Said.{Said}
 use Rattle.qc_model.specs.Meaning.{Meaning, equal, different, at_most, below, sum_equal, sum_different, sum_at_most, plus, times, absolute_value, smaller, greater, quotient, remainder, element, variable_element, minimum, maximum, member, both, either, exactly_one, all_items, some_item, odd_items, clause, all_different, table, reified}
 
 -- a meaning of the code, and one with its last argument for its truth
@@ -36,5 +36,5 @@ plain_meaning Clause = clause
 plain_meaning AllDifferent = all_different
 plain_meaning Table = table
 
-abbrev pub row_meaning : Row → Meaning
-row_meaning r = cond r.reified (reified (plain_meaning r.meaning)) (plain_meaning r.meaning)
+abbrev pub row_meaning : Said → Meaning
+row_meaning s = cond s.reified (reified (plain_meaning s.meaning)) (plain_meaning s.meaning)

@@ -2,6 +2,7 @@
 ghost use Rattle.std.specs.Prelude.{◌≡◌};
 ghost use Rattle.qc_model.specs.Families.{family};
 
+use crate::predicates::row_of;
 use crate::problem::Pred;
 
 /// A family of predicates.
@@ -21,38 +22,5 @@ pub enum Family {
 pub fn family_of(pred: Pred) -> Family
     ensures { result ≡ family pred }
 {
-    match pred {
-        Pred::IntEq
-        | Pred::IntNe
-        | Pred::IntLe
-        | Pred::IntLt
-        | Pred::IntLinEq
-        | Pred::IntLinNe
-        | Pred::IntLinLe
-        | Pred::IntEqReif
-        | Pred::IntNeReif
-        | Pred::IntLeReif
-        | Pred::IntLtReif
-        | Pred::IntLinEqReif
-        | Pred::IntLinNeReif
-        | Pred::IntLinLeReif => Family::Linear,
-        Pred::IntPlus
-        | Pred::IntTimes
-        | Pred::IntAbs
-        | Pred::IntMin
-        | Pred::IntMax
-        | Pred::IntDiv
-        | Pred::IntMod => Family::Arith,
-        Pred::ArrayIntElement
-        | Pred::ArrayBoolElement
-        | Pred::ArrayVarIntElement
-        | Pred::ArrayVarBoolElement
-        | Pred::ArrayIntMinimum
-        | Pred::ArrayIntMaximum
-        | Pred::SetIn
-        | Pred::AllDifferentInt
-        | Pred::TableInt
-        | Pred::SetInReif => Family::Element,
-        _ => Family::Bool,
-    }
+    row_of(pred).family
 }

@@ -1,10 +1,19 @@
-//! What each predicate means: the table of predicates. Predicates of the same meaning have the same
-//! row, and a reified predicate has the row of its plain one.
+//! The table of predicates: each predicate's name, arguments, meaning and family. Predicates of the
+//! same meaning hold alike, and a reified predicate has the meaning of its plain one.
 ghost use Rattle.std.specs.Prelude.{◌≡◌, true, false};
 ghost use Rattle.qc_model.specs.RowMeaning.{row_meaning};
-ghost use Rattle.qc_model.specs.Meaning.{meaning_of as meaning_in_spec};
+ghost use Rattle.qc_model.specs.Meaning.{all_predicates as each_predicate, meaning_of as meaning_in_spec, row_of as row_in_spec};
 
+use self::Meaning::{
+    AbsoluteValue, AllDifferent, AllItems, AtMost, Below, Both, Clause, Different, Either, Element,
+    Equal, ExactlyOne, Greater, Maximum, Member, Minimum, OddItems, Plus, Quotient, Remainder,
+    Smaller, SomeItem, SumAtMost, SumDifferent, SumEqual, Table, Times, VariableElement,
+};
+use crate::families::Family::{self, Arith, Bool, Linear};
 use crate::problem::Pred;
+use crate::signature::ArgKind::{
+    self, Boolean, Booleans, Integer, Integers, Members, Numbers, Truths,
+};
 
 /// What a constraint says of its arguments a, b and c.
 #[derive(Clone, Copy, PartialEq, Eq)]
@@ -67,82 +76,260 @@ pub enum Meaning {
     Table,
 }
 
-/// The row of a predicate: what it means, and whether its last argument says if that holds.
+/// What a predicate says of its arguments, and whether its last argument says if that holds.
 #[derive(Clone, Copy, PartialEq, Eq)]
-pub struct Row {
+pub struct Said {
     pub meaning: Meaning,
     pub reified: bool,
 }
 
-fn plain(meaning: Meaning) -> Row
-    ensures { result ≡ record { meaning = meaning; reified = false } }
+/// The row of a predicate.
+#[derive(Clone, Copy)]
+pub(crate) struct Row {
+    /// As the problem text writes it.
+    pub(crate) name: &'static str,
+    /// The kind of each argument, in order.
+    pub(crate) kinds: &'static [ArgKind],
+    pub(crate) said: Said,
+    /// Whose filter it has.
+    pub(crate) family: Family,
+}
+
+#[inline(always)]
+fn plain(name: &'static str, kinds: &'static [ArgKind], meaning: Meaning, family: Family) -> Row
+    ensures name { result.name.now ≡ name.now }
+    ensures kinds { result.kinds.now ≡ kinds.now }
+    ensures said { result.said ≡ record { meaning = meaning; reified = false } }
+    ensures family { result.family ≡ family }
 {
-    Row {
+    let said = Said {
         meaning,
         reified: false,
+    };
+    Row {
+        name,
+        kinds,
+        said,
+        family,
     }
 }
 
-fn reified(meaning: Meaning) -> Row
-    ensures { result ≡ record { meaning = meaning; reified = true } }
+#[inline(always)]
+fn told(name: &'static str, kinds: &'static [ArgKind], meaning: Meaning, family: Family) -> Row
+    ensures name { result.name.now ≡ name.now }
+    ensures kinds { result.kinds.now ≡ kinds.now }
+    ensures said { result.said ≡ record { meaning = meaning; reified = true } }
+    ensures family { result.family ≡ family }
 {
-    Row {
+    let said = Said {
         meaning,
         reified: true,
+    };
+    Row {
+        name,
+        kinds,
+        said,
+        family,
     }
 }
 
 /// The table of predicates.
-pub fn meaning_of(pred: Pred) -> Row
-    ensures { row_meaning result ≡ meaning_in_spec pred }
+#[inline(always)]
+pub(crate) fn row_of(pred: Pred) -> Row
+    ensures name { result.name.now ≡ (row_in_spec pred).name }
+    ensures kinds { result.kinds.now ≡ (row_in_spec pred).kinds }
+    ensures meaning { row_meaning result.said ≡ (row_in_spec pred).meaning }
+    ensures family { result.family ≡ (row_in_spec pred).family }
 {
     match pred {
-        Pred::IntEq => plain(Meaning::Equal),
-        Pred::IntNe => plain(Meaning::Different),
-        Pred::IntLe => plain(Meaning::AtMost),
-        Pred::IntLt => plain(Meaning::Below),
-        Pred::IntLinEq => plain(Meaning::SumEqual),
-        Pred::IntLinNe => plain(Meaning::SumDifferent),
-        Pred::IntLinLe => plain(Meaning::SumAtMost),
-        Pred::IntPlus => plain(Meaning::Plus),
-        Pred::IntTimes => plain(Meaning::Times),
-        Pred::IntAbs => plain(Meaning::AbsoluteValue),
-        Pred::IntMin => plain(Meaning::Smaller),
-        Pred::IntMax => plain(Meaning::Greater),
-        Pred::IntDiv => plain(Meaning::Quotient),
-        Pred::IntMod => plain(Meaning::Remainder),
-        Pred::BoolEq => plain(Meaning::Equal),
-        Pred::Bool2int => plain(Meaning::Equal),
-        Pred::BoolNot => plain(Meaning::Different),
-        Pred::BoolLe => plain(Meaning::AtMost),
-        Pred::BoolLt => plain(Meaning::Below),
-        Pred::ArrayIntElement => plain(Meaning::Element),
-        Pred::ArrayBoolElement => plain(Meaning::Element),
-        Pred::ArrayVarIntElement => plain(Meaning::VariableElement),
-        Pred::ArrayVarBoolElement => plain(Meaning::VariableElement),
-        Pred::ArrayIntMinimum => plain(Meaning::Minimum),
-        Pred::ArrayIntMaximum => plain(Meaning::Maximum),
-        Pred::SetIn => plain(Meaning::Member),
-        Pred::BoolAnd => plain(Meaning::Both),
-        Pred::BoolOr => plain(Meaning::Either),
-        Pred::BoolXor => plain(Meaning::ExactlyOne),
-        Pred::ArrayBoolAnd => plain(Meaning::AllItems),
-        Pred::ArrayBoolOr => plain(Meaning::SomeItem),
-        Pred::ArrayBoolXor => plain(Meaning::OddItems),
-        Pred::BoolClause => plain(Meaning::Clause),
-        Pred::AllDifferentInt => plain(Meaning::AllDifferent),
-        Pred::TableInt => plain(Meaning::Table),
-        Pred::IntEqReif => reified(Meaning::Equal),
-        Pred::IntNeReif => reified(Meaning::Different),
-        Pred::IntLeReif => reified(Meaning::AtMost),
-        Pred::IntLtReif => reified(Meaning::Below),
-        Pred::IntLinEqReif => reified(Meaning::SumEqual),
-        Pred::IntLinNeReif => reified(Meaning::SumDifferent),
-        Pred::IntLinLeReif => reified(Meaning::SumAtMost),
-        Pred::SetInReif => reified(Meaning::Member),
-        Pred::BoolEqReif => reified(Meaning::Equal),
-        Pred::BoolLeReif => reified(Meaning::AtMost),
-        Pred::BoolLtReif => reified(Meaning::Below),
-        Pred::BoolClauseReif => reified(Meaning::Clause),
+        Pred::IntEq => plain("int_eq", &[Integer, Integer], Equal, Linear),
+        Pred::IntNe => plain("int_ne", &[Integer, Integer], Different, Linear),
+        Pred::IntLe => plain("int_le", &[Integer, Integer], AtMost, Linear),
+        Pred::IntLt => plain("int_lt", &[Integer, Integer], Below, Linear),
+        Pred::IntLinEq => plain(
+            "int_lin_eq",
+            &[Numbers, Integers, Integer],
+            SumEqual,
+            Linear,
+        ),
+        Pred::IntLinNe => plain(
+            "int_lin_ne",
+            &[Numbers, Integers, Integer],
+            SumDifferent,
+            Linear,
+        ),
+        Pred::IntLinLe => plain(
+            "int_lin_le",
+            &[Numbers, Integers, Integer],
+            SumAtMost,
+            Linear,
+        ),
+        Pred::IntPlus => plain("int_plus", &[Integer, Integer, Integer], Plus, Arith),
+        Pred::IntTimes => plain("int_times", &[Integer, Integer, Integer], Times, Arith),
+        Pred::IntAbs => plain("int_abs", &[Integer, Integer], AbsoluteValue, Arith),
+        Pred::IntMin => plain("int_min", &[Integer, Integer, Integer], Smaller, Arith),
+        Pred::IntMax => plain("int_max", &[Integer, Integer, Integer], Greater, Arith),
+        Pred::IntDiv => plain("int_div", &[Integer, Integer, Integer], Quotient, Arith),
+        Pred::IntMod => plain("int_mod", &[Integer, Integer, Integer], Remainder, Arith),
+        Pred::BoolEq => plain("bool_eq", &[Boolean, Boolean], Equal, Bool),
+        Pred::Bool2int => plain("bool2int", &[Boolean, Integer], Equal, Bool),
+        Pred::BoolNot => plain("bool_not", &[Boolean, Boolean], Different, Bool),
+        Pred::BoolLe => plain("bool_le", &[Boolean, Boolean], AtMost, Bool),
+        Pred::BoolLt => plain("bool_lt", &[Boolean, Boolean], Below, Bool),
+        Pred::ArrayIntElement => plain(
+            "array_int_element",
+            &[Integer, Numbers, Integer],
+            Element,
+            Family::Element,
+        ),
+        Pred::ArrayBoolElement => plain(
+            "array_bool_element",
+            &[Integer, Truths, Boolean],
+            Element,
+            Family::Element,
+        ),
+        Pred::ArrayVarIntElement => plain(
+            "array_var_int_element",
+            &[Integer, Integers, Integer],
+            VariableElement,
+            Family::Element,
+        ),
+        Pred::ArrayVarBoolElement => plain(
+            "array_var_bool_element",
+            &[Integer, Booleans, Boolean],
+            VariableElement,
+            Family::Element,
+        ),
+        Pred::ArrayIntMinimum => plain(
+            "array_int_minimum",
+            &[Integer, Integers],
+            Minimum,
+            Family::Element,
+        ),
+        Pred::ArrayIntMaximum => plain(
+            "array_int_maximum",
+            &[Integer, Integers],
+            Maximum,
+            Family::Element,
+        ),
+        Pred::SetIn => plain("set_in", &[Integer, Members], Member, Family::Element),
+        Pred::BoolAnd => plain("bool_and", &[Boolean, Boolean, Boolean], Both, Bool),
+        Pred::BoolOr => plain("bool_or", &[Boolean, Boolean, Boolean], Either, Bool),
+        Pred::BoolXor => plain("bool_xor", &[Boolean, Boolean, Boolean], ExactlyOne, Bool),
+        Pred::ArrayBoolAnd => plain("array_bool_and", &[Booleans, Boolean], AllItems, Bool),
+        Pred::ArrayBoolOr => plain("array_bool_or", &[Booleans, Boolean], SomeItem, Bool),
+        Pred::ArrayBoolXor => plain("array_bool_xor", &[Booleans], OddItems, Bool),
+        Pred::BoolClause => plain("bool_clause", &[Booleans, Booleans], Clause, Bool),
+        Pred::AllDifferentInt => plain(
+            "all_different_int",
+            &[Integers],
+            AllDifferent,
+            Family::Element,
+        ),
+        Pred::TableInt => plain("table_int", &[Integers, Numbers], Table, Family::Element),
+        Pred::IntEqReif => told("int_eq_reif", &[Integer, Integer, Boolean], Equal, Linear),
+        Pred::IntNeReif => told(
+            "int_ne_reif",
+            &[Integer, Integer, Boolean],
+            Different,
+            Linear,
+        ),
+        Pred::IntLeReif => told("int_le_reif", &[Integer, Integer, Boolean], AtMost, Linear),
+        Pred::IntLtReif => told("int_lt_reif", &[Integer, Integer, Boolean], Below, Linear),
+        Pred::IntLinEqReif => told(
+            "int_lin_eq_reif",
+            &[Numbers, Integers, Integer, Boolean],
+            SumEqual,
+            Linear,
+        ),
+        Pred::IntLinNeReif => told(
+            "int_lin_ne_reif",
+            &[Numbers, Integers, Integer, Boolean],
+            SumDifferent,
+            Linear,
+        ),
+        Pred::IntLinLeReif => told(
+            "int_lin_le_reif",
+            &[Numbers, Integers, Integer, Boolean],
+            SumAtMost,
+            Linear,
+        ),
+        Pred::SetInReif => told(
+            "set_in_reif",
+            &[Integer, Members, Boolean],
+            Member,
+            Family::Element,
+        ),
+        Pred::BoolEqReif => told("bool_eq_reif", &[Boolean, Boolean, Boolean], Equal, Bool),
+        Pred::BoolLeReif => told("bool_le_reif", &[Boolean, Boolean, Boolean], AtMost, Bool),
+        Pred::BoolLtReif => told("bool_lt_reif", &[Boolean, Boolean, Boolean], Below, Bool),
+        Pred::BoolClauseReif => told(
+            "bool_clause_reif",
+            &[Booleans, Booleans, Boolean],
+            Clause,
+            Bool,
+        ),
     }
+}
+
+/// Each predicate, in the order of the table.
+pub fn all_predicates() -> &'static [Pred]
+    ensures { result.now ≡ each_predicate }
+{
+    &[
+        Pred::IntEq,
+        Pred::IntNe,
+        Pred::IntLe,
+        Pred::IntLt,
+        Pred::IntLinEq,
+        Pred::IntLinNe,
+        Pred::IntLinLe,
+        Pred::IntPlus,
+        Pred::IntTimes,
+        Pred::IntAbs,
+        Pred::IntMin,
+        Pred::IntMax,
+        Pred::IntDiv,
+        Pred::IntMod,
+        Pred::BoolEq,
+        Pred::Bool2int,
+        Pred::BoolNot,
+        Pred::BoolLe,
+        Pred::BoolLt,
+        Pred::ArrayIntElement,
+        Pred::ArrayBoolElement,
+        Pred::ArrayVarIntElement,
+        Pred::ArrayVarBoolElement,
+        Pred::ArrayIntMinimum,
+        Pred::ArrayIntMaximum,
+        Pred::SetIn,
+        Pred::BoolAnd,
+        Pred::BoolOr,
+        Pred::BoolXor,
+        Pred::ArrayBoolAnd,
+        Pred::ArrayBoolOr,
+        Pred::ArrayBoolXor,
+        Pred::BoolClause,
+        Pred::AllDifferentInt,
+        Pred::TableInt,
+        Pred::IntEqReif,
+        Pred::IntNeReif,
+        Pred::IntLeReif,
+        Pred::IntLtReif,
+        Pred::IntLinEqReif,
+        Pred::IntLinNeReif,
+        Pred::IntLinLeReif,
+        Pred::SetInReif,
+        Pred::BoolEqReif,
+        Pred::BoolLeReif,
+        Pred::BoolLtReif,
+        Pred::BoolClauseReif,
+    ]
+}
+
+/// What a predicate means.
+pub fn meaning_of(pred: Pred) -> Said
+    ensures { row_meaning result ≡ meaning_in_spec pred }
+{
+    row_of(pred).said
 }

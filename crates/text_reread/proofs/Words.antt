@@ -5,7 +5,7 @@ use Rattle.std.specs.List.{list_any}
 use Rattle.std.specs.Str.{bytes_eq}
 use Rattle.std.proofs.lemmas.Bool.{and_parts, or_parts}
 use Rattle.qc_model.specs.declared.problem.Pred.{Pred}
-use Rattle.qc_model.specs.declared.problem.Pred.TheVariants.{IntEq, IntNe, IntLe, IntLt, IntLinEq, IntLinNe, IntLinLe, IntPlus, IntTimes, IntAbs, IntMin, IntMax, IntDiv, IntMod, BoolEq, Bool2int, BoolNot, BoolLe, BoolLt, ArrayIntElement, ArrayBoolElement, ArrayVarIntElement, ArrayVarBoolElement, ArrayIntMinimum, ArrayIntMaximum, SetIn, BoolAnd, BoolOr, BoolXor, ArrayBoolAnd, ArrayBoolOr, ArrayBoolXor, BoolClause, AllDifferentInt, TableInt, IntEqReif, IntNeReif, IntLeReif, IntLtReif, IntLinEqReif, IntLinNeReif, IntLinLeReif, SetInReif, BoolEqReif, BoolLeReif, BoolLtReif, BoolClauseReif}
+use Rattle.qc_model.specs.declared.problem.Pred.TheVariants.{IntEq}
 use Rattle.qc_model.specs.Signature.{pred_name}
 use Rattle.qc_model.specs.Names.{is_word, reserved_words, is_name}
 use Rattle.text_grammar.specs.declared.lexeme.Lexeme.TheVariants.{Name}
@@ -51,49 +51,4 @@ name_lexeme w at h =
 -- the name of a predicate is a name
 pub predicate_is_name : (p : Pred) → is_name (pred_name p) ≡ true
 predicate_is_name IntEq = refl
-predicate_is_name IntNe = refl
-predicate_is_name IntLe = refl
-predicate_is_name IntLt = refl
-predicate_is_name IntLinEq = refl
-predicate_is_name IntLinNe = refl
-predicate_is_name IntLinLe = refl
-predicate_is_name IntPlus = refl
-predicate_is_name IntTimes = refl
-predicate_is_name IntAbs = refl
-predicate_is_name IntMin = refl
-predicate_is_name IntMax = refl
-predicate_is_name IntDiv = refl
-predicate_is_name IntMod = refl
-predicate_is_name BoolEq = refl
-predicate_is_name Bool2int = refl
-predicate_is_name BoolNot = refl
-predicate_is_name BoolLe = refl
-predicate_is_name BoolLt = refl
-predicate_is_name ArrayIntElement = refl
-predicate_is_name ArrayBoolElement = refl
-predicate_is_name ArrayVarIntElement = refl
-predicate_is_name ArrayVarBoolElement = refl
-predicate_is_name ArrayIntMinimum = refl
-predicate_is_name ArrayIntMaximum = refl
-predicate_is_name SetIn = refl
-predicate_is_name BoolAnd = refl
-predicate_is_name BoolOr = refl
-predicate_is_name BoolXor = refl
-predicate_is_name ArrayBoolAnd = refl
-predicate_is_name ArrayBoolOr = refl
-predicate_is_name ArrayBoolXor = refl
-predicate_is_name BoolClause = refl
-predicate_is_name AllDifferentInt = refl
-predicate_is_name TableInt = refl
-predicate_is_name IntEqReif = refl
-predicate_is_name IntNeReif = refl
-predicate_is_name IntLeReif = refl
-predicate_is_name IntLtReif = refl
-predicate_is_name IntLinEqReif = refl
-predicate_is_name IntLinNeReif = refl
-predicate_is_name IntLinLeReif = refl
-predicate_is_name SetInReif = refl
-predicate_is_name BoolEqReif = refl
-predicate_is_name BoolLeReif = refl
-predicate_is_name BoolLtReif = refl
-predicate_is_name BoolClauseReif = refl
+predicate_is_name _ = refl

@@ -4,3 +4,4 @@ pub mod Table
 pub mod Uses
 pub mod Walked
 pub mod WordText
+pub mod SaidLengths

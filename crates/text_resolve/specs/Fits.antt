@@ -3,11 +3,10 @@ use Rattle.std.specs.Prelude.{◌==◌, ◌%◌, ℕ, nat_lt, Bool, true, false,
 use Rattle.std.specs.List.{list_all}
 use Rattle.std.specs.Str.{bytes_eq}
 use Rattle.qc_model.specs.declared.problem.Pred.{Pred}
-use Rattle.qc_model.specs.declared.problem.Pred.TheVariants.{IntEq, IntNe, IntLe, IntLt, IntLinEq, IntLinNe, IntLinLe, IntPlus, IntTimes, IntAbs, IntMin, IntMax, IntDiv, IntMod, BoolEq, Bool2int, BoolNot, BoolLe, BoolLt, ArrayIntElement, ArrayBoolElement, ArrayVarIntElement, ArrayVarBoolElement, ArrayIntMinimum, ArrayIntMaximum, SetIn, BoolAnd, BoolOr, BoolXor, ArrayBoolAnd, ArrayBoolOr, ArrayBoolXor, BoolClause, AllDifferentInt, TableInt, IntEqReif, IntNeReif, IntLeReif, IntLtReif, IntLinEqReif, IntLinNeReif, IntLinLeReif, SetInReif, BoolEqReif, BoolLeReif, BoolLtReif, BoolClauseReif}
 use Rattle.qc_model.specs.declared.signature.ArgKind.{ArgKind}
 use Rattle.qc_model.specs.declared.signature.ArgKind.TheVariants.{Integer as integer, Boolean as boolean, Integers as integers, Booleans as booleans, Numbers as numbers, Truths as truths, Members as members}
 use Rattle.qc_model.specs.Signature.{arg_kinds_of, pred_name}
-use Rattle.qc_model.specs.Meaning.{Meaning, sum_equal, sum_different, sum_at_most, minimum, maximum, table, reified, meaning_of}
+use Rattle.qc_model.specs.Meaning.{Meaning, sum_equal, sum_different, sum_at_most, minimum, maximum, table, reified, meaning_of, all_predicates}
 use Rattle.text_grammar.specs.declared.tree.Word.{Word}
 use Rattle.text_grammar.specs.declared.tree.One.{One}
 use Rattle.text_grammar.specs.declared.tree.One.TheVariants.{Name as OneName, Number as OneNumber, Truth as OneTruth}
@@ -20,15 +19,6 @@ use Rattle.text_resolve.specs.declared.names.Named.TheVariants.{Integer, Boolean
 use Rattle.text_resolve.specs.declared.names.Meant.{Meant}
 use Rattle.text_resolve.specs.Owned.{word_bytes}
 use Rattle.text_resolve.specs.Names.{Declared, look_up}
-
--- all predicates, in the order of the table
-abbrev pub all_predicates : List Pred
-all_predicates =
-    IntEq ∷ IntNe ∷ IntLe ∷ IntLt ∷ IntLinEq ∷ IntLinNe ∷ IntLinLe ∷ IntPlus ∷ IntTimes ∷ IntAbs ∷ IntMin ∷ IntMax ∷ IntDiv ∷ IntMod
-    ∷ BoolEq ∷ Bool2int ∷ BoolNot ∷ BoolLe ∷ BoolLt ∷ ArrayIntElement ∷ ArrayBoolElement ∷ ArrayVarIntElement ∷ ArrayVarBoolElement
-    ∷ ArrayIntMinimum ∷ ArrayIntMaximum ∷ SetIn ∷ BoolAnd ∷ BoolOr ∷ BoolXor ∷ ArrayBoolAnd ∷ ArrayBoolOr ∷ ArrayBoolXor ∷ BoolClause
-    ∷ AllDifferentInt ∷ TableInt ∷ IntEqReif ∷ IntNeReif ∷ IntLeReif ∷ IntLtReif ∷ IntLinEqReif ∷ IntLinNeReif ∷ IntLinLeReif
-    ∷ SetInReif ∷ BoolEqReif ∷ BoolLeReif ∷ BoolLtReif ∷ BoolClauseReif ∷ []
 
 -- the predicate of this name
 unfoldable pub predicate_of : List ℕ → Option Pred

@@ -1,10 +1,12 @@
 //! Constraints whose arguments are those of their predicate.
 ghost use Rattle.std.specs.Prelude.{◌≡◌, ◌&&◌, slice_get};
 ghost use Rattle.std.specs.List.{list_all};
-ghost use Rattle.qc_model.specs.Meaning.{meaning_of};
+ghost use Rattle.qc_model.specs.Meaning.{meaning_of as meaning_in_spec};
+ghost use Rattle.qc_model.specs.RowMeaning.{plain_meaning};
 ghost use Rattle.qc_model.specs.Signature.{arg_kinds_of as arg_kinds_of_pred};
 ghost use Rattle.qc_model.specs.Valid.{are_of_sorts as are_of_sorts_of, arg_sees as arg_sees_of, argument_sees as argument_sees_of, have_lengths as have_lengths_of, is_bits, is_boolean as is_boolean_of, is_constraint as is_constraint_of, is_integer as is_integer_of, is_integer_domain, is_literal as is_literal_of, is_of_sort as is_of_sort_of, is_sum as is_sum_of, is_variable_with, item_count as item_count_of};
 
+use crate::predicates::{Meaning, meaning_of};
 use crate::problem::{Arg, Argument, Constraint, Domain, Pred, VarId, Variable};
 use crate::signature::{ArgKind, arg_kinds_of, most_items};
 use crate::validity::domains::{are_numbers, are_truths, is_number, is_set, is_truth};
@@ -134,20 +136,27 @@ fn is_sum(args: &[Argument]) -> bool
     item_count(args, 0) == item_count(args, 1) && is_literal(args, 2)
 }
 
-/// Whether the arrays have the lengths that the predicate asks for.
-fn have_lengths(pred: Pred, args: &[Argument]) -> bool
-    ensures { result ≡ have_lengths_of (meaning_of pred) args.now }
+/// Whether the arrays have the lengths that the meaning asks for.
+fn suit_meaning(meaning: Meaning, args: &[Argument]) -> bool
+    ensures { result ≡ have_lengths_of (plain_meaning meaning) args.now }
 {
-    match pred {
-        Pred::IntLinEq | Pred::IntLinNe | Pred::IntLinLe => is_sum(args),
-        Pred::IntLinEqReif | Pred::IntLinNeReif | Pred::IntLinLeReif => is_sum(args),
-        Pred::ArrayIntMinimum | Pred::ArrayIntMaximum => 0 < item_count(args, 1),
-        Pred::TableInt => {
+    match meaning {
+        Meaning::SumEqual | Meaning::SumDifferent | Meaning::SumAtMost => is_sum(args),
+        Meaning::Minimum | Meaning::Maximum => 0 < item_count(args, 1),
+        Meaning::Table => {
             let width = item_count(args, 0);
             0 < width && item_count(args, 1) % width == 0
         }
         _ => true,
     }
+}
+
+/// Whether the arrays have the lengths that the predicate asks for.
+#[tactic(auto, using(crate::proofs::Lengths::lengths_said))]
+fn have_lengths(pred: Pred, args: &[Argument]) -> bool
+    ensures { result ≡ have_lengths_of (meaning_in_spec pred) args.now }
+{
+    suit_meaning(meaning_of(pred).meaning, args)
 }
 
 fn arg_sees(variables: &[Variable], scope: u8, arg: &Arg) -> bool
@@ -188,7 +197,7 @@ fn arguments_see(variables: &[Variable], scope: u8, args: &[Argument]) -> bool
 
 /// Whether the arguments are those of the predicate.
 fn fit_predicate(variables: &[Variable], pred: Pred, args: &[Argument]) -> bool
-    ensures { result ≡ (are_of_sorts_of variables.now (arg_kinds_of_pred pred) args.now && have_lengths_of (meaning_of pred) args.now) }
+    ensures { result ≡ (are_of_sorts_of variables.now (arg_kinds_of_pred pred) args.now && have_lengths_of (meaning_in_spec pred) args.now) }
 {
     are_of_sorts(variables, arg_kinds_of(pred), args) && have_lengths(pred, args)
 }

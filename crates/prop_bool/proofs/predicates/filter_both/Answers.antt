@@ -15,4 +15,4 @@ filter_disjunction-requires-clause-says c =
     let X : Arg → Type 0 = λ z. IsDisjunction g r (literals [] (z ∷ c.one_at-2.result ∷ [])) (negated c.one_at-3.result) in
     let Y : Arg → Type 0 = λ z. IsDisjunction g r (literals [] (arg_at r.args 0 ∷ z ∷ [])) (negated c.one_at-3.result) in
     let H : Arg → Type 0 = λ z. IsDisjunction g r (literals [] (arg_at r.args 0 ∷ arg_at r.args 1 ∷ [])) (negated z) in
-    subst X (sym x) (subst Y (sym y) (subst H (sym h) (both_say g r c.args.store.now.box c.requires.fits c.requires.pred)))
+    subst X (sym x) (subst Y (sym y) (subst H (sym h) (both_say g r c.args.store.now.box c.requires.fits c.requires.meaning)))

@@ -15,7 +15,7 @@ filter_disjunction-requires-clause-says c =
     let ys = c.items_at-negated.ensures ∙ ap (λ a. args_at a 1) c.arguments-args.ensures in
     let A : List Arg → Type 0 = λ z. IsDisjunction g r (literals z c.items_at-negated.result.now) (plain (Num (pos 1))) in
     let B : List Arg → Type 0 = λ z. IsDisjunction g r (literals (args_at r.args 0) z) (plain (Num (pos 1))) in
-    subst A (sym xs) (subst B (sym ys) (clause_says g r c.args.store.now.box c.requires.fits c.requires.pred))
+    subst A (sym xs) (subst B (sym ys) (clause_says g r c.args.store.now.box c.requires.fits c.requires.meaning))
 
 pub filter_disjunction-requires-clause-few : goal.filter_disjunction-requires-clause-few
 filter_disjunction-requires-clause-few c =
@@ -25,4 +25,4 @@ filter_disjunction-requires-clause-few c =
     let ys = c.items_at-negated.ensures ∙ ap (λ a. args_at a 1) c.arguments-args.ensures in
     let A : List Arg → Type 0 = λ z. length z + length c.items_at-negated.result.now ≤ 2000 in
     let B : List Arg → Type 0 = λ z. length (args_at r.args 0) + length z ≤ 2000 in
-    subst A (sym xs) (subst B (sym ys) (clause_few g r c.args.store.now.box c.requires.fits c.requires.pred))
+    subst A (sym xs) (subst B (sym ys) (clause_few g r c.args.store.now.box c.requires.fits c.requires.meaning))

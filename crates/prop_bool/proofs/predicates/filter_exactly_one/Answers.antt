@@ -15,4 +15,4 @@ filter_parity-requires-clause-says c =
     let X : Arg → Type 0 = λ z. IsParity g r (z ∷ c.one_at-2.result ∷ c.one_at-3.result ∷ []) false in
     let Y : Arg → Type 0 = λ z. IsParity g r (arg_at r.args 0 ∷ z ∷ c.one_at-3.result ∷ []) false in
     let H : Arg → Type 0 = λ z. IsParity g r (arg_at r.args 0 ∷ arg_at r.args 1 ∷ z ∷ []) false in
-    subst X (sym x) (subst Y (sym y) (subst H (sym h) (exactly_one_says g r c.args.store.now.box c.requires.fits c.requires.pred)))
+    subst X (sym x) (subst Y (sym y) (subst H (sym h) (exactly_one_says g r c.args.store.now.box c.requires.fits c.requires.meaning)))

@@ -11,4 +11,4 @@ filter_parity-requires-clause-says c =
     let r = c.args.asked.rule.now in
     let xs = c.items_at-items.ensures ∙ ap (λ a. args_at a 0) c.arguments.ensures in
     let A : List Arg → Type 0 = λ z. IsParity g r z true in
-    subst A (sym xs) (odd_items_say g r c.args.store.now.box c.requires.fits c.requires.pred)
+    subst A (sym xs) (odd_items_say g r c.args.store.now.box c.requires.fits c.requires.meaning)

@@ -13,4 +13,4 @@ filter_disjunction-requires-clause-says c =
     let h = c.one_at.ensures ∙ ap (λ a. arg_at a 1) c.arguments-args.ensures in
     let A : List Arg → Type 0 = λ z. IsDisjunction g r (literals z []) (plain c.one_at.result) in
     let B : Arg → Type 0 = λ z. IsDisjunction g r (literals (args_at r.args 0) []) (plain z) in
-    subst A (sym xs) (subst B (sym h) (some_item_says g r c.args.store.now.box c.requires.fits c.requires.pred))
+    subst A (sym xs) (subst B (sym h) (some_item_says g r c.args.store.now.box c.requires.fits c.requires.meaning))
