@@ -1,5 +1,5 @@
 -- Branches that are open, by levels.
-use Rattle.std.proofs.Common.{◌≡◌, refl, sym, ap, ◌∙◌, ℕ, zero, suc, ◌+◌, ◌<◌, List, ◌∷◌, Bool, false, cond, get_or, set, length, arith}
+use Rattle.std.proofs.Common.{◌≡◌, refl, ℕ, zero, suc, ◌+◌, ◌<◌, List, ◌∷◌, Bool, false, cond, set, length, arith}
 use Rattle.std.proofs.lemmas.List.{get_or-set_same, get_or-set_other}
 use Rattle.proof_tree.specs.declared.tree.Version.{Version}
 use Rattle.proof_text.specs.Symbols.{branches}
@@ -14,13 +14,6 @@ open_set v marks (suc n) k t h =
 pub entered : (v : Version) (marks : List Bool) (n : ℕ) (t : Bool) → suc n < length marks
     → open_branches v (set marks (suc n) t) (suc n) ≡ cond t (branches v (suc n) ∷ open_branches v marks n) (open_branches v marks n)
 entered v marks n t h = rw (get_or-set_same marks (suc n) t false h, open_set v marks n (suc n) t (omega arith)) refl
-
--- a level that is no branch
-pub left_out : (v : Version) (marks : List Bool) (n : ℕ) → get_or marks (suc n) false ≡ false → open_branches v marks (suc n) ≡ open_branches v marks n
-left_out v marks n h = rw h refl
-
-pub left_out_at : (v : Version) (marks : List Bool) (n m : ℕ) → n ≡ suc m → get_or marks n false ≡ false → open_branches v marks n ≡ open_branches v marks m
-left_out_at v marks n m e h = ap (open_branches v marks) e ∙ left_out v marks m (ap (λ (k : ℕ). get_or marks k false) (sym e) ∙ h)
 
 pub entered_at : (v : Version) (marks : List Bool) (n k : ℕ) (t : Bool) → k ≡ n + 1 → n + 1 < length marks
     → open_branches v (set marks k t) (n + 1) ≡ cond t (branches v (n + 1) ∷ open_branches v marks n) (open_branches v marks n)

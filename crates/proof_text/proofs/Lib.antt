@@ -1,4 +1,3 @@
-mod TooDeepLetters
 mod LevelsKept
 mod LinesRead
 mod Numerals

@@ -131,9 +131,6 @@ opened_one n b r le ne h = opened_last One n (branches One n) (branches One n) (
 opened_two : (n b : ℕ) (r : Opened) → n ≤ 1000 → (b ≡ 46 → ⊥) → (b ≡ 114 → ⊥) → Opens Two n b (chosen b (one_choices Two n)) r → Opening Two n (branches Two n ∷ []) (branches Two n ∷ []) b r
 opened_two n b r le ne ne2 h = opened_last Two n (branches Two n) (branches Two n) (chosen b (one_choices Two n)) b r le (le-leb _ _ le) (after_two n b ne ne2) h
 
-pub opened_range : (n b : ℕ) → n ≤ 1000 → b ≡ 114 → Opening Two n (branches Two n ∷ []) (branches Two n ∷ []) b (Line (Letter RangeKind) Case)
-opened_range n b le e = rw e (λ later. is_owed (after (branches Two n) 114) (byte 32 ∷ signed 1000000000 10 ∷ case Two n ∷ branches Two n ∷ []) later refl (and_from _ _ (le-leb _ _ le) (and_from _ _ (le-leb _ _ le) refl)), tt, refl)
-
 pub opened_case : (v : Version) (n b : ℕ) (r : Opened) → n ≤ 1000 → (b ≡ 46 → ⊥) → (b ≡ 114 → ⊥) → Opens v n b (chosen b (one_choices v n)) r → Opening v n (branches v n ∷ []) (branches v n ∷ []) b r
 opened_case One n b r le ne ne2 h = opened_one n b r le ne h
 opened_case Two n b r le ne ne2 h = opened_two n b r le ne ne2 h

@@ -1,20 +1,17 @@
 -- Lines of steps, as they are read.
-use Rattle.std.proofs.Common.{◌≡◌, refl, sym, ap, ◌∙◌, ℕ, suc, ◌+◌, ◌≤◌, ◌<◌, List, [], ◌∷◌, ◌++◌, length, arith, append_assoc, le-leb, length-append, Bool, true, false, cond, eqb, Some, None}
+use Rattle.std.proofs.Common.{◌≡◌, refl, sym, ap, ◌∙◌, ℕ, suc, ◌+◌, ◌≤◌, List, [], ◌∷◌, ◌++◌, length, le-leb, Bool, true, false, cond, eqb, Some, None}
 use Rattle.std.specs.Prelude.{ℤ}
 use Rattle.std.specs.Fmt.{decimal, signed_decimal}
 use Rattle.qc_model.specs.declared.problem.VarId.{VarId}
 use Rattle.qc_model.specs.declared.problem.ConId.{ConId}
-use Rattle.std.specs.List.{list_all}
-use Rattle.std.proofs.lemmas.Bool.{ne_eqb, and_from}
-use Rattle.std.proofs.lemmas.List.Folds.{list_all-append}
+use Rattle.std.proofs.lemmas.Bool.{ne_eqb}
 use Rattle.proof_tree.specs.declared.tree.Version.{Version}
-use Rattle.proof_tree.specs.declared.tree.Step.{Step}
-use Rattle.proof_tree.specs.declared.tree.Step.TheVariants.{Prune, Bound}
-use Rattle.proof_text.specs.Parts.{step_text, steps_text}
+use Rattle.proof_tree.specs.declared.tree.Step.TheVariants.{Prune}
+use Rattle.proof_text.specs.Parts.{step_text}
 use Rattle.proof_text.specs.declared.part_fault.PartFault.{PartFault}
 use Rattle.proof_text.specs.Symbols.{Symbol, byte, prune_line, bound_line, prunes, cases}
 use Rattle.proof_text.specs.Running.{run, onward}
-use Rattle.proof_text.specs.Reading.{Passes, Fails, BeginsNot, PassesSteps, GoesOn, FailsSteps}
+use Rattle.proof_text.specs.Reading.{Passes, Fails, BeginsNot, GoesOn, FailsSteps}
 use Rattle.proof_text.proofs.Forward.{step_is}
 use Rattle.proof_text.proofs.Sequences.{fails_by}
 
@@ -36,14 +33,6 @@ prune_goes text line rest is h = λ ver n le k. to_prune ver n k text line le is
 pub bound_goes : (text line rest : List ℕ) → text ≡ 98 ∷ line → Passes bound_line line rest → GoesOn text rest
 bound_goes text line rest is h = λ ver n le k. to_bound ver n k text line le is ∙ h (cases ver n ∷ k)
 
-pub no_step : (text : List ℕ) → BeginsNot 112 text → BeginsNot 98 text → PassesSteps text text
-no_step [] p b = λ ver n le k. refl
-no_step (c ∷ cs) p b = λ ver n le k. rw (ne_eqb c 112 (λ e. p cs (ap (λ (x : ℕ). x ∷ cs) e)), ne_eqb c 98 (λ e. b cs (ap (λ (x : ℕ). x ∷ cs) e))) refl
-
--- the same of the steps of a horizon
-pub to_line : (k : List Symbol) (text line : List ℕ) → text ≡ 112 ∷ line → run (prunes ∷ k) text ≡ run (prune_line ++ prunes ∷ k) line
-to_line k text line is = rw is refl
-
 dot_by : (t : Bool) (k : List Symbol) (cs : List ℕ) (left : ℕ) → onward (cond t (Some (byte 10 ∷ [])) None) (λ more. run (more ++ k) cs) left ≡ onward (cond t (Some []) None) (λ more. run (more ++ byte 10 ∷ k) cs) left
 dot_by true k cs left = refl
 dot_by false k cs left = refl
@@ -60,17 +49,3 @@ prunes_fail text rest fault g b h = fails_by (prunes ∷ []) (byte 46 ∷ byte 1
 
 pub prune_told : (x : VarId) (low high : ℤ) (c : ConId) (text mid rest : List ℕ) → text ≡ 32 ∷ (decimal (x.0 + 1) ++ 32 ∷ (signed_decimal low ++ 32 ∷ (signed_decimal high ++ 32 ∷ mid))) → mid ≡ decimal (c.0 + 1) ++ 10 ∷ rest → 112 ∷ text ≡ step_text (Prune x low high c) ++ rest
 prune_told x low high c text mid rest h g = rw (h, g) (sym (step_is (Prune x low high c) rest))
-
-pub steps_append : (steps : List Step) (s : Step) (v : List ℕ) → steps_text (steps ++ s ∷ []) ++ v ≡ steps_text steps ++ (step_text s ++ v)
-steps_append [] s v = append_assoc (step_text s) [] v
-steps_append (t ∷ steps) s v = append_assoc (step_text t) (steps_text (steps ++ s ∷ [])) v ∙ ap (λ (l : List ℕ). step_text t ++ l) (steps_append steps s v) ∙ sym (append_assoc (step_text t) (steps_text steps) (step_text s ++ v))
-
-pub one_more : (steps all : List Step) (s : Step) (text rest next : List ℕ) → all ≡ steps ++ s ∷ [] → steps_text steps ++ rest ≡ text → rest ≡ step_text s ++ next → steps_text all ++ next ≡ text
-one_more steps all s text rest next e h g = ap (λ (l : List Step). steps_text l ++ next) e ∙ steps_append steps s next ∙ ap (λ (l : List ℕ). steps_text steps ++ l) (sym g) ∙ h
-
-pub all_more : (test : Step → Bool) (steps all : List Step) (s : Step) → all ≡ steps ++ s ∷ [] → list_all test steps ≡ true → test s ≡ true → list_all test all ≡ true
-all_more test steps all s e h g = ap (list_all test) e ∙ list_all-append test steps (s ∷ []) ∙ and_from _ _ h (and_from _ _ g refl)
-
-pub step_shorter : (s : Step) (text next : List ℕ) → text ≡ step_text s ++ next → length next < length text
-step_shorter (Prune x low high c) text next e = rw e (simp length-append (omega arith))
-step_shorter (Bound x low high) text next e = rw e (simp length-append (omega arith))

@@ -1,12 +1,11 @@
 -- The parts of a tree, as they are read.
-use Rattle.std.proofs.Common.{◌≡◌, refl, sym, ap, ◌∙◌, subst, ℕ, suc, ◌+◌, ◌≤◌, ◌<◌, List, [], ◌∷◌, ◌++◌, length, arith, append_assoc, le-leb, length-append, Bool, true, false, ◌&&◌, cond, eqb, Option, Some, None}
+use Rattle.std.proofs.Common.{◌≡◌, refl, sym, ap, ◌∙◌, subst, ℕ, ◌+◌, ◌≤◌, ◌<◌, List, [], ◌∷◌, ◌++◌, length, arith, append_assoc, le-leb, length-append, Bool, true, false, ◌&&◌, Option, Some, None}
 use Rattle.std.specs.Prelude.{IsTrue, codes, MatchOption}
 use Rattle.std.specs.Option.{is_some}
 use Rattle.std.specs.List.{list_all}
 use Rattle.std.specs.Fmt.{decimal}
 use Rattle.std.proofs.lemmas.Bool.{ne_eqb, and_from, and_parts}
 use Rattle.std.proofs.lemmas.List.{append-nil}
-use Rattle.std.proofs.lemmas.List.Folds.{list_all-append}
 use Rattle.std.proofs.Math.Nat.{le-max_left, le-max_right}
 use Rattle.qc_model.specs.declared.problem.VarId.{VarId}
 use Rattle.proof_tree.specs.declared.tree.Version.{Version}
@@ -22,9 +21,9 @@ use Rattle.proof_tree.specs.Text.{is_place, horizon_fits, tree_fits, body_fits, 
 use Rattle.proof_text.specs.Parts.{ending_text, branches_text, upto_text, case_text}
 use Rattle.proof_tree.proofs.Shapes.{ending_branch}
 use Rattle.proof_text.specs.declared.part_fault.PartFault.{PartFault}
-use Rattle.proof_text.specs.Symbols.{Symbol, Choices, byte, number, signed, body, cases, ending, case, branches, chosen, followed, one_choices}
-use Rattle.proof_text.specs.Running.{run, onward, nests_within}
-use Rattle.proof_text.specs.Reading.{Fails, BeginsNot, Spells, PassesRange, FailsRange}
+use Rattle.proof_text.specs.Symbols.{Symbol, byte, number, body, cases, ending, case, branches}
+use Rattle.proof_text.specs.Running.{run}
+use Rattle.proof_text.specs.Reading.{Fails, BeginsNot, Spells, PassesRange}
 use Rattle.proof_text.proofs.Sequences.{fails_by}
 use Rattle.proof_text.proofs.Forward.{branch_pieces}
 use Rattle.proof_text.proofs.Backward.{max_within}
@@ -39,52 +38,6 @@ no_leaf ver n (c ∷ cs) k p q = rw (ne_eqb c 116 (other c 116 cs p), ne_eqb c 1
 
 pub body_fails : (ver : Version) (n : ℕ) (text : List ℕ) (fault : PartFault) → BeginsNot 116 text → BeginsNot 103 text → Fails (cases ver n ∷ []) text fault → Fails (body ver n ∷ []) text fault
 body_fails ver n text fault p q h = fails_by (body ver n ∷ []) (cases ver n ∷ []) text text fault (λ k. (k, no_leaf ver n text k p q)) h
-
-add_symbol : Symbol → Option (List Symbol) → Option (List Symbol)
-add_symbol s None = None
-add_symbol s (Some owed) = Some (owed ++ s ∷ [])
-
-chosen_by : (t : Bool) (owed : List Symbol) (o p : Option (List Symbol)) (s : Symbol) → p ≡ add_symbol s o → cond t (Some (owed ++ s ∷ [])) p ≡ add_symbol s (cond t (Some owed) o)
-unfolding add_symbol
-chosen_by true owed o p s h = refl
-chosen_by false owed o p s h = h
-
-chosen_followed : (c : ℕ) (choices : Choices) (s : Symbol) → chosen c (followed choices s) ≡ add_symbol s (chosen c choices)
-unfolding add_symbol
-chosen_followed c [] s = refl
-chosen_followed c (x ∷ choices) s = chosen_by (eqb c x.0) x.1 (chosen c choices) (chosen c (followed choices s)) s (chosen_followed c choices s)
-
-and_true : (b : Bool) → (b && true) ≡ b
-and_true true = refl
-and_true false = refl
-
-onward_followed : (o : Option (List Symbol)) (s : Symbol) (k : List Symbol) (cs : List ℕ) (left : ℕ) → nests_within 1000 s ≡ true
-    → onward (add_symbol s o) (λ more. run (more ++ k) cs) left ≡ onward o (λ more. run (more ++ s ∷ k) cs) left
-unfolding add_symbol
-onward_followed None s k cs left h = refl
-onward_followed (Some owed) s k cs left h =
-    rw (list_all-append (nests_within 1000) owed (s ∷ []), h, and_true (list_all (nests_within 1000) owed), append_assoc owed (s ∷ []) k) refl
-
-followed_run : (n : ℕ) (c : ℕ) (cs : List ℕ) (k : List Symbol) (choices : Choices) (s : Symbol) → nests_within 1000 s ≡ true →
-    onward (chosen c (followed choices s)) (λ more. run (more ++ k) cs) n ≡ onward (chosen c choices) (λ more. run (more ++ s ∷ k) cs) n
-followed_run n c cs k choices s h = ap (λ (o : Option (List Symbol)). onward o (λ more. run (more ++ k) cs) n) (chosen_followed c choices s) ∙ onward_followed (chosen c choices) s k cs n h
-
--- a case without the line of a range, where the branch doesn't end
-pub no_range_one : (text : List ℕ) → PassesRange One text text
-no_range_one [] r n le k = refl
-no_range_one (c ∷ cs) r n le k = rw (ne_eqb c 46 (other c 46 cs r)) (followed_run (suc (length cs)) c cs k (one_choices One n) (branches One n) (le-leb n 1000 le))
-
-pub no_range_two : (text : List ℕ) → BeginsNot 114 text → PassesRange Two text text
-no_range_two [] q r n le k = refl
-no_range_two (c ∷ cs) q r n le k = rw (ne_eqb c 46 (other c 46 cs r), ne_eqb c 114 (other c 114 cs q)) (followed_run (suc (length cs)) c cs k (one_choices Two n) (branches Two n) (le-leb n 1000 le))
-
-pub to_range : (n : ℕ) (k : List Symbol) (text line : List ℕ) → n ≤ 1000 → text ≡ 114 ∷ line → run (branches Two n ∷ k) text ≡ run (byte 32 ∷ signed 1000000000 10 ∷ case Two n ∷ branches Two n ∷ k) line
-to_range n k text line le is = rw (is, le-leb n 1000 le) refl
-
-pub range_fails : (ss : List Symbol) (text line : List ℕ) (fault : PartFault) → text ≡ 114 ∷ line → ((k : List Symbol) → (l : List Symbol) × ((byte 32 ∷ signed 1000000000 10 ∷ k) ≡ ss ++ l)) → Fails ss line fault → FailsRange Two text fault
-range_fails ss text line fault is h g = λ n le. fails_by (branches Two n ∷ []) ss text line fault (λ k.
-    let r = h (case Two n ∷ branches Two n ∷ k) in
-    (r.0, to_range n k text line le is ∙ ap (λ (l : List Symbol). run l line) r.1)) g
 
 -- a case that is neither skipped nor left open
 pub no_skip : (ver : Version) (n : ℕ) (text : List ℕ) (k : List Symbol) → BeginsNot 115 text → BeginsNot 111 text → run (case ver n ∷ k) text ≡ run (cases ver n ∷ k) text

@@ -2,6 +2,7 @@
 use Rattle.std.proofs.Common.{◌≡◌, ℕ, zero, suc, ◌≤◌, List, [], ◌∷◌, length, take, drop, Some, refl, ap, ◌∙◌, sym, arith, ℤ}
 use Rattle.std.specs.Prelude.{slice_get}
 use Rattle.std.specs.Option.{option_map}
+use Rattle.std.proofs.Math.Seq.{take_all}
 use Rattle.qc_model.specs.declared.problem.Kind.{Kind}
 use Rattle.qc_model.specs.declared.problem.Kind.TheVariants.{Exists, Forall}
 use Rattle.qc_model.specs.declared.problem.Scope.{Scope}
@@ -46,8 +47,4 @@ stuck_counterstrategy_at g i k e = let f = first_scope g.scopes i k e in ap stuc
 
 -- all values stand before the goal
 pub all_values : (g : Game) (i : ℕ) (vs : List ℤ) → i ≡ length g.scopes → before g (length g.scopes) ≡ length g.variables → length vs ≡ length g.variables → values_to g i vs ≡ vs
-all_values g i vs e all each = ap (λ j. values_to g j vs) e ∙ (ap (λ n. take n vs) (all ∙ sym each) ∙ whole vs)
-  where
-    whole : (vs : List ℤ) → take (length vs) vs ≡ vs
-    whole [] = refl
-    whole (v ∷ vs) = ap (λ ws. v ∷ ws) (whole vs)
+all_values g i vs e all each = ap (λ j. values_to g j vs) e ∙ (ap (λ n. take n vs) (all ∙ sym each) ∙ take_all (length vs) vs (omega arith))

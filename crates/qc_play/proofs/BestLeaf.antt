@@ -3,6 +3,7 @@ use Rattle.std.proofs.Common.{◌≡◌, ◌⊎◌, inl, inr, ℕ, Bool, true, f
 use Rattle.std.specs.Ordering.{int_eq}
 use Rattle.std.proofs.lemmas.Int.{ints}
 use Rattle.std.proofs.lemmas.Bool.Decides.{Decides-int_eq}
+use Rattle.std.proofs.lemmas.Bool.{or_left, false≢true}
 use Rattle.qc_model.specs.declared.problem.Sense.{Sense}
 use Rattle.qc_model.specs.declared.problem.Sense.TheVariants.{Min, Max}
 use Rattle.qc_model.specs.declared.problem.Condition.{Condition}
@@ -20,22 +21,15 @@ use Rattle.qc_play.specs.Shape.{plan_of}
 use Rattle.qc_play.specs.Entries.{NoneBetter, IsBest, KeepsBest, wins_over}
 use Rattle.qc_play.proofs.LeavesMore.{vectors_same, vectors_exact, choice_none, choice_some}
 
-differ : false ≡ true → ⊥
-differ e = cc
-
 either : (a e b : Bool) → (a || (e && b)) ≡ true → (a ≡ true) ⊎ ((e ≡ true) × (b ≡ true))
 either true e b h = inl refl
 either false true b h = inr (refl, h)
-either false false b h = absurd (differ h)
-
-is_left : (a b : Bool) → a ≡ true → (a || b) ≡ true
-is_left true b h = refl
-is_left false b h = absurd (differ h)
+either false false b h = absurd (false≢true h)
 
 is_right : (a e b : Bool) → e ≡ true → b ≡ true → (a || (e && b)) ≡ true
 is_right true e b h k = refl
 is_right false true b h k = k
-is_right false false b h k = absurd (differ h)
+is_right false false b h k = absurd (false≢true h)
 
 number_through : (s : Sense) (x y z : ℤ) → is_better s x y ≡ true → is_better s y z ≡ true → is_better s x z ≡ true
 number_through Min x y z h k = grind (arith, ints)
@@ -43,18 +37,18 @@ number_through Max x y z h k = grind (arith, ints)
 
 -- better than v, and v better than w
 better_through : (d : List Condition) (u v w : List ℤ) → is_better_vector d u v ≡ true → is_better_vector d v w ≡ true → is_better_vector d u w ≡ true
-better_through [] u v w h k = absurd (differ h)
-better_through (c ∷ d) [] v w h k = absurd (differ h)
-better_through (c ∷ d) (x ∷ u) [] w h k = absurd (differ h)
-better_through (c ∷ d) (x ∷ u) (y ∷ v) [] h k = absurd (differ k)
+better_through [] u v w h k = absurd (false≢true h)
+better_through (c ∷ d) [] v w h k = absurd (false≢true h)
+better_through (c ∷ d) (x ∷ u) [] w h k = absurd (false≢true h)
+better_through (c ∷ d) (x ∷ u) (y ∷ v) [] h k = absurd (false≢true k)
 better_through (c ∷ d) (x ∷ u) (y ∷ v) (z ∷ w) h k =
     by (either (is_better c.sense x y) (int_eq x y) (is_better_vector d u v) h) (either (is_better c.sense y z) (int_eq y z) (is_better_vector d v w) k) (better_through d u v w)
   where
     by : (is_better c.sense x y ≡ true) ⊎ ((int_eq x y ≡ true) × (is_better_vector d u v ≡ true)) → (is_better c.sense y z ≡ true) ⊎ ((int_eq y z ≡ true) × (is_better_vector d v w ≡ true)) →
         (is_better_vector d u v ≡ true → is_better_vector d v w ≡ true → is_better_vector d u w ≡ true) → (is_better c.sense x z || (int_eq x z && is_better_vector d u w)) ≡ true
-    by (inl p) (inl q) f = is_left (is_better c.sense x z) (int_eq x z && is_better_vector d u w) (number_through c.sense x y z p q)
-    by (inl p) (inr q) f = is_left (is_better c.sense x z) (int_eq x z && is_better_vector d u w) (subst (λ n. is_better c.sense x n ≡ true) ((Decides-int_eq y z).0 q.0) p)
-    by (inr p) (inl q) f = is_left (is_better c.sense x z) (int_eq x z && is_better_vector d u w) (subst (λ n. is_better c.sense n z ≡ true) (sym ((Decides-int_eq x y).0 p.0)) q)
+    by (inl p) (inl q) f = or_left (is_better c.sense x z) (int_eq x z && is_better_vector d u w) (number_through c.sense x y z p q)
+    by (inl p) (inr q) f = or_left (is_better c.sense x z) (int_eq x z && is_better_vector d u w) (subst (λ n. is_better c.sense x n ≡ true) ((Decides-int_eq y z).0 q.0) p)
+    by (inr p) (inl q) f = or_left (is_better c.sense x z) (int_eq x z && is_better_vector d u w) (subst (λ n. is_better c.sense n z ≡ true) (sym ((Decides-int_eq x y).0 p.0)) q)
     by (inr p) (inr q) f =
         is_right (is_better c.sense x z) (int_eq x z) (is_better_vector d u w)
         ((Decides-int_eq x z).1 ((Decides-int_eq x y).0 p.0 ∙ (Decides-int_eq y z).0 q.0)) (f p.1 q.1)
@@ -65,7 +59,7 @@ none_better_than d v b [] h k = tt
 none_better_than d v b (w ∷ ws) h k = (go (is_better_vector d w v) refl, none_better_than d v b ws h k.1)
   where
     go : (x : Bool) → is_better_vector d w v ≡ x → x ≡ false
-    go true e = absurd (differ (sym k.0 ∙ better_through d w v b e h))
+    go true e = absurd (false≢true (sym k.0 ∙ better_through d w v b e h))
     go false e = refl
 
 none_better_more : (d : List Condition) (b v : List ℤ) (ws : List (List ℤ)) → NoneBetter d b ws → is_better_vector d v b ≡ false → NoneBetter d b (ws ++ v ∷ [])
@@ -93,7 +87,7 @@ none_such d v b plan n (leaf_bound m ∷ ls) h k = none_such d v b plan n ls h k
 none_such d v b plan n (leaf_node w f ∷ ls) h k = by f.verdict (none_such d v b plan n ls h) k
   where
     at : (u : List ℤ) (x : Bool) → same_values v u ≡ x → is_better_vector d u b ≡ false → first_choice (is_exact_at v) plan n ls ≡ finish → cond x (choose (drop n w) (plan f)) (first_choice (is_exact_at v) plan n ls) ≡ finish
-    at u true e l m = absurd (differ (sym (subst (λ z. is_better_vector d z b ≡ false) (sym (same_true v u e)) l) ∙ h))
+    at u true e l m = absurd (false≢true (sym (subst (λ z. is_better_vector d z b ≡ false) (sym (same_true v u e)) l) ∙ h))
     at u false e l m = m
 
     by : (x : Verdict) → (NoneBetter d b (exact_vectors (map seen_of ls)) → first_choice (is_exact_at v) plan n ls ≡ finish) → NoneBetter d b (exact_vectors (seen_node x ∷ map seen_of ls)) →

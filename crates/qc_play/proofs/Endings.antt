@@ -1,9 +1,10 @@
 -- A play by a sound tree ends as it has to.
-use Rattle.std.proofs.Common.{◌≡◌, ◌⊎◌, inl, inr, ℕ, zero, suc, Bool, true, false, ◌&&◌, ◌||◌, cond, List, [], ◌∷◌, ◌++◌, length, take, drop, refl, sym, ap, ◌∙◌, subst, Option, Some, None, ℤ}
+use Rattle.std.proofs.Common.{◌≡◌, ◌⊎◌, inl, inr, ℕ, zero, suc, Bool, true, false, ◌||◌, cond, List, [], ◌∷◌, ◌++◌, length, take, drop, refl, sym, ap, ◌∙◌, subst, Option, Some, None, ℤ}
 use Rattle.std.specs.Prelude.{nat_lt, slice_get}
 use Rattle.std.specs.Option.{option_map}
 use Rattle.std.specs.Ordering.{int_eq}
 use Rattle.std.proofs.lemmas.Bool.Decides.{Decides-int_eq}
+use Rattle.std.proofs.lemmas.Bool.{and_parts, true≢false}
 use Rattle.qc_model.specs.declared.problem.Kind.{Kind}
 use Rattle.qc_model.specs.declared.problem.Kind.TheVariants.{Exists, Forall}
 use Rattle.qc_model.specs.declared.problem.Condition.{Condition}
@@ -20,13 +21,6 @@ use Rattle.proof_meaning.proofs.LeafWords.{same_true, same_self}
 use Rattle.qc_play.specs.Play.{missing_at, not_allowed_at, Play, ends, lies_in, is_move, reply_to, Rest, own_turn, replied, moved, answered, answers_of, turn, play_from, play_of}
 use Rattle.qc_play.specs.Ends.{IsSound, MayGoOn, values_after, kind_at, IsHopeless, EndsFor, EndsWell}
 
-both : (a b : Bool) → (a && b) ≡ true → (a ≡ true) × (b ≡ true)
-both true b e = (refl, e)
-both false b e = cc
-
-differ : true ≡ false → ⊥
-differ e = cc
-
 -- tests and what they test
 some_value : (d : Values) (v : ℤ) → has_value d v ≡ true → Among v d
 some_value [] v e = cc
@@ -38,12 +32,12 @@ some_value (w ∷ d) v e = by (int_eq v w) refl e (some_value d v)
 
 pub lies_true : (t : List ℤ) (ds : List Values) → lies_in t ds ≡ true → LiesIn t ds
 lies_true [] [] e = tt
-lies_true [] (d ∷ ds) e = absurd (differ (sym e))
-lies_true (v ∷ t) [] e = absurd (differ (sym e))
-lies_true (v ∷ t) (d ∷ ds) e = let p = both (has_value d v) (lies_in t ds) e in (some_value d v p.0, lies_true t ds p.1)
+lies_true [] (d ∷ ds) e = absurd (true≢false (sym e))
+lies_true (v ∷ t) [] e = absurd (true≢false (sym e))
+lies_true (v ∷ t) (d ∷ ds) e = let p = and_parts (has_value d v) (lies_in t ds) e in (some_value d v p.0, lies_true t ds p.1)
 
 pub move_true : (g : Game) (i : ℕ) (a t : List ℤ) → is_move g i a t ≡ true → IsMove g i a t
-move_true g i a t e = let p = both (lies_in t (scope_domains g i)) (allows g i (a ++ t)) e in record { is_tuple = lies_true t (scope_domains g i) p.0; is_allowed = p.1 }
+move_true g i a t e = let p = and_parts (lies_in t (scope_domains g i)) (allows g i (a ++ t)) e in record { is_tuple = lies_true t (scope_domains g i) p.0; is_allowed = p.1 }
 
 -- the entry that is found
 pub found_entry : (R : List ℤ → Plan → Type 0) (t : List ℤ) (s : Plan) (l : Entries) → EachEntry R l → reply_to t l ≡ Some s → R t s
@@ -60,7 +54,7 @@ none_found t (entry u r rest) e m = by (same_values u t) refl e m (none_found t 
   where
     by : (b : Bool) → same_values u t ≡ b → cond b (Some r) (reply_to t rest) ≡ None → (t ≡ u) ⊎ Among t (entry_tuples rest) → (reply_to t rest ≡ None → ¬ Among t (entry_tuples rest)) → ⊥
     by true q k m f = cc
-    by false q k m f = elim m [ inl w ↦ differ (sym (same_self t) ∙ (ap (λ z. same_values z t) w ∙ q)) | inr n ↦ f k n ]
+    by false q k m f = elim m [ inl w ↦ true≢false (sym (same_self t) ∙ (ap (λ z. same_values z t) w ∙ q)) | inr n ↦ f k n ]
 
 absent : (R : List ℤ → Plan → Type 0) (a t : List ℤ) (l : Entries) → ¬ Among t (entry_tuples l) → ¬ HasEntry R a t l
 absent R a t no_entries n h = h
@@ -76,7 +70,7 @@ once_found R a t s (entry u r rest) d h e = by (same_values u t) refl e h (once_
         let w : r ≡ s = cc in
         elim h [ inl p ↦ subst (R (a ++ t)) w p.1 | inr m ↦ absurd (absent R a t rest (subst (λ z. ¬ Among z (entry_tuples rest)) (same_true u t q) d.0) m) ]
     by false q k h f =
-        elim h [ inl p ↦ absurd (differ (sym (same_self t) ∙ (ap (λ z. same_values z t) (sym p.0) ∙ q))) | inr m ↦ f m k ]
+        elim h [ inl p ↦ absurd (true≢false (sym (same_self t) ∙ (ap (λ z. same_values z t) (sym p.0) ∙ q))) | inr m ↦ f m k ]
 
 entry_there : (R : List ℤ → Plan → Type 0) (a t : List ℤ) (l : Entries) → HasEntry R a t l → ¬ (reply_to t l ≡ None)
 entry_there R a t no_entries h e = h
@@ -84,7 +78,7 @@ entry_there R a t (entry u r rest) h e = by (same_values u t) refl h e (entry_th
   where
     by : (b : Bool) → same_values u t ≡ b → ((u ≡ t) × R (a ++ t) r) ⊎ HasEntry R a t rest → cond b (Some r) (reply_to t rest) ≡ None → (HasEntry R a t rest → reply_to t rest ≡ None → ⊥) → ⊥
     by true q h k f = cc
-    by false q h k f = elim h [ inl p ↦ differ (sym (same_self t) ∙ (ap (λ z. same_values z t) (sym p.0) ∙ q)) | inr m ↦ f m k ]
+    by false q h k f = elim h [ inl p ↦ true≢false (sym (same_self t) ∙ (ap (λ z. same_values z t) (sym p.0) ∙ q)) | inr m ↦ f m k ]
 
 pub once_reply : (t : List ℤ) (s : Plan) (l : Entries) → EachAnswersOnce l → reply_to t l ≡ Some s → AnswersOnce s
 once_reply t s no_entries h e = cc
@@ -93,10 +87,6 @@ once_reply t s (entry u r rest) h e = by (same_values u t) refl e (once_reply t 
     by : (b : Bool) → same_values u t ≡ b → cond b (Some r) (reply_to t rest) ≡ Some s → (reply_to t rest ≡ Some s → AnswersOnce s) → AnswersOnce s
     by true q k f = let w : r ≡ s = cc in subst AnswersOnce w h.0
     by false q k f = f k
-
--- a scope of the game where it stands
-abbrev pub IsTail : Game → List Scope → ℕ → Type 0
-IsTail g later i = later ≡ drop i g.scopes
 
 first_of : (ss : List Scope) (i : ℕ) (s : Scope) (later : List Scope) → s ∷ later ≡ drop i ss → (slice_get ss i ≡ Some s) × (later ≡ drop (suc i) ss)
 first_of [] zero s later e = absurd (none e)

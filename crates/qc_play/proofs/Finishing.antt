@@ -3,6 +3,7 @@ use Rattle.std.proofs.Common.{◌≡◌, ℕ, Bool, true, false, not, ◌&&◌, 
 use Rattle.std.specs.Prelude.{is_none}
 use Rattle.std.specs.List.{list_all}
 use Rattle.std.specs.List.Sorted.{IsPermutation, IsSorted}
+use Rattle.std.proofs.lemmas.Bool.{false≢true}
 use Rattle.qc_model.specs.declared.problem.Condition.{Condition}
 use Rattle.qc_model.specs.Content.{Game}
 use Rattle.qc_model.specs.Valid.{IsValid}
@@ -20,9 +21,6 @@ use Rattle.qc_play.specs.EntryOrder.{entry_order}
 use Rattle.qc_play.specs.Entries.{entries_on, KeepsBest, KeepsFirst, KeepsReplies, KeepsAnswers, best_choice, lost_choice}
 use Rattle.proof_meaning.specs.Answered.{GoOnWithAll}
 use Rattle.qc_play.proofs.SortedAnswers.{answers_sorted}
-
-differ : false ≡ true → ⊥
-differ e = cc
 
 -- ---- the verdict of a scope of the player
 -- where it is exact, some leaf is
@@ -66,7 +64,7 @@ each_lost own (c ∷ d) xs e =
 
 -- ---- a scope of the player, where the list d is demanded after it
 best_is : (d : List Condition) (n : ℕ) (o : Option Best) (ls : List Leaf) → is_none_of (exact_vectors (map seen_of ls)) ≡ false → KeepsBest d n o ls → best_choice o ≡ first_choice (is_exact_at (best_vector d (exact_vectors (map seen_of ls)))) (λ f. f.strategy) n ls
-best_is d n None ls e k = absurd (differ (sym e ∙ ap is_none_of k))
+best_is d n None ls e k = absurd (false≢true (sym e ∙ ap is_none_of k))
 best_is d n (Some b) ls e k = sym k.first ∙ ap (λ v. first_choice (is_exact_at v) (λ f. f.strategy) n ls) k.vector
 
 pub player_strategy : (own : Option Condition) (d : List Condition) (a : List ℤ) (n : ℕ) (o : Option Best) (ls : List Leaf) → length a ≡ n → KeepsBest d n o ls → is_exact (exists_finding own d a ls).verdict ≡ true → best_choice o ≡ (exists_finding own d a ls).strategy

@@ -1,6 +1,7 @@
 -- The entries for leaves, and the first lost leaf, as leaves come.
 use Rattle.std.proofs.Common.{◌≡◌, ℕ, true, false, cond, Option, Some, None, List, [], ◌∷◌, ◌++◌, drop, refl, sym, ap, ◌∙◌, ℤ}
 use Rattle.std.specs.Option.{is_some}
+use Rattle.std.proofs.lemmas.Bool.{false≢true}
 use Rattle.qc_model.specs.Plan.{Plan, finish, choose, Entries, entry}
 use Rattle.qc_model.specs.Verdict.{is_lost, is_exact}
 use Rattle.proof_tree.specs.Finding.{Finding, Leaf, leaf_node}
@@ -9,9 +10,6 @@ use Rattle.qc_play.specs.declared.counter.CounterEntry.{CounterEntry}
 use Rattle.qc_play.specs.Shape.{plan_of, tree_of_counter, all_entries, all_replies}
 use Rattle.qc_play.specs.Entries.{entries_on, KeepsFirst, KeepsReplies, KeepsAnswers}
 use Rattle.qc_play.proofs.LeavesMore.{IsQuiet, each_before, each_last, choice_none, choice_some, choice_quiet, no_choice, add_entry, entries_more, entries_quiet}
-
-differ : false ≡ true → ⊥
-differ e = cc
 
 replies_more : (es : List CounterEntry) (e : CounterEntry) → all_replies (es ++ e ∷ []) ≡ add_entry (all_replies es) e.tuple (tree_of_counter e.counter)
 replies_more [] e = refl
@@ -32,7 +30,7 @@ replies_add n es ls e w f k t s = λ h.
     ∙ sym (entries_more (λ f. f.counter) n ls w f))
 
 pub replies_not : (n : ℕ) (es : List CounterEntry) (ls : List Leaf) (w : List ℤ) (f : Finding) → is_lost f.verdict ≡ false → KeepsReplies n es (ls ++ leaf_node w f ∷ [])
-replies_not n es ls w f e = λ h. absurd (differ (sym e ∙ (each_last is_lost ls w f h).1))
+replies_not n es ls w f e = λ h. absurd (false≢true (sym e ∙ (each_last is_lost ls w f h).1))
 
 -- an exact leaf, and one that isn't
 pub answers_add : (n : ℕ) (es : List PlanEntry) (ls : List Leaf) (e : PlanEntry) (w : List ℤ) (f : Finding) → KeepsAnswers n es ls → e.tuple ≡ drop n w → plan_of e.plan ≡ f.strategy → KeepsAnswers n (es ++ e ∷ []) (ls ++ leaf_node w f ∷ [])
@@ -42,7 +40,7 @@ answers_add n es ls e w f k t s = λ h.
     ∙ sym (entries_more (λ f. f.strategy) n ls w f))
 
 pub answers_not : (n : ℕ) (es : List PlanEntry) (ls : List Leaf) (w : List ℤ) (f : Finding) → is_exact f.verdict ≡ false → KeepsAnswers n es (ls ++ leaf_node w f ∷ [])
-answers_not n es ls w f e = λ h. absurd (differ (sym e ∙ (each_last is_exact ls w f h).1))
+answers_not n es ls w f e = λ h. absurd (false≢true (sym e ∙ (each_last is_exact ls w f h).1))
 
 -- a leaf that doesn't go on
 pub replies_quiet : (n : ℕ) (es : List CounterEntry) (ls : List Leaf) (l : Leaf) → IsQuiet l → KeepsReplies n es ls → KeepsReplies n es (ls ++ l ∷ [])

@@ -6,6 +6,7 @@ use Rattle.qc_model.specs.Verdict.{Verdict, exact, seen_node, each_node, exact_v
 use Rattle.joins.proofs.Bests.{each_join, vectors_join, append_nothing}
 use Rattle.proof_tree.specs.Finding.{Finding, Leaf, leaf_barred, leaf_skipped, leaf_bound, leaf_node, seen_of, first_choice}
 use Rattle.proof_meaning.proofs.Places.{both}
+use Rattle.check_lines.proofs.Leaves.{seen-append}
 use Rattle.qc_play.specs.Entries.{entries_on}
 
 -- the leaf doesn't go on
@@ -15,12 +16,8 @@ IsQuiet leaf_skipped = ⊤
 IsQuiet (leaf_bound m) = ⊤
 IsQuiet (leaf_node w f) = ⊥
 
-pub seen_more : (ls ms : List Leaf) → map seen_of (ls ++ ms) ≡ map seen_of ls ++ map seen_of ms
-seen_more [] ms = refl
-seen_more (l ∷ ls) ms = ap (λ xs. seen_of l ∷ xs) (seen_more ls ms)
-
 pub vectors_more : (ls ms : List Leaf) → exact_vectors (map seen_of (ls ++ ms)) ≡ exact_vectors (map seen_of ls) ++ exact_vectors (map seen_of ms)
-vectors_more ls ms = ap exact_vectors (seen_more ls ms) ∙ vectors_join (map seen_of ls) (map seen_of ms)
+vectors_more ls ms = ap exact_vectors (seen-append ls ms) ∙ vectors_join (map seen_of ls) (map seen_of ms)
 
 -- a leaf that isn't exact
 pub vectors_same : (ls : List Leaf) (l : Leaf) → exact_vectors (seen_of l ∷ []) ≡ [] → exact_vectors (map seen_of (ls ++ l ∷ [])) ≡ exact_vectors (map seen_of ls)
@@ -43,7 +40,7 @@ quiet_vectors (leaf_node w f) q = absurd q
 pub each_before : (p : Verdict → Bool) (ls ms : List Leaf) → each_node p (map seen_of (ls ++ ms)) ≡ true → (each_node p (map seen_of ls) ≡ true) × (each_node p (map seen_of ms) ≡ true)
 each_before p ls ms e =
     both (each_node p (map seen_of ls)) (each_node p (map seen_of ms))
-    (sym (ap (each_node p) (seen_more ls ms) ∙ each_join p (map seen_of ls) (map seen_of ms)) ∙ e)
+    (sym (ap (each_node p) (seen-append ls ms) ∙ each_join p (map seen_of ls) (map seen_of ms)) ∙ e)
 
 -- and the leaf after them passes too
 pub each_last : (p : Verdict → Bool) (ls : List Leaf) (w : List ℤ) (f : Finding) → each_node p (map seen_of (ls ++ leaf_node w f ∷ [])) ≡ true → (each_node p (map seen_of ls) ≡ true) × (p f.verdict ≡ true)

@@ -1,6 +1,7 @@
 -- What is made of a certificate that was judged.
-use Rattle.std.proofs.Common.{◌≡◌, Bool, true, false, ◌&&◌, [], refl, sym, ◌∙◌, subst, Option, Some, None, ℤ}
+use Rattle.std.proofs.Common.{◌≡◌, true, false, ◌&&◌, [], sym, ◌∙◌, subst, Option, Some, None, ℤ}
 use Rattle.std.specs.Prelude.{IsTrue}
+use Rattle.std.proofs.lemmas.Bool.{and_parts, true≢false}
 use Rattle.qc_model.specs.Content.{Game}
 use Rattle.qc_model.specs.Optimal.{Optimal}
 use Rattle.qc_model.specs.Verdict.{is_exact, is_lost}
@@ -17,36 +18,29 @@ use Rattle.qc_play.specs.Shape.{plan_of, tree_of_counter}
 use Rattle.qc_play.specs.Ends.{IsWinning}
 use Rattle.qc_play.specs.Made.{IsPlanOf, IsCounterOf}
 
-both : (a b : Bool) → (a && b) ≡ true → (a ≡ true) × (b ≡ true)
-both true b e = (refl, e)
-both false b e = cc
-
-differ : true ≡ false → ⊥
-differ e = cc
-
 module _ (g : Game) (p : Option ℤ) (t : Tree) (o : Outcome) where
   pub not_proved : proves g o p t ≡ false → IsTrue (proves g o p t) → ⊥
-  not_proved n e = differ (sym e ∙ n)
+  not_proved n e = true≢false (sym e ∙ n)
 
   pub states : (x : Outcome) → o ≡ x → proves g o p t ≡ true → IsTrue (proves g x p t)
   states x q e = subst (λ y. IsTrue (proves g y p t)) q e
 
   pub placed : proves g o p t ≡ true → root_in_place g t ≡ true
-  placed e = (both (root_in_place g t) (shows g t (root_finding g t) o p) e).0
+  placed e = (and_parts (root_in_place g t) (shows g t (root_finding g t) o p) e).0
 
   exact_true : (q : Option ℤ) → shows g t (root_finding g t) True q ≡ true → is_exact (root_finding g t).verdict ≡ true
-  exact_true None e = (both (is_exact (root_finding g t).verdict) _ e).0
-  exact_true (Some v) e = (both (is_exact (root_finding g t).verdict) _ (both (is_exact (root_finding g t).verdict && _) _ e).0).0
+  exact_true None e = (and_parts (is_exact (root_finding g t).verdict) _ e).0
+  exact_true (Some v) e = (and_parts (is_exact (root_finding g t).verdict) _ (and_parts (is_exact (root_finding g t).verdict && _) _ e).0).0
 
   lost_false : (q : Option ℤ) → shows g t (root_finding g t) False q ≡ true → is_lost (root_finding g t).verdict ≡ true
   lost_false None e = e
-  lost_false (Some v) e = absurd (differ (sym e))
+  lost_false (Some v) e = absurd (true≢false (sym e))
 
   pub won_exact : IsTrue (proves g True p t) → is_exact (root_finding g t).verdict ≡ true
-  won_exact e = exact_true p (both (root_in_place g t) (shows g t (root_finding g t) True p) e).1
+  won_exact e = exact_true p (and_parts (root_in_place g t) (shows g t (root_finding g t) True p) e).1
 
   pub lost_lost : IsTrue (proves g False p t) → is_lost (root_finding g t).verdict ≡ true
-  lost_lost e = lost_false p (both (root_in_place g t) (shows g t (root_finding g t) False p) e).1
+  lost_lost e = lost_false p (and_parts (root_in_place g t) (shows g t (root_finding g t) False p) e).1
 
   means_true : (q : Option ℤ) → OutcomeMeans True q g t → TrueMeans g t
   means_true None m = m

@@ -1,5 +1,6 @@
 -- What a certificate proves, by its head and by what the checker answers.
-use Rattle.std.proofs.Common.{◌≡◌, Bool, true, false, not, ◌&&◌, refl, sym, ◌∙◌, Option, Some, None, ℤ, ◌↔◌, IsTrue}
+use Rattle.std.proofs.Common.{◌≡◌, Bool, true, false, not, ◌&&◌, refl, sym, Option, Some, None, ℤ, ◌↔◌, IsTrue}
+use Rattle.std.proofs.lemmas.Bool.{and_right}
 use Rattle.qc_model.specs.Content.{Game}
 use Rattle.qc_model.specs.Verdict.{is_exact}
 use Rattle.proof_tree.specs.declared.tree.Outcome.{Outcome}
@@ -11,12 +12,6 @@ use Rattle.proof_tree.specs.Proves.{proves, shows, optimises_first}
 use Rattle.qc_check.specs.declared.finding.Answer.TheVariants.{Yes, NotProved}
 use Rattle.qc_play.specs.Heads.{is_head}
 
--- a test that fails
-last : (a b : Bool) → b ≡ false → (a && b) ≡ false
-last true false e = refl
-last false false e = refl
-last a true e = cc
-
 middle : (a b c : Bool) → b ≡ false → (a && b && c) ≡ false
 middle true false c e = refl
 middle false false c e = refl
@@ -24,7 +19,7 @@ middle a true c e = cc
 
 module _ (g : Game) (t : Tree) where
   no_head : (o : Outcome) (p : Option ℤ) → is_head g.scopes o p ≡ false → shows g t (root_finding g t) o p ≡ false
-  no_head True None e = last (is_exact (root_finding g t).verdict) (not (optimises_first g.scopes)) e
+  no_head True None e = and_right (is_exact (root_finding g t).verdict) (not (optimises_first g.scopes)) e
   no_head True (Some v) e = middle (is_exact (root_finding g t).verdict) (optimises_first g.scopes) _ e
   no_head False None e = cc
   no_head False (Some v) e = refl
@@ -33,7 +28,7 @@ module _ (g : Game) (t : Tree) where
 
   -- under another head nothing is proved
   pub no_head_proves : (o : Outcome) (p : Option ℤ) → is_head g.scopes o p ≡ false → proves g o p t ≡ false
-  no_head_proves o p e = last (root_in_place g t) (shows g t (root_finding g t) o p) (no_head o p e)
+  no_head_proves o p e = and_right (root_in_place g t) (shows g t (root_finding g t) o p) (no_head o p e)
 
 -- where the checker says yes, and where it doesn't
 pub yes_proves : (b : Bool) → (Yes ≡ Yes) ↔ IsTrue b → true ≡ b

@@ -1,5 +1,5 @@
 -- Which numbers a domain has, and that the values of a tuple are numbers.
-use Rattle.std.proofs.Common.{◌≡◌, inl, inr, ℕ, zero, suc, ◌+◌, ◌<◌, ◌≤◌, Bool, true, false, ◌&&◌, ◌||◌, cond, List, [], ◌∷◌, ◌++◌, length, map, take, drop, refl, sym, ap, ◌∙◌, arith, ℤ, pos, ◌+ℤ◌, ◌-ℤ◌, ◌≤ℤ◌, ◌-◌, get_or, add-one}
+use Rattle.std.proofs.Common.{◌≡◌, inl, inr, ℕ, zero, suc, ◌+◌, ◌<◌, ◌≤◌, Bool, true, false, ◌&&◌, ◌||◌, List, [], ◌∷◌, ◌++◌, length, map, take, drop, refl, sym, ap, ◌∙◌, arith, ℤ, pos, ◌+ℤ◌, ◌-ℤ◌, ◌≤ℤ◌, ◌-◌, get_or, add-one}
 use Rattle.std.specs.Prelude.{int_le, int_lt, nat_abs, filter, ◌==◌}
 use Rattle.std.proofs.lemmas.List.{drop-take, drop-map, take-map}
 use Rattle.qc_model.proofs.InOrder.{part_equal}
@@ -9,6 +9,7 @@ use Rattle.std.specs.Ordering.{int_eq}
 use Rattle.std.specs.List.{list_all}
 use Rattle.std.proofs.lemmas.Int.{ints}
 use Rattle.std.proofs.lemmas.Bool.Decides.{Decides-int_eq}
+use Rattle.std.proofs.lemmas.Bool.{and_parts, and_from}
 use Rattle.qc_model.specs.declared.problem.Domain.TheVariants.{Range}
 use Rattle.qc_model.specs.declared.problem.Variable.{Variable}
 use Rattle.qc_model.specs.Content.{Game}
@@ -17,19 +18,8 @@ use Rattle.qc_model.specs.Domains.{Values, Box, domain_values, declared_box, has
 use Rattle.qc_model.specs.Game.{IsMove, before, scope_domains}
 use Rattle.qc_model.specs.Valid.{IsValid, is_number, is_domain}
 use Rattle.qc_model.proofs.DomainValues.{range_values, ends_of, domain_fits}
+use Rattle.model_arguments.proofs.Bools.{bools_same}
 use Rattle.box_laws.proofs.Filters.{all_filter, all_take, all_drop}
-
-both : (a b : Bool) → (a && b) ≡ true → (a ≡ true) × (b ≡ true)
-both true b e = (refl, e)
-both false b e = cc
-
-pub two : (a b : Bool) → a ≡ true → b ≡ true → (a && b) ≡ true
-two a b e f = ap (λ c. c && b) e ∙ f
-
-pub same_test : (a b : Bool) → (a ≡ true → b ≡ true) → (b ≡ true → a ≡ true) → a ≡ b
-same_test true b f g = sym (f refl)
-same_test false true f g = g refl
-same_test false false f g = refl
 
 -- a number of a row of numbers
 abbrev in_row : ℤ → ℕ → ℤ → Bool
@@ -47,7 +37,7 @@ none_in low v = by (int_le low v) refl (int_lt v (low +ℤ pos 0)) refl
         clash low v e f = grind (arith, ints)
 
 first_in : (low v : ℤ) (n : ℕ) → v ≡ low → in_row low (suc n) v ≡ true
-first_in low v n e = two (int_le low v) (int_lt v (low +ℤ pos (suc n))) (above low v e) (below low v n e)
+first_in low v n e = and_from (int_le low v) (int_lt v (low +ℤ pos (suc n))) (above low v e) (below low v n e)
   where
     above : (low v : ℤ) → v ≡ low → int_le low v ≡ true
     above low v e = grind (arith, ints)
@@ -68,7 +58,7 @@ other_in low v n e = ap (λ b. b && int_lt v ((low +ℤ pos 1) +ℤ pos n)) (abo
     down low v e h = grind (arith, ints)
 
     above : (low v : ℤ) → ¬ (v ≡ low) → int_le (low +ℤ pos 1) v ≡ int_le low v
-    above low v e = same_test (int_le (low +ℤ pos 1) v) (int_le low v) (up low v e) (down low v e)
+    above low v e = bools_same (int_le (low +ℤ pos 1) v) (int_le low v) (up low v e) (down low v e)
 
 has_numbers : (low : ℤ) (n : ℕ) (v : ℤ) → has_value (numbers_from low n) v ≡ in_row low n v
 has_numbers low zero v = sym (none_in low v)
@@ -97,21 +87,21 @@ range_has low high v e =
     down v high h = grind (arith, ints)
 
     last : (low high v : ℤ) → low ≤ℤ high → int_lt v (low +ℤ pos (nat_abs (high -ℤ low) + 1)) ≡ int_le v high
-    last low high v h = ap (int_lt v) (width low high h) ∙ same_test (int_lt v (high +ℤ pos 1)) (int_le v high) (up v high) (down v high)
+    last low high v h = ap (int_lt v) (width low high h) ∙ bools_same (int_lt v (high +ℤ pos 1)) (int_le v high) (up v high) (down v high)
 
 -- the values of a move are numbers
 among_number : (v : ℤ) (d : Values) → list_all is_number d ≡ true → Among v d → is_number v ≡ true
 among_number v [] h m = absurd m
-among_number v (w ∷ d) h m = let p = both (is_number w) (list_all is_number d) h in elim m [ inl e ↦ ap is_number e ∙ p.0 | inr n ↦ among_number v d p.1 n ]
+among_number v (w ∷ d) h m = let p = and_parts (is_number w) (list_all is_number d) h in elim m [ inl e ↦ ap is_number e ∙ p.0 | inr n ↦ among_number v d p.1 n ]
 
 pub lies_numbers : (t : List ℤ) (ds : Box) → list_all (list_all is_number) ds ≡ true → LiesIn t ds → list_all is_number t ≡ true
 lies_numbers [] ds h l = refl
 lies_numbers (v ∷ t) [] h l = absurd l
-lies_numbers (v ∷ t) (d ∷ ds) h l = let p = both (list_all is_number d) (list_all (list_all is_number) ds) h in two (is_number v) (list_all is_number t) (among_number v d p.0 l.0) (lies_numbers t ds p.1 l.1)
+lies_numbers (v ∷ t) (d ∷ ds) h l = let p = and_parts (list_all is_number d) (list_all (list_all is_number) ds) h in and_from (is_number v) (list_all is_number t) (among_number v d p.0 l.0) (lies_numbers t ds p.1 l.1)
 
 declared_numbers : (xs : List Variable) → list_all (λ x. is_domain x.domain) xs ≡ true → list_all (list_all is_number) (map (λ x. domain_values x.domain) xs) ≡ true
 declared_numbers [] h = refl
-declared_numbers (x ∷ xs) h = let p = both (is_domain x.domain) (list_all (λ y. is_domain y.domain) xs) h in two (list_all is_number (domain_values x.domain)) (list_all (list_all is_number) (map (λ y. domain_values y.domain) xs)) (domain_fits x.domain p.0) (declared_numbers xs p.1)
+declared_numbers (x ∷ xs) h = let p = and_parts (is_domain x.domain) (list_all (λ y. is_domain y.domain) xs) h in and_from (list_all is_number (domain_values x.domain)) (list_all (list_all is_number) (map (λ y. domain_values y.domain) xs)) (domain_fits x.domain p.0) (declared_numbers xs p.1)
 
 pub scope_numbers : (g : Game) (i : ℕ) → IsValid g → list_all (list_all is_number) (scope_domains g i) ≡ true
 scope_numbers g i valid =
@@ -122,7 +112,7 @@ move_numbers g i a t valid m = lies_numbers t (scope_domains g i) (scope_numbers
 
 pub numbers_both : (a t : List ℤ) → list_all is_number a ≡ true → list_all is_number t ≡ true → list_all is_number (a ++ t) ≡ true
 numbers_both [] t h k = k
-numbers_both (v ∷ a) t h k = let p = both (is_number v) (list_all is_number a) h in two (is_number v) (list_all is_number (a ++ t)) p.0 (numbers_both a t p.1 k)
+numbers_both (v ∷ a) t h k = let p = and_parts (is_number v) (list_all is_number a) h in and_from (is_number v) (list_all is_number (a ++ t)) p.0 (numbers_both a t p.1 k)
 
 -- a part of a list by variables
 pub own_domains : (g : Game) (i : ℕ) → IsValid g → list_all (λ x. is_domain x.domain) (filter (λ x. x.scope.0 == i) g.variables) ≡ true
@@ -155,5 +145,5 @@ lies_step f k t xs x v d h e p q r = rw add-one (sym (lies_here f k t xs x v d h
 
 pub one_of : {X : Type 0} (p : X → Bool) (xs : List X) (k : ℕ) (d : X) → k < length xs → list_all p xs ≡ true → p (get_or xs k d) ≡ true
 one_of p [] k d h e = absurd (omega arith)
-one_of p (x ∷ xs) zero d h e = (both (p x) (list_all p xs) e).0
-one_of p (x ∷ xs) (suc k) d h e = one_of p xs k d (omega arith) (both (p x) (list_all p xs) e).1
+one_of p (x ∷ xs) zero d h e = (and_parts (p x) (list_all p xs) e).0
+one_of p (x ∷ xs) (suc k) d h e = one_of p xs k d (omega arith) (and_parts (p x) (list_all p xs) e).1

@@ -1,6 +1,7 @@
 -- What stands in place below a part that does.
-use Rattle.std.proofs.Common.{◌≡◌, ℕ, zero, suc, ◌<◌, ◌≤◌, Bool, true, false, not, ◌&&◌, List, [], ◌∷◌, length, drop, refl, ap, ◌∙◌, subst, arith, Option, ℤ}
+use Rattle.std.proofs.Common.{◌≡◌, ℕ, zero, suc, ◌<◌, ◌≤◌, Bool, true, false, not, ◌&&◌, List, [], ◌∷◌, length, drop, refl, subst, arith, Option, ℤ}
 use Rattle.std.specs.Prelude.{nat_lt}
+use Rattle.std.proofs.lemmas.Bool.{and_parts, and_from, not-true}
 use Rattle.qc_model.specs.declared.problem.Scope.{Scope}
 use Rattle.qc_model.specs.declared.problem.VarId.{VarId}
 use Rattle.qc_model.specs.Content.{Game}
@@ -21,20 +22,9 @@ use Rattle.check_lines.proofs.LedgerTurns.{demands_step}
 use Rattle.check_lines.proofs.Parts.{of_scope}
 use Rattle.qc_play.specs.Walk.{steps_fit, part_leaves, case_fits, CanReadNode, CanReadPart, CanReadEnd, CanReadBranches, CanReadCase}
 
-both : (a b : Bool) → (a && b) ≡ true → (a ≡ true) × (b ≡ true)
-both true b e = (refl, e)
-both false b e = cc
-
 three : (a b c : Bool) → (a && b && c) ≡ true → (a ≡ true) × (b ≡ true) × (c ≡ true)
-three true b c e = let h = both b c e in (refl, h.0, h.1)
+three true b c e = let h = and_parts b c e in (refl, h.0, h.1)
 three false b c e = cc
-
-together : (a b : Bool) → a ≡ true → b ≡ true → (a && b) ≡ true
-together a b e f = ap (λ c. c && b) e ∙ f
-
-not_true : (b : Bool) → not b ≡ true → b ≡ false
-not_true true e = cc
-not_true false e = refl
 
 last_scope : (ss : List Scope) (i : ℕ) → is_goal (drop i ss) ≡ true → length ss ≤ i
 last_scope [] i e = omega arith
@@ -55,8 +45,8 @@ list_next g i h = demands_step g g.scopes i [] h
 pub goal_last : (g : Game) (z : Option Horizon) (i : ℕ) (box : Box) → CanReadNode g (tree z goal) i box → i ≤ length g.scopes → i ≡ length g.scopes
 goal_last g z i box h l =
     let k = horizon_below z h.horizon in
-    let b = (both (horizon_in_place g z (drop i g.scopes) i box h.horizon) (body_in_place g goal (drop i g.scopes) i (demands g i) box k) h.placed).1 in
-    let m = last_scope g.scopes i (both (not (is_horizon k i)) (is_goal (drop i g.scopes)) b).1 in
+    let b = (and_parts (horizon_in_place g z (drop i g.scopes) i box h.horizon) (body_in_place g goal (drop i g.scopes) i (demands g i) box k) h.placed).1 in
+    let m = last_scope g.scopes i (and_parts (not (is_horizon k i)) (is_goal (drop i g.scopes)) b).1 in
     omega (arith, l, m)
 
 -- a scope's own tree
@@ -66,17 +56,17 @@ module _ (g : Game) (z : Option Horizon) (steps : List Step) (e : Ending) (i : �
 
   own_parts : (is_goal (drop i g.scopes) ≡ false) × (steps_fit g steps i box ≡ true) × (ending_in_place g e (drop i g.scopes) i (demands g i) (after_steps steps box) below ≡ true)
   own_parts =
-      let b = (both (horizon_in_place g z (drop i g.scopes) i box h.horizon) (body_in_place g (cases steps e) (drop i g.scopes) i (demands g i) box below) h.placed).1 in
-      let r = both (not (is_horizon below i) && not (is_goal (drop i g.scopes)) && steps_fit g steps i box) (ending_in_place g e (drop i g.scopes) i (demands g i) (after_steps steps box) below) b in
-      let s = both (not (is_horizon below i) && not (is_goal (drop i g.scopes))) (steps_fit g steps i box) r.0 in
-      let t = both (not (is_horizon below i)) (not (is_goal (drop i g.scopes))) s.0 in
-      (not_true (is_goal (drop i g.scopes)) t.1, s.1, r.1)
+      let b = (and_parts (horizon_in_place g z (drop i g.scopes) i box h.horizon) (body_in_place g (cases steps e) (drop i g.scopes) i (demands g i) box below) h.placed).1 in
+      let r = and_parts (not (is_horizon below i) && not (is_goal (drop i g.scopes)) && steps_fit g steps i box) (ending_in_place g e (drop i g.scopes) i (demands g i) (after_steps steps box) below) b in
+      let s = and_parts (not (is_horizon below i) && not (is_goal (drop i g.scopes))) (steps_fit g steps i box) r.0 in
+      let t = and_parts (not (is_horizon below i)) (not (is_goal (drop i g.scopes))) s.0 in
+      (not-true (is_goal (drop i g.scopes)) t.1, s.1, r.1)
 
   pub own_scope : i < length g.scopes
   own_scope = some_scope g.scopes i own_parts.0
 
   pub own_part : CanReadPart g steps e i box
-  own_part = record { horizon = below; placed = together (steps_fit g steps i box) (ending_in_place g e (drop i g.scopes) i (demands g i) (after_steps steps box) below) own_parts.1 own_parts.2; answered = h.answered.1 }
+  own_part = record { horizon = below; placed = and_from (steps_fit g steps i box) (ending_in_place g e (drop i g.scopes) i (demands g i) (after_steps steps box) below) own_parts.1 own_parts.2; answered = h.answered.1 }
 
   pub own_answered : IsAnswered (drop i g.scopes) g i (position g i box) (part_leaves g steps e i box)
   own_answered = h.answered.0
@@ -85,7 +75,7 @@ module _ (g : Game) (z : Option Horizon) (steps : List Step) (e : Ending) (i : �
 pub part_end : (g : Game) (steps : List Step) (e : Ending) (i : ℕ) (box : Box) → CanReadPart g steps e i box → CanReadEnd g e i (after_steps steps box)
 part_end g steps e i box h = record {
   horizon = h.horizon;
-  placed = (both (steps_fit g steps i box) (ending_in_place g e (drop i g.scopes) i (demands g i) (after_steps steps box) h.horizon) h.placed).1;
+  placed = (and_parts (steps_fit g steps i box) (ending_in_place g e (drop i g.scopes) i (demands g i) (after_steps steps box) h.horizon) h.placed).1;
   answered = h.answered;
 }
 
@@ -93,10 +83,10 @@ part_end g steps e i box h = record {
 module _ (g : Game) (t : Tree) (i : ℕ) (box : Box) (h : CanReadEnd g (next t) i box) where
   next_parts : (has_empty box ≡ false) × (is_fixed g i box ≡ true) × (in_place g t (next_scopes (drop i g.scopes)) (suc i) (list_after g (drop i g.scopes) (demands g i)) box h.horizon ≡ true)
   next_parts =
-      let r = both (not (has_empty box) && is_fixed g i box && allows g i (position g (suc i) box)) (in_place g t (next_scopes (drop i g.scopes)) (suc i) (list_after g (drop i g.scopes) (demands g i)) box h.horizon) h.placed in
-      let s = both (not (has_empty box) && is_fixed g i box) (allows g i (position g (suc i) box)) r.0 in
-      let u = both (not (has_empty box)) (is_fixed g i box) s.0 in
-      (not_true (has_empty box) u.0, u.1, r.1)
+      let r = and_parts (not (has_empty box) && is_fixed g i box && allows g i (position g (suc i) box)) (in_place g t (next_scopes (drop i g.scopes)) (suc i) (list_after g (drop i g.scopes) (demands g i)) box h.horizon) h.placed in
+      let s = and_parts (not (has_empty box) && is_fixed g i box) (allows g i (position g (suc i) box)) r.0 in
+      let u = and_parts (not (has_empty box)) (is_fixed g i box) s.0 in
+      (not-true (has_empty box) u.0, u.1, r.1)
 
   pub next_full : has_empty box ≡ false
   next_full = next_parts.0
@@ -119,10 +109,10 @@ module _ (g : Game) (t : Tree) (i : ℕ) (box : Box) (h : CanReadEnd g (next t) 
 module _ (g : Game) (x : VarId) (bs : Branches) (i : ℕ) (box : Box) (h : CanReadEnd g (branch x bs) i box) where
   branch_parts : (has_empty box ≡ false) × (is_of_scope g i x.0 ≡ true) × (branches_in_place g bs x.0 (values_left box x.0) (drop i g.scopes) i (demands g i) box h.horizon ≡ true)
   branch_parts =
-      let r = both (not (has_empty box) && is_of_scope g i x.0 && not (is_single (values_left box x.0))) (branches_in_place g bs x.0 (values_left box x.0) (drop i g.scopes) i (demands g i) box h.horizon) h.placed in
-      let s = both (not (has_empty box) && is_of_scope g i x.0) (not (is_single (values_left box x.0))) r.0 in
-      let u = both (not (has_empty box)) (is_of_scope g i x.0) s.0 in
-      (not_true (has_empty box) u.0, u.1, r.1)
+      let r = and_parts (not (has_empty box) && is_of_scope g i x.0 && not (is_single (values_left box x.0))) (branches_in_place g bs x.0 (values_left box x.0) (drop i g.scopes) i (demands g i) box h.horizon) h.placed in
+      let s = and_parts (not (has_empty box) && is_of_scope g i x.0) (not (is_single (values_left box x.0))) r.0 in
+      let u = and_parts (not (has_empty box)) (is_of_scope g i x.0) s.0 in
+      (not-true (has_empty box) u.0, u.1, r.1)
 
   pub branch_full : has_empty box ≡ false
   branch_full = branch_parts.0
@@ -142,7 +132,7 @@ fits_of g (go steps end) x vs i box h e =
     let fits = steps_in_place g (drop i g.scopes) i (demands g i) steps new in
     let ends = ending_in_place g end (drop i g.scopes) i (demands g i) (after_steps steps new) h in
     let r = three (nat_lt (length vs) (length (values_left box x))) fits ends e in
-    together fits ends r.1 r.2
+    and_from fits ends r.1 r.2
 
 -- the first of a branch's cases, and the cases after it
 module _ (g : Game) (x : ℕ) (vs : Values) (upto : Option ℤ) (c : Case) (rest : Branches) (i : ℕ) (box : Box) (h : CanReadBranches g (piece upto c rest) x vs i box) where

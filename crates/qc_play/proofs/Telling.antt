@@ -13,7 +13,7 @@ use Rattle.qc_play.specs.declared.fault.PlayFault.{PlayFault}
 use Rattle.qc_play.specs.declared.fault.PlayFault.TheVariants.{Missing, NotAllowed, Memory}
 use Rattle.qc_play.specs.Play.{Ending, stuck_at, hopeless_at, missing_at, not_allowed_at, Play, ends, after_turn, is_move, reply_to, Rest, own_turn, replied, moved, answered, answers_of, turn, play_from}
 use Rattle.qc_play.specs.PlayText.{turn_line, ending_line, unused_line, text_from}
-use Rattle.qc_play.specs.Playing.{is_played, IsFaultOf, IsToldAfter, IsWant}
+use Rattle.qc_play.specs.Playing.{is_played, IsFaultOf, IsToldAfter}
 use Rattle.qc_play.specs.Sides.{HasNoChoice, has_entries, is_same}
 use Rattle.qc_play.specs.Ends.{kind_at}
 
@@ -23,10 +23,6 @@ drop_here [] zero s e = cc
 drop_here [] (suc i) s e = cc
 drop_here (x ∷ ss) zero s e = let h : x ≡ s = cc in ap (λ y. y ∷ ss) h
 drop_here (x ∷ ss) (suc i) s e = drop_here ss i s e
-
-drop_none : (ss : List Scope) → drop (length ss) ss ≡ []
-drop_none [] = refl
-drop_none (s ∷ ss) = drop_none ss
 
 pub kind_there : (o : Option Scope) (k : Kind) → option_map (λ s. s.kind) o ≡ Some k → (s : Scope) × (o ≡ Some s) × (s.kind ≡ k)
 kind_there None k e = cc
@@ -138,8 +134,3 @@ pub fault_turn : (p rest : Play) (k : Kind) (t : List ℤ) (f : PlayFault) → p
 fault_turn p rest k t (Missing i) q h = ap (λ z. z.ending) q ∙ h
 fault_turn p rest k t (NotAllowed i) q h = ap (λ z. z.ending) q ∙ h
 fault_turn p rest k t (Memory e) q h = tt
-
-pub fault_want : (p : Play) (f : PlayFault) → IsWant f → IsFaultOf p f
-fault_want p (Missing i) h = absurd h
-fault_want p (NotAllowed i) h = absurd h
-fault_want p (Memory e) h = tt

@@ -1,5 +1,5 @@
 -- What is told of leaves, one part after the other.
-use Rattle.std.proofs.Common.{◌≡◌, ℕ, ◌+◌, ◌≤◌, List, [], ◌++◌, map, refl, sym, ap, ◌∙◌, subst, arith, Some, append_assoc, append-nil, add-zero}
+use Rattle.std.proofs.Common.{◌≡◌, ℕ, ◌+◌, List, [], ◌++◌, map, refl, sym, ap, ◌∙◌, subst, arith, Some, append_assoc, append-nil, add-zero}
 use Rattle.qc_model.specs.Content.{Game}
 use Rattle.qc_model.specs.Verdict.{Seen}
 use Rattle.joins.specs.Joins.{StandsAt}

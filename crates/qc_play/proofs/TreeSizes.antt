@@ -1,7 +1,8 @@
 -- How long vectors of a tree's nodes are, and how large their numbers: as large as the tree's ends make them, where it stands in
 -- place.
-use Rattle.std.proofs.Common.{◌≡◌, ◌≤◌, ◌<◌, ◌+◌, ◌∙◌, ℕ, suc, Bool, true, false, ◌&&◌, List, [], ◌∷◌, ◌++◌, length, map, take, drop, refl, sym, ap, subst, arith, ℤ, Some, None, Option, length-set}
+use Rattle.std.proofs.Common.{◌≡◌, ◌≤◌, ◌<◌, ◌+◌, ◌∙◌, ℕ, suc, true, false, List, [], ◌∷◌, ◌++◌, length, map, take, drop, refl, sym, ap, subst, arith, ℤ, Some, None, Option, length-set}
 use Rattle.std.specs.List.{list_all}
+use Rattle.std.proofs.lemmas.Bool.{and_from}
 use Rattle.qc_model.specs.Content.{Game}
 use Rattle.qc_model.specs.Demands.{demands}
 use Rattle.qc_model.specs.Domains.{Values, Box, values_left, values_outside, is_none_left}
@@ -36,7 +37,7 @@ use Rattle.check_lines.proofs.LedgerTurns.{map_both, stuck_comes}
 use Rattle.check_lines.proofs.LedgerSizes.{all_set, left_numbers, position_numbers, one_mark, step_numbers}
 use Rattle.box_laws.proofs.Filters.{all_drop, all_take}
 use Rattle.box_laws.proofs.Readings.{box_size}
-use Rattle.qc_play.specs.Walk.{node_finding, end_leaves, part_leaves, pieces_leaves, taken_leaves, CanReadNode, CanReadPart, CanReadEnd, CanReadBranches, CanReadCase}
+use Rattle.qc_play.specs.Walk.{node_finding, end_leaves, part_leaves, pieces_leaves, taken_leaves, CanReadNode, CanReadEnd, CanReadBranches, CanReadCase}
 use Rattle.qc_play.proofs.Readable.{list_next, own_scope, own_part, part_end, next_node, branch_full, branch_variable, branch_cases, first_case, later_cases}
 
 -- leaves of scope i are long, and come from n ends
@@ -74,12 +75,9 @@ node_next g t i box h =
 box_numbers : (g : Game) (box : Box) → list_all (λ x. is_domain x.domain) g.variables ≡ true → is_box_of g box ≡ true → HasNumbers box
 box_numbers g box valid d = go box (λ y. left_small g box y valid d)
   where
-    two : (a b : Bool) → a ≡ true → b ≡ true → (a && b) ≡ true
-    two a b e f = ap (λ c. c && b) e ∙ f
-
     go : (box : Box) → ((y : ℕ) → list_all is_number (values_left box y) ≡ true) → HasNumbers box
     go [] f = refl
-    go (vs ∷ box) f = two (list_all is_number vs) (list_all (list_all is_number) box) (f 0) (go box (λ y. f (suc y)))
+    go (vs ∷ box) f = and_from (list_all is_number vs) (list_all (list_all is_number) box) (f 0) (go box (λ y. f (suc y)))
 
 -- those of a problem
 pub box_domains : (g : Game) (box : Box) → list_all (λ x. is_domain x.domain) g.variables ≡ true → is_box_of g box ≡ true → HasDomains g box
