@@ -95,6 +95,7 @@ one_case vs from v a n e =
       is = ap (λ us. not (is_none_left us)) r.1;
       covers = ap (λ k. take k (values_from from vs)) count ∙ cut_covers vs from v v r.0 a r.1 (self_le v);
       leaves = ap (λ k. drop k (values_from from vs)) count ∙ cut_leaves vs from v v r.0 a r.1 (self_le v);
+      begins = e;
       first_number = number;
       last_number = number;
     }
@@ -189,6 +190,7 @@ ranged_case vs from v h a n e k =
       is = ranged_is vs from v h a e ∙ k;
       covers = cut_covers vs from v h r.0 a r.1 l;
       leaves = cut_leaves vs from v h r.0 a r.1 l;
+      begins = e;
       first_number = value_passes is_number vs v n (first_among (int_le from) vs v r.0 r.1);
       last_number = value_passes is_number vs h n (second (int_lt v h) (has_value vs h) k);
     }

@@ -49,6 +49,12 @@ kept_before [] (suc from) k v h = refl
 kept_before (u ∷ vs) (suc from) zero v h = absurd (omega arith)
 kept_before (u ∷ vs) (suc from) (suc k) v h = ap (λ ws. u ∷ ws) (kept_before vs from k v (omega arith))
 
+pub kept_after : (vs : List ℤ) (stop k : ℕ) (v : ℤ) → k < stop → drop stop (set vs k v) ≡ drop stop vs
+kept_after vs zero k v h = absurd (omega arith)
+kept_after [] (suc stop) k v h = refl
+kept_after (u ∷ vs) (suc stop) zero v h = refl
+kept_after (u ∷ vs) (suc stop) (suc k) v h = kept_after vs stop k v (omega arith)
+
 pub numbers_set : (vs : List ℤ) (k : ℕ) (v : ℤ) → list_all is_number vs ≡ true → is_number v ≡ true → list_all is_number (set vs k v) ≡ true
 numbers_set [] k v h e = refl
 numbers_set (u ∷ vs) zero v h e = together (is_number v) (list_all is_number vs) e (second (is_number u) (list_all is_number vs) h)

@@ -9,7 +9,7 @@ use fd_store::Store;
 use qc_model::VarId;
 
 /// Reads the one value left to each variable from `from` to the one before `stop` into its place. Those before stand
-/// there already.
+/// there already, and those from `stop` on stay.
 pub fn read_values(store: &Store, from: usize, stop: usize, values: &mut [i64])
     requires order { from ≤ stop }
     requires bound { stop ≤ length store.now.box }
@@ -20,6 +20,7 @@ pub fn read_values(store: &Store, from: usize, stop: usize, values: &mut [i64])
     requires numbers { list_all is_number values.old ≡ true }
     ensures read { take stop store.now.box ≡ map only (take stop values.new) }
     ensures kept { take from values.new ≡ take from values.old }
+    ensures later { drop stop values.new ≡ drop stop values.old }
     ensures each { length values.new ≡ length values.old }
     ensures numbers { list_all is_number values.new ≡ true }
 {

@@ -8,14 +8,12 @@ ghost use Rattle.best_judge.specs.Proof.{Comes};
 ghost use Rattle.qecode_commands.specs.Files.{Wrote};
 ghost use Rattle.dense_commands.specs.Answers.{ChecksBestBytes, ChecksBestFile};
 
+use crate::feed::CERTIFICATE_LIMIT;
 use best_judge::{Verdict, judge_best};
 use qc_io::{Shelf, Sink};
 use qc_model::Problem;
 use qecode_commands::{Status, confirm_true, finish, open_file, refuse_certificate};
 use std::alloc::{AllocError, Global};
-
-/// The most bytes of a certificate.
-const CERTIFICATE_LIMIT: u64 = 1_073_741_824;
 
 /// Checks the value and the two lists of a file against a problem. The file is in memory while it is judged.
 pub(crate) fn check_best<S: Shelf, K: Sink>(

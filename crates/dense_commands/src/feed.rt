@@ -10,8 +10,8 @@ use lemma_judge::ListChecker;
 use qc_io::{Failed, Shelf};
 use std::alloc::AllocError;
 
-/// The most bytes of a list's text.
-const CERTIFICATE_LIMIT: u64 = 1_073_741_824;
+/// The most bytes of a certificate.
+pub(crate) const CERTIFICATE_LIMIT: u64 = 1_073_741_824;
 
 /// Why a list's file wasn't read to its end.
 #[derive(Clone, Copy, PartialEq, Eq)]

@@ -11,7 +11,7 @@ pub struct Listing {
     /// A line for each tuple: its values, parted by blanks.
     pub text: Vec<u8>,
     /// For how many tuples more there is room.
-    pub room: usize,
+    pub(crate) room: usize,
     /// There are tuples for which there was no room.
     pub more: bool,
 }

@@ -4,7 +4,7 @@ use Rattle.qc_model.specs.Valid.{is_number}
 use Rattle.check_box.specs.Placed.{only}
 use Rattle.box_laws.proofs.Numbers.{passed_number}
 use Rattle.box_laws.proofs.Readings.{least_number}
-use Rattle.check_box.proofs.Placing.{fixed_at, single_some, single_only, placed_more, kept_before, numbers_set}
+use Rattle.check_box.proofs.Placing.{fixed_at, single_some, single_only, placed_more, kept_before, kept_after, numbers_set}
 use Rattle.check_box.proofs.reading.read_values.Goals as goal
 
 pub min-requires-clause-left : goal.min-requires-clause-left
@@ -27,6 +27,7 @@ loop-k-preserved c =
     record {
       read = placed_more vs box k w (omega (arith, inv.each, c.requires.each, c.requires.bound, below)) (omega (arith, c.requires.bound, below)) (single_only d single ∙ ap only (sym e)) inv.read;
       kept = kept_before vs c.args.from k w c.loop-k.auto.k ∙ inv.kept;
+      later = kept_after vs c.args.stop k w below ∙ inv.later;
       each = length-set vs k w ∙ inv.each;
       numbers = numbers_set vs k w inv.numbers (ap is_number e ∙ number);
     }
