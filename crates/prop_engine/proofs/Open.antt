@@ -44,11 +44,11 @@ other_fails : (a b : Bool) → a ≡ true → (a && b) ≡ false → b ≡ false
 other_fails true b h k = k
 other_fails false b h k = cc
 
-first_fails : (a b : Bool) → a ≡ false → (a && b) ≡ false
+pub first_fails : (a b : Bool) → a ≡ false → (a && b) ≡ false
 first_fails true b h = cc
 first_fails false b h = refl
 
-second_fails : (a b : Bool) → b ≡ false → (a && b) ≡ false
+pub second_fails : (a b : Bool) → b ≡ false → (a && b) ≡ false
 second_fails true b h = h
 second_fails false b h = refl
 
@@ -168,7 +168,7 @@ all_true : (p : ℕ → Bool) (xs : List ℕ) → ((x : ℕ) → p x ≡ true) �
 all_true p [] f = refl
 all_true p (x ∷ xs) f = together (p x) (list_all p xs) (f x) (all_true p xs f)
 
-keeps_open : (c : Rule) (box : Box) → c.pred ≡ BoolClause → StaysOpen box (args_at c.args 0) (args_at c.args 1) → keeps_ends box c ≡ true
+pub keeps_open : (c : Rule) (box : Box) → c.pred ≡ BoolClause → StaysOpen box (args_at c.args 0) (args_at c.args 1) → keeps_ends box c ≡ true
 keeps_open c box e o =
     all_true (λ x. not (refutes_at c box x (least_value (values_left box x))) && not (refutes_at c box x (greatest_value (values_left box x)))) (variables_of c.args)
     (λ x. together (not (refutes_at c box x (least_value (values_left box x)))) (not (refutes_at c box x (greatest_value (values_left box x))))

@@ -1,3 +1,4 @@
 pub mod Closing
 pub mod Literals
+pub mod Skipping
 pub mod Watching

@@ -20,6 +20,7 @@ use Rattle.prop_engine.specs.declared.found.Found.TheVariants.{Settled, Emptied,
 use Rattle.prop_engine.specs.declared.hints.Hint.{Hint}
 use Rattle.prop_engine.specs.Literals.{IsLiteralOf}
 use Rattle.prop_engine.specs.Closing.{has_constraint, EachRule, IsClosedFor}
+use Rattle.prop_engine.specs.Skipping.{IsSkipOf}
 
 -- the constraints that wait, in order, and a mark for each constraint
 pub record Waiting : Type 0 where
@@ -149,16 +150,19 @@ pub record IsHintsOf (g : Game) (hs : List Hint) : Type 0 where
   pub count : length hs ≡ length g.constraints
   pub own : (k : ℕ) (h : Hint) (c : Rule) → slice_get hs k ≡ Some h → IsTrue h.known → slice_get g.constraints k ≡ Some c → IsHintOf c h
 
--- what an engine knows: the constraints that mention each variable, the literals that it keeps, and those that wait
+-- what an engine knows: the constraints that mention each variable, the literals that it keeps, where it goes on from each
+-- constraint, and those that wait
 pub record Knowing : Type 0 where
   pub watches : List (List Watch)
   pub hints : List Hint
+  pub skips : List ℕ
   pub waiting : Waiting
 
 -- an engine of this problem between its calls: none waits
 pub record IsReady (g : Game) (e : Knowing) : Type 0 where
   pub watches : IsWatchOf g e.watches
   pub hints : IsHintsOf g e.hints
+  pub skips : IsSkipOf g e.skips
   pub count : length e.waiting.marks ≡ length g.constraints
   pub marked : MarkedWait e.waiting
   pub empty : e.waiting.queue ≡ []

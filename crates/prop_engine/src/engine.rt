@@ -4,6 +4,7 @@ ghost use Rattle.qc_model.specs.Domains.{has_empty};
 ghost use Rattle.model_arguments.specs.Asked.{is_box_of};
 ghost use Rattle.prop_base.specs.Pruning.{IsPruning};
 ghost use Rattle.prop_engine.specs.Closing.{EachRule, IsClosing, is_between};
+ghost use Rattle.prop_engine.specs.Skipping.{IsSkipOf};
 ghost use Rattle.prop_engine.specs.Watching.{MarkedWait, all_waiting, IsWatchOf, IsHintsOf, KeepsUnmarked, IsFound, IsReady, WasKept};
 
 use crate::answer::Closed;
@@ -11,6 +12,7 @@ use crate::filtering::Filter;
 use crate::found::Found;
 use crate::hints::Hints;
 use crate::running::run_filter;
+use crate::skipping::Skips;
 use crate::waiting::WorkList;
 use crate::waking::{wake_changed, wake_span, wake_variables};
 use crate::watching::Watches;
@@ -140,6 +142,7 @@ fn close_all<F: Filter>(
     alloc: Global,
     problem: &Problem,
     watches: &Watches,
+    skips: &Skips,
     span: Span,
     hints: &mut Hints,
     list: &mut WorkList,
@@ -149,6 +152,7 @@ fn close_all<F: Filter>(
     requires span { span.end ≤ length problem.now.constraints }
     requires known { EachRule (is_between span.first span.end) problem.now F.knows }
     requires watches { IsWatchOf problem.now watches.now }
+    requires skips { IsSkipOf problem.now skips.now }
     requires declared { IsTrue (is_box_of problem.now store.old.box) }
     requires full { IsFalse (has_empty store.old.box) }
     requires hints { IsHintsOf problem.now hints.old }
@@ -162,7 +166,7 @@ fn close_all<F: Filter>(
     ensures inside { IsTrue (all_waiting (is_between span.first span.end) list.new) }
     ensures answer { IfOk result (λ a. IsClosing a (is_between span.first span.end) problem.now store.new.box) }
 {
-    wake_span(problem, span, store, hints, list);
+    wake_span(problem, skips, span, store, hints, list);
     settle(
         filter, alloc, problem, watches, span, hints, list, store, steps,
     )
@@ -182,12 +186,13 @@ fn clear(list: &mut WorkList)
 }
 
 /// What closing needs besides a problem and a store, made once for a problem: which constraints mention each variable, two
-/// literals of each clause to look at first, and a queue with room for all of them, which asks for no memory from then on: a
-/// refusal is always one of a filter. Between its calls the queue is empty.
+/// literals of each clause to look at first, which constraints never remove anything, and a queue with room for all of them,
+/// which asks for no memory from then on: a refusal is always one of a filter. Between its calls the queue is empty.
 #[derive(Drop)]
 pub struct Engine {
     watches: Watches,
     hints: Hints,
+    skips: Skips,
     list: WorkList,
 }
 
@@ -196,7 +201,7 @@ impl Model for Engine {
 
     ghost Value = { Knowing };
 
-    ghost view = { λ a. record { watches = a.watches; hints = a.hints; waiting = a.list } };
+    ghost view = { λ a. record { watches = a.watches; hints = a.hints; skips = a.skips; waiting = a.list } };
 }
 
 impl Engine {
@@ -206,10 +211,12 @@ impl Engine {
     {
         let watches = Watches::of_problem(alloc, problem)?;
         let hints = Hints::of_problem(alloc, problem)?;
+        let skips = Skips::of_problem(alloc, problem)?;
         let list = WorkList::of_problem(alloc, problem)?;
         Ok(Engine {
             watches,
             hints,
+            skips,
             list,
         })
     }
@@ -279,6 +286,7 @@ impl Engine {
             alloc,
             problem,
             &self.watches,
+            &self.skips,
             span,
             &mut self.hints,
             &mut self.list,

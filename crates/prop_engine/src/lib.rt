@@ -13,6 +13,7 @@ mod hints;
 mod literals;
 mod rounds;
 mod running;
+mod skipping;
 mod waiting;
 mod waking;
 mod watching;

@@ -2,9 +2,11 @@
 ghost use Rattle.std.specs.Prelude.{◌≡◌, ◌==◌, ◌≤◌, ℕ, length, IsTrue, IsFalse};
 ghost use Rattle.prop_engine.specs.Closing.{is_between};
 ghost use Rattle.prop_engine.specs.Watching.{is_marked, MarkedWait, all_waiting, is_own, is_watched, names, changed_by, step_variable, IsSpared, IsWatchOf, IsHintsOf, IsNow, IsRight};
+ghost use Rattle.prop_engine.specs.Skipping.{IsSkipOf};
 ghost use Rattle.model_arguments.specs.Asked.{is_box_of};
 
 use crate::hints::Hints;
+use crate::skipping::Skips;
 use crate::waiting::WorkList;
 use crate::watching::{HeldBy, Watch, Watches};
 use fd_store::Store;
@@ -260,14 +262,17 @@ pub(crate) fn wake_changed(
     }
 }
 
-/// Lets all constraints of the span wait, but for those that keep their ends anyway.
+/// Lets all constraints of the span wait, but for those that keep their ends anyway. Those that do so in any box are passed
+/// over.
 pub(crate) fn wake_span(
     problem: &Problem,
+    skips: &Skips,
     span: Span,
     store: &Store,
     hints: &mut Hints,
     list: &mut WorkList,
 )
+    requires skips { IsSkipOf problem.now skips.now }
     requires span { span.end ≤ length problem.now.constraints }
     requires declared { IsTrue (is_box_of problem.now store.now.box) }
     requires hints { IsHintsOf problem.now hints.old }
@@ -281,7 +286,9 @@ pub(crate) fn wake_span(
     ensures spared { (k : ℕ) → IsTrue (is_between span.first span.end k) → IsSpared problem.now list.new store.now.box k }
 {
     problem.known();
-    for k in span.first..span.end {
+    let mut k = skips.from(span.first);
+    while k < span.end {
         wake_one(problem, span, None, ConId(k as u16), store, hints, list);
+        k = skips.from(k + 1);
     }
 }

@@ -1,10 +1,11 @@
 -- Where a box is closed for constraints whose variables have one value left each, they hold on these values.
-use Rattle.std.proofs.Common.{◌≡◌, ◌⊎◌, inl, inr, ℕ, zero, suc, ◌<◌, ◌≤◌, Bool, true, false, not, ◌&&◌, cond, List, [], ◌∷◌, ◌++◌, length, map, take, drop, refl, sym, ap, ◌∙◌, subst, arith, Some}
-use Rattle.std.specs.Prelude.{ℤ, filter, nat_le, nat_lt, ◌==◌, slice_get}
+use Rattle.std.proofs.Common.{◌≡◌, ◌⊎◌, inl, inr, ℕ, zero, suc, ◌<◌, ◌≤◌, Bool, true, false, not, ◌&&◌, ◌||◌, cond, List, [], ◌∷◌, ◌++◌, length, map, take, drop, refl, sym, ap, ◌∙◌, subst, arith, Some}
+use Rattle.std.specs.Prelude.{ℤ, filter, flat_map, nat_le, nat_lt, ◌==◌, slice_get}
 use Rattle.std.specs.List.{list_all}
 use Rattle.std.specs.Option.{option_map}
 use Rattle.std.proofs.lemmas.Bool.Decides.{nat_tests}
 use Rattle.std.proofs.lemmas.List.{length-take, length-map}
+use Rattle.std.proofs.lemmas.Option.{same_Some}
 use Rattle.qc_model.specs.declared.problem.Kind.{Kind}
 use Rattle.qc_model.specs.declared.problem.Kind.TheVariants.{Exists, Forall}
 use Rattle.qc_model.specs.declared.problem.Scope.{Scope}
@@ -13,7 +14,7 @@ use Rattle.qc_model.specs.declared.problem.Arg.{Arg}
 use Rattle.qc_model.specs.declared.problem.Arg.TheVariants.{Var, Num}
 use Rattle.qc_model.specs.declared.problem.Argument.{Argument}
 use Rattle.qc_model.specs.declared.problem.Argument.TheVariants.{One, Many, Numbers, Members}
-use Rattle.qc_model.specs.Arguments.{filled_one, filled_many, fill, variables_of}
+use Rattle.qc_model.specs.Arguments.{filled_one, filled_many, fill, arg_variables, argument_variables, variables_of}
 use Rattle.qc_model.specs.Lists.{Among}
 use Rattle.qc_model.specs.Block.{of_kind, block_stop, force_stop, is_owned_within}
 use Rattle.qc_model.specs.Closed.{refutes_at, keeps_ends}
@@ -39,12 +40,17 @@ use Rattle.proof_tree.specs.Place.{position}
 use Rattle.model_levels.specs.Spans.{kind_at}
 use Rattle.model_levels.proofs.Items.{drop_at}
 use Rattle.search_box.specs.Closes.{IsClosedAt}
-use Rattle.search_box.specs.Complete.{each_mentions, takes_goal_in, IsClosedAtGoal}
+use Rattle.search_box.specs.Complete.{is_shown, each_shown, takes_goal_in, IsClosedAtGoal}
 use Rattle.search_box.proofs.Places.{fixed_fewer}
 
--- whether the constraints from a place on have variables
-pub mention_from : (rules : List Rule) (k : ℕ) (c : Rule) (some : Bool) → slice_get rules k ≡ Some c → some ≡ not (is_none_of (variables_of c.args)) → each_mentions (drop k rules) ≡ (some && each_mentions (drop (suc k) rules))
-mention_from rules k c some e m = ap each_mentions (drop_at k rules c e) ∙ ap (λ b. b && each_mentions (drop (suc k) rules)) (sym m)
+-- whether the constraints from a place on have variables or hold without any
+pub shown_from : (rules : List Rule) (k : ℕ) (c : Rule) (some : Bool) → slice_get rules k ≡ Some c → some ≡ is_shown c → each_shown (drop k rules) ≡ (some && each_shown (drop (suc k) rules))
+shown_from rules k c some e m = ap each_shown (drop_at k rules c e) ∙ ap (λ b. b && each_shown (drop (suc k) rules)) (sym m)
+
+pub rule_of : (p : Rule → Bool) (rules : List Rule) (k : ℕ) (c : Rule) → list_all p rules ≡ true → slice_get rules k ≡ Some c → p c ≡ true
+rule_of p [] k c h e = cc
+rule_of p (r ∷ rules) zero c h e = subst (λ z. p z ≡ true) (same_Some r c e) (first (p r) (list_all p rules) h)
+rule_of p (r ∷ rules) (suc k) c h e = rule_of p rules k c (second (p r) (list_all p rules) h) e
 
 -- arguments that are filled in two ways, which do the same at each variable before n
 module _ {X : Type 0} (f h : Arg → X) (n : ℕ) (number : (m : ℤ) → f (Num m) ≡ h (Num m)) (variable : (x : VarId) → x.0 < n → f (Var x) ≡ h (Var x)) where
@@ -157,6 +163,36 @@ closed_holds g v k c box n e d s b m h =
         ∙ (holds_visible c (box_values (take j box)) (box_values (drop j (take n box))) (subst (λ i. ArgumentsBelow i c.args) (sym size) visible)
         ∙ holds_within g v k c box j e d most (fixed_fewer box j n least s) visible m h)
 
+-- arguments without variables name none
+none_below : (xs : List Arg) → is_none_of (flat_map arg_variables xs) ≡ true → ArgsBelow 0 xs
+none_below [] e = tt
+none_below (Var x ∷ xs) e = cc
+none_below (Num n ∷ xs) e = (tt, none_below xs e)
+
+both_none : (xs ys : List ℕ) → is_none_of (xs ++ ys) ≡ true → (is_none_of xs ≡ true) × (is_none_of ys ≡ true)
+both_none [] ys e = (refl, e)
+both_none (x ∷ xs) ys e = cc
+
+none_in : (a : Argument) → is_none_of (argument_variables a) ≡ true → ArgumentBelow 0 a
+none_in (One (Var x)) e = cc
+none_in (One (Num n)) e = tt
+none_in (Many xs) e = none_below xs e
+none_in (Numbers ns) e = tt
+none_in (Members s) e = tt
+
+none_among : (args : List Argument) → is_none_of (variables_of args) ≡ true → ArgumentsBelow 0 args
+none_among [] e = tt
+none_among (a ∷ args) e = let both = both_none (argument_variables a) (variables_of args) e in (none_in a both.0, none_among args both.1)
+
+-- so does one that holds without variables, on any values
+shown_holds : (g : Game) → IsValid g → (k : ℕ) (c : Rule) (box : Box) (n : ℕ) → slice_get g.constraints k ≡ Some c → is_box_of g box ≡ true →
+    list_all is_single (take n box) ≡ true → ArgumentsBelow n c.args → is_shown c ≡ true → keeps_ends box c ≡ true → holds_on c (box_values (take n box)) ≡ true
+shown_holds g v k c box n e d s b m h = by (is_none_of (variables_of c.args)) refl m
+  where
+    by : (none : Bool) → is_none_of (variables_of c.args) ≡ none → (not none || holds_on c []) ≡ true → holds_on c (box_values (take n box)) ≡ true
+    by true q o = holds_visible c [] (box_values (take n box)) (none_among c.args q) ∙ o
+    by false q o = closed_holds g v k c box n e d s b (ap not q) h
+
 -- what follows for each of some items, place by place
 each_follows : {X : Type 0} (own p q r : X → Bool) (xs : List X) → ((k : ℕ) (x : X) → slice_get xs k ≡ Some x → own x ≡ true → p x ≡ true → q x ≡ true → r x ≡ true) →
     list_all p xs ≡ true → list_all q (filter own xs) ≡ true → list_all r (filter own xs) ≡ true
@@ -173,11 +209,11 @@ owner_is : (m n : ℕ) → (m == n) ≡ true → m ≡ n
 owner_is m n e = grind (arith, nat_tests)
 
 -- the constraints of a scope or of the goal hold on the values of the variables up to it
-closed_allows : (g : Game) (i n : ℕ) (box : Box) → IsValid g → is_box_of g box ≡ true → each_mentions g.constraints ≡ true → n ≡ before g (suc i) →
+closed_allows : (g : Game) (i n : ℕ) (box : Box) → IsValid g → is_box_of g box ≡ true → each_shown g.constraints ≡ true → n ≡ before g (suc i) →
     list_all is_single (take n box) ≡ true → list_all (keeps_ends box) (restriction g i) ≡ true → allows g i (box_values (take n box)) ≡ true
 closed_allows g i n box v d m e s h =
-    each_follows (λ c. c.owner.0 == i) (λ c. not (is_none_of (variables_of c.args))) (keeps_ends box) (λ c. holds_on c (box_values (take n box))) g.constraints
-    (λ k c at own a b. closed_holds g v k c box n at d s (visible k c at own) a b) m h
+    each_follows (λ c. c.owner.0 == i) is_shown (keeps_ends box) (λ c. holds_on c (box_values (take n box))) g.constraints
+    (λ k c at own a b. shown_holds g v k c box n at d s (visible k c at own) a b) m h
   where
     visible : (k : ℕ) (c : Rule) → slice_get g.constraints k ≡ Some c → (c.owner.0 == i) ≡ true → ArgumentsBelow n c.args
     visible k c at own = subst (λ j. ArgumentsBelow j c.args) (ap (λ j. before g (suc j)) (owner_is c.owner.0 i own) ∙ sym e) ((valid_ordered g v).visible k c at)
@@ -249,13 +285,13 @@ last_kind g h i k m e l f q = by g.scopes i l (ap (λ (j : Game). kind_at j i) (
     by (s ∷ u ∷ ss) (suc i) l f = by (u ∷ ss) i (omega arith) f
 
 -- where a box is closed at a scope whose tuple is complete, the tuple is allowed
-pub closed_tuple_allowed : (g : Game) (i : ℕ) (box : Box) → IsValid g → i < length g.scopes → is_box_of g box ≡ true → each_mentions g.constraints ≡ true →
+pub closed_tuple_allowed : (g : Game) (i : ℕ) (box : Box) → IsValid g → i < length g.scopes → is_box_of g box ≡ true → each_shown g.constraints ≡ true →
     list_all is_single (take (before g (suc i)) box) ≡ true → IsClosedAt g i box → allows g i (position g (suc i) box) ≡ true
 closed_tuple_allowed g i box v l d m s h =
     closed_allows g i (before g (suc i)) box v d m refl s (kept_there g i i box (omega arith) (force_reaches g.scopes i i l) h)
 
 -- and where it is closed for the goal that the last scope takes in, the goal holds
-pub closed_goal_holds : (g : Game) (box : Box) → IsValid g → is_box_of g box ≡ true → each_mentions g.constraints ≡ true → takes_goal_in g.scopes ≡ true →
+pub closed_goal_holds : (g : Game) (box : Box) → IsValid g → is_box_of g box ≡ true → each_shown g.constraints ≡ true → takes_goal_in g.scopes ≡ true →
     list_all is_single (take (before g (length g.scopes)) box) ≡ true → IsClosedAtGoal g box → allows g (length g.scopes) (position g (length g.scopes) box) ≡ true
 closed_goal_holds g box v d m t s h =
     let n = length g.scopes in

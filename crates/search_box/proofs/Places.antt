@@ -1,16 +1,10 @@
 -- Variables that have one value left, and the values read from them.
 pub use Rattle.box_laws.proofs.Readings.{read_numbers}
-use Rattle.std.proofs.Common.{◌≡◌, ℕ, zero, suc, ◌<◌, ◌≤◌, ◌+◌, Bool, true, false, cond, List, [], ◌∷◌, length, take, drop, set, refl, sym, ap, ◌∙◌, arith, ℤ, add-one}
-use Rattle.std.specs.Prelude.{◌==◌, int_lt, filter}
+use Rattle.std.proofs.Common.{◌≡◌, ℕ, zero, suc, ◌<◌, ◌≤◌, ◌+◌, true, List, [], ◌∷◌, length, take, drop, refl, sym, ap, ◌∙◌, arith, ℤ, add-one}
 use Rattle.std.specs.List.{list_all}
-use Rattle.std.proofs.lemmas.List.{length-map}
 use Rattle.qc_model.specs.Content.{Game}
-use Rattle.qc_model.specs.Domains.{Values, Box, values_left, box_values, is_none_left, is_single, has_empty, least_from, least_value, declared_box, domain_values}
-use Rattle.qc_model.specs.Game.{restriction}
-use Rattle.qc_model.specs.Valid.{is_number, is_constraint, is_domain}
+use Rattle.qc_model.specs.Domains.{Box, values_left, box_values, is_single, least_value}
 use Rattle.qc_model.proofs.Readable.{first, second, together}
-use Rattle.model_arguments.specs.Asked.{is_box_of}
-use Rattle.model_arguments.proofs.Boxes.{sub_length, left_small}
 
 -- one more variable has one value left
 pub fixed_more : (box : Box) (x at : ℕ) → x ≤ at → at < length box → is_single (values_left box at) ≡ true → list_all is_single (drop x (take at box)) ≡ true → list_all is_single (drop x (take (at + 1) box)) ≡ true

@@ -1,5 +1,5 @@
 -- Which constraints need no evaluation once their variables have one value left each.
-use Rattle.std.specs.Prelude.{Bool, true, false, not, List, [], ◌∷◌, length, IsTrue}
+use Rattle.std.specs.Prelude.{Bool, true, false, not, ◌||◌, List, [], ◌∷◌, length, IsTrue}
 use Rattle.std.specs.List.{list_all}
 use Rattle.qc_model.specs.declared.problem.Scope.{Scope}
 use Rattle.qc_model.specs.Arguments.{variables_of}
@@ -8,11 +8,16 @@ use Rattle.qc_model.specs.Closed.{keeps_ends}
 use Rattle.qc_model.specs.Content.{Game, Rule}
 use Rattle.qc_model.specs.Domains.{Box}
 use Rattle.qc_model.specs.Game.{restriction}
+use Rattle.qc_model.specs.Holds.{holds_on}
 use Rattle.qc_model.specs.Verdict.{is_none_of}
 
--- each constraint has some variable among its arguments
-abbrev pub each_mentions : List Rule → Bool
-each_mentions rules = list_all (λ c. not (is_none_of (variables_of c.args))) rules
+-- the constraint has some variable among its arguments, or holds without any
+abbrev pub is_shown : Rule → Bool
+is_shown c = not (is_none_of (variables_of c.args)) || holds_on c []
+
+-- so does each constraint
+abbrev pub each_shown : List Rule → Bool
+each_shown rules = list_all is_shown rules
 
 -- the last scope is existential, so the constraints of the goal are in force there
 abbrev pub takes_goal_in : List Scope → Bool

@@ -20,7 +20,7 @@ ghost use Rattle.search_box.specs.Rests.{IsFirst, IsLast, IsNext, IsPrevious};
 use crate::ahead::look;
 use crate::bounding::{Bounded, give_up};
 use crate::closing::{close_all, close_changed};
-use crate::mentioning::all_mention;
+use crate::mentioning::all_shown;
 use crate::reading::{are_whole, next_unfixed};
 use crate::taking::keep_one;
 use crate::tuple::{goal_is_met, read_tuple};
@@ -48,8 +48,8 @@ pub struct SearchBox<'p> {
     engine: Engine,
     joint: Joint<'p>,
     values: Vec<i64>,
-    // Whether each constraint of the problem has a variable.
-    all_mention: bool,
+    // Whether each constraint of the problem has a variable or holds without any.
+    all_shown: bool,
 }
 
 impl<'p> Model for SearchBox<'p> {
@@ -63,7 +63,7 @@ impl<'p> Model for SearchBox<'p> {
 
     ghost view = { λ b. record { game = b.problem.now; store = b.store; values = b.values.items } };
 
-    ghost invariant = { λ b. IsSound b.problem.now b.store b.engine b.joint b.values.items b.all_mention };
+    ghost invariant = { λ b. IsSound b.problem.now b.store b.engine b.joint b.values.items b.all_shown };
 }
 
 impl<'p> SearchBox<'p> {
@@ -78,7 +78,7 @@ impl<'p> SearchBox<'p> {
         let engine = Engine::new(alloc, problem)?;
         let joint = Joint::new(alloc, problem)?;
         let values = vec![in alloc; 0i64; problem.variables()]?;
-        let all_mention = all_mention(alloc, problem)?;
+        let all_shown = all_shown(alloc, problem)?;
         Ok(SearchBox {
             problem,
             alloc,
@@ -86,7 +86,7 @@ impl<'p> SearchBox<'p> {
             engine,
             joint,
             values,
-            all_mention,
+            all_shown,
         })
     }
 
@@ -188,8 +188,8 @@ impl<'p> SearchBox<'p> {
     }
 
     /// Reads the values of the scope's variables, and says whether its constraints hold on them and those before. The box
-    /// is closed for them, so they are evaluated only where some constraint of the problem has no variable. It takes no
-    /// memory.
+    /// is closed for them, so they are evaluated only where some constraint of the problem has no variable and doesn't hold.
+    /// It takes no memory.
     pub fn tuple_allowed(&mut self, level: &Level) -> bool
         requires here { IsEntered level.now.problem.now level.now.number self.old }
         requires fixed { IsTrue (is_fixed level.now.problem.now level.now.number self.old.store.box) }
@@ -199,17 +199,18 @@ impl<'p> SearchBox<'p> {
         ensures store { self.new.store ≡ self.old.store }
         ensures kept { KeepsValues level.now.problem.now level.now.number self.old self.new }
     {
-        read_tuple(level, self.all_mention, &self.store, &mut self.values)
+        read_tuple(level, self.all_shown, &self.store, &mut self.values)
     }
 
     /// Whether the constraints of the goal hold on the values. Where the last scope is existential, the box is closed for
-    /// them, so there they are evaluated only where some constraint of the problem has no variable. It takes no memory.
+    /// them, so there they are evaluated only where some constraint of the problem has no variable and doesn't hold. It takes no
+    /// memory.
     pub fn goal_holds(&self, levels: &Levels) -> bool
         requires here { IsEntered levels.now.problem.now (length levels.now.problem.now.scopes) self.now }
         requires closed { IsClosedAtGoal levels.now.problem.now self.now.store.box }
         ensures { result ≡ allows levels.now.problem.now (length levels.now.problem.now.scopes) (position levels.now.problem.now (length levels.now.problem.now.scopes) self.now.store.box) }
     {
-        goal_is_met(levels, self.all_mention, &self.store, &self.values)
+        goal_is_met(levels, self.all_shown, &self.store, &self.values)
     }
 
     /// The values of the variables before the scope.

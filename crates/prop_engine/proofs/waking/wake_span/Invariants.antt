@@ -1,4 +1,4 @@
-use Rattle.std.proofs.Common.{◌≡◌, ℕ, ◌≤◌, ◌<◌, length, true}
+use Rattle.std.proofs.Common.{◌≡◌, ℕ, ◌≤◌, ◌<◌, ◌-◌, length, true}
 use Rattle.prop_engine.specs.Closing.{is_between}
 use Rattle.prop_engine.specs.Watching.{IsHintsOf, MarkedWait, all_waiting, IsSpared}
 use Rattle.prop_engine.proofs.waking.wake_span.Given as goal
@@ -6,8 +6,12 @@ use Rattle.prop_engine.proofs.waking.wake_span.Given as goal
 abbrev pub invariant-loop-k : goal.invariant-loop-k
 invariant-loop-k l = record {
   waiting : MarkedWait l.list;
-  inside : all_waiting (is_between l.fn.span.first l.fn.span.end) l.list ≡ true;
+  inside : all_waiting (is_between l.span.first l.span.end) l.list ≡ true;
   hints : IsHintsOf l.problem l.hints;
   count : length l.list.marks ≡ length l.problem.constraints;
-  spared : (k : ℕ) → l.fn.span.first ≤ k → k < l.k → IsSpared l.problem l.list l.store.box k;
+  from : l.span.first ≤ l.k;
+  spared : (j : ℕ) → l.span.first ≤ j → j < l.k → IsSpared l.problem l.list l.store.box j;
 }
+
+abbrev pub decreases-loop-k : goal.decreases-loop-k
+decreases-loop-k l = l.span.end - l.k

@@ -23,7 +23,7 @@ all_hold-requires-clause-values c =
 pub returns-then-takes_goal : goal.returns-then-takes_goal
 returns-then-takes_goal c =
     let g = c.args.levels.now.problem.now in
-    sym (closed_goal_holds g c.args.store.now.box c.known.ensures c.requires.declared (sym c.requires.mention ∙ c.if-all_mention.true) (sym c.takes_goal.ensures ∙ c.if-takes_goal.true)
+    sym (closed_goal_holds g c.args.store.now.box c.known.ensures c.requires.declared (sym c.requires.shown ∙ c.if-all_shown.true) (sym c.takes_goal.ensures ∙ c.if-takes_goal.true)
     (ap (λ n. list_all is_single (take n c.args.store.now.box)) c.args.levels.now.has_all ∙ c.requires.fixed) c.requires.closed)
 
 pub returns : goal.returns

@@ -29,10 +29,10 @@ all_hold-requires-clause-values c =
     let g = c.args.level.now.problem.now in
     subst (λ vs. list_all is_number vs ≡ true) (sym (c.read_values.ensures.read c.requires.stand)) (read_numbers g c.args.store.now.box c.args.level.now.stop c.known.ensures.domains c.requires.declared c.requires.full)
 
-pub returns-then-all_mention-clause-allowed : goal.returns-then-all_mention-clause-allowed
-returns-then-all_mention-clause-allowed c =
+pub returns-then-all_shown-clause-allowed : goal.returns-then-all_shown-clause-allowed
+returns-then-all_shown-clause-allowed c =
     let l = c.args.level.now in
-    sym (closed_tuple_allowed l.problem.now l.number c.args.store.now.box c.known.ensures l.is_scope c.requires.declared (sym c.requires.mention ∙ c.if-all_mention.true)
+    sym (closed_tuple_allowed l.problem.now l.number c.args.store.now.box c.known.ensures l.is_scope c.requires.declared (sym c.requires.shown ∙ c.if-all_shown.true)
     (ap (λ n. list_all is_single (take n c.args.store.now.box)) (sym l.has_stop) ∙ c.requires.fixed) c.requires.closed)
 
 pub returns-clause-allowed : goal.returns-clause-allowed

@@ -18,7 +18,7 @@ invariant_of-self c = record {
   ready = c.self.invariant.ready;
   same = c.self.invariant.same;
   value_each = c.self.invariant.value_each;
-  mention = c.self.invariant.mention;
+  shown = c.self.invariant.shown;
 }
 
 pub returns-clause-on : goal.returns-clause-on

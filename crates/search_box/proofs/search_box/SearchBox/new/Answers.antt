@@ -9,7 +9,7 @@ invariant_of-result c = record {
   ready = c.in_ok-engine.ensures;
   same = c.in_ok-joint.ensures;
   value_each = search rules;
-  mention = c.in_ok-all_mention.ensures;
+  shown = c.in_ok-all_shown.ensures;
 }
 
 pub returns-clause-here : goal.returns-clause-here
