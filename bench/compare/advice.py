@@ -30,7 +30,7 @@ WRONG = [
         "        let value = value_at(self.values.as_slice(), x.0 as usize);\n",
         "        let value = remains.last(x);\n",
     ),
-    ("game_search/src/tries.rt", "    advice.choose(level, remains)\n", "    true\n"),
+    ("search_walk/src/tries.rt", "    advice.choose(level, remains)\n", "    true\n"),
 ]
 
 

@@ -1,13 +1,2 @@
-pub mod Going
-pub mod Put
-pub mod Here
-pub mod Told
-pub mod Trimmed
 pub mod Attempted
 pub mod Solution
-pub mod Aims
-pub mod Props
-pub mod Narrowed
-pub mod Rivals
-pub mod Stops
-pub mod Later

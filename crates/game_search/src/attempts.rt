@@ -8,9 +8,6 @@ ghost use Rattle.search_parts.specs.Settled.{beats_none, is_vague_verdict};
 ghost use Rattle.game_search.specs.Solution.{SolutionLines, outcome_by};
 ghost use Rattle.game_search.specs.Attempted.{Attempted};
 
-use crate::search::node;
-use crate::stop::Stop;
-use crate::walk::Walk;
 use joins::{Found, Joins};
 use model_levels::Levels;
 use proof_meaning::outcomes_are_true;
@@ -19,6 +16,7 @@ use qc_model::{Problem, ScopeId};
 use search_advice::Advice;
 use search_box::SearchBox;
 use search_kept::{AsideNodes, KnownNodes, is_decided};
+use search_walk::{Stop, Walk, node};
 use std::alloc::{AllocError, Global};
 use strategy_arena::{Arena, lines_fit};
 

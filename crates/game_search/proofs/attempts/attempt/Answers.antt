@@ -1,6 +1,6 @@
 use Rattle.std.proofs.Common.{arith, []}
-use Rattle.game_search.proofs.Here.{root_told}
-use Rattle.game_search.proofs.Places.{nobody_at_goal}
+use Rattle.game_search.proofs.Rooted.{root_told}
+use Rattle.search_walk.proofs.Places.{nobody_at_goal}
 use Rattle.game_search.proofs.attempts.attempt.Goals as goal
 
 pub node-requires-clause-closed : goal.node-requires-clause-closed

@@ -1,6 +1,0 @@
-use Rattle.std.proofs.Common.{◌≡◌, drop, suc}
-use Rattle.qc_model.specs.Block.{no_condition_to}
-use Rattle.game_search.proofs.aim.is_free_to.Given as goal
-
-abbrev pub invariant-loop-k : goal.invariant-loop-k
-invariant-loop-k l = no_condition_to l.last (drop l.k l.problem.scopes) l.k ≡ no_condition_to l.last (drop (suc l.i) l.problem.scopes) (suc l.i)

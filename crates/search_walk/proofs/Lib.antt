@@ -1,0 +1,16 @@
+pub mod Places
+pub mod Trimming
+pub mod Here
+pub mod Remains
+pub mod Ruling
+pub mod Losing
+pub mod Rivals
+pub mod Knowing
+pub mod Covering
+pub mod Outdoing
+pub mod Spread
+pub mod OwnTrees
+pub mod Searched
+pub mod Branching
+pub mod Ahead
+pub mod AheadCases

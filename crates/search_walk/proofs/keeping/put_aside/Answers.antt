@@ -1,0 +1,33 @@
+use Rattle.std.proofs.Common.{◌≡◌, ◌++◌, ◌∙◌, refl, subst, sym, suc, drop, List}
+use Rattle.std.specs.Prelude.{IfSome}
+use Rattle.qc_model.specs.Demands.{demands}
+use Rattle.joins.specs.Seen.{verdict_of}
+use Rattle.proof_tree.specs.declared.line.Line.{Line}
+use Rattle.search_box.specs.Looking.{scope_number}
+use Rattle.search_kept.specs.Aside.{StandsAside}
+use Rattle.search_parts.specs.Written.{NodeWritten}
+use Rattle.search_kept.specs.declared.aside.AsideNode.{AsideNode}
+use Rattle.search_parts.specs.Settled.{beats_none}
+use Rattle.search_kept.proofs.Asides.{aside_written}
+use Rattle.search_kept.proofs.Knowing.{node_ends}
+use Rattle.search_walk.proofs.keeping.put_aside.Goals as goal
+
+pub returns-clause-told : goal.returns-clause-told
+returns-clause-told c =
+    let l = c.args.stage.now.level.now in
+    let g = l.problem.now in
+    let i = suc l.number in
+    let a = c.args.walk.now in
+    let h = scope_number c.args.stage.now.horizon in
+    let box = a.remains.store.box in
+    let node = c.node-node.result.now in
+    let v = verdict_of node.found node.vector.items in
+    let here = subst (λ o. IfSome o (λ (n : AsideNode). StandsAside g i h a.left box (verdict_of n.found n.vector.items) n.turns n.lines.items)) c.node-node.ensures.node c.requires.stands in
+    let written = subst (λ (ls : List Line). c.put_all.new.self ≡ a.lines ++ ls) c.lines.ensures c.in_ok-put_all.ensures.put in
+    let out = c.hand_out.ensures.out ∙ c.vector.ensures in
+    λ above.
+    subst (λ vs. NodeWritten c.args.stage.now.cuts above g (drop i g.scopes) i (demands g i) box h (verdict_of node.found vs) a.left c.saturating_sub-walk.result a.lines c.put_all.new.self) (sym out)
+    (aside_written c.args.stage.now.cuts above g i box h v node.turns a.left _ node.lines.items a.lines c.put_all.new.self c.requires.cuts here c.saturating_sub-walk.ensures written)
+
+pub returns-clause-ended : goal.returns-clause-ended
+returns-clause-ended c = node_ends c.args.stage.now.cuts beats_none _ _ _ _ _ _ _ _ _ _ _ c.requires.cuts refl refl (returns-clause-told c beats_none)

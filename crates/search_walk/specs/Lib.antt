@@ -1,0 +1,11 @@
+pub mod Going
+pub mod Put
+pub mod Here
+pub mod Told
+pub mod Trimmed
+pub mod Aims
+pub mod Props
+pub mod Narrowed
+pub mod Rivals
+pub mod Stops
+pub mod Later
