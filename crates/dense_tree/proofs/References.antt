@@ -1,0 +1,101 @@
+-- Rule 2. What a node came to is told again where the positions look the same.
+use Rattle.std.proofs.Common.{◌≡◌, refl}
+use Rattle.std.specs.Prelude.{[], ◌∷◌, true, false, Some, None, pos, neg_ℤ}
+use Rattle.qc_model.specs.declared.problem.Kind.TheVariants.{Exists, Forall}
+use Rattle.qc_model.specs.declared.problem.Sense.TheVariants.{Max}
+use Rattle.qc_model.specs.declared.problem.Fold.TheVariants.{Least}
+use Rattle.qc_model.specs.declared.problem.Arg.TheVariants.{Var}
+use Rattle.qc_model.specs.declared.problem.Target.TheVariants.{Aggregate as TAgg}
+use Rattle.qc_model.specs.declared.problem.Domain.TheVariants.{Bits, Range}
+use Rattle.qc_model.specs.declared.problem.Pred.TheVariants.{IntLe, IntLt}
+use Rattle.qc_model.specs.Content.{Game}
+use Rattle.proof_tree.specs.declared.tree.Outcome.TheVariants.{True, False}
+use Rattle.proof_tree.proofs.Build.{var, scope, optimising, variable, aggregate}
+use Rattle.dense_tree.specs.Tree.{Certificate, Node, node, again, close, bound, cases, empty, next, branch, no_more}
+use Rattle.dense_tree.specs.Proves.{proves}
+use Rattle.dense_tree.proofs.Words.{scope_id, game, of_variable, at, num, rule_two, sum_at_most, plainly, named, no_steps, on_to_goal, at_stuck, case_one, skip_one, alone}
+
+-- forall; var 0..1: u; exists; var 0..1: y; constraint int_le(1,y); goal; solve;
+abbrev same_below : Game
+same_below = game (scope Forall ∷ scope Exists ∷ []) (variable 0 Bits ∷ variable 1 Bits ∷ []) (rule_two 1 IntLe (num (pos 1)) (at 1) ∷ [])
+
+-- the same but for constraint int_le(u,y)
+abbrev other_below : Game
+other_below = game (scope Forall ∷ scope Exists ∷ []) (variable 0 Bits ∷ variable 1 Bits ∷ []) (rule_two 1 IntLe (at 0) (at 1) ∷ [])
+
+-- v 1, n, m, c, v 2 .. n, a 1, .
+abbrev told_again : Certificate
+told_again = alone (plainly no_steps (branch (var 0) (case_one no_steps (next (named (close ∷ []) on_to_goal)) (case_one no_steps (next (again 0)) no_more))))
+
+same_position : proves same_below True None told_again ≡ true
+same_position = refl
+
+-- v 1, n, m, v 2, n, g, s, ., n, a 1, .
+abbrev told_elsewhere : Certificate
+told_elsewhere = alone (plainly no_steps (branch (var 0)
+    (case_one no_steps (next (named no_steps (branch (var 1) (case_one no_steps on_to_goal (case_one no_steps on_to_goal no_more)))))
+    (case_one no_steps (next (again 0)) no_more))))
+
+other_position : proves other_below True None told_elsewhere ≡ false
+other_position = refl
+
+-- a node isn't told within itself, nor before it is read
+told_early : proves same_below True None (alone (plainly no_steps (branch (var 0)
+    (case_one no_steps (next (again 0)) (case_one no_steps (next (named (close ∷ []) on_to_goal)) no_more))))) ≡ false
+told_early = refl
+
+-- forall; var 0..1: u; exists; var 0..1: y; exists; var 0..1: z; constraint int_lt(z,0); goal; solve;
+abbrev nobody_passes : Game
+nobody_passes = game (scope Forall ∷ scope Exists ∷ scope Exists ∷ []) (variable 0 Bits ∷ variable 1 Bits ∷ variable 2 Bits ∷ [])
+    (rule_two 2 IntLt (at 2) (num (pos 0)) ∷ [])
+
+-- v 1, n, v 2, n, m, e, n, a 1, ., n, h 3, v 2, n, LAST, n, LAST, ., .
+abbrev below_a_horizon : Node → Certificate
+below_a_horizon last = alone (plainly no_steps (branch (var 0)
+    (case_one no_steps (next (plainly no_steps (branch (var 1) (case_one no_steps (next (named no_steps empty)) (case_one no_steps (next (again 0)) no_more)))))
+    (case_one no_steps (next (node false (Some (scope_id 2)) (cases no_steps (branch (var 1) (case_one no_steps (next last) (case_one no_steps (next last) no_more)))))) no_more))))
+
+stuck_at_the_horizon : proves nobody_passes False None (below_a_horizon at_stuck) ≡ true
+stuck_at_the_horizon = refl
+
+other_horizon : proves nobody_passes False None (below_a_horizon (again 0)) ≡ false
+other_horizon = refl
+
+-- exists maximize s; forall; var 0..1: x; aggregate s = least(z) else 0; exists; var 0..3: z; constraint int_lin_le([2,1],[x,z],3); goal; solve;
+abbrev pruned_sum : Game
+pruned_sum = record {
+  scopes = optimising Max (TAgg (record { 0 = 0 })) ∷ scope Forall ∷ scope Exists ∷ [];
+  variables = variable 1 Bits ∷ variable 2 (Range (pos 0) (pos 3)) ∷ [];
+  aggregates = aggregate 1 (Least (pos 0)) (of_variable 1) ∷ [];
+  constraints = sum_at_most 2 (pos 2 ∷ pos 1 ∷ []) (Var (var 0) ∷ Var (var 1) ∷ []) (pos 3) ∷ [];
+}
+
+-- v 2, r 2, n, g, ..: the greatest z by a bound
+abbrev greatest_first : Node → Certificate
+greatest_first second = alone (plainly no_steps (next (plainly no_steps (branch (var 0)
+    (case_one no_steps (next (named (bound (var 1) (pos 0) (pos 2) ∷ []) on_to_goal)) (case_one (close ∷ []) (next second) no_more))))))
+
+-- b 2 0 0 and b 2 0 2 are marks that 1 and 3 beat
+pruned_right : proves pruned_sum True (Some (pos 1)) (greatest_first (plainly (bound (var 1) (pos 0) (pos 0) ∷ []) on_to_goal)) ≡ true
+pruned_right = refl
+
+-- after x = 1 closing leaves z = 0 and z = 1, which the sum lets pass; judged by what is left it would look as after x = 0
+judged_as_declared : proves pruned_sum True (Some (pos 3)) (greatest_first (again 0)) ≡ false
+judged_as_declared = refl
+
+-- exists; var 0..1: w; var 0..2: x; constraint int_lin_le([1,-2],[x,w],0); forall; var 0..1: y; constraint int_le(y,1); exists; var 0..0: z;
+-- constraint int_lin_le([-1],[x],-1); goal; solve; won with x = 1
+abbrev open_is_read : Game
+open_is_read = game (scope Exists ∷ scope Forall ∷ scope Exists ∷ [])
+    (variable 0 Bits ∷ variable 0 (Range (pos 0) (pos 2)) ∷ variable 1 Bits ∷ variable 2 (Range (pos 0) (pos 0)) ∷ [])
+    (sum_at_most 0 (pos 1 ∷ neg_ℤ (pos 2) ∷ []) (Var (var 1) ∷ Var (var 0) ∷ []) (pos 0) ∷ rule_two 1 IntLe (at 2) (num (pos 1))
+    ∷ sum_at_most 2 (neg_ℤ (pos 1) ∷ []) (Var (var 1) ∷ []) (neg_ℤ (pos 1)) ∷ [])
+
+-- v 1, c, n, v 3, n, m, e, s, ., n, v 3, n, a 1, s, ., .: the second time x is open, and only its least value is that of the first
+abbrev told_of_open : Node → Certificate
+told_of_open second = alone (plainly no_steps (branch (var 0)
+    (case_one (close ∷ []) (next (plainly no_steps (branch (var 2) (case_one no_steps (next (named no_steps empty)) (skip_one no_more)))))
+    (case_one no_steps (next (plainly no_steps (branch (var 2) (case_one no_steps (next second) (skip_one no_more))))) no_more))))
+
+open_position : proves open_is_read False None (told_of_open (again 0)) ≡ false
+open_position = refl

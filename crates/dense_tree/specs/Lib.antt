@@ -1,0 +1,13 @@
+pub mod Tree
+pub mod Counts
+pub mod Tuples
+pub mod Free
+pub mod Place
+pub mod Alike
+pub mod Steps
+pub mod Verdicts
+pub mod InPlace
+pub mod Read
+pub mod Proves
+pub mod Lines
+pub mod Text
