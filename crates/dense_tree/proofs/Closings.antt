@@ -1,4 +1,4 @@
--- Rule 1. A box is closed by its ends alone, so that the order of removals doesn't matter.
+-- A box is closed by its ends alone, so that the order of removals doesn't matter.
 use Rattle.std.proofs.Common.{◌≡◌, refl}
 use Rattle.std.specs.Prelude.{[], ◌∷◌, true, false, Some, None, pos, ℤ}
 use Rattle.qc_model.specs.declared.problem.Kind.TheVariants.{Exists}

@@ -1,4 +1,4 @@
--- Rules 3 and 4. In a free problem the goal is in force before the opponent moves, and no play means lost.
+-- In a free problem the goal is in force before the opponent moves, and no play means lost.
 use Rattle.std.proofs.Common.{◌≡◌, refl}
 use Rattle.std.specs.Prelude.{Option, [], ◌∷◌, true, false, Some, None, pos}
 use Rattle.qc_model.specs.declared.problem.Kind.TheVariants.{Exists, Forall}

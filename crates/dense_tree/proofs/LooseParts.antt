@@ -1,4 +1,4 @@
--- Rule 5. A scope of the player goes on early, with several values left.
+-- A scope of the player goes on early, with several values left.
 use Rattle.std.proofs.Common.{◌≡◌, refl}
 use Rattle.std.specs.Prelude.{List, [], ◌∷◌, true, false, Some, None, pos, neg_ℤ}
 use Rattle.qc_model.specs.declared.problem.Kind.TheVariants.{Exists, Forall}

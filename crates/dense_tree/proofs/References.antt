@@ -1,4 +1,4 @@
--- Rule 2. What a node came to is told again where the positions look the same.
+-- What a node came to is told again where the positions look the same.
 use Rattle.std.proofs.Common.{◌≡◌, refl}
 use Rattle.std.specs.Prelude.{[], ◌∷◌, true, false, Some, None, pos, neg_ℤ}
 use Rattle.qc_model.specs.declared.problem.Kind.TheVariants.{Exists, Forall}

@@ -1,4 +1,4 @@
--- Rules 7 and 8. What a follower can count on, and the best value left to what is demanded.
+-- What a follower can count on, and the best value left to what is demanded.
 use Rattle.std.proofs.Common.{◌≡◌, refl}
 use Rattle.std.specs.Prelude.{List, [], ◌∷◌, true, false, Some, pos, ℤ, neg_ℤ}
 use Rattle.qc_model.specs.declared.problem.Kind.TheVariants.{Exists, Forall}

@@ -1,4 +1,4 @@
--- Rule 6. One tuple of a scope, and its others skipped.
+-- One tuple of a scope, and its others skipped.
 use Rattle.std.proofs.Common.{◌≡◌, refl}
 use Rattle.std.specs.Prelude.{[], ◌∷◌, true, false, None, pos, ℤ}
 use Rattle.qc_model.specs.declared.problem.Kind.TheVariants.{Exists, Forall}
