@@ -16,8 +16,8 @@ from .terminal import LiveLine, duration, say
 
 # How long the dearest crates take, in minutes of one processor. Of the others it is told by their lines.
 MEASURED = {
-    "search_walk": 15, "qecode_commands": 5, "qc_play": 6, "check_lines": 6, "proof_text": 5, "qc_refuter": 5, "prop_linear": 4,
-    "qc_model": 4, "text_resolve": 4,
+    "search_walk": 15, "game_search": 13, "qecode_commands": 5, "qc_play": 6, "check_lines": 6, "proof_text": 5, "qc_refuter": 5,
+    "prop_linear": 4, "qc_model": 4, "text_resolve": 4,
 }
 LINES_A_MINUTE = 4_000
 # What is expected before anything was measured here: minutes of the clock for each minute of one processor, which counts as
