@@ -1,21 +1,25 @@
 -- Short lines stand for the same when wide ones are appended, and when they are taken apart and put together.
-use Rattle.std.proofs.Common.{◌≡◌, ◌∙◌, refl, sym, ap, ℕ, ◌≤◌, ◌<◌, ◌+◌, zero, suc, List, [], ◌∷◌, ◌++◌, length, map, take, drop, arith, subst, get_or, flat_map, append_assoc, Result, OnOk}
-use Rattle.std.proofs.lemmas.List.{get_or-take, length-take, map-append, take-map, drop-map, take_more, take-append-le}
+use Rattle.std.proofs.Common.{◌≡◌, ◌∙◌, refl, sym, ap, ℕ, ◌≤◌, ◌<◌, ◌+◌, ◌-◌, zero, suc, List, [], ◌∷◌, ◌++◌, length, map, take, drop, arith, subst, get_or, set, flat_map, append_assoc, Result, OnOk}
+use Rattle.std.proofs.lemmas.List.{get_or-take, length-take, length-drop, map-append, take-map, drop-map, take_more, take_all, take-append-le}
+use Rattle.std.proofs.lemmas.List.Edits.{paste_more}
 use Rattle.proof_tree.specs.declared.line.Line.{Line}
 use Rattle.proof_tree.specs.declared.line.Line.TheVariants.{Dot as DotLine}
 use Rattle.proof_tree.specs.Text.{line_text}
 use Rattle.strategy_arena.specs.declared.short.Short.{Short}
 use Rattle.strategy_arena.specs.declared.short.Short.TheVariants.{Horizon, Prune, Bound, Dot, Stuck, Goal, Empty, Barred, Next, Branch, Skip, Open, Range, Wide}
-use Rattle.strategy_arena.specs.Short.{line_of, reach, AllStand, lines_of, short_text, Extends}
+use Rattle.strategy_arena.specs.Short.{line_of, reach, AllStand, lines_of, short_text, written_over, Extends}
 
 -- the texts of the lines that these stand for
 texts_of : (wide : List Line) (ss : List Short) → flat_map (short_text wide) ss ≡ flat_map line_text (lines_of wide ss)
 texts_of wide [] = refl
 texts_of wide (s ∷ ss) = ap (λ bs. line_text (line_of wide s) ++ bs) (texts_of wide ss)
 
--- the same, where the wide ones are given as a slice
-pub slice_texts : (slice wide : List Line) (ss : List Short) (now : List Line) → slice ≡ wide → lines_of wide ss ≡ now → flat_map (short_text slice) ss ≡ flat_map line_text now
+-- the same, where both are given as slices
+slice_texts : (slice wide : List Line) (ss : List Short) (now : List Line) → slice ≡ wide → lines_of wide ss ≡ now → flat_map (short_text slice) ss ≡ flat_map line_text now
 slice_texts slice wide ss now e p = texts_of slice ss ∙ (ap (λ w. flat_map line_text (lines_of w ss)) e ∙ ap (λ ls. flat_map line_text ls) p)
+
+pub slices_texts : (known wide : List Line) (slice ss : List Short) (now : List Line) → known ≡ wide → slice ≡ ss → lines_of wide ss ≡ now → flat_map (short_text known) slice ≡ flat_map line_text now
+slices_texts known wide slice ss now e q p = ap (λ xs. flat_map (short_text known) xs) q ∙ slice_texts known wide ss now e p
 
 pub no_shorter : (old new : List Line) → Extends old new → length old ≤ length new
 no_shorter old new e = let q = ap length e ∙ length-take (length old) new in omega (arith, q)
@@ -102,14 +106,52 @@ put_between old new e ss room all with now start at a p q v =
     ∙ (ap (λ xs. xs ++ (with ++ map f (drop at ss))) (sym (take-map f start ss) ∙ ap (λ xs. take start xs) same)
     ∙ ap (λ xs. take start now ++ (with ++ xs)) (sym (drop-map f at ss) ∙ ap (λ xs. drop at xs) same)))))
 
--- the short lines after they were moved
-pub moved : (reserved cut all slice room kept ss : List Short) (start at : ℕ) → reserved ≡ ss → cut ≡ take start reserved → all ≡ cut ++ slice → slice ≡ room → room ≡ kept ++ drop at ss → all ≡ take start ss ++ (kept ++ drop at ss)
-moved reserved cut all slice room kept ss start at p q r e f =
-    r ∙ (ap (λ xs. xs ++ slice) (q ∙ ap (λ xs. take start xs) p) ∙ ap (λ xs. take start ss ++ xs) (e ∙ f))
+-- the short lines after they were moved, where those between are given as a slice
+pub moved : (all slice room ss : List Short) (start at : ℕ) → all ≡ take start ss ++ (slice ++ drop at ss) → slice ≡ room → all ≡ take start ss ++ (room ++ drop at ss)
+moved all slice room ss start at p e = p ∙ ap (λ xs. take start ss ++ (xs ++ drop at ss)) e
+
+-- one more that is written over
+pub written_more : (ss with now : List Short) (start k : ℕ) (x d : Short) → start + k < length ss → k < length with → x ≡ get_or with k d → now ≡ written_over ss start with k → set now (start + k) x ≡ written_over ss start with (k + 1)
+written_more ss with now start k x d p q e f =
+    ap (λ v. set now (start + k) v) e ∙ (ap (λ xs. set xs (start + k) (get_or with k d)) f ∙ paste_more ss start with k d p q)
+
+-- where no line is wide, they stand for the same beside any
+none_wide : (known wide : List Line) → length known ≡ 0 → (ss : List Short) → AllStand (length known) ss → lines_of wide ss ≡ lines_of known ss
+none_wide [] wide e ss a = lines_kept [] wide refl ss a
+none_wide (x ∷ known) wide e ss a = absurd (omega (arith, e))
+
+pub carried_all : (known wide : List Line) (from before all : List Short) → length known ≡ 0 → AllStand (length known) from → all ≡ before ++ from → lines_of wide all ≡ lines_of wide before ++ lines_of known from
+carried_all known wide from before all e a p =
+    ap (λ ss. lines_of wide ss) p ∙ (map-append (line_of wide) before from ∙ ap (λ ls. lines_of wide before ++ ls) (none_wide known wide e from a))
+
+pub stand_carried : (known : List Line) (n : ℕ) (from before all : List Short) → length known ≡ 0 → AllStand (length known) from → AllStand n before → all ≡ before ++ from → AllStand n all
+stand_carried known n from before all e a b p =
+    subst (AllStand n) (sym p) (stand_both n before from b (stand_kept (length known) n (omega (arith, e)) from a))
 
 -- the last lines, where the wide ones are given as a slice
-pub slice_dropped : (slice wide : List Line) (ss : List Short) (now : List Line) (k : ℕ) → slice ≡ wide → lines_of wide ss ≡ now → lines_of slice (drop k ss) ≡ drop k now
+slice_dropped : (slice wide : List Line) (ss : List Short) (now : List Line) (k : ℕ) → slice ≡ wide → lines_of wide ss ≡ now → lines_of slice (drop k ss) ≡ drop k now
 slice_dropped slice wide ss now k e p = sym (drop-map (line_of slice) k ss) ∙ ap (λ ls. drop k ls) (ap (λ w. lines_of w ss) e ∙ p)
+
+sliced : (slice ss : List Short) (k : ℕ) → slice ≡ ss → take (length slice - k) (drop k slice) ≡ drop k ss
+sliced slice ss k e = take_all (length slice - k) (drop k slice) (let q = length-drop k slice in omega (arith, q)) ∙ ap (λ xs. drop k xs) e
+
+pub slices_dropped : (known wide : List Line) (slice ss : List Short) (now : List Line) (k : ℕ) → known ≡ wide → slice ≡ ss → lines_of wide ss ≡ now → lines_of known (take (length slice - k) (drop k slice)) ≡ drop k now
+slices_dropped known wide slice ss now k e q p = ap (λ xs. lines_of known xs) (sliced slice ss k q) ∙ slice_dropped known wide ss now k e p
+
+pub slices_stand : (known wide : List Line) (slice ss : List Short) (k : ℕ) → known ≡ wide → slice ≡ ss → AllStand (length wide) ss → AllStand (length known) (take (length slice - k) (drop k slice))
+slices_stand known wide slice ss k e q a =
+    subst (λ n. AllStand n (take (length slice - k) (drop k slice))) (sym (ap length e)) (subst (AllStand (length wide)) (sym (sliced slice ss k q)) (stand_drop (length wide) k ss a))
+
+-- the same of all lines
+pub slices_all : (known wide : List Line) (slice ss : List Short) (now : List Line) → known ≡ wide → slice ≡ ss → lines_of wide ss ≡ now → lines_of known slice ≡ now
+slices_all known wide slice ss now e q p = ap (λ xs. lines_of known xs) q ∙ (ap (λ w. lines_of w ss) e ∙ p)
+
+pub slices_all_stand : (known wide : List Line) (slice ss : List Short) → known ≡ wide → slice ≡ ss → AllStand (length wide) ss → AllStand (length known) slice
+slices_all_stand known wide slice ss e q a = subst (λ n. AllStand n slice) (sym (ap length e)) (subst (AllStand (length wide)) (sym q) a)
+
+-- lines that are put where none was
+pub copied_lines : (wide : List Line) (before : List Short) (last now all : List Line) → before ≡ [] → all ≡ lines_of wide before ++ last → last ≡ now → all ≡ now
+copied_lines wide before last now all e p q = p ∙ (ap (λ ss. lines_of wide ss ++ last) e ∙ q)
 
 -- one line more of those that are gone over
 pub one_more_kept : (after before with : List Line) (k : ℕ) (d : Line) → k < length with → after ≡ before ++ get_or with k d ∷ [] → before ≡ take k with → after ≡ take (k + 1) with
@@ -132,6 +174,13 @@ cut_back reserved put cut ss n e f g h = g ∙ (ap (λ k. take k put) e ∙ (sym
 pub appended_as : {T E : Type 0} (r : Result T E) (new old xs ys : List Line) → xs ≡ ys → OnOk r (new ≡ old ++ xs) → OnOk r (new ≡ old ++ ys)
 appended_as r new old xs ys e p = subst (λ (ls : List Line). OnOk r (new ≡ old ++ ls)) e p
 
+pub next_line : (before after : List Line) (line same : Line) → after ≡ before ++ line ∷ [] → line ≡ same → after ≡ before ++ same ∷ []
+next_line before after line same p e = p ∙ ap (λ l. before ++ l ∷ []) e
+
 -- one line more of those that are carried over
-pub one_more_carried : (next now rest all : List Line) (line : Line) → next ≡ now ++ line ∷ [] → now ++ line ∷ rest ≡ all → next ++ rest ≡ all
-one_more_carried next now rest all line e f = ap (λ ls. ls ++ rest) e ∙ (append_assoc now (line ∷ []) rest ∙ f)
+pub one_more_carried : (known after before old : List Line) (from : List Short) (k : ℕ) (d : Short) → k < length from → after ≡ before ++ line_of known (get_or from k d) ∷ [] → before ≡ old ++ lines_of known (take k from) → after ≡ old ++ lines_of known (take (k + 1) from)
+one_more_carried known after before old from k d p e f =
+    let line = line_of known (get_or from k d) in
+    let more : lines_of known (take (k + 1) from) ≡ lines_of known (take k from) ++ line ∷ [] =
+    ap (λ ss. lines_of known ss) (take_more from k d p) ∙ map-append (line_of known) (take k from) (get_or from k d ∷ []) in
+    e ∙ (ap (λ ls. ls ++ line ∷ []) f ∙ (append_assoc old (lines_of known (take k from)) (line ∷ []) ∙ ap (λ ls. old ++ ls) (sym more)))

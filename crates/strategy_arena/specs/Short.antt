@@ -1,5 +1,5 @@
 -- Lines in half the memory, and what they stand for.
-use Rattle.std.specs.Prelude.{◌≡◌, ℕ, ◌≤◌, ◌+◌, List, [], ◌∷◌, length, map, take, slice_index_or}
+use Rattle.std.specs.Prelude.{◌≡◌, ℕ, ◌≤◌, ◌+◌, List, [], ◌∷◌, ◌++◌, length, map, take, drop, slice_index_or}
 use Rattle.proof_tree.specs.declared.line.Line.{Line}
 use Rattle.proof_tree.specs.declared.line.Line.TheVariants.{Horizon, Prune, Bound, Dot, Stuck, Goal, Empty, Barred, Next, Branch, Skip, Open, Range}
 use Rattle.proof_tree.specs.Text.{line_text}
@@ -36,6 +36,10 @@ AllStand n (s ∷ shorts) = (reach s ≤ n) × AllStand n shorts
 -- the lines that these stand for
 abbrev pub lines_of : List Line → List Short → List Line
 lines_of wide shorts = map (line_of wide) shorts
+
+-- `n` of the lines of `with` stand over those of `ss` from `start` on
+abbrev pub written_over : List Short → ℕ → List Short → ℕ → List Short
+written_over ss start with n = take start ss ++ take n with ++ drop (start + n) ss
 
 -- lines were appended, or none
 abbrev pub Extends : List Line → List Line → Type 0

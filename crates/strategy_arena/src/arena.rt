@@ -6,10 +6,9 @@ ghost use Rattle.proof_tree.specs.Tree.{Tree};
 ghost use Rattle.strategy_arena.specs.Certificate.{IsOneTree};
 
 use crate::line_cursor::LineCursor;
-use crate::moving::{append, carry_each, gather, keep_all, lengthen_from, put_each};
+use crate::moving::{carry_each, keep_all, lengthen_each, put_each, shift};
 use crate::read::node;
 use crate::short::{Short, keep, lengthen};
-use paged_stack::PagedStack;
 use proof_tree::{Line, Node};
 use std::alloc::{AllocError, Global};
 use std::marker::Model;
@@ -17,10 +16,10 @@ use std::marker::Model;
 /// Lines of a certificate's tree, from the first to the last. A clause sees the list of them.
 #[derive(Drop)]
 pub struct Arena {
-    pub(crate) lines: PagedStack<Short>,
+    pub(crate) lines: Vec<Short>,
     // The lines that do not fit a short one. It grows only, so that older places mean the same, until no line is left.
     pub(crate) wide: Vec<Line>,
-    // Room for the lines that a `replace` moves.
+    // Room for the lines that a `replace` puts.
     room: Vec<Short>,
 }
 
@@ -42,13 +41,13 @@ impl Arena {
         ensures { result ≡ [] }
     {
         Arena {
-            lines: PagedStack::new(alloc),
+            lines: Vec::new(alloc),
             wide: Vec::new(alloc),
             room: Vec::new(alloc),
         }
     }
 
-    /// Appends a line. After a refusal nothing has changed.
+    /// Appends a line. Where there is no room, it asks for twice as much as there was. After a refusal nothing has changed.
     pub fn put(&mut self, line: Line) -> Result<(), AllocError>
         ensures put { OnOk result (self.new ≡ self.old ++ line ∷ []) }
         ensures refused { OnErr result (self.new ≡ self.old) }
@@ -68,13 +67,14 @@ impl Arena {
         match put_each(&mut self.lines, &mut self.wide, lines) {
             Ok(()) => Ok(()),
             Err(refused) => {
-                self.lines.cut(before);
+                self.lines.truncate(before);
                 Err(refused)
             }
         }
     }
 
-    /// Puts these lines in place of those from `start` to `at`. After a refusal nothing has changed.
+    /// Puts these lines in place of those from `start` to `at`, and moves those that come after. After a refusal nothing has
+    /// changed.
     pub fn replace(&mut self, start: usize, at: usize, with: &[Line]) -> Result<(), AllocError>
         requires start { start ≤ at }
         requires place { at ≤ length self.old }
@@ -83,11 +83,7 @@ impl Arena {
     {
         self.room.clear();
         keep_all(&mut self.wide, with, &mut self.room)?;
-        gather(&self.lines, at, &mut self.room)?;
-        let cut = self.lines.len() - start;
-        self.lines.reserve(self.room.len().saturating_sub(cut))?;
-        self.lines.cut(start);
-        append(&mut self.lines, self.room.as_slice());
+        shift(&mut self.lines, start, at, self.room.as_slice())?;
         Ok(())
     }
 
@@ -103,8 +99,7 @@ impl Arena {
         aside.lines.reserve(self.lines.len() - start)?;
         let before = aside.lines.len();
         match carry_each(
-            &self.lines,
-            start,
+            &self.lines.as_slice()[start..],
             self.wide.as_slice(),
             &mut aside.lines,
             &mut aside.wide,
@@ -114,7 +109,7 @@ impl Arena {
                 Ok(())
             }
             Err(refused) => {
-                aside.lines.cut(before);
+                aside.lines.truncate(before);
                 Err(refused)
             }
         }
@@ -152,17 +147,56 @@ impl Arena {
         requires { len ≤ length self.old }
         ensures { self.new ≡ take len self.old }
     {
-        self.lines.cut(len);
+        self.lines.truncate(len);
         if len == 0 {
             self.wide.clear();
         }
     }
 
-    // The lines, from the first to the last.
-    fn lines(&self) -> LineCursor<'_>
+    /// Its lines, to be gone over from the first to the last.
+    pub fn cursor(&self) -> LineCursor<'_>
         ensures { result ≡ self.now }
     {
-        LineCursor::new(self.lines.cursor(), self.wide.as_slice())
+        LineCursor::new(self.lines.as_slice(), self.wide.as_slice())
+    }
+
+    /// A copy of the lines from place `start` on. It goes over those alone, and asks for memory for all of them at once, and for each
+    /// whose numbers do not fit 32 bits.
+    pub fn copied(&self, alloc: Global, start: usize) -> Result<Arena, AllocError>
+        requires { start ≤ length self.now }
+        ensures { IfOk result (λ copy. copy ≡ drop start self.now) }
+    {
+        let mut lines = Vec::with_capacity(alloc, self.lines.len() - start)?;
+        let mut wide = Vec::new(alloc);
+        carry_each(
+            &self.lines.as_slice()[start..],
+            self.wide.as_slice(),
+            &mut lines,
+            &mut wide,
+        )?;
+        let room = Vec::new(alloc);
+        Ok(Arena { lines, wide, room })
+    }
+
+    /// Appends the lines of another arena, in order. After a refusal nothing has changed.
+    pub fn put_copy(&mut self, other: &Arena) -> Result<(), AllocError>
+        ensures put { OnOk result (self.new ≡ self.old ++ other.now) }
+        ensures refused { OnErr result (self.new ≡ self.old) }
+    {
+        self.lines.reserve(other.lines.len())?;
+        let before = self.lines.len();
+        match carry_each(
+            other.lines.as_slice(),
+            other.wide.as_slice(),
+            &mut self.lines,
+            &mut self.wide,
+        ) {
+            Ok(()) => Ok(()),
+            Err(refused) => {
+                self.lines.truncate(before);
+                Err(refused)
+            }
+        }
     }
 
     /// Appends the lines from place `start` on to a list. It goes over those alone. After a refusal the list may have
@@ -171,7 +205,7 @@ impl Arena {
         requires { start ≤ length self.now }
         ensures { OnOk result (into.new.items ≡ into.old.items ++ drop start self.now) }
     {
-        lengthen_from(&self.lines, start, self.wide.as_slice(), into)
+        lengthen_each(&self.lines.as_slice()[start..], self.wide.as_slice(), into)
     }
 
     /// The node whose lines these are. It asks that they are the lines of one tree, nested at most 1,000 deep, and fails
@@ -180,6 +214,6 @@ impl Arena {
         requires tree { IsOneTree self.now }
         ensures { IfOk result (λ n. (t : Tree) → self.now ≡ tree_lines t → tree_of n ≡ t) }
     {
-        node(alloc, &mut self.lines())
+        node(alloc, &mut self.cursor())
     }
 }

@@ -3,14 +3,13 @@ ghost use Rattle.std.specs.Prelude.{◌≡◌, ◌∷◌, [], MatchOption};
 ghost use Rattle.strategy_arena.specs.Short.{lines_of};
 
 use crate::short::{Short, lengthen};
-use paged_stack::Cursor;
 use proof_tree::Line;
 use std::marker::Model;
 
 /// Goes over lines in order up to the last. A clause sees the list of those that are left.
 #[derive(Drop)]
-pub(crate) struct LineCursor<'a> {
-    shorts: Cursor<'a, Short>,
+pub struct LineCursor<'a> {
+    shorts: &'a [Short],
     wide: &'a [Line],
 }
 
@@ -21,22 +20,23 @@ impl<'a> Model for LineCursor<'a> {
 
     ghost Value = { List Line };
 
-    ghost view = { λ c. lines_of c.wide.now c.shorts };
+    ghost view = { λ c. lines_of c.wide.now c.shorts.now };
 }
 
 impl<'a> LineCursor<'a> {
     /// The lines that these stand for.
-    pub(crate) fn new(shorts: Cursor<'a, Short>, wide: &'a [Line]) -> LineCursor<'a>
-        ensures { result ≡ lines_of wide.now shorts.entry }
+    pub(crate) fn new(shorts: &'a [Short], wide: &'a [Line]) -> LineCursor<'a>
+        ensures { result ≡ lines_of wide.now shorts.now }
     {
         LineCursor { shorts, wide }
     }
 
     /// The next line. None comes exactly where none is left.
-    pub(crate) fn next(&mut self) -> Option<Line>
+    pub fn next(&mut self) -> Option<Line>
         ensures { MatchOption result ((self.old ≡ []) × (self.new ≡ [])) (λ line. self.old ≡ line ∷ self.new) }
     {
-        let short = self.shorts.next()?;
-        Some(lengthen(short, self.wide))
+        let (short, rest) = self.shorts.split_first()?;
+        self.shorts = rest;
+        Some(lengthen(*short, self.wide))
     }
 }

@@ -1,9 +1,9 @@
 //! Short lines that are made, moved and read together.
-ghost use Rattle.std.specs.Prelude.{◌≡◌, ◌≤◌, ◌++◌, [], length, take, drop, OnOk};
-ghost use Rattle.strategy_arena.specs.Short.{AllStand, Extends, lines_of};
+ghost use Rattle.std.specs.Prelude.{◌≡◌, ◌≤◌, ◌+◌, ◌++◌, [], length, take, drop, OnOk, OnErr};
+ghost use Rattle.std.specs.Vec.{vec_len, vec_capacity};
+ghost use Rattle.strategy_arena.specs.Short.{AllStand, Extends, lines_of, written_over};
 
 use crate::short::{Short, carry, keep, lengthen};
-use paged_stack::PagedStack;
 use proof_tree::Line;
 use std::alloc::AllocError;
 
@@ -27,11 +27,11 @@ pub(crate) fn keep_all(
 
 /// Appends these lines, for which there is room. After a refusal some of them are there.
 pub(crate) fn put_each(
-    lines: &mut PagedStack<Short>,
+    lines: &mut Vec<Short>,
     wide: &mut Vec<Line>,
     with: &[Line],
 ) -> Result<(), AllocError>
-    requires room { length with.now ≤ lines.old.spare }
+    requires room { vec_len lines.old + length with.now ≤ vec_capacity lines.old }
     requires stand { AllStand (length wide.old.items) lines.old.items }
     ensures put { OnOk result (lines_of wide.new.items lines.new.items ≡ lines_of wide.old.items lines.old.items ++ with.now) }
     ensures stand { AllStand (length wide.new.items) lines.new.items }
@@ -40,72 +40,82 @@ pub(crate) fn put_each(
 {
     for line in with {
         let short = keep(wide, line)?;
-        lines.push_spare(short);
+        lines.push_reserved(short);
     }
     Ok(())
 }
 
-/// Appends the lines from place `at` on.
-pub(crate) fn gather(
-    lines: &PagedStack<Short>,
-    at: usize,
-    room: &mut Vec<Short>,
-) -> Result<(), AllocError>
-    requires { at ≤ length lines.now.items }
-    ensures { OnOk result (room.new.items ≡ room.old.items ++ drop at lines.now.items) }
-{
-    for short in lines.cursor_from(at) {
-        room.push(short)?;
-    }
-    Ok(())
-}
-
-/// Appends lines for which there is room.
-pub(crate) fn append(lines: &mut PagedStack<Short>, more: &[Short])
-    requires { length more.now ≤ lines.old.spare }
-    ensures { lines.new.items ≡ lines.old.items ++ more.now }
-{
-    for short in more {
-        lines.push_spare(*short);
-    }
-}
-
-/// Appends the lines from place `start` of others on, of which the wide ones are known, and for which there is room. After a refusal
-/// some of them are there.
-pub(crate) fn carry_each(
-    from: &PagedStack<Short>,
+/// Puts these lines in place of those from `start` to `at`, and moves all that come after at once. After a refusal nothing has
+/// changed.
+pub(crate) fn shift(
+    lines: &mut Vec<Short>,
     start: usize,
+    at: usize,
+    with: &[Short],
+) -> Result<(), AllocError>
+    requires start { start ≤ at }
+    requires place { at ≤ length lines.old.items }
+    ensures put { OnOk result (lines.new.items ≡ take start lines.old.items ++ (with.now ++ drop at lines.old.items)) }
+    ensures refused { OnErr result (lines.new.items ≡ lines.old.items) }
+{
+    let len = lines.len();
+    let more = with.len().saturating_sub(at - start);
+    lines.reserve(more)?;
+    lines.resize(len + more, Short::Dot)?;
+    lines.copy_within(at..len, start + with.len());
+    write_over(lines, start, with);
+    lines.truncate(start + with.len() + (len - at));
+    Ok(())
+}
+
+/// Puts these lines over those from `start` on.
+fn write_over(lines: &mut Vec<Short>, start: usize, with: &[Short])
+    requires { start + length with.now ≤ length lines.old.items }
+    ensures { lines.new.items ≡ written_over lines.old.items start with.now (length with.now) }
+{
+    for k in 0..with.len() {
+        lines[start + k] = with[k];
+    }
+}
+
+/// Appends the lines that others stand for, of which the wide ones are known, and for which there is room. After a refusal some of
+/// them are there.
+pub(crate) fn carry_each(
+    from: &[Short],
     known: &[Line],
-    lines: &mut PagedStack<Short>,
+    lines: &mut Vec<Short>,
     wide: &mut Vec<Line>,
 ) -> Result<(), AllocError>
-    requires start { start ≤ length from.now.items }
-    requires room { length (drop start from.now.items) ≤ lines.old.spare }
+    requires known { AllStand (length known.now) from.now }
+    requires room { vec_len lines.old + length from.now ≤ vec_capacity lines.old }
     requires stand { AllStand (length wide.old.items) lines.old.items }
-    ensures put { OnOk result (lines_of wide.new.items lines.new.items ≡ lines_of wide.old.items lines.old.items ++ lines_of known.now (drop start from.now.items)) }
+    ensures put { OnOk result (lines_of wide.new.items lines.new.items ≡ lines_of wide.old.items lines.old.items ++ lines_of known.now from.now) }
     ensures stand { AllStand (length wide.new.items) lines.new.items }
     ensures first { lines.old.items ≡ take (length lines.old.items) lines.new.items }
     ensures grown { Extends wide.old.items wide.new.items }
 {
-    for short in from.cursor_from(start) {
-        let carried = carry(short, known, wide)?;
-        lines.push_spare(carried);
+    // where none is wide, each stands for the same there
+    if known.len() == 0 {
+        lines.extend_from_slice(from)?;
+        return Ok(());
+    }
+    for short in from {
+        let carried = carry(*short, known, wide)?;
+        lines.push_reserved(carried);
     }
     Ok(())
 }
 
-/// Appends the lines that those from place `start` on stand for.
-pub(crate) fn lengthen_from(
-    lines: &PagedStack<Short>,
-    start: usize,
+/// Appends the lines that these stand for.
+pub(crate) fn lengthen_each(
+    shorts: &[Short],
     wide: &[Line],
     into: &mut Vec<Line>,
 ) -> Result<(), AllocError>
-    requires { start ≤ length lines.now.items }
-    ensures { OnOk result (into.new.items ≡ into.old.items ++ lines_of wide.now (drop start lines.now.items)) }
+    ensures { OnOk result (into.new.items ≡ into.old.items ++ lines_of wide.now shorts.now) }
 {
-    for short in lines.cursor_from(start) {
-        into.push(lengthen(short, wide))?;
+    for short in shorts {
+        into.push(lengthen(*short, wide))?;
     }
     Ok(())
 }

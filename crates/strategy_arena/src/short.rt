@@ -59,7 +59,7 @@ pub(crate) fn keep(wide: &mut Vec<Line>, line: &Line) -> Result<Short, AllocErro
 
 /// The short line of the last wide one, which it appends.
 ///
-/// There are places for 2^32 of them, and one more is refused as a page too large to be asked for would be. That is out of
+/// There are places for 2^32 of them, and one more is refused as a vector too large to be asked for would be. That is out of
 /// reach: they alone would fill some hundred milliards of bytes, and no line that speaks of a problem is wide, since its
 /// values lie between -10^9 and 10^9.
 #[inline(never)]

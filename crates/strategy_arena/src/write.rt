@@ -13,7 +13,6 @@ ghost use Rattle.strategy_arena.specs.Short.{short_text};
 use crate::Arena;
 use crate::short::{Short, lengthen};
 use crate::spell::{Text, spell_line, spell_outcome};
-use paged_stack::PagedStack;
 use proof_tree::{Line, Outcome};
 use qc_io::{Pieces, Sink, WriteFault};
 
@@ -63,23 +62,23 @@ impl Arena {
         ensures err { OnErr result (AppendsPrefix (K.written sink.old) (K.written sink.new) (pieces.old ++ flat_map line_text self.now)) }
         ensures cause { HasCause (K.faults sink.old) (K.faults sink.new) result }
     {
-        put_shorts(&self.lines, self.wide.as_slice(), pieces, sink)
+        put_shorts(self.lines.as_slice(), self.wide.as_slice(), pieces, sink)
     }
 }
 
 // Puts the lines that these stand for behind the bytes that are held.
 fn put_shorts<K: Sink>(
-    shorts: &PagedStack<Short>,
+    shorts: &[Short],
     wide: &[Line],
     pieces: &mut Pieces,
     sink: &mut K,
 ) -> Result<(), WriteFault>
-    ensures ok { OnOk result (Moves (K.written sink.old) (K.written sink.new) pieces.new (pieces.old ++ flat_map (short_text wide.now) shorts.now.items)) }
-    ensures err { OnErr result (AppendsPrefix (K.written sink.old) (K.written sink.new) (pieces.old ++ flat_map (short_text wide.now) shorts.now.items)) }
+    ensures ok { OnOk result (Moves (K.written sink.old) (K.written sink.new) pieces.new (pieces.old ++ flat_map (short_text wide.now) shorts.now)) }
+    ensures err { OnErr result (AppendsPrefix (K.written sink.old) (K.written sink.new) (pieces.old ++ flat_map (short_text wide.now) shorts.now)) }
     ensures cause { HasCause (K.faults sink.old) (K.faults sink.new) result }
 {
-    for short in shorts.cursor() {
-        put_line(pieces, sink, lengthen(short, wide))?;
+    for short in shorts {
+        put_line(pieces, sink, lengthen(*short, wide))?;
     }
     Ok(())
 }

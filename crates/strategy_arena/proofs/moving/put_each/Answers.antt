@@ -8,16 +8,17 @@ pub loop-line-preserved : goal.loop-line-preserved
 loop-line-preserved c =
     let i = c.loop-line.invariant in
     let grown = c.keep.ensures.grown in
-    let put = put_one _ _ grown _ _ c.in_ok-short.short _ i.stand c.push_spare.ensures.items c.in_ok-short.ensures.kept.0 in
+    let put = put_one _ _ grown _ _ c.in_ok-short.short _ i.stand c.push_reserved.ensures.items c.in_ok-short.ensures.kept.0 in
     let before = c.loop-line-test.true in
     let room = i.room in
-    let spare = c.push_spare.ensures.spare in
+    let len = c.push_reserved.ensures.len in
+    let capacity = c.push_reserved.ensures.capacity in
     record {
       put = one_more_put _ _ (lines_of c.args.wide.now.items c.args.lines.now.items) c.args.with.now c.loop-line.line-index (HorizonLine 0) (omega (arith, before)) put i.put;
-      stand = stand_one _ _ grown _ _ c.in_ok-short.short i.stand c.push_spare.ensures.items c.in_ok-short.ensures.kept.1;
-      first = still_first _ _ _ c.in_ok-short.short i.first c.push_spare.ensures.items;
+      stand = stand_one _ _ grown _ _ c.in_ok-short.short i.stand c.push_reserved.ensures.items c.in_ok-short.ensures.kept.1;
+      first = still_first _ _ _ c.in_ok-short.short i.first c.push_reserved.ensures.items;
       grown = extends_twice _ _ _ i.grown grown;
-      room = omega (arith, room, spare);
+      room = omega (arith, room, len, capacity);
     }
 
 pub returns-in_err-short-clause-stand : goal.returns-in_err-short-clause-stand

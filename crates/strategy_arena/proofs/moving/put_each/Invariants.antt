@@ -1,4 +1,5 @@
 use Rattle.std.proofs.Common.{◌≡◌, ◌≤◌, ◌+◌, ◌++◌, length, take}
+use Rattle.std.specs.Vec.{vec_len, vec_capacity}
 use Rattle.strategy_arena.specs.Short.{AllStand, Extends, lines_of}
 use Rattle.strategy_arena.proofs.moving.put_each.Given as goal
 
@@ -8,5 +9,5 @@ invariant-loop-line l = record {
   stand : AllStand (length l.wide.items) l.lines.items;
   first : l.fn.lines.items ≡ take (length l.fn.lines.items) l.lines.items;
   grown : Extends l.fn.wide.items l.wide.items;
-  room : length l.with ≤ l.lines.spare + l.line-index;
+  room : vec_len l.lines + length l.with ≤ vec_capacity l.lines + l.line-index;
 }

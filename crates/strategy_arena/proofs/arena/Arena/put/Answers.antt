@@ -13,17 +13,17 @@ returns-in_err-short-clause-refused c = on_err _ (lines_kept _ _ c.keep.ensures.
 pub invariant_of-self-in_err-push : goal.invariant_of-self-in_err-push
 invariant_of-self-in_err-push c =
     let n = length c.keep.new.wide.items in
-    subst (AllStand n) (sym (ap (λ p. p.items) c.in_err-push.ensures.refused)) (stand_kept _ _ (no_shorter _ _ c.keep.ensures.grown) _ c.self.invariant)
+    subst (AllStand n) (sym c.in_err-push.ensures.items) (stand_kept _ _ (no_shorter _ _ c.keep.ensures.grown) _ c.self.invariant)
 
 pub returns-in_err-push-clause-refused : goal.returns-in_err-push-clause-refused
 returns-in_err-push-clause-refused c =
-    on_err _ (ap (λ p. lines_of c.keep.new.wide.items p.items) c.in_err-push.ensures.refused ∙ (lines_kept _ _ c.keep.ensures.grown _ c.self.invariant ∙ c.self.view_is))
+    on_err _ (ap (λ ss. lines_of c.keep.new.wide.items ss) c.in_err-push.ensures.items ∙ (lines_kept _ _ c.keep.ensures.grown _ c.self.invariant ∙ c.self.view_is))
 
 pub invariant_of-self-2 : goal.invariant_of-self-2
 invariant_of-self-2 c =
-    stand_one _ _ c.keep.ensures.grown _ _ c.in_ok-short.short c.self.invariant c.in_ok-push.ensures.pushed.0 c.in_ok-short.ensures.kept.1
+    stand_one _ _ c.keep.ensures.grown _ _ c.in_ok-short.short c.self.invariant c.in_ok-push.ensures.items c.in_ok-short.ensures.kept.1
 
 pub returns-clause-put : goal.returns-clause-put
 returns-clause-put c =
-    put_one _ _ c.keep.ensures.grown _ _ c.in_ok-short.short c.args.line c.self.invariant c.in_ok-push.ensures.pushed.0 c.in_ok-short.ensures.kept.0
+    put_one _ _ c.keep.ensures.grown _ _ c.in_ok-short.short c.args.line c.self.invariant c.in_ok-push.ensures.items c.in_ok-short.ensures.kept.0
     ∙ ap (λ ls. ls ++ c.args.line ∷ []) c.self.view_is
