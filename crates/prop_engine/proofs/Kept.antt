@@ -4,18 +4,13 @@ use Rattle.std.specs.Prelude.{slice_get, Some, nat_le, nat_lt, ◌==◌}
 use Rattle.std.specs.List.{list_any, list_all}
 use Rattle.std.proofs.lemmas.Bool.Decides.{nat_tests}
 use Rattle.qc_model.specs.declared.problem.ConId.{ConId}
-use Rattle.qc_model.specs.declared.problem.VarId.{VarId}
-use Rattle.qc_model.specs.Arguments.{variables_of}
 use Rattle.qc_model.specs.Closed.{keeps_ends}
 use Rattle.qc_model.specs.Content.{Game, Rule}
-use Rattle.qc_model.specs.Domains.{Box, values_left}
+use Rattle.qc_model.specs.Domains.{Box}
 use Rattle.qc_model.proofs.Readable.{first, second}
-use Rattle.proof_tree.specs.declared.tree.Step.{Step}
-use Rattle.fd_store.specs.Held.{Held}
-use Rattle.prop_base.specs.Pruning.{IsPruning, is_just}
+use Rattle.prop_base.specs.Pruning.{is_just}
 use Rattle.prop_engine.specs.Closing.{EachRule, is_between, has_constraint}
-use Rattle.prop_engine.specs.Watching.{Waiting, Watches, is_marked, is_watched, IsWatchOf, MarkedWait, KeepsUnmarked, names, changed_by, WasKept, IsSpared}
-use Rattle.prop_engine.proofs.Own.{keeps_same, after_length, after_others}
+use Rattle.prop_engine.specs.Watching.{Waiting, is_marked, MarkedWait, KeepsUnmarked, IsSpared}
 use Rattle.prop_engine.proofs.Watched.{all_weaker}
 
 -- the first of the queue, and the others
@@ -44,7 +39,7 @@ apart : (j k : ℕ) → (j == k) ≡ false → k ≢ j
 apart j k h e = grind (arith, nat_tests)
 
 -- of each constraint with this number and each other
-either : (j k : ℕ) (P : Type 0) → ((j == k) ≡ true → P) → ((j == k) ≡ false → P) → P
+pub either : (j k : ℕ) (P : Type 0) → ((j == k) ≡ true → P) → ((j == k) ≡ false → P) → P
 either j k P f g = by (j == k) refl
   where
     by : (b : Bool) → (j == k) ≡ b → P
@@ -65,27 +60,19 @@ kept_all ok g w b e m h k r o s = by (is_marked w k) refl
     by true u = let z = ap (λ q. has_constraint q k) (sym e) ∙ m k u in cc
     by false u = h k r o s u
 
-drop_whole : {X : Type 0} (xs ys : List X) → drop (length xs) (xs ++ ys) ≡ ys
+pub drop_whole : {X : Type 0} (xs ys : List X) → drop (length xs) (xs ++ ys) ≡ ys
 drop_whole [] ys = refl
 drop_whole (x ∷ xs) ys = drop_whole xs ys
 
--- what steps don't name, they leave
-pub kept_others : (ok : ℕ → Bool) (g : Game) (s t : Held) (a b : List Step) (r : Rule) → IsPruning ok g s t a b →
-    ((x : ℕ) → list_any (λ y. y == x) (variables_of r.args) ≡ true → names (changed_by (drop (length a) b)) x ≡ false) → keeps_ends s.box r ≡ true → keeps_ends t.box r ≡ true
-kept_others ok g s t a b r p f h =
-    let fresh = ap (drop (length a)) p.appended ∙ drop_whole a p.more in
-    keeps_same r t.box s.box (ap length p.reached ∙ after_length p.more s.box)
-    (λ x m. ap (λ d. values_left d x) p.reached ∙ after_others p.more s.box x (ap (λ l. names (changed_by l) x) (sym fresh) ∙ f x m))
-    ∙ h
-
-pub found_changed : (ok p : ℕ → Bool) (g : Game) (c : ConId) (v w : Waiting) (s t : Held) (a b : List Step) → IsPruning p g s t a b → ((k : ℕ) → k ≢ c.0 → is_marked w k ≡ is_marked v k) → KeepsUnmarked ok g v s.box →
-    EachRule (is_just c.0) g (keeps_ends t.box) → (k : ℕ) (r : Rule) → ok k ≡ true → slice_get g.constraints k ≡ Some r → is_marked w k ≡ false →
-    ((c.0 == k) ≡ false → (x : ℕ) → list_any (λ y. y == x) (variables_of r.args) ≡ true → names (changed_by (drop (length a) b)) x ≡ false) → keeps_ends t.box r ≡ true
-found_changed ok p g c v w s t a b q m h j k r o e u f =
-    either c.0 k (keeps_ends t.box r ≡ true) (λ z. j k r (just c.0 k z) e) (λ z. kept_others p g s t a b r q (f z) (h k r o e (sym (m k (apart c.0 k z)) ∙ u)))
+-- the constraint that ran keeps its ends, and the others kept theirs
+pub found_changed : (ok : ℕ → Bool) (g : Game) (c : ConId) (v w : Waiting) (s t was : Box) → s ≡ was → ((k : ℕ) → k ≢ c.0 → is_marked w k ≡ is_marked v k) → KeepsUnmarked ok g v s →
+    EachRule (is_just c.0) g (keeps_ends t) → (k : ℕ) (r : Rule) → ok k ≡ true → slice_get g.constraints k ≡ Some r → is_marked w k ≡ false →
+    ((c.0 == k) ≡ true → keeps_ends t r ≡ true) × ((c.0 == k) ≡ false → keeps_ends was r ≡ true)
+found_changed ok g c v w s t was q m h j k r o e u =
+    (λ z. j k r (just c.0 k z) e, λ z. subst (λ b. keeps_ends b r ≡ true) q (h k r o e (sym (m k (apart c.0 k z)) ∙ u)))
 
 -- a variable of the constraint, among those that watch it
-watched_one : (p : ℕ → Bool) (xs : List ℕ) (x : ℕ) → list_all p xs ≡ true → list_any (λ y. y == x) xs ≡ true → p x ≡ true
+pub watched_one : (p : ℕ → Bool) (xs : List ℕ) (x : ℕ) → list_all p xs ≡ true → list_any (λ y. y == x) xs ≡ true → p x ≡ true
 watched_one p [] x h m = cc
 watched_one p (y ∷ xs) x h m = by (y == x) refl (λ n. watched_one p xs x (second (p y) (list_all p xs) h) n) m
   where
@@ -101,60 +88,18 @@ none_of : (b : Bool) → (b ≡ true → ⊥) → b ≡ false
 none_of true f = absurd (f refl)
 none_of false f = refl
 
-less_marked : (v w : Waiting) (k : ℕ) → ((k : ℕ) → is_marked v k ≡ true → is_marked w k ≡ true) → is_marked w k ≡ false → is_marked v k ≡ false
+pub less_marked : (v w : Waiting) (k : ℕ) → ((k : ℕ) → is_marked v k ≡ true → is_marked w k ≡ true) → is_marked w k ≡ false → is_marked v k ≡ false
 less_marked v w k f u = none_of (is_marked v k) (λ m. not_both (is_marked w k) (f k m) u)
 
 -- a constraint that waits or keeps its ends, while marks stay
 pub spared_more : (g : Game) (v w : Waiting) (box : Box) (k : ℕ) → ((k : ℕ) → is_marked v k ≡ true → is_marked w k ≡ true) → IsSpared g v box k → IsSpared g w box k
 spared_more g v w box k f h u = h (less_marked v w k f u)
 
-same_number : (k : ℕ) → (k == k) ≡ true
+pub same_number : (k : ℕ) → (k == k) ≡ true
 same_number k = grind (arith, nat_tests)
 
 pub spared_keeps : (g : Game) (w : Waiting) (box : Box) (k : ℕ) (r : Rule) → IsSpared g w box k → slice_get g.constraints k ≡ Some r → is_marked w k ≡ false → keeps_ends box r ≡ true
 spared_keeps g w box k r h e u = h u k r (same_number k) e
-
--- one of the variables passes, or none does
-some_passes : (p : ℕ → Bool) (xs : List ℕ) (P : Type 0) → ((x : ℕ) → list_any (λ y. y == x) xs ≡ true → p x ≡ true → P) → (((x : ℕ) → list_any (λ y. y == x) xs ≡ true → p x ≡ false) → P) → P
-some_passes p [] P f g = g (λ x a. absurd (not_both false a refl))
-some_passes p (y ∷ xs) P f g = by (p y) refl (some_passes p xs P)
-  where
-    also : (b : Bool) (x : ℕ) → list_any (λ z. z == x) xs ≡ true → (b || list_any (λ z. z == x) xs) ≡ true
-    also true x h = refl
-    also false x h = h
-
-    here : (b : Bool) → b ≡ true → (b || list_any (λ z. z == y) xs) ≡ true
-    here true h = refl
-    here false h = cc
-
-    which : (x : ℕ) (b : Bool) → (y == x) ≡ b → p y ≡ false → ((x : ℕ) → list_any (λ z. z == x) xs ≡ true → p x ≡ false) → (b || list_any (λ z. z == x) xs) ≡ true → p x ≡ false
-    which x true e q n h = subst (λ z. p z ≡ false) (is_same y x e) q
-    which x false e q n h = n x h
-
-    by : (b : Bool) → p y ≡ b → (((x : ℕ) → list_any (λ z. z == x) xs ≡ true → p x ≡ true → P) → (((x : ℕ) → list_any (λ z. z == x) xs ≡ true → p x ≡ false) → P) → P) → P
-    by true q h = f y (here (y == y) (same_number y)) q
-    by false q h = h (λ x a. f x (also (y == x) x a)) (λ n. g (λ x. which x (y == x) refl q n))
-
--- after the constraints that the steps concern are woken, but for those that keep their ends anyway
-pub kept_woken : (ok : ℕ → Bool) (g : Game) (ws : Watches) (c : ConId) (v w : Waiting) (box : Box) (fresh : List Step) → IsWatchOf g ws →
-    ((k : ℕ) (r : Rule) → ok k ≡ true → slice_get g.constraints k ≡ Some r → is_marked v k ≡ false →
-    ((c.0 == k) ≡ false → (x : ℕ) → list_any (λ y. y == x) (variables_of r.args) ≡ true → names (changed_by fresh) x ≡ false) → keeps_ends box r ≡ true) →
-    ((k : ℕ) → is_marked v k ≡ true → is_marked w k ≡ true) →
-    ((k x : ℕ) → ok k ≡ true → (c.0 == k) ≡ false → names (changed_by fresh) x ≡ true → is_watched ws k x ≡ true → IsSpared g w box k) →
-    KeepsUnmarked ok g w box
-kept_woken ok g ws c v w box fresh i h m n k r o e u =
-    either c.0 k (keeps_ends box r ≡ true) (λ z. h k r o e (less_marked v w k m u) (λ f. absurd (not_both (c.0 == k) z f)))
-    (λ z. some_passes (names (changed_by fresh)) (variables_of r.args) (keeps_ends box r ≡ true)
-    (λ x a q. spared_keeps g w box k r (n k x o z q (watched_one (is_watched ws k) (variables_of r.args) x (i.watched k r e) a)) e u)
-    (λ f. h k r o e (less_marked v w k m u) (λ y. f)))
-
--- the constraints that mention what changed are woken, but for those that keep their ends anyway
-pub kept_since : (ok : ℕ → Bool) (g : Game) (ws : Watches) (w : Waiting) (box : Box) (changed : List VarId) → IsWatchOf g ws → WasKept ok g changed box →
-    ((k x : ℕ) → ok k ≡ true → names changed x ≡ true → is_watched ws k x ≡ true → IsSpared g w box k) → KeepsUnmarked ok g w box
-kept_since ok g ws w box changed i b n k r o e u =
-    some_passes (names changed) (variables_of r.args) (keeps_ends box r ≡ true)
-    (λ x a q. spared_keeps g w box k r (n k x o q (watched_one (is_watched ws k) (variables_of r.args) x (i.watched k r e) a)) e u)
-    (λ f. keeps_same r box b.earlier b.count (λ x a. b.others x (f x a)) ∙ b.kept k r o e)
 
 -- all are woken, but for those that keep their ends anyway
 pub kept_span : (ok : ℕ → Bool) (g : Game) (w : Waiting) (box : Box) → ((k : ℕ) → ok k ≡ true → IsSpared g w box k) → KeepsUnmarked ok g w box

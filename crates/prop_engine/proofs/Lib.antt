@@ -5,5 +5,10 @@ mod Open
 mod Kept
 mod Passed
 mod Spared
+mod Terms
+mod Resting
+mod Woken
+mod Since
+mod Declared
 pub mod Means
 pub mod Room

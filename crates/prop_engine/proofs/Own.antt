@@ -21,7 +21,7 @@ use Rattle.proof_tree.specs.declared.tree.Step.TheVariants.{Prune, Bound}
 use Rattle.proof_tree.specs.Steps.{after_steps}
 use Rattle.prop_engine.specs.Watching.{names, changed_by}
 
-abbrev among : List ℕ → ℕ → Bool
+abbrev pub among : List ℕ → ℕ → Bool
 among xs x = list_any (λ y. y == x) xs
 
 same_number : (k : ℕ) → (k == k) ≡ true
@@ -33,10 +33,10 @@ equal_numbers j k h = grind (arith, nat_tests)
 apart : (j k : ℕ) → (j == k) ≡ false → k ≢ j
 apart j k h e = grind (arith, nat_tests)
 
-among_left : (xs ys : List ℕ) (x : ℕ) → among xs x ≡ true → among (xs ++ ys) x ≡ true
+pub among_left : (xs ys : List ℕ) (x : ℕ) → among xs x ≡ true → among (xs ++ ys) x ≡ true
 among_left xs ys x h = list_any-append (λ y. y == x) xs ys ∙ or_left (among xs x) (among ys x) h
 
-among_right : (xs ys : List ℕ) (x : ℕ) → among ys x ≡ true → among (xs ++ ys) x ≡ true
+pub among_right : (xs ys : List ℕ) (x : ℕ) → among ys x ≡ true → among (xs ++ ys) x ≡ true
 among_right xs ys x h = list_any-append (λ y. y == x) xs ys ∙ or_right (among xs x) (among ys x) h
 
 -- the same arguments, where the same is left to their variables

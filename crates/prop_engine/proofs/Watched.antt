@@ -1,6 +1,6 @@
 -- The lists of constraints by variables, as they grow.
 use Rattle.std.proofs.Common.{◌≡◌, ℕ, zero, suc, ◌<◌, ◌+◌, Bool, true, ◌&&◌, ◌||◌, List, [], ◌∷◌, ◌++◌, length, take, set, get_or, refl, sym, ap, ◌∙◌, subst, arith, ◌⊎◌, inl, inr}
-use Rattle.std.specs.Prelude.{flat_map, slice_get, ◌==◌, false, Some, Result, Ok, Err, OnOk, OnErr}
+use Rattle.std.specs.Prelude.{nat_le, flat_map, slice_get, ◌==◌, false, Some, Result, Ok, Err, OnOk, OnErr}
 use Rattle.std.specs.List.{list_all}
 use Rattle.std.proofs.lemmas.Bool.Decides.{nat_tests}
 use Rattle.std.proofs.lemmas.Option.{same_Some}
@@ -15,10 +15,10 @@ use Rattle.qc_model.specs.Meaning.{meaning_of}
 use Rattle.qc_model.specs.Signature.{arg_kinds_of}
 use Rattle.qc_model.proofs.Readable.{first, second, together}
 use Rattle.model_arguments.specs.Written.{args_at, items_of}
-use Rattle.model_arguments.proofs.Bools.{or_left, or_right}
+use Rattle.model_arguments.proofs.Bools.{or_left, or_right, clash}
 use Rattle.prop_engine.specs.declared.watching.HeldBy.{HeldBy}
 use Rattle.prop_engine.specs.declared.watching.Watch.{Watch}
-use Rattle.prop_engine.specs.Watching.{Watches, watchers, is_watched, has_number, HasGrown, IsHeld, IsRight, AreRight}
+use Rattle.prop_engine.specs.Watching.{Watches, watchers, is_watched, has_number, ascends, has_watch, HasGrown, AscendTo, IsHeld, IsRight, AreRight}
 use Rattle.prop_engine.proofs.Rules.{of_all}
 
 pub grown_more : (a b c : Watches) → HasGrown a b → HasGrown b c → HasGrown a c
@@ -167,3 +167,75 @@ own_number x = or_left (x == x) false (same_number x)
 -- an array of a clause
 pub array_at : (args : List Argument) (k : ℕ) (xs : List Arg) (x : ℕ) → slice_get args k ≡ Some (Many xs) → has_number (flat_map arg_variables xs) x ≡ true → has_number (flat_map arg_variables (args_at args k)) x ≡ true
 array_at args k xs x e h = ap (λ o. has_number (flat_map arg_variables (items_of o)) x) e ∙ h
+
+-- one more at the end of a list that ascends
+all_last : {X : Type 0} (p : X → Bool) (xs : List X) (x : X) → list_all p xs ≡ true → p x ≡ true → list_all p (xs ++ x ∷ []) ≡ true
+all_last p xs x h e = list_all-append p xs (x ∷ []) ∙ together (list_all p xs) (p x && true) h (together (p x) true e refl)
+
+ascends_last : (ws : List Watch) (w : Watch) → list_all (λ v. nat_le v.c.0 w.c.0) ws ≡ true → ascends ws ≡ true → ascends (ws ++ w ∷ []) ≡ true
+ascends_last [] w h a = refl
+ascends_last (v ∷ ws) w h a =
+    let later = list_all (λ u. nat_le v.c.0 u.c.0) in
+    together (later (ws ++ w ∷ [])) (ascends (ws ++ w ∷ []))
+    (all_last (λ u. nat_le v.c.0 u.c.0) ws w (first (later ws) (ascends ws) a) (first (nat_le v.c.0 w.c.0) (list_all (λ u. nat_le u.c.0 w.c.0) ws) h))
+    (ascends_last ws w (second (nat_le v.c.0 w.c.0) (list_all (λ u. nat_le u.c.0 w.c.0) ws) h) (second (later ws) (ascends ws) a))
+
+not_above : (k : ℕ) → nat_le k k ≡ true
+not_above k = grind (arith, nat_tests)
+
+ascend_list : (ws : Watches) (k x : ℕ) (l : List Watch) → list_all (λ w. nat_le w.c.0 k) l ≡ true → ascends l ≡ true → AscendTo k ws → AscendTo k (set ws x l)
+ascend_list ws k x l m o a = record {
+  most = λ y. elim (watchers_set ws x y l) [ inl e ↦ ap (list_all (λ w. nat_le w.c.0 k)) e ∙ a.most y | inr e ↦ ap (list_all (λ w. nat_le w.c.0 k)) e.1 ∙ m ];
+  order = λ y. elim (watchers_set ws x y l) [ inl e ↦ ap ascends e ∙ a.order y | inr e ↦ ap ascends e.1 ∙ o ];
+}
+
+pub ascend_after : {T E : Type 0} (r : Result T E) (ws : Watches) (x : ℕ) (w : Watch) (old new : List Watch) → OnOk r (new ≡ old ++ w ∷ []) → OnErr r (new ≡ old) → old ≡ watchers ws x → AscendTo w.c.0 ws →
+    AscendTo w.c.0 (set ws x new)
+ascend_after (Ok t) ws x w old new o e s a =
+    let added = ap (λ l. l ++ w ∷ []) (sym s) ∙ sym o in
+    subst (λ l. AscendTo w.c.0 (set ws x l)) added
+    (ascend_list ws w.c.0 x (watchers ws x ++ w ∷ []) (all_last (λ v. nat_le v.c.0 w.c.0) (watchers ws x) w (a.most x) (not_above w.c.0)) (ascends_last (watchers ws x) w (a.most x) (a.order x)) a)
+ascend_after (Err z) ws x w old new o e s a =
+    subst (λ l. AscendTo w.c.0 (set ws x l)) (sym s ∙ sym e) (ascend_list ws w.c.0 x (watchers ws x) (a.most x) (a.order x) a)
+
+-- what ascends to k ascends to the next
+pub ascend_next : (k : ℕ) (ws : Watches) → AscendTo k ws → AscendTo (k + 1) ws
+ascend_next k ws a = record {
+  most = λ x. all_weaker (λ w. nat_le w.c.0 k) (λ w. nat_le w.c.0 (k + 1)) (watchers ws x) (λ w h. above w.c.0 k h) (a.most x);
+  order = a.order;
+}
+  where
+    above : (j k : ℕ) → nat_le j k ≡ true → nat_le j (k + 1) ≡ true
+    above j k h = grind (arith, nat_tests)
+
+-- lists without a watch ascend
+pub none_ascend : (k : ℕ) (ws : Watches) → ((x : ℕ) → watchers ws x ≡ []) → AscendTo k ws
+none_ascend k ws n = record {
+  most = λ x. ap (list_all (λ w. nat_le w.c.0 k)) (n x);
+  order = λ x. ap ascends (n x);
+}
+
+-- below the number at a place, all stand before it
+none_early : (ws : List Watch) (n k : ℕ) → list_all (λ v. nat_le n v.c.0) ws ≡ true → k < n → has_watch ws k ≡ false
+none_early [] n k h l = refl
+none_early (w ∷ ws) n k h l =
+    neither (w.c.0 == k) (has_watch ws k) (other w.c.0 n k (first (nat_le n w.c.0) (list_all (λ v. nat_le n v.c.0) ws) h) l) (none_early ws n k (second (nat_le n w.c.0) (list_all (λ v. nat_le n v.c.0) ws) h) l)
+  where
+    other : (j n k : ℕ) → nat_le n j ≡ true → k < n → (j == k) ≡ false
+    other j n k h l = grind (arith, nat_tests)
+
+    neither : (a b : Bool) → a ≡ false → b ≡ false → (a || b) ≡ false
+    neither a b p q = ap (λ z. z || b) p ∙ q
+
+pub has_early : (ws : List Watch) (i k : ℕ) (d : Watch) → ascends ws ≡ true → i < length ws → k < (get_or ws i d).c.0 → has_watch ws k ≡ true → has_watch (take i ws) k ≡ true
+has_early [] i k d a l b h = absurd (omega (arith, l))
+has_early (w ∷ ws) zero k d a l b h = let n = apart w.c.0 k b in let e = none_early ws w.c.0 k (first (list_all (λ v. nat_le w.c.0 v.c.0) ws) (ascends ws) a) b in let t = ap (λ z. z || has_watch ws k) (sym n) ∙ h in absurd (clash (has_watch ws k) t e)
+  where
+    apart : (j k : ℕ) → k < j → (j == k) ≡ false
+    apart j k l = grind (arith, nat_tests)
+has_early (w ∷ ws) (suc i) k d a l b h =
+    by (w.c.0 == k) (has_early ws i k d (second (list_all (λ v. nat_le w.c.0 v.c.0) ws) (ascends ws) a) (omega (arith, l)) b) h
+  where
+    by : (b : Bool) → (has_watch ws k ≡ true → has_watch (take i ws) k ≡ true) → (b || has_watch ws k) ≡ true → (b || has_watch (take i ws) k) ≡ true
+    by true f h = refl
+    by false f h = f h

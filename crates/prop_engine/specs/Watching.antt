@@ -1,20 +1,24 @@
 -- Which constraints a change wakes, and which of them wait.
-use Rattle.std.specs.Prelude.{⊤, pos, flat_map, ◌≡◌, ◌<◌, ◌≤◌, ◌+◌, ◌==◌, ℕ, Bool, true, false, Option, Some, None, List, [], ◌∷◌, map, drop, length, slice_get, slice_index_or, IsTrue, IsFalse}
+use Rattle.std.specs.Prelude.{⊤, ℤ, pos, int_lt, cond, ◌⊎◌, flat_map, ◌≡◌, ◌<◌, ◌≤◌, ◌+◌, ◌==◌, ℕ, nat_le, Bool, ◌&&◌, true, false, Option, Some, None, List, [], ◌∷◌, map, length, slice_get, slice_index_or, IsTrue, IsFalse}
 use Rattle.std.specs.List.{list_any, list_all}
+use Rattle.qc_model.specs.declared.problem.Arg.{Arg}
+use Rattle.qc_model.specs.declared.problem.Arg.TheVariants.{Var, Num}
 use Rattle.qc_model.specs.declared.problem.ConId.{ConId}
 use Rattle.qc_model.specs.declared.problem.VarId.{VarId}
-use Rattle.qc_model.specs.declared.problem.Pred.TheVariants.{BoolClause}
+use Rattle.qc_model.specs.declared.problem.Pred.TheVariants.{BoolClause, IntLinLe}
 use Rattle.qc_model.specs.Arguments.{arg_variables, variables_of}
 use Rattle.qc_model.specs.Content.{Game, Rule}
 use Rattle.qc_model.specs.Closed.{keeps_ends}
-use Rattle.qc_model.specs.Domains.{Box, values_left, is_single, least_value, has_empty}
+use Rattle.qc_model.specs.Domains.{Box, declared_box, values_left, is_single, least_value, greatest_value, has_empty, is_sub_box}
 use Rattle.proof_tree.specs.declared.tree.Step.{Step}
 use Rattle.proof_tree.specs.declared.tree.Step.TheVariants.{Prune, Bound}
 use Rattle.prop_base.specs.Pruning.{is_just}
-use Rattle.model_arguments.specs.Written.{args_at}
+use Rattle.model_arguments.specs.Asked.{is_box_of}
+use Rattle.model_arguments.specs.Written.{arg_at, args_at, ints_at}
 use Rattle.prop_engine.specs.declared.watching.HeldBy.{HeldBy}
-use Rattle.prop_engine.specs.declared.watching.HeldBy.TheVariants.{Neither, One, Zero}
+use Rattle.prop_engine.specs.declared.watching.HeldBy.TheVariants.{Neither, One, Zero, Least, Greatest}
 use Rattle.prop_engine.specs.declared.watching.Watch.{Watch}
+use Rattle.prop_engine.specs.declared.moved.Moved.{Moved}
 use Rattle.prop_engine.specs.declared.found.Found.{Found}
 use Rattle.prop_engine.specs.declared.found.Found.TheVariants.{Settled, Emptied, Changed}
 use Rattle.prop_engine.specs.declared.hints.Hint.{Hint}
@@ -68,11 +72,31 @@ is_watched ws k x = has_watch (watchers ws x) k
 abbrev pub has_number : List ℕ → ℕ → Bool
 has_number xs x = list_any (λ y. y == x) xs
 
--- the constraint is a clause, in which x is a literal that holds by this value
+-- a sum that a number bounds from above
+abbrev pub is_plain : Arg → Bool
+is_plain (Num n) = true
+is_plain (Var x) = false
+
+abbrev pub IsBoundedSum : Rule → Type 0
+IsBoundedSum c = (c.pred ≡ IntLinLe) × IsTrue (is_plain (arg_at c.args 2))
+
+-- each term of x has a factor above 0, or none has
+abbrev pub AreRising : Bool → Rule → ℕ → Type 0
+AreRising above c x =
+    (i : ℕ) (n : ℤ) (y : VarId) → slice_get (ints_at c.args 0) i ≡ Some n → slice_get (args_at c.args 1) i ≡ Some (Var y) → y.0 ≡ x → int_lt (pos 0) n ≡ above
+
+-- the end that a term with this factor rests on
+abbrev pub resting_end : Option ℤ → HeldBy
+resting_end None = Neither
+resting_end (Some n) = cond (int_lt (pos 0) n) Least Greatest
+
+-- the constraint is a clause, in which x is a literal that holds by this value; or a bounded sum, whose terms of x rest on this end
 abbrev pub IsHeld : HeldBy → Rule → ℕ → Type 0
 IsHeld Neither c x = ⊤
 IsHeld One c x = (c.pred ≡ BoolClause) × IsTrue (has_number (flat_map arg_variables (args_at c.args 0)) x)
 IsHeld Zero c x = (c.pred ≡ BoolClause) × IsTrue (has_number (flat_map arg_variables (args_at c.args 1)) x)
+IsHeld Least c x = IsBoundedSum c × AreRising true c x
+IsHeld Greatest c x = IsBoundedSum c × AreRising false c x
 
 -- what a watch of x says by which value its constraint holds
 abbrev pub IsRight : Game → ℕ → Watch → Type 0
@@ -86,10 +110,23 @@ abbrev pub IsNow : HeldBy → Box → ℕ → Type 0
 IsNow Neither box x = ⊤
 IsNow One box x = IsTrue (is_single (values_left box x)) × (least_value (values_left box x) ≡ pos 1)
 IsNow Zero box x = IsTrue (is_single (values_left box x)) × (least_value (values_left box x) ≡ pos 0)
+IsNow Least box x = ⊤
+IsNow Greatest box x = ⊤
 
--- the lists are of these variables, each constraint watches its own, and what is said of clauses is right
+-- the numbers of the constraints ascend
+abbrev pub ascends : List Watch → Bool
+ascends [] = true
+ascends (w ∷ ws) = list_all (λ v. nat_le w.c.0 v.c.0) ws && ascends ws
+
+-- each list ascends, to no more than k
+pub record AscendTo (k : ℕ) (ws : Watches) : Type 0 where
+  pub most : (x : ℕ) → IsTrue (list_all (λ w. nat_le w.c.0 k) (watchers ws x))
+  pub order : (x : ℕ) → IsTrue (ascends (watchers ws x))
+
+-- the lists are of these variables, each ascends, each constraint watches its own, and what is said of clauses is right
 pub record IsWatchOf (g : Game) (ws : Watches) : Type 0 where
   pub count : length ws ≡ length g.variables
+  pub order : (x : ℕ) → IsTrue (ascends (watchers ws x))
   pub watched : (k : ℕ) (c : Rule) → slice_get g.constraints k ≡ Some c → IsTrue (list_all (is_watched ws k) (variables_of c.args))
   pub right : AreRight g ws
 
@@ -123,21 +160,54 @@ KeepsUnmarked ok g w box =
 abbrev pub IsSpared : Game → Waiting → Box → ℕ → Type 0
 IsSpared g w box k = IsFalse (is_marked w k) → EachRule (is_just k) g (keeps_ends box)
 
+-- the step may have taken the values below m, or above it
+abbrev pub may_raise : Step → ℤ → Bool
+may_raise (Prune x low high c) m = int_lt high m
+may_raise (Bound x low high) m = true
+
+abbrev pub may_lower : Step → ℤ → Bool
+may_lower (Prune x low high c) m = int_lt m low
+may_lower (Bound x low high) m = true
+
+-- which ends of its variable the step may have moved
+abbrev pub moved_by : Step → Box → Moved
+moved_by s box = record {
+  least = may_raise s (least_value (values_left box (step_variable s).0));
+  greatest = may_lower s (greatest_value (values_left box (step_variable s).0));
+}
+
+-- which ends of x aren't the declared ones any more
+abbrev pub moved_ever : Game → Box → ℕ → Moved
+moved_ever g box x = record {
+  least = int_lt (least_value (values_left (declared_box g) x)) (least_value (values_left box x));
+  greatest = int_lt (greatest_value (values_left box x)) (greatest_value (values_left (declared_box g) x));
+}
+
+-- a bounded sum, and the end of x that its terms rest on hasn't moved
+abbrev pub IsStill : Moved → Rule → ℕ → Type 0
+IsStill m c x = IsBoundedSum c × ((AreRising true c x × IsFalse m.least) ⊎ (AreRising false c x × IsFalse m.greatest))
+
+-- the constraint of this number waits, or keeps its ends, or rests on an end of x that hasn't moved
+abbrev pub MayRest : Game → Waiting → Box → Moved → ℕ → ℕ → Type 0
+MayRest g w box m x k = IsFalse (is_marked w k) → (c : Rule) → slice_get g.constraints k ≡ Some c → IsTrue (keeps_ends box c) ⊎ IsStill m c x
+
 -- what a run of the queue finds: nothing left to do, an empty domain, or steps of one constraint,
--- after which it and each constraint that none of the steps concerns keep their ends
-abbrev pub IsFound : Found → (ℕ → Bool) → Game → Waiting → Box → List Step → List Step → Type 0
-IsFound Settled ok g w box steps then = IsClosedFor ok g box
-IsFound Emptied ok g w box steps then = IsTrue (has_empty box)
-IsFound (Changed own) ok g w box steps then =
+-- after which it keeps its ends, as each other one did before that doesn't wait
+abbrev pub IsFound : Found → (ℕ → Bool) → Game → Waiting → Box → Box → List Step → List Step → Type 0
+IsFound Settled ok g w was box steps then = IsClosedFor ok g box
+IsFound Emptied ok g w was box steps then = IsTrue (has_empty box)
+IsFound (Changed own) ok g w was box steps then =
     IsFalse (has_empty box) × (length steps < length then)
     × ((k : ℕ) (c : Rule) → IsTrue (ok k) → slice_get g.constraints k ≡ Some c → IsFalse (is_marked w k) →
-    (IsFalse (own.0 == k) → (x : ℕ) → IsTrue (list_any (λ y. y == x) (variables_of c.args)) → IsFalse (names (changed_by (drop (length steps) then)) x)) →
-    IsTrue (keeps_ends box c))
+    (IsTrue (own.0 == k) → IsTrue (keeps_ends box c)) × (IsFalse (own.0 == k) → IsTrue (keeps_ends was c)))
 
--- in some box each constraint that passes kept its ends, and since then only the named variables have changed
+-- in some box of declared values each constraint that passes kept its ends, and since then only the named variables have lost
+-- values
 pub record WasKept (ok : ℕ → Bool) (g : Game) (changed : List VarId) (box : Box) : Type 0 where
   pub earlier : Box
+  pub declared : IsTrue (is_box_of g earlier)
   pub count : length box ≡ length earlier
+  pub fewer : (large : Box) → IsTrue (is_sub_box earlier large) → IsTrue (is_sub_box box large)
   pub kept : EachRule ok g (keeps_ends earlier)
   pub others : (x : ℕ) → IsFalse (names changed x) → values_left box x ≡ values_left earlier x
 

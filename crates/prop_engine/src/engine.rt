@@ -46,7 +46,7 @@ fn next_change<F: Filter>(
     ensures count { length list.new.marks ≡ length problem.now.constraints }
     ensures waiting { MarkedWait list.new }
     ensures inside { IsTrue (all_waiting (is_between span.first span.end) list.new) }
-    ensures answer { IfOk result (λ f. IsFound f (is_between span.first span.end) problem.now list.new store.new.box steps.old steps.new) }
+    ensures answer { IfOk result (λ f. IsFound f (is_between span.first span.end) problem.now list.new store.old.box store.new.box steps.old steps.new) }
 {
     while let Some(c) = list.pop() {
         match run_filter(filter, alloc, problem, c, store, steps)? {
@@ -222,8 +222,8 @@ impl Engine {
     }
 
     /// Runs the filters of the constraints of the span that mention a changed variable, and those that removals wake,
-    /// until nothing more is removed. It asks for constraints that all kept their ends in an earlier box, from which the
-    /// box at hand differs at the changed variables alone. After a refusal the steps appended are exactly the removals
+    /// until nothing more is removed. It asks for constraints that all kept their ends in an earlier box of declared values,
+    /// since which the changed variables alone have lost values. After a refusal the steps appended are exactly the removals
     /// made.
     pub fn close_changed<F: Filter>(
         &mut self,

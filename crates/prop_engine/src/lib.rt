@@ -11,6 +11,7 @@ mod filtering;
 mod found;
 mod hints;
 mod literals;
+mod moved;
 mod rounds;
 mod running;
 mod skipping;

@@ -1,11 +1,14 @@
 //! Waking the constraints that a change concerns.
-ghost use Rattle.std.specs.Prelude.{◌≡◌, ◌==◌, ◌≤◌, ℕ, length, IsTrue, IsFalse};
+ghost use Rattle.std.specs.Prelude.{◌≡◌, ◌==◌, ◌≤◌, ℕ, Some, length, slice_get, IsTrue, IsFalse};
+ghost use Rattle.qc_model.specs.Domains.{has_empty};
+ghost use Rattle.proof_tree.specs.declared.tree.Step.{Step};
 ghost use Rattle.prop_engine.specs.Closing.{is_between};
-ghost use Rattle.prop_engine.specs.Watching.{is_marked, MarkedWait, all_waiting, is_own, is_watched, names, changed_by, step_variable, IsSpared, IsWatchOf, IsHintsOf, IsNow, IsRight};
+ghost use Rattle.prop_engine.specs.Watching.{is_marked, MarkedWait, all_waiting, is_own, is_watched, names, step_variable, moved_by, moved_ever, IsSpared, MayRest, IsWatchOf, IsHintsOf, IsNow, IsRight};
 ghost use Rattle.prop_engine.specs.Skipping.{IsSkipOf};
 ghost use Rattle.model_arguments.specs.Asked.{is_box_of};
 
 use crate::hints::Hints;
+use crate::moved::Moved;
 use crate::skipping::Skips;
 use crate::waiting::WorkList;
 use crate::watching::{HeldBy, Watch, Watches};
@@ -120,8 +123,56 @@ fn held_now(x: VarId, store: &Store) -> HeldBy
     HeldBy::Neither
 }
 
+// Which ends of its variable the step may have moved.
+fn ends_moved(step: &Step, store: &Store) -> Moved
+    requires full { IsFalse (has_empty store.now.box) }
+    ensures least { IsFalse result.least → IsFalse (moved_by step.now store.now.box).least }
+    ensures greatest { IsFalse result.greatest → IsFalse (moved_by step.now store.now.box).greatest }
+{
+    match step {
+        Step::Bound { .. } => Moved {
+            least: true,
+            greatest: true,
+        },
+        Step::Prune { x, lo, hi, .. } => {
+            if x.0 as usize >= store.count() {
+                return Moved {
+                    least: true,
+                    greatest: true,
+                };
+            }
+            Moved {
+                least: *hi < store.min(*x),
+                greatest: store.max(*x) < *lo,
+            }
+        }
+    }
+}
+
+// Which ends of x may have moved since it had all its declared values.
+fn ends_moved_ever(problem: &Problem, x: VarId, store: &Store) -> Moved
+    requires declared { IsTrue (is_box_of problem.now store.now.box) }
+    requires full { IsFalse (has_empty store.now.box) }
+    ensures least { IsFalse result.least → IsFalse (moved_ever problem.now store.now.box x.0).least }
+    ensures greatest { IsFalse result.greatest → IsFalse (moved_ever problem.now store.now.box x.0).greatest }
+{
+    if x.0 as usize >= store.count() {
+        return Moved {
+            least: true,
+            greatest: true,
+        };
+    }
+    problem.known();
+    let domain = &problem.variable(x).domain;
+    let size = domain.size();
+    Moved {
+        least: domain.value_at(0) < store.min(x),
+        greatest: store.max(x) < domain.value_at(size - 1),
+    }
+}
+
 // Lets a constraint that mentions x wait where it is in the span, unless it is `own`. A clause needn't where x makes it hold;
-// otherwise its literals tell.
+// otherwise its literals tell. A sum needn't where the end of x that it rests on didn't move.
 #[inline(always)]
 fn wake_watch(
     problem: &Problem,
@@ -129,6 +180,7 @@ fn wake_watch(
     own: Option<ConId>,
     x: VarId,
     now: HeldBy,
+    moved: Moved,
     watch: Watch,
     store: &Store,
     hints: &mut Hints,
@@ -147,7 +199,7 @@ fn wake_watch(
     ensures waiting { MarkedWait list.new }
     ensures inside { IsTrue (all_waiting (is_between span.first span.end) list.new) }
     ensures kept { (k : ℕ) → IsTrue (is_marked list.old k) → IsTrue (is_marked list.new k) }
-    ensures spared { IsTrue (is_between span.first span.end watch.c.0) → IsFalse (is_own own watch.c.0) → IsSpared problem.now list.new store.now.box watch.c.0 }
+    ensures spared { IsTrue (is_between span.first span.end watch.c.0) → IsFalse (is_own own watch.c.0) → MayRest problem.now list.new store.now.box moved x.0 watch.c.0 }
 {
     match watch.held_by {
         HeldBy::Neither => wake_any(span, own, watch.c, list),
@@ -159,6 +211,16 @@ fn wake_watch(
             HeldBy::Zero => {}
             _ => wake_one(problem, span, own, watch.c, store, hints, list),
         },
+        HeldBy::Least => {
+            if moved.least {
+                wake_any(span, own, watch.c, list);
+            }
+        }
+        HeldBy::Greatest => {
+            if moved.greatest {
+                wake_any(span, own, watch.c, list);
+            }
+        }
     }
 }
 
@@ -169,6 +231,7 @@ fn wake_all(
     span: Span,
     own: Option<ConId>,
     x: VarId,
+    moved: Moved,
     store: &Store,
     hints: &mut Hints,
     list: &mut WorkList,
@@ -185,15 +248,22 @@ fn wake_all(
     ensures waiting { MarkedWait list.new }
     ensures inside { IsTrue (all_waiting (is_between span.first span.end) list.new) }
     ensures kept { (k : ℕ) → IsTrue (is_marked list.old k) → IsTrue (is_marked list.new k) }
-    ensures spared { (k : ℕ) → IsTrue (is_between span.first span.end k) → IsFalse (is_own own k) → IsTrue (is_watched watches.now k x.0) → IsSpared problem.now list.new store.now.box k }
+    ensures spared { (k : ℕ) → IsTrue (is_between span.first span.end k) → IsFalse (is_own own k) → IsTrue (is_watched watches.now k x.0) → MayRest problem.now list.new store.now.box moved x.0 k }
 {
     let now = held_now(x, store);
     for watch in watches.of(x) {
-        wake_watch(problem, span, own, x, now, *watch, store, hints, list);
+        // They ascend.
+        if span.end <= watch.c.0 as usize {
+            return;
+        }
+        wake_watch(
+            problem, span, own, x, now, moved, *watch, store, hints, list,
+        );
     }
 }
 
-/// Lets the constraints of the span that mention one of the variables wait, but for those that keep their ends anyway.
+/// Lets the constraints of the span that mention one of the variables wait, but for those that keep their ends anyway, and sums
+/// that rest on declared ends of it.
 pub(crate) fn wake_variables(
     problem: &Problem,
     watches: &Watches,
@@ -206,6 +276,7 @@ pub(crate) fn wake_variables(
     requires watches { IsWatchOf problem.now watches.now }
     requires span { span.end ≤ length problem.now.constraints }
     requires declared { IsTrue (is_box_of problem.now store.now.box) }
+    requires full { IsFalse (has_empty store.now.box) }
     requires hints { IsHintsOf problem.now hints.old }
     requires count { length list.old.marks ≡ length problem.now.constraints }
     requires waiting { MarkedWait list.old }
@@ -215,10 +286,20 @@ pub(crate) fn wake_variables(
     ensures waiting { MarkedWait list.new }
     ensures inside { IsTrue (all_waiting (is_between span.first span.end) list.new) }
     ensures kept { (k : ℕ) → IsTrue (is_marked list.old k) → IsTrue (is_marked list.new k) }
-    ensures spared { (k x : ℕ) → IsTrue (is_between span.first span.end k) → IsTrue (names variables.now x) → IsTrue (is_watched watches.now k x) → IsSpared problem.now list.new store.now.box k }
+    ensures spared { (k x : ℕ) → IsTrue (is_between span.first span.end k) → IsTrue (names variables.now x) → IsTrue (is_watched watches.now k x) → MayRest problem.now list.new store.now.box (moved_ever problem.now store.now.box x) x k }
 {
     for x in variables {
-        wake_all(problem, watches, span, None, *x, store, hints, list);
+        wake_all(
+            problem,
+            watches,
+            span,
+            None,
+            *x,
+            ends_moved_ever(problem, *x, store),
+            store,
+            hints,
+            list,
+        );
     }
 }
 
@@ -237,6 +318,7 @@ pub(crate) fn wake_changed(
     requires watches { IsWatchOf problem.now watches.now }
     requires span { span.end ≤ length problem.now.constraints }
     requires declared { IsTrue (is_box_of problem.now store.now.box) }
+    requires full { IsFalse (has_empty store.now.box) }
     requires hints { IsHintsOf problem.now hints.old }
     requires count { length list.old.marks ≡ length problem.now.constraints }
     requires waiting { MarkedWait list.old }
@@ -246,7 +328,7 @@ pub(crate) fn wake_changed(
     ensures waiting { MarkedWait list.new }
     ensures inside { IsTrue (all_waiting (is_between span.first span.end) list.new) }
     ensures kept { (k : ℕ) → IsTrue (is_marked list.old k) → IsTrue (is_marked list.new k) }
-    ensures spared { (k x : ℕ) → IsTrue (is_between span.first span.end k) → IsFalse (own.0 == k) → IsTrue (names (changed_by steps.now) x) → IsTrue (is_watched watches.now k x) → IsSpared problem.now list.new store.now.box k }
+    ensures spared { (k i : ℕ) (s : Step) → IsTrue (is_between span.first span.end k) → IsFalse (own.0 == k) → slice_get steps.now i ≡ Some s → IsTrue (is_watched watches.now k (step_variable s).0) → MayRest problem.now list.new store.now.box (moved_by s store.now.box) (step_variable s).0 k }
 {
     for step in steps {
         wake_all(
@@ -255,6 +337,7 @@ pub(crate) fn wake_changed(
             span,
             Some(own),
             variable_of(step),
+            ends_moved(step, store),
             store,
             hints,
             list,

@@ -1,23 +1,28 @@
 //! The constraints that mention each variable.
-ghost use Rattle.std.specs.Prelude.{◌≡◌, ◌<◌, ℕ, List, [], ◌∷◌, ◌++◌, length, IsTrue, OnOk, OnErr, IfOk, slice_get, Some, flat_map};
+ghost use Rattle.std.specs.Prelude.{◌≡◌, ◌<◌, ℕ, List, [], ◌∷◌, ◌++◌, length, IsTrue, OnOk, OnErr, IfOk, IsFalse, slice_get, Some, flat_map};
 ghost use Rattle.std.specs.List.{list_all};
 ghost use Rattle.qc_model.specs.declared.problem.Arg.{Arg};
 ghost use Rattle.qc_model.specs.declared.problem.Argument.TheVariants.{Many};
 ghost use Rattle.qc_model.specs.Arguments.{arg_variables, argument_variables, variables_of};
 ghost use Rattle.qc_model.specs.Valid.{arg_sees, argument_sees};
-ghost use Rattle.prop_engine.specs.Watching.{watchers, is_watched, HasGrown, IsWatchOf, has_number, IsHeld, AreRight};
+ghost use Rattle.prop_engine.specs.Watching.{watchers, is_watched, HasGrown, AscendTo, IsWatchOf, has_number, IsBoundedSum, resting_end, IsHeld, AreRight};
+ghost use Rattle.model_arguments.specs.Repeats.{has_repeat};
+ghost use Rattle.model_arguments.specs.Written.{args_at};
 
-use model_arguments::arguments;
+use model_arguments::{arguments, is_repeated, items_at, numbers_at, one_at};
 use qc_model::{Arg, Argument, ConId, Constraint, Pred, Problem, VarId};
 use std::alloc::{AllocError, Global};
 use std::marker::Model;
 
-/// By which value of its variable, the last one left, a clause holds.
+/// By which value of its variable, the last one left, a clause holds; or the end of it that a sum that is bounded from above
+/// rests on.
 #[derive(Clone, Copy)]
 pub(crate) enum HeldBy {
     Neither,
     One,
     Zero,
+    Least,
+    Greatest,
 }
 
 /// A constraint that mentions a variable.
@@ -96,6 +101,36 @@ fn held_at(rule: &Constraint, place: usize) -> HeldBy
     HeldBy::Neither
 }
 
+/// Whether the constraint is a sum bounded from above by a number, in which no variable stands twice.
+fn is_bounded_sum(rule: &Constraint) -> bool
+    ensures sum { IsTrue result → IsBoundedSum rule.now }
+    ensures apart { IsTrue result → IsFalse (has_repeat (args_at rule.now.args 1)) }
+{
+    if let Pred::IntLinLe = rule.pred {
+        let args = arguments(rule);
+        if let Arg::Num(_) = one_at(args, 2) {
+            return !is_repeated(items_at(args, 1));
+        }
+    }
+    false
+}
+
+/// The end that the term at this place rests on, by its factor.
+fn end_at(factors: &[i64], at: usize) -> HeldBy
+    ensures { result ≡ resting_end (slice_get factors.now at) }
+{
+    match factors.get(at) {
+        None => HeldBy::Neither,
+        Some(factor) => {
+            if *factor > 0 {
+                HeldBy::Least
+            } else {
+                HeldBy::Greatest
+            }
+        }
+    }
+}
+
 impl Watches {
     // No constraint yet, for so many variables.
     fn new(alloc: Global, count: usize) -> Result<Watches, AllocError>
@@ -133,6 +168,7 @@ impl Watches {
         ensures grown { HasGrown self.old self.new }
         ensures watched { OnOk result (IsTrue (is_watched self.new c.0 x.0)) }
         ensures right { AreRight problem.now self.old → AreRight problem.now self.new }
+        ensures order { AscendTo c.0 self.old → AscendTo c.0 self.new }
     {
         let _ = (problem.variables(), rule.owner);
         self.lists[x.0 as usize].push(Watch { c, held_by })
@@ -153,6 +189,7 @@ impl Watches {
         ensures grown { HasGrown self.old self.new }
         ensures watched { OnOk result (IsTrue (list_all (is_watched self.new c.0) (arg_variables arg))) }
         ensures right { AreRight problem.now self.old → AreRight problem.now self.new }
+        ensures order { AscendTo c.0 self.old → AscendTo c.0 self.new }
     {
         let _ = (problem.variables(), rule.owner);
         match arg {
@@ -176,6 +213,7 @@ impl Watches {
         ensures grown { HasGrown self.old self.new }
         ensures watched { OnOk result (IsTrue (list_all (λ a. list_all (is_watched self.new c.0) (arg_variables a)) items.now)) }
         ensures right { AreRight problem.now self.old → AreRight problem.now self.new }
+        ensures order { AscendTo c.0 self.old → AscendTo c.0 self.new }
     {
         for item in items {
             self.watch_arg(problem, rule, c, held_by, *item)?;
@@ -183,25 +221,78 @@ impl Watches {
         Ok(())
     }
 
+    // Lets a sum that is bounded from above watch the ends that its terms rest on.
+    fn watch_terms(
+        &mut self,
+        problem: &Problem,
+        rule: &Constraint,
+        c: ConId,
+        items: &[Arg],
+    ) -> Result<(), AllocError>
+        requires count { length self.old ≡ length problem.now.variables }
+        requires sees { IsTrue (list_all (arg_sees problem.now.variables rule.now.owner.0) items.now) }
+        requires rule { slice_get problem.now.constraints c.0 ≡ Some rule.now }
+        requires sum { IsBoundedSum rule.now }
+        requires items { args_at rule.now.args 1 ≡ items.now }
+        requires apart { IsFalse (has_repeat items.now) }
+        ensures grown { HasGrown self.old self.new }
+        ensures watched { OnOk result (IsTrue (list_all (λ a. list_all (is_watched self.new c.0) (arg_variables a)) items.now)) }
+        ensures right { AreRight problem.now self.old → AreRight problem.now self.new }
+        ensures order { AscendTo c.0 self.old → AscendTo c.0 self.new }
+    {
+        let factors = numbers_at(arguments(rule), 0);
+        for at in 0..items.len() {
+            self.watch_arg(problem, rule, c, end_at(factors, at), items[at])?;
+        }
+        Ok(())
+    }
+
+    // Lets the constraint c watch each variable of an array, the one at this place.
+    fn watch_array(
+        &mut self,
+        problem: &Problem,
+        rule: &Constraint,
+        c: ConId,
+        place: usize,
+        items: &[Arg],
+    ) -> Result<(), AllocError>
+        requires count { length self.old ≡ length problem.now.variables }
+        requires sees { IsTrue (list_all (arg_sees problem.now.variables rule.now.owner.0) items.now) }
+        requires rule { slice_get problem.now.constraints c.0 ≡ Some rule.now }
+        requires place { slice_get rule.now.args place ≡ Some (Many items.now) }
+        ensures grown { HasGrown self.old self.new }
+        ensures watched { OnOk result (IsTrue (list_all (λ a. list_all (is_watched self.new c.0) (arg_variables a)) items.now)) }
+        ensures right { AreRight problem.now self.old → AreRight problem.now self.new }
+        ensures order { AscendTo c.0 self.old → AscendTo c.0 self.new }
+    {
+        if place == 1 {
+            if is_bounded_sum(rule) {
+                return self.watch_terms(problem, rule, c, items);
+            }
+        }
+        self.watch_items(problem, rule, c, held_at(rule, place), items)
+    }
+
     fn watch_argument(
         &mut self,
         problem: &Problem,
         rule: &Constraint,
         c: ConId,
-        held_by: HeldBy,
+        place: usize,
         argument: &Argument,
     ) -> Result<(), AllocError>
         requires count { length self.old ≡ length problem.now.variables }
         requires sees { IsTrue (argument_sees problem.now.variables rule.now.owner.0 argument.now) }
         requires rule { slice_get problem.now.constraints c.0 ≡ Some rule.now }
-        requires held { (xs : List Arg) → argument.now ≡ Many xs → (x : ℕ) → IsTrue (has_number (flat_map arg_variables xs) x) → IsHeld held_by rule.now x }
+        requires place { slice_get rule.now.args place ≡ Some argument.now }
         ensures grown { HasGrown self.old self.new }
         ensures watched { OnOk result (IsTrue (list_all (is_watched self.new c.0) (argument_variables argument.now))) }
         ensures right { AreRight problem.now self.old → AreRight problem.now self.new }
+        ensures order { AscendTo c.0 self.old → AscendTo c.0 self.new }
     {
         match argument {
             Argument::One(arg) => self.watch_arg(problem, rule, c, HeldBy::Neither, *arg),
-            Argument::Many(items) => self.watch_items(problem, rule, c, held_by, items.items()),
+            Argument::Many(items) => self.watch_array(problem, rule, c, place, items.items()),
             Argument::Numbers(_) => Ok(()),
             Argument::Members(_) => Ok(()),
         }
@@ -220,10 +311,11 @@ impl Watches {
         ensures grown { HasGrown self.old self.new }
         ensures watched { OnOk result (IsTrue (list_all (λ a. list_all (is_watched self.new c.0) (argument_variables a)) rule.now.args)) }
         ensures right { AreRight problem.now self.old → AreRight problem.now self.new }
+        ensures order { AscendTo c.0 self.old → AscendTo c.0 self.new }
     {
         let args = arguments(rule);
         for place in 0..args.len() {
-            self.watch_argument(problem, rule, c, held_at(rule, place), &args[place])?;
+            self.watch_argument(problem, rule, c, place, &args[place])?;
         }
         Ok(())
     }

@@ -35,14 +35,18 @@ alone false h = refl
 apart : (x y : ℕ) → (x == y) ≡ false → (x ≡ y) → ⊥
 apart x y h e = grind (arith, nat_tests)
 
--- x alone has changed
-was_kept : (ok : ℕ → Bool) (g : Game) (x : VarId) (box : Box) (us : Values) → EachRule ok g (keeps_ends box) → WasKept ok g (x ∷ []) (set box x.0 us)
-was_kept ok g x box us h = record {
-  earlier = box;
-  count = length-set box x.0 us;
-  kept = h;
-  others = λ y n. left_other box x.0 y us (apart x.0 y (alone (x.0 == y) n));
-}
+-- x alone has lost values
+was_kept : (ok : ℕ → Bool) (g : Game) (x : VarId) (v : ℤ) (box : Box) → is_sub_box box (declared_box g) ≡ true → EachRule ok g (keeps_ends box) → WasKept ok g (x ∷ []) (box_without box x.0 v v)
+was_kept ok g x v box d h =
+    let us = values_outside v v (values_left box x.0) in
+    record {
+      earlier = box;
+      declared = d;
+      count = length-set box x.0 us;
+      fewer = λ large k. sub_without box large x.0 v v k;
+      kept = h;
+      others = λ y n. left_other box x.0 y us (apart x.0 y (alone (x.0 == y) n));
+    }
 
 some_stays : (go stay : Values) → removal go stay ≡ SomeGone → is_none_left stay ≡ false
 some_stays [] stay h = cc
@@ -55,7 +59,7 @@ pub changed_at : (g : Game) (x : VarId) (v : ℤ) (box new : Box) → IsClosedBo
 changed_at g x v box new h e r = subst (IsChangedAt g x) (sym e) (record {
   declared = sub_without box (declared_box g) x.0 v v h.declared;
   full = set_full box x.0 (values_outside v v (values_left box x.0)) h.closed.0 (some_stays (values_within v v (values_left box x.0)) (values_outside v v (values_left box x.0)) (sym r));
-  earlier = was_kept (is_any g) g x box (values_outside v v (values_left box x.0)) h.closed.1;
+  earlier = was_kept (is_any g) g x v box h.declared h.closed.1;
 })
 
 at_end : {X : Type 0} (xs : List X) (d : X) → slice_index_or xs (length xs) d ≡ d

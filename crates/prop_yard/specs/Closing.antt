@@ -17,7 +17,7 @@ pub record IsClosedBox (g : Game) (box : Box) : Type 0 where
   pub declared : IsTrue (is_box_of g box)
   pub closed : IsClosedFor (is_any g) g box
 
--- values of the declared domains, some for each variable, that differ at x alone from a box that was closed
+-- values of the declared domains, some for each variable, since x alone lost values from a box that was closed
 pub record IsChangedAt (g : Game) (x : VarId) (box : Box) : Type 0 where
   pub declared : IsTrue (is_box_of g box)
   pub full : IsFalse (has_empty box)

@@ -9,8 +9,9 @@ use Rattle.qc_model.specs.Domains.{Box, values_left}
 use Rattle.proof_tree.specs.declared.tree.Step.{Step}
 use Rattle.fd_store.specs.Held.{Held}
 use Rattle.prop_base.specs.Pruning.{IsPruning, total}
-use Rattle.prop_base.proofs.Steps.{pruning_more, pruning_total}
+use Rattle.prop_base.proofs.Steps.{pruning_more, pruning_sub, pruning_total}
 use Rattle.model_arguments.specs.declared.spans.Span.{Span}
+use Rattle.model_arguments.specs.Asked.{is_box_of}
 use Rattle.prop_engine.specs.Closing.{EachRule, is_between}
 use Rattle.prop_engine.specs.Watching.{WasKept, names, changed_by}
 use Rattle.prop_engine.proofs.Own.{keeps_same, after_length, after_others}
@@ -52,12 +53,14 @@ drop_whole [] ys = refl
 drop_whole (x ∷ xs) ys = drop_whole xs ys
 
 -- what kept its ends before some steps
-pub kept_before : (ok p : ℕ → Bool) (g : Game) (s t : Held) (xs ys : List Step) → EachRule ok g (keeps_ends s.box) → IsPruning p g s t xs ys → WasKept ok g (changed_by (drop (length xs) ys)) t.box
-kept_before ok p g s t xs ys e h =
+pub kept_before : (ok p : ℕ → Bool) (g : Game) (s t : Held) (xs ys : List Step) → is_box_of g s.box ≡ true → EachRule ok g (keeps_ends s.box) → IsPruning p g s t xs ys → WasKept ok g (changed_by (drop (length xs) ys)) t.box
+kept_before ok p g s t xs ys d e h =
     let fresh = ap (drop (length xs)) h.appended ∙ drop_whole xs h.more in
     record {
       earlier = s.box;
+      declared = d;
       count = ap length h.reached ∙ after_length h.more s.box;
+      fewer = λ large k. pruning_sub p g s t xs ys large h k;
       kept = e;
       others = λ x n. ap (λ d. values_left d x) h.reached ∙ after_others h.more s.box x (ap (λ l. names (changed_by l) x) (sym fresh) ∙ n);
     }

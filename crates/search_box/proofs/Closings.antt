@@ -168,7 +168,9 @@ was_kept g i start end changed box span w =
     let stop = force_stop (drop i g.scopes) i in
     record {
       earlier = w.earlier;
+      declared = w.declared;
       count = w.count;
+      fewer = w.fewer;
       kept = λ k c o e. each_of (is_owned_within i stop) (keeps_ends w.earlier) g.constraints k c
           (second (not (has_empty w.earlier)) (list_all (keeps_ends w.earlier) (filter (is_owned_within i stop) g.constraints)) w.closed) e
           (sym (ap (is_rule_within i stop) e) ∙ (sym (span.numbers k) ∙ o));

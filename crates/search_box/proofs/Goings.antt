@@ -12,10 +12,11 @@ use Rattle.qc_model.specs.declared.problem.VarId.{VarId}
 use Rattle.qc_model.specs.Block.{of_kind, block_stop, force_stop, is_owned_within}
 use Rattle.qc_model.specs.Closed.{keeps_ends, is_closed}
 use Rattle.qc_model.specs.Content.{Game, Rule}
-use Rattle.qc_model.specs.Domains.{Values, Box, values_left, values_within, box_without, has_empty}
+use Rattle.qc_model.specs.Domains.{Values, Box, values_left, values_within, box_without, has_empty, is_sub_box}
 use Rattle.qc_model.specs.Game.{before}
 use Rattle.qc_model.proofs.Before.{before_up}
 use Rattle.qc_model.proofs.Readable.{first, second, together}
+use Rattle.model_arguments.specs.Asked.{is_box_of}
 use Rattle.model_levels.specs.Spans.{kind_at}
 use Rattle.proof_tree.specs.declared.tree.Step.{Step}
 use Rattle.proof_tree.specs.declared.tree.Step.TheVariants.{Prune, Bound}
@@ -30,6 +31,7 @@ use Rattle.search_box.specs.Boxed.{Boxed, KeepsValues, IsMarked}
 use Rattle.search_box.specs.Closes.{IsClosedAt, WasClosed}
 use Rattle.search_box.proofs.Entering.{marked_on}
 use Rattle.search_box.proofs.GivenUp.{not_true_false}
+use Rattle.search_box.proofs.Keeping.{sub_through}
 
 pub steps_reach : (steps more : List Step) (box : Box) → after_steps (steps ++ more) box ≡ after_steps more (after_steps steps box)
 steps_reach [] more box = refl
@@ -73,8 +75,8 @@ marked_same n b c m e f p = marked_on n b c m e (follows_same b.store c.store f 
 pub closed_full : (g : Game) (i : ℕ) (box : Box) → IsClosedAt g i box → has_empty box ≡ false
 closed_full g i box h = not_true_false (has_empty box) (first (not (has_empty box)) (list_all (keeps_ends box) (filter (is_owned_within i (force_stop (drop i g.scopes) i)) g.constraints)) h)
 
-pub closed_now : (g : Game) (i : ℕ) (box : Box) → IsClosedAt g i box → WasClosed g i [] box
-closed_now g i box h = record { earlier = box; closed = h; count = refl; others = λ x n. refl }
+pub closed_now : (g : Game) (i : ℕ) (box : Box) → is_box_of g box ≡ true → IsClosedAt g i box → WasClosed g i [] box
+closed_now g i box d h = record { earlier = box; declared = d; closed = h; count = refl; fewer = λ large k. k; others = λ x n. refl }
 
 neither : (a b : Bool) → (a || b) ≡ false → (a ≡ false) × (b ≡ false)
 neither true b h = cc
@@ -83,11 +85,13 @@ neither false b h = (refl, h)
 apart : (j k : ℕ) → (j == k) ≡ false → k ≡ j → ⊥
 apart j k h e = grind (arith, nat_tests)
 
-pub closed_before : (g : Game) (i : ℕ) (box : Box) (x : VarId) (changed : List VarId) (vs : Values) → WasClosed g i changed box → WasClosed g i (x ∷ changed) (box_to box x.0 vs)
-closed_before g i box x changed vs w = record {
+pub closed_before : (g : Game) (i : ℕ) (box : Box) (x : VarId) (changed : List VarId) (vs : Values) → is_sub_box (box_to box x.0 vs) box ≡ true → WasClosed g i changed box → WasClosed g i (x ∷ changed) (box_to box x.0 vs)
+closed_before g i box x changed vs s w = record {
   earlier = w.earlier;
+  declared = w.declared;
   closed = w.closed;
   count = length-set box x.0 vs ∙ w.count;
+  fewer = λ large k. sub_through (box_to box x.0 vs) box large s (w.fewer large k);
   others = λ y n. let p = neither (x.0 == y) (names changed y) n in get_or-set_other box x.0 y vs [] (apart x.0 y p.0) ∙ w.others y p.1;
 }
 

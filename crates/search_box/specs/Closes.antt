@@ -6,7 +6,8 @@ use Rattle.qc_model.specs.declared.problem.VarId.{VarId}
 use Rattle.qc_model.specs.Block.{constraints_in_force}
 use Rattle.qc_model.specs.Closed.{is_closed}
 use Rattle.qc_model.specs.Content.{Game}
-use Rattle.qc_model.specs.Domains.{Box, values_left, has_empty}
+use Rattle.qc_model.specs.Domains.{Box, values_left, has_empty, is_sub_box}
+use Rattle.model_arguments.specs.Asked.{is_box_of}
 use Rattle.proof_tree.specs.declared.tree.Step.{Step}
 use Rattle.proof_tree.specs.InPlace.{steps_in_place}
 use Rattle.proof_tree.specs.Place.{Tracked}
@@ -36,9 +37,11 @@ abbrev pub IsClosingAt : Closed → Game → ℕ → Box → Type 0
 IsClosingAt Open g i box = IsClosedAt g i box
 IsClosingAt Empty g i box = IsTrue (has_empty box)
 
--- some box was closed so, and since then only the named variables have changed
+-- some box of declared values was closed so, and since then only the named variables have lost values
 pub record WasClosed (g : Game) (i : ℕ) (changed : List VarId) (box : Box) : Type 0 where
   pub earlier : Box
+  pub declared : IsTrue (is_box_of g earlier)
   pub closed : IsClosedAt g i earlier
   pub count : length box ≡ length earlier
+  pub fewer : (large : Box) → IsTrue (is_sub_box earlier large) → IsTrue (is_sub_box box large)
   pub others : (x : ℕ) → IsFalse (names changed x) → values_left box x ≡ values_left earlier x

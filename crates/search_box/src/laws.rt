@@ -5,8 +5,9 @@ ghost use Rattle.qc_model.specs.declared.problem.Kind.TheVariants.{Exists};
 ghost use Rattle.qc_model.specs.declared.problem.Scope.{Scope};
 ghost use Rattle.qc_model.specs.declared.problem.VarId.{VarId};
 ghost use Rattle.qc_model.specs.Content.{Game};
-ghost use Rattle.qc_model.specs.Domains.{Box, Values, has_empty};
+ghost use Rattle.qc_model.specs.Domains.{Box, Values, has_empty, is_sub_box};
 ghost use Rattle.qc_model.specs.Game.{before};
+ghost use Rattle.model_arguments.specs.Asked.{is_box_of};
 ghost use Rattle.model_levels.specs.Spans.{kind_at};
 ghost use Rattle.fd_store.specs.Held.{Follows};
 ghost use Rattle.proof_tree.specs.declared.tree.Step.{Step};
@@ -38,12 +39,12 @@ pub fn boxes_come_back()
     ensures follows { (b c d : Boxed) → Follows b.store c.store → d.store.box ≡ c.store.box → d.store.past ≡ c.store.past → Follows b.store d.store }
 {}
 
-/// A box that is closed has no empty domain, and was closed with nothing changed since; with each variable that gets other values one more has
-/// changed. Where two existential scopes follow each other, a box that is closed at the first is closed at the second.
+/// A box that is closed has no empty domain, and one of declared values was closed with nothing changed since; with each variable
+/// that loses values one more has changed. Where two existential scopes follow each other, a box that is closed at the first is closed at the second.
 pub fn closed_boxes_change()
     ensures full { (g : Game) (i : ℕ) (box : Box) → IsClosedAt g i box → IsFalse (has_empty box) }
-    ensures none { (g : Game) (i : ℕ) (box : Box) → IsClosedAt g i box → WasClosed g i [] box }
-    ensures one_more { (g : Game) (i : ℕ) (box : Box) (x : VarId) (changed : List VarId) (vs : Values) → WasClosed g i changed box → WasClosed g i (x ∷ changed) (box_to box x.0 vs) }
+    ensures none { (g : Game) (i : ℕ) (box : Box) → IsTrue (is_box_of g box) → IsClosedAt g i box → WasClosed g i [] box }
+    ensures one_more { (g : Game) (i : ℕ) (box : Box) (x : VarId) (changed : List VarId) (vs : Values) → IsTrue (is_sub_box (box_to box x.0 vs) box) → WasClosed g i changed box → WasClosed g i (x ∷ changed) (box_to box x.0 vs) }
     ensures in_block { (g : Game) (i : ℕ) (box : Box) → kind_at g i ≡ Some Exists → kind_at g (suc i) ≡ Some Exists → IsClosedAt g i box → IsClosedAt g (suc i) box }
 {}
 

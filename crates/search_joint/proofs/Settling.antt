@@ -163,8 +163,9 @@ pub settled_inside : (g : Game) (changed : List VarId) (box left large : Box) �
 settled_inside g changed box left large h n p = sub_each left large (p.count ∙ n) (λ y. sub_ascending left (declared_box g) y h) p.among
 
 -- what kept its ends before
-pub was_kept : (ok : ℕ → Bool) (g : Game) (changed : List VarId) (box left large : Box) → AreSettled changed box left large → EachRule ok g (keeps_ends box) → WasKept ok g changed left
-was_kept ok g changed box left large p k = record { earlier = box; count = p.count; kept = k; others = p.others }
+pub was_kept : (ok : ℕ → Bool) (g : Game) (changed : List VarId) (box left large : Box) → is_box_of g box ≡ true → ((big : Box) → is_sub_box box big ≡ true → is_sub_box left big ≡ true) → AreSettled changed box left large →
+    EachRule ok g (keeps_ends box) → WasKept ok g changed left
+was_kept ok g changed box left large d f p k = record { earlier = box; declared = d; count = p.count; fewer = f; kept = k; others = p.others }
 
 pub box_sizes : (g : Game) (box large : Box) → is_box_of g box ≡ true → is_box_of g large ≡ true → length box ≡ length large
 box_sizes g box large h k = sub_length box (declared_box g) h ∙ sym (sub_length large (declared_box g) k)

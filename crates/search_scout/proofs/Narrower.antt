@@ -6,6 +6,7 @@ use Rattle.std.proofs.lemmas.List.{get_or-set_other, get_or-set_same}
 use Rattle.qc_model.specs.declared.problem.VarId.{VarId}
 use Rattle.qc_model.specs.Content.{Game}
 use Rattle.qc_model.specs.Domains.{Values, values_left, values_outside, box_without, has_empty, is_none_left, is_sub_box}
+use Rattle.model_arguments.specs.Asked.{is_box_of}
 use Rattle.model_arguments.proofs.Boxes.{sub_without, set_full}
 use Rattle.fd_store.specs.Held.{Held, Follows}
 use Rattle.prop_base.proofs.Steps.{follows_same, follows_more}
@@ -65,10 +66,12 @@ neither : (a b : Bool) → (a || b) ≡ false → a ≡ false
 neither true b h = cc
 neither false b h = refl
 
-pub kept_after : (ok : ℕ → Bool) (g : Game) (x : VarId) (s t : Held) → IsClosedFor ok g s.box → IsNarrowed x.0 s t → WasKept ok g (x ∷ []) t.box
-kept_after ok g x s t c n = record {
+pub kept_after : (ok : ℕ → Bool) (g : Game) (x : VarId) (s t : Held) → is_box_of g s.box ≡ true → IsClosedFor ok g s.box → IsNarrowed x.0 s t → WasKept ok g (x ∷ []) t.box
+kept_after ok g x s t d c n = record {
   earlier = s.box;
+  declared = d;
   count = n.count;
+  fewer = n.within;
   kept = c.1;
   others = λ y h. n.others y (neither (x.0 == y) false h);
 }

@@ -1,8 +1,7 @@
-use Rattle.std.proofs.Common.{◌∙◌, ◌≤◌, sym, ap, subst, length, drop, ◌<◌}
+use Rattle.std.proofs.Common.{◌≤◌, sym, subst, length, ◌<◌}
 use Rattle.prop_base.specs.Pruning.{is_just}
 use Rattle.prop_base.proofs.Steps.{pruning_more}
 use Rattle.prop_engine.specs.Closing.{is_between, IsRun}
-use Rattle.prop_engine.specs.Watching.{names, changed_by}
 use Rattle.prop_engine.proofs.Kept.{inside_first, inside_exist, found_changed}
 use Rattle.prop_engine.proofs.Rules.{pruning_of}
 use Rattle.prop_engine.proofs.engine.next_change.Goals as goal
@@ -40,5 +39,5 @@ returns-in-Changed-clause-answer g c =
     let i = c.loop-c.invariant in
     let d = c.in-Some.c in
     let a = subst (λ f. IsRun f (is_just d.0) game c.loop-c.store.box c.run_filter.new.store.box c.loop-c.steps c.run_filter.new.steps) c.in-Changed.is c.in_ok-run_filter.ensures.answer in
-    let found = found_changed ok (is_just d.0) game d c.loop-c.list c.pop.new.self c.loop-c.store c.run_filter.new.store c.loop-c.steps c.run_filter.new.steps c.run_filter.ensures.pruning c.in-Some.ensures.others i.kept a.2 in
-    (a.0, subst (λ l. length l < length c.run_filter.new.steps) i.same a.1, λ k r o e u f. found k r o e u (λ z x m. ap (λ l. names (changed_by (drop (length l) c.run_filter.new.steps)) x) i.same ∙ f z x m))
+    let found = found_changed ok game d c.loop-c.list c.pop.new.self c.loop-c.store.box c.run_filter.new.store.box c.args.store.now.box i.content c.in-Some.ensures.others i.kept a.2 in
+    (a.0, subst (λ l. length l < length c.run_filter.new.steps) i.same a.1, found)

@@ -1,9 +1,11 @@
-use Rattle.std.proofs.Common.{◌∙◌, sym, ap, subst, arith, length, drop}
+use Rattle.std.proofs.Common.{◌∙◌, ap, subst, arith, length, drop}
 use Rattle.qc_model.specs.Domains.{declared_box}
 use Rattle.prop_base.proofs.Steps.{pruning_more, pruning_total, pruning_sub}
 use Rattle.prop_engine.specs.Closing.{is_between}
-use Rattle.prop_engine.specs.Watching.{names, changed_by, IsFound}
-use Rattle.prop_engine.proofs.Kept.{kept_woken, take_rest}
+use Rattle.std.specs.Prelude.{slice_get}
+use Rattle.prop_engine.specs.Watching.{IsFound}
+use Rattle.prop_engine.proofs.Kept.{take_rest}
+use Rattle.prop_engine.proofs.Woken.{kept_woken}
 use Rattle.prop_engine.proofs.engine.settle.Goals as goal
 
 pub returns-in_err-next_change-clause-pruning : goal.returns-in_err-next_change-clause-pruning
@@ -21,7 +23,7 @@ returns-in-Emptied-clause-pruning g c =
 pub loop-own-smaller : goal.loop-own-smaller
 loop-own-smaller g c =
     let ok = is_between c.args.span.first c.args.span.end in
-    let a = subst (λ f. IsFound f ok c.args.problem.now c.next_change.new.list c.next_change.new.store.box c.loop-own.steps c.next_change.new.steps) c.in-Changed.is c.in_ok-next_change.ensures.answer in
+    let a = subst (λ f. IsFound f ok c.args.problem.now c.next_change.new.list c.loop-own.store.box c.next_change.new.store.box c.loop-own.steps c.next_change.new.steps) c.in-Changed.is c.in_ok-next_change.ensures.answer in
     omega (arith, a.1, pruning_total ok c.args.problem.now _ _ _ _ c.next_change.ensures.pruning)
 
 pub wake_changed-requires-clause-declared : goal.wake_changed-requires-clause-declared
@@ -32,7 +34,7 @@ pub loop-own-preserved : goal.loop-own-preserved
 loop-own-preserved g c =
     let ok = is_between c.args.span.first c.args.span.end in
     let game = c.args.problem.now in
-    let a = subst (λ f. IsFound f ok game c.next_change.new.list c.next_change.new.store.box c.loop-own.steps c.next_change.new.steps) c.in-Changed.is c.in_ok-next_change.ensures.answer in
+    let a = subst (λ f. IsFound f ok game c.next_change.new.list c.loop-own.store.box c.next_change.new.store.box c.loop-own.steps c.next_change.new.steps) c.in-Changed.is c.in_ok-next_change.ensures.answer in
     let w = c.wake_changed.ensures in
     let fresh = drop (length c.items-before.result.now) c.items.result.now in
     let slice = take_rest (length c.items-before.result.now) c.items.result.now in
@@ -45,7 +47,11 @@ loop-own-preserved g c =
       count = w.count;
       waiting = w.waiting;
       inside = w.inside;
-      kept = kept_woken ok game c.args.watches.now c.in-Changed.own c.next_change.new.list c.wake_changed.new.list c.next_change.new.store.box fresh c.requires.watches
-          (λ k r o e u f. a.2 k r o e u (λ z x m. ap (λ l. names (changed_by l) x) (sym same) ∙ f z x m)) w.kept
-          (λ k x o z n m. w.spared k x o z (ap (λ l. names (changed_by l) x) slice ∙ n) m);
+      kept = kept_woken ok ok game c.args.watches.now c.in-Changed.own c.next_change.new.list c.wake_changed.new.list c.loop-own.store c.next_change.new.store c.loop-own.steps c.next_change.new.steps fresh c.requires.watches c.next_change.ensures.pruning same a.0 a.2 w.kept
+          (λ k i z o n p m. w.spared k i z o n (ap (λ l. slice_get l i) slice ∙ p) m);
     }
+
+pub wake_changed-requires-clause-full : goal.wake_changed-requires-clause-full
+wake_changed-requires-clause-full g c =
+    let a = subst (λ f. IsFound f (is_between c.args.span.first c.args.span.end) c.args.problem.now c.next_change.new.list c.loop-own.store.box c.next_change.new.store.box c.loop-own.steps c.next_change.new.steps) c.in-Changed.is c.in_ok-next_change.ensures.answer in
+    a.0

@@ -1,6 +1,5 @@
-use Rattle.std.proofs.Common.{ap, ◌∙◌, arith, ◌≡◌, true, subst, sym}
-use Rattle.prop_engine.specs.Watching.{names, changed_by, is_watched}
-use Rattle.prop_engine.proofs.Spared.{spared_stepped, take_all}
+use Rattle.std.proofs.Common.{arith}
+use Rattle.prop_engine.proofs.Spared.{rest_stepped, got_below}
 use Rattle.prop_engine.proofs.waking.wake_changed.Goals as goal
 
 pub loop-step-preserved : goal.loop-step-preserved
@@ -13,10 +12,10 @@ loop-step-preserved c =
       hints = e.hints;
       count = e.count;
       kept = λ k m. e.kept k (i.kept k m);
-      spared = λ k x b o n w. spared_stepped c.args.problem.now c.loop-step.list c.wake_all.new.list c.args.store.now.box c.args.steps.now c.loop-step.step-index k x _ c.loop-step-test.true e.kept
-          (λ m. i.spared k x b o m w) (λ s. e.spared k b o (subst (λ y. is_watched c.args.watches.now k y ≡ true) (sym (ap (λ v. v.0) c.variable_of.ensures ∙ s)) w)) n;
+      spared = λ k j s b o l p w. rest_stepped c.args.problem.now c.args.watches.now c.loop-step.list c.wake_all.new.list c.args.store.now.box c.args.steps.now c.loop-step.step-index k j _ s c.variable_of.result c.ends_moved.result c.loop-step-test.true e.kept
+          c.variable_of.ensures c.ends_moved.ensures.least c.ends_moved.ensures.greatest l p w (λ a. i.spared k j s b o a p w) (λ a. e.spared k b o a);
     }
 
 pub returns-clause-spared : goal.returns-clause-spared
-returns-clause-spared c k x b o n w =
-    c.loop-step.invariant.spared k x b o (ap (λ l. names (changed_by l) x) (take_all c.args.steps.now c.loop-step.step-index (omega (arith, c.loop-step-test.false))) ∙ n) w
+returns-clause-spared c k i s b o p w =
+    c.loop-step.invariant.spared k i s b o (omega (arith, got_below c.args.steps.now i s p, c.loop-step-test.false)) p w

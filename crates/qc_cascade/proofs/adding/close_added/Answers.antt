@@ -23,7 +23,7 @@ close_in_turn-requires-clause-declared g c =
 pub close_in_turn-requires-clause-earlier : goal.close_in_turn-requires-clause-earlier
 close_in_turn-requires-clause-earlier g c =
     subst (λ l. WasKept (is_between c.args.closed.first c.args.closed.end) c.args.problem.now (changed_by (drop (length l) c.close_span.new.steps)) c.close_span.new.store.box) (sym c.items-from.ensures)
-    (kept_before (is_between c.args.closed.first c.args.closed.end) (is_between c.args.fresh.first c.args.fresh.end) c.args.problem.now _ _ _ _ c.requires.kept c.close_span.ensures.pruning)
+    (kept_before (is_between c.args.closed.first c.args.closed.end) (is_between c.args.fresh.first c.args.fresh.end) c.args.problem.now _ _ _ _ c.requires.declared c.requires.kept c.close_span.ensures.pruning)
 
 pub returns-clause-pruning : goal.returns-clause-pruning
 returns-clause-pruning g c =

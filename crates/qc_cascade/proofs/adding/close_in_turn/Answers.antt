@@ -48,6 +48,6 @@ loop-changed-preserved g c =
       other = v.due;
       either = λ k. either_turn c.loop-changed.other c.loop-changed.due k ∙ v.either k;
       earlier = subst (λ n. WasKept (is_between c.loop-changed.other.first c.loop-changed.other.end) game (changed_by (drop n c.close_changed.new.steps)) c.close_changed.new.store.box) (sym same)
-          (kept_before (is_between c.loop-changed.other.first c.loop-changed.other.end) ok game _ _ _ _ v.kept p);
+          (kept_before (is_between c.loop-changed.other.first c.loop-changed.other.end) ok game _ _ _ _ v.declared v.kept p);
       kept = a.1;
     }

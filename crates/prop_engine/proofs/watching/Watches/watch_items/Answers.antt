@@ -10,6 +10,7 @@ loop-item-preserved c =
       grown = grown_more c.args.self.now c.loop-item.self c.watch_arg.new.self i.grown e.grown;
       watched = watched_more arg_variables c.args.items.now c.loop-item.item-index _ c.args.c.0 c.loop-item.self c.watch_arg.new.self c.loop-item-test.true e.grown i.watched e.watched;
       right = λ r. e.right (i.right r);
+      order = λ r. e.order (i.order r);
     }
 
 pub watch_arg-requires-clause-held : goal.watch_arg-requires-clause-held

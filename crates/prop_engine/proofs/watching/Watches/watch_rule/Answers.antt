@@ -1,7 +1,9 @@
-use Rattle.std.proofs.Common.{◌≡◌, ◌<◌, true, subst, length, get_or}
+use Rattle.std.proofs.Common.{◌≡◌, ◌<◌, true, sym, ap, ◌∙◌, subst, length, get_or}
+use Rattle.std.specs.Prelude.{Some}
 use Rattle.std.specs.List.{list_all}
 use Rattle.qc_model.specs.Arguments.{argument_variables}
 use Rattle.prop_engine.specs.Watching.{is_watched}
+use Rattle.prop_engine.proofs.Spared.{got}
 use Rattle.prop_engine.proofs.Watched.{grown_more, watched_more}
 use Rattle.prop_engine.proofs.watching.Watches.watch_rule.Goals as goal
 
@@ -18,4 +20,13 @@ loop-place-preserved c =
       watched = watched_more argument_variables c.args.rule.now.args n d c.args.c.0 c.loop-place.self c.watch_argument.new.self below e.grown i.watched
           (subst (λ a. list_all (is_watched c.watch_argument.new.self c.args.c.0) (argument_variables a) ≡ true) item e.watched);
       right = λ r. e.right (i.right r);
+      order = λ r. e.order (i.order r);
     }
+
+pub watch_argument-requires-clause-place : goal.watch_argument-requires-clause-place
+watch_argument-requires-clause-place c =
+    let n = c.loop-place.place in
+    let d = c.index-args-place.result in
+    let item = subst (λ l. d ≡ get_or l n d) c.arguments-args.ensures c.index-args-place.is in
+    let below = subst (λ l. n < length l) c.arguments-args.ensures c.loop-place-test.true in
+    got c.args.rule.now.args n d below ∙ ap Some (sym item)
