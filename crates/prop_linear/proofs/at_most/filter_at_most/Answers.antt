@@ -1,11 +1,11 @@
-use Rattle.std.proofs.Common.{◌≡◌, ◌∙◌, refl, sym, ap, subst, rules, arith, length, take}
+use Rattle.std.proofs.Common.{◌≡◌, ◌∙◌, refl, sym, ap, subst, rules, arith, length, take, ℤ}
 use Rattle.std.specs.Prelude.{int_lt, pos, ◌+ℤ◌}
 use Rattle.std.proofs.lemmas.Int.{to_z-of_z}
 use Rattle.std.proofs.lemmas.List.{take_all}
 use mir.Val.{SFits}
 use mir.Syntax.{w64, w128}
 use Rattle.qc_model.specs.declared.problem.Arg.TheVariants.{Num}
-use Rattle.prop_linear.specs.Tightening.{AllNear}
+use Rattle.prop_linear.specs.Tightening.{AllNear, IsBounded}
 use Rattle.prop_linear.specs.Sides.{signed}
 use Rattle.prop_linear.proofs.Alike.{alike_same}
 use Rattle.prop_linear.proofs.Found.{placed}
@@ -44,3 +44,12 @@ returns-then-least-s-clause-answer c =
           (λ j x h q. placed g r box xs j x (Num (pos 0)) c.requires.fits c.requires.sees h q)
           (e ∙ ap (λ z. z +ℤ pos s) l) near,
     )
+
+pub tighten_all-requires-clause-bounded : goal.tighten_all-requires-clause-bounded
+tighten_all-requires-clause-bounded c =
+    let b_fits : SFits w64 c.args.bound = search rules in
+    let l_fits : SFits w128 c.least_of-least.result.sum = search rules in
+    let s = c.slack-s.result in
+    let e = simp to_z-of_z at c.slack-s.ensures in
+    let B : ℤ → Type 0 = IsBounded c.args.asked.rule.now c.args.store.now.box (signed c.args.negative c.args.factors.now) c.args.items.now in
+    subst B (e ∙ ap (λ z. z +ℤ pos s) c.least_of-least.ensures.value) c.requires.bounded

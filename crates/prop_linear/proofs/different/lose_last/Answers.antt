@@ -28,6 +28,14 @@ missing_value-requires-clause-factor c =
     let n_fits : SFits w64 (get_or c.args.factors.now c.args.p (pos 0)) = search rules in
     simp to_z-of_z (factor_of (get_or c.args.factors.now c.args.p (pos 0)) (left_to c.args.store.now.box (get_or c.args.items.now c.args.p (Num (pos 0)))) c.requires.loose)
 
+pub missing_value-requires-clause-x : goal.missing_value-requires-clause-x
+missing_value-requires-clause-x c =
+    placed c.args.asked.problem.now c.args.asked.rule.now c.args.store.now.box c.args.items.now c.args.p c.in-Var.x (Var (record { 0 = 0 })) c.requires.fits c.requires.sees c.requires.place c.in-Var.is
+
+pub missing_value-requires-clause-open : goal.missing_value-requires-clause-open
+missing_value-requires-clause-open c =
+    open_there c.args.asked.problem.now c.args.asked.rule.now c.args.store.now.box c.args.items.now c.args.p c.in-Var.x (Var (record { 0 = 0 })) c.known.ensures.domains c.requires.fits c.requires.sees c.requires.place c.in-Var.is
+
 pub returns-in_default-missing_value-clause-answer : goal.returns-in_default-missing_value-clause-answer
 returns-in_default-missing_value-clause-answer c =
     let b_fits : SFits w64 c.args.bound = search rules in

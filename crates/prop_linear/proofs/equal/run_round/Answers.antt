@@ -44,6 +44,10 @@ empty_last-requires-then-sum-bound-clause-refuted c =
     let t = simp to_z-of_z at c.if-sum-bound.true in
     balanced_under c.args.asked.rule.now c.args.factors.now c.args.items.now c.args.bound c.args.store.now.box (range_of c.spread_of-sum.result.from c.spread_of-sum.result.to) c.requires.balanced c.spread_of-sum.ensures.value t
 
+pub returns-then-bound-sum-clause-answer : goal.returns-then-bound-sum-clause-answer
+returns-then-bound-sum-clause-answer c =
+    rounded (is_just c.args.asked.c.0) c.args.asked.problem.now c.args.asked.rule.now _ _ _ _ _ c.empty_last.ensures.pruning c.empty_last.ensures.answer
+
 pub returns-then-sum-bound-clause-answer : goal.returns-then-sum-bound-clause-answer
 returns-then-sum-bound-clause-answer c =
     rounded (is_just c.args.asked.c.0) c.args.asked.problem.now c.args.asked.rule.now _ _ _ _ _ c.empty_last-then-sum-bound.ensures.pruning c.empty_last-then-sum-bound.ensures.answer

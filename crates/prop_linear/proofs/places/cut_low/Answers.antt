@@ -49,6 +49,14 @@ before-hi-requires-clause-high c =
     let f : SFits w64 c.max-high.result = search rules in
     simp to_z-of_z (subst (λ z. is_number z ≡ true) (sym c.max-high.ensures) (greatest_small (values_left c.args.store.now.box c.args.x.0) c.requires.open))
 
+pub before-hi-requires-clause-steps : goal.before-hi-requires-clause-steps
+before-hi-requires-clause-steps c =
+    let a_fits : SFits w64 c.args.factor = search rules in
+    let m = simp to_z-of_z at c.steps_within-steps.ensures.most in
+    let v = simp to_z-of_z at c.moves.ensures in
+    let room = more_steps (unsigned_abs c.args.factor) c.steps_within-steps.result c.width.result c.args.s m (omega (arith, v, c.if-moves-s.false)) in
+    omega (arith, room, c.width.ensures.small)
+
 pub returns-clause-some : goal.returns-clause-some
 returns-clause-some c =
     let f : SFits w64 c.min-low.result = search rules in

@@ -1,4 +1,4 @@
-use Rattle.std.proofs.Common.{◌+◌, ◌∙◌, sym, subst, arith, true, take, get_or, rules, ℤ}
+use Rattle.std.proofs.Common.{◌+◌, ◌∙◌, sym, ap, subst, arith, true, length, take, get_or, rules, ℤ}
 use Rattle.std.specs.Prelude.{◌≤ℤ◌, pos, ◌+ℤ◌}
 use Rattle.std.proofs.lemmas.Int.{ints, to_z-of_z}
 use mir.Val.{SFits}
@@ -88,3 +88,18 @@ returns-then-over-clause-alike c =
 pub returns-else-over-clause-alike : goal.returns-else-over-clause-alike
 returns-else-over-clause-alike c =
     alike_more c.args.items.now c.args.store.now.box c.tighten_place.new.store.box c.tighten_place-2.new.store.box c.in_ok-over.ensures.alike c.in_ok-under.ensures.alike
+
+pub returns-then-over-clause-rises : goal.returns-then-over-clause-rises
+returns-then-over-clause-rises c b = omega (arith, ints, c.in_ok-over.ensures.rises b, c.in_ok-under.ensures.rises b)
+
+pub returns-else-over-clause-rises : goal.returns-else-over-clause-rises
+returns-else-over-clause-rises c b = omega (arith, ints, c.in_ok-over.ensures.rises b, c.in_ok-under.ensures.rises b)
+
+pub returns-else-over-clause-pruning : goal.returns-else-over-clause-pruning
+returns-else-over-clause-pruning c =
+    prunes_more c.args.asked c.tighten_place.ensures.pruning c.tighten_place-2.ensures.pruning
+
+pub returns-else-over-clause-grown : goal.returns-else-over-clause-grown
+returns-else-over-clause-grown c =
+    let same = c.in_ok-over.ensures.grown.1 c.if-over.false in
+    ((λ e. omega (arith, c.in_ok-under.ensures.grown.0 e, ap length same)), (λ e. c.in_ok-under.ensures.grown.1 e ∙ same))
