@@ -1,1 +1,5 @@
+pub mod Three
 pub mod Sums
+pub mod Keeping
+pub mod GreaterHulls
+pub mod GreaterShapes

@@ -7,10 +7,8 @@ use Rattle.std.proofs.Math.IntN.{*ℤ_comm, *ℤ-one}
 use Rattle.std.proofs.lemmas.Int.{ints, clamps}
 use Rattle.qc_model.specs.declared.problem.Arg.{Arg}
 use Rattle.qc_model.specs.declared.problem.Argument.{Argument}
-use Rattle.qc_model.specs.declared.problem.Argument.TheVariants.{One, Many, Numbers, Members}
 use Rattle.qc_model.specs.declared.problem.Pred.TheVariants.{IntPlus}
 use Rattle.qc_model.specs.declared.problem.Variable.{Variable}
-use Rattle.qc_model.specs.declared.signature.ArgKind.TheVariants.{Integer as integer}
 use Rattle.qc_model.specs.Content.{Game, Rule}
 use Rattle.qc_model.specs.Domains.{Values, Box, least_value, greatest_value}
 use Rattle.qc_model.specs.Left.{range_at, span, sum_range}
@@ -18,8 +16,8 @@ use Rattle.qc_model.specs.Meaning.{meaning_of}
 use Rattle.qc_model.specs.Ranges.{range_sum, ranges_miss}
 use Rattle.qc_model.specs.Refuted.{left_to, refuted_as}
 use Rattle.qc_model.specs.Signature.{arg_kinds_of}
-use Rattle.qc_model.specs.Valid.{is_domain, is_integer, are_of_sorts, have_lengths, arg_sees, argument_sees, is_constraint}
-use Rattle.qc_model.proofs.Readable.{first, second}
+use Rattle.qc_model.specs.Valid.{is_domain, are_of_sorts, have_lengths, arg_sees, argument_sees, is_constraint}
+use Rattle.qc_model.proofs.Readable.{second}
 use Rattle.model_arguments.specs.Asked.{IsAsked}
 use Rattle.model_arguments.specs.Written.{arg_at}
 use Rattle.model_arguments.proofs.Written.{left_written}
@@ -28,45 +26,14 @@ use Rattle.qc_refuter.specs.Met.{lefts, is_open, are_met}
 use Rattle.qc_refuter.proofs.Ready.{rule_met}
 use Rattle.prop_base.specs.Closed.{keeps_arg, keeps_argument}
 use Rattle.prop_base.proofs.Keeps.{keeps_all}
+use Rattle.prop_arith.proofs.Three.{AreThree, three_shape}
 use Rattle.prop_linear.specs.Sides.{IsBalanced}
 use Rattle.prop_linear.specs.Tightening.{AreOwn, term_of}
 use Rattle.prop_linear.proofs.Sides.{opposite_times}
 use Rattle.prop_linear.proofs.Spread.{low_of, high_of}
 
--- three arguments, each by itself
-record AreThree (args : List Argument) : Type 0 where
-  a : Arg
-  b : Arg
-  c : Arg
-  is : args ≡ One a ∷ One b ∷ One c ∷ []
-
-third : (xs : List Variable) (a b : Arg) (args : List Argument) → are_of_sorts xs (integer ∷ []) args ≡ true → AreThree (One a ∷ One b ∷ args)
-third xs a b [] h = cc
-third xs a b (One c ∷ []) h = record { a = a; b = b; c = c; is = refl }
-third xs a b (One c ∷ d ∷ args) h = let e = second (is_integer xs c) false h in cc
-third xs a b (Many m ∷ args) h = cc
-third xs a b (Numbers m ∷ args) h = cc
-third xs a b (Members m ∷ args) h = cc
-
-next : (xs : List Variable) (a : Arg) (args : List Argument) → are_of_sorts xs (integer ∷ integer ∷ []) args ≡ true → AreThree (One a ∷ args)
-next xs a [] h = cc
-next xs a (One b ∷ args) h = third xs a b args (second (is_integer xs b) (are_of_sorts xs (integer ∷ []) args) h)
-next xs a (Many m ∷ args) h = cc
-next xs a (Numbers m ∷ args) h = cc
-next xs a (Members m ∷ args) h = cc
-
-shape : (xs : List Variable) (args : List Argument) → are_of_sorts xs (integer ∷ integer ∷ integer ∷ []) args ≡ true → AreThree args
-shape xs [] h = cc
-shape xs (One a ∷ args) h = next xs a args (second (is_integer xs a) (are_of_sorts xs (integer ∷ integer ∷ []) args) h)
-shape xs (Many m ∷ args) h = cc
-shape xs (Numbers m ∷ args) h = cc
-shape xs (Members m ∷ args) h = cc
-
 plus_shape : (xs : List Variable) (c : Rule) → is_constraint xs c ≡ true → c.pred ≡ IntPlus → AreThree c.args
-plus_shape xs c h e =
-    let sorted = are_of_sorts xs (arg_kinds_of c.pred) c.args in
-    let lengths = have_lengths (meaning_of c.pred) c.args in
-    shape xs c.args (ap (λ p. are_of_sorts xs (arg_kinds_of p) c.args) (sym e) ∙ first sorted lengths (first (sorted && lengths) (list_all (argument_sees xs c.owner.0) c.args) h))
+plus_shape xs c h e = three_shape xs c IntPlus h e refl
 
 -- the three in a row
 abbrev pub three : List Argument → List Arg

@@ -4,6 +4,7 @@ ghost use Rattle.qc_model.specs.Content.{Rule};
 ghost use Rattle.model_arguments.specs.Asked.{IsAsked};
 ghost use Rattle.prop_base.specs.Pruning.{IsPruning, IsFiltered, is_just};
 
+use crate::greater::filter_greater;
 use crate::plus::filter_plus;
 use fd_store::Store;
 use proof_tree::StepList;
@@ -26,6 +27,7 @@ impl RuleFilter for Arith {
         let rule = asked.rule;
         match rule.pred {
             Pred::IntPlus => filter_plus(asked, store, steps),
+            Pred::IntMax => filter_greater(asked, store, steps),
             _ => filter_by_ends(&Table {}, asked, store, steps),
         }
     }
