@@ -128,10 +128,10 @@ impl<'p> Bests<'p> {
         }
     }
 
-    /// A look serves where it and the node together cost half of what the last node without one did.
+    /// A look serves where it and the node together cost no more than the last node without one did.
     fn judge(&mut self, took: u64) {
         let cost = self.turns.saturating_mul(LOOK_COST).saturating_add(took);
-        if cost.saturating_mul(2) > self.plain {
+        if cost > self.plain {
             self.fail();
         } else {
             self.failures = self.failures.saturating_sub(1);
