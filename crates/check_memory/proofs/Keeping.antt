@@ -45,6 +45,7 @@ node_new g vs us ts ws n a b c d k = record {
 pub memory_more : (g : Game) (l : Option Game) (ns : List Node) (vs us : List ℤ) (ts ws : List ℕ) → IsMemoryOf g l ns vs ts → IsMemoryOf g l ns (vs ++ us) (ts ++ ws)
 memory_more g l ns vs us ts ws m = record {
   compared = m.compared;
+  plain = m.plain;
   nodes = All-weaker (IsNodeOf g vs ts) (IsNodeOf g (vs ++ us) (ts ++ ws)) (node_more g vs us ts ws) ns m.nodes;
 }
 
@@ -60,6 +61,7 @@ memory_with g l ns vs us ts ws n m a b c d k =
     let more = memory_more g l ns vs us ts ws m in
     record {
       compared = more.compared;
+      plain = more.plain;
       nodes = All-push (IsNodeOf g (vs ++ us) (ts ++ ws)) ns n more.nodes (node_new g vs us ts ws n a b c d k);
     }
 

@@ -119,10 +119,7 @@ impl<'p> NodeMemory<'p> {
         ensures { IsTrue result → IsTrue (ask_nothing self.now.scopes) }
     {
         match &self.likeness {
-            Some(likeness) => {
-                likeness.plain();
-                true
-            }
+            Some(_) => true,
             None => false,
         }
     }
@@ -163,7 +160,6 @@ impl<'p> NodeMemory<'p> {
         {
             return None;
         }
-        likeness.plain();
         Some(Met {
             won: node.won,
             turns: node.turns,
@@ -323,7 +319,8 @@ fn is_of(node: Node, level: &Level, horizon: Option<u8>, number: u64) -> bool
 
 /// What positions are compared by, where nothing is optimised.
 fn likeness_for<'p>(alloc: Global, levels: &Levels<'p>) -> Result<Option<Likeness<'p>>, AllocError>
-    ensures { IfOk result (λ found. IfSome found (λ likeness. likeness ≡ levels.now.problem.now)) }
+    ensures compared { IfOk result (λ found. IfSome found (λ likeness. likeness ≡ levels.now.problem.now)) }
+    ensures plain { IfOk result (λ found. IfSome found (λ likeness. IsTrue (ask_nothing levels.now.problem.now.scopes))) }
 {
     if !asks_nothing(levels.problem) {
         return Ok(None);

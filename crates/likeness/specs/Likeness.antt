@@ -1,4 +1,4 @@
--- What looks the same from a scope on where nothing is optimised: positions, boxes and lines, and what a node comes to there.
+-- What looks the same from a scope on: positions, boxes and lines; and what a node comes to where nothing is optimised.
 use Rattle.std.specs.Prelude.{◌≡◌, ◌≤◌, ◌<◌, ℕ, Bool, true, false, not, ◌&&◌, List, [], ◌∷◌, slice_index_or, is_none, IsTrue, IsFalse, ℤ, pos}
 use Rattle.std.specs.List.{list_all}
 use Rattle.qc_model.specs.declared.problem.Scope.{Scope}
@@ -33,11 +33,6 @@ pub record IsLike (g : Game) (i : ℕ) (vs : List ℤ) (box : Box) : Type 0 wher
 pub record SeenAlike (g : Game) (i : ℕ) (kept here : List ℤ) : Type 0 where
   pub same : (x : ℕ) → x < before g i → IsTrue (is_looked_at g i x) → slice_index_or kept x (pos 0) ≡ slice_index_or here x (pos 0)
   pub seen : SeeAlike g i kept here
-
--- what positions of the game are compared by: what is looked at in it; and nothing is optimised in it
-pub record IsLikenessOf (g sight : Game) : Type 0 where
-  pub same : sight ≡ g
-  pub plain : IsTrue (ask_nothing g.scopes)
 
 -- what a node comes to that is decided where nothing is optimised
 abbrev pub decided_as : Bool → Verdict

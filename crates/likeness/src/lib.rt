@@ -12,14 +12,13 @@
 //! A position has a value for each variable before the scope. Two look the same from the scope on where
 //! each variable that is looked at has the same value in both, and each constraint from there on sees the
 //! same of both. Boxes in which all later variables have their declared values are then alike in the words
-//! of `proof_alike`: what was decided at one of them, where nothing is optimised, is decided at the other.
+//! of `proof_alike`: what was decided at one of them is decided at the other, with the same vector.
 //! `Likeness` compares positions, and gives each a number, a hash on which nothing rests; `Residues` has
 //! the numbers of what constraints see alone.
 #![tactic(auto)]
 
 mod clauses;
 mod likeness;
-mod looking;
 mod marks;
 mod reading;
 mod residues;

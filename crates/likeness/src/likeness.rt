@@ -3,12 +3,10 @@
 //!
 //! A number of what is seen tells most positions apart at once. It is a hash, so nothing rests on it.
 ghost use Rattle.std.specs.Prelude.{◌≡◌, ◌<◌, ℕ, slice_index_or, pos, IfOk, IsTrue};
-ghost use Rattle.std.specs.List.{list_all};
 ghost use Rattle.proof_alike.specs.Alike.{is_looked_at};
 ghost use Rattle.likeness.specs.Likeness.{ask_nothing, line_looks, SeenAlike};
 
 use crate::Sight;
-use crate::looking::are_looking;
 use crate::residues::{Residues, mixed};
 use model_levels::{Level, Levels};
 use proof_tree::Line;
@@ -29,7 +27,7 @@ pub fn asks_nothing(problem: &Problem) -> bool
     true
 }
 
-/// What positions are compared by in a problem where nothing is optimised. A contract sees the game.
+/// What positions are compared by in a problem. A contract sees the game.
 #[derive(Drop)]
 pub struct Likeness<'p> {
     problem: &'p Problem,
@@ -39,20 +37,19 @@ pub struct Likeness<'p> {
 
 impl<'p> Model for Likeness<'p> {
     ghost use Rattle.qc_model.specs.Content.{Game};
-    ghost use Rattle.likeness.specs.Likeness.{IsLikenessOf};
+    ghost use Rattle.std.specs.Prelude.{◌≡◌};
 
     ghost Value = { Game };
 
     ghost view = { λ l. l.problem.now };
 
-    ghost invariant = { λ l. IsLikenessOf l.problem.now l.sight };
+    ghost invariant = { λ l. l.sight ≡ l.problem.now };
 }
 
 impl<'p> Likeness<'p> {
     /// What positions of this problem are compared by, all scopes but the first with numbers. It fails only where memory runs
     /// out.
     pub fn new(alloc: Global, levels: &Levels<'p>) -> Result<Likeness<'p>, AllocError>
-        requires { IsTrue (ask_nothing levels.now.problem.now.scopes) }
         ensures { IfOk result (λ likeness. likeness ≡ levels.now.problem.now) }
     {
         let wanted = later_scopes(alloc, levels.problem)?;
@@ -63,13 +60,6 @@ impl<'p> Likeness<'p> {
             sight,
             residues,
         })
-    }
-
-    /// Tells clauses that nothing is optimised.
-    pub fn plain(&self)
-        ensures { IsTrue (ask_nothing self.now.scopes) }
-    {
-        let _ = &self.sight;
     }
 
     /// Whether x is looked at from scope i on. It takes constant time and no memory.
@@ -117,12 +107,15 @@ impl<'p> Likeness<'p> {
         self.agree(level, kept, here) && self.sight.sees_alike(ScopeId(level.number), kept, here)
     }
 
-    /// Whether each of the lines that removes values removes those of a variable that is looked at from the scope on.
-    pub fn are_looking(&self, level: &Level, lines: &[Line]) -> bool
+    /// Whether the line, where it removes values, removes those of a variable that is looked at from the scope on.
+    pub fn is_line_looking(&self, level: &Level, line: Line) -> bool
         requires game { level.now.problem.now ≡ self.now }
-        ensures { result ≡ list_all (line_looks level.now.problem.now level.now.number) lines.now }
+        ensures { result ≡ line_looks level.now.problem.now level.now.number line }
     {
-        are_looking(self, ScopeId(level.number), lines)
+        match line {
+            Line::Prune { x, .. } => self.looks_at(ScopeId(level.number), x),
+            _ => true,
+        }
     }
 }
 

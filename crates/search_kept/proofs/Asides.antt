@@ -1,15 +1,15 @@
 -- Nodes whose lines are kept aside, and put where the box is the same.
-use Rattle.std.proofs.Common.{◌≡◌, ◌≤◌, ◌<◌, ◌-◌, ◌∙◌, inl, inr, ℕ, suc, Bool, true, false, List, [], ◌∷◌, ◌++◌, length, drop, refl, sym, ap, subst, arith, Option, ℤ}
-use Rattle.std.specs.Prelude.{◌⊎◌, nat_lt}
+use Rattle.std.proofs.Common.{◌≡◌, ◌≤◌, ◌<◌, ◌-◌, ◌∙◌, ℕ, suc, Bool, true, false, List, [], ◌∷◌, ◌++◌, length, drop, refl, sym, ap, subst, arith, Option, ℤ}
+use Rattle.std.specs.Prelude.{nat_lt}
 use Rattle.std.proofs.lemmas.Bool.Decides.{nat_tests}
 use Rattle.qc_model.specs.Content.{Game}
 use Rattle.qc_model.specs.Demands.{demands}
 use Rattle.qc_model.specs.Domains.{Values, Box, declared_box, values_left}
 use Rattle.qc_model.specs.Game.{before}
-use Rattle.qc_model.specs.Verdict.{Verdict, exact}
+use Rattle.qc_model.specs.Verdict.{Verdict}
 use Rattle.model_arguments.specs.Asked.{is_box_of}
 use Rattle.model_arguments.proofs.Boxes.{sub_length}
-use Rattle.proof_tree.specs.Counts.{turns_of, opens_of}
+use Rattle.proof_tree.specs.Counts.{turns_of}
 use Rattle.proof_tree.specs.Lines.{tree_lines}
 use Rattle.proof_tree.specs.Place.{position}
 use Rattle.proof_tree.specs.Tree.{Tree}
@@ -19,11 +19,8 @@ use Rattle.search_box.specs.Boxed.{Boxed}
 use Rattle.search_box.specs.Entered.{IsEntered}
 use Rattle.search_kept.specs.Aside.{IsFreshAt, IsWhole, IsAside, StandsAside}
 use Rattle.search_kept.specs.Known.{IsEnded}
-use Rattle.search_parts.specs.Made.{NodeMade}
-use Rattle.search_parts.specs.Settled.{is_vague_verdict, beats_none}
 use Rattle.search_parts.specs.Written.{NodeWritten}
-use Rattle.search_parts.proofs.Sure.{sure_anyway}
-use Rattle.search_kept.proofs.Knowing.{like_here}
+use Rattle.search_kept.proofs.Knowing.{like_here, whole_here, whole_written}
 
 -- the box of a node at its position
 pub fresh_here : (g : Game) (i : ℕ) (b : Boxed) → IsEntered g i b → is_box_of b.game b.store.box ≡ true → before g i ≤ length b.store.box →
@@ -56,52 +53,6 @@ fresh_same g i vs a b p q = same_boxes a b (p.size ∙ sym q.size) (λ x. by x (
     by x true e = let h = under x (before g i) e in p.fixed x h ∙ sym (q.fixed x h)
     by x false e = let h = past x (before g i) e in p.fresh x h ∙ sym (q.fresh x h)
 
--- a node that was made with a turn left
-whole_here : (above : ℤ → Bool) (g : Game) (i : ℕ) (box : Box) (h : Option ℕ) (v : Verdict) (had left : ℕ) (t : Tree) → (turns : ℕ) → 0 < left → turns_of t ≤ turns → NodeMade true above g (drop i g.scopes) i (demands g i) box h v had left t → IsWhole g i h v turns t box
-whole_here above g i box h v had left t turns some few m = record {
-  placed = m.placed;
-  verdict = m.verdict;
-  settled = m.settled;
-  lasts = m.lasts;
-  ones = m.ones;
-  apart = m.apart;
-  fits = m.fits;
-  few = few;
-  opens = by m.opens;
-  long = m.long;
-  sized = m.sized;
-  own = m.own;
-  keeps = m.keeps;
-  closed = m.closed;
-  foreseen = m.foreseen;
-}
-  where
-    by : ((opens_of t ≡ 0) ⊎ (left ≡ 0)) → opens_of t ≡ 0
-    by (inl e) = e
-    by (inr e) = absurd (omega (arith, some, e))
-
-whole_made : (above : ℤ → Bool) (g : Game) (i : ℕ) (box : Box) (h : Option ℕ) (v : Verdict) (turns had : ℕ) (t : Tree) → turns ≤ had → is_vague_verdict beats_none v ≡ false → IsWhole g i h v turns t box →
-    NodeMade true above g (drop i g.scopes) i (demands g i) box h v had (had - turns) t
-whole_made above g i box h v turns had t enough sure w = record {
-  placed = w.placed;
-  verdict = w.verdict;
-  settled = w.settled;
-  lasts = w.lasts;
-  ones = w.ones;
-  apart = w.apart;
-  fits = w.fits;
-  spent = omega (arith, w.few, enough);
-  exact = λ e. cc;
-  opens = inl w.opens;
-  gap = λ o. sure_anyway above v sure;
-  long = w.long;
-  sized = w.sized;
-  own = w.own;
-  keeps = w.keeps;
-  closed = w.closed;
-  foreseen = w.foreseen;
-}
-
 -- the lines of a node that ended stand wherever the box is the same
 pub ended_aside : (g : Game) (i : ℕ) (box : Box) (h : Option ℕ) (v : Verdict) (had left : ℕ) (vs : List ℤ) (ls : List Line) (turns : ℕ) → 0 < left → ((t : Tree) → ls ≡ tree_lines t → turns_of t ≤ turns) → IsFreshAt g i vs box → IsEnded g i box h v had left ls → IsAside g i h vs v turns ls
 ended_aside g i box h v had left vs ls turns some few fresh e = (
@@ -117,10 +68,4 @@ pub aside_written : (cuts : Bool) (above : ℤ → Bool) (g : Game) (i : ℕ) (b
     NodeWritten cuts above g (drop i g.scopes) i (demands g i) box h v had left old new
 aside_written cuts above g i box h v turns had left ls old new cut s f q =
     let k = s.aside in
-    let made = whole_made above g i box h v turns had k.0 s.few s.sure (k.1.whole box s.fresh) in
-    record {
-      tree = k.0;
-      lines = subst (λ ms. new ≡ old ++ ms) k.1.lines q;
-      made = subst (λ n. NodeMade cuts above g (drop i g.scopes) i (demands g i) box h v had n k.0) (sym f)
-          (subst (λ b. NodeMade b above g (drop i g.scopes) i (demands g i) box h v had (had - turns) k.0) (sym cut) made);
-    }
+    whole_written cuts above g i box h v turns had left k.0 ls old new cut s.few s.sure k.1.lines (k.1.whole box s.fresh) f q

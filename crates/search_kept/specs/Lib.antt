@@ -1,4 +1,4 @@
 pub mod Ends
-pub mod Known
 pub mod Aside
+pub mod Known
 pub mod Props

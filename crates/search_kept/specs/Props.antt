@@ -1,5 +1,5 @@
 -- What a node that is kept knows is known in one way.
-use Rattle.std.specs.Prelude.{ℕ, suc, Bool, Option, Some, None, List, [], ◌∷◌, ℤ}
+use Rattle.std.specs.Prelude.{ℕ, suc, Option, Some, None, List, [], ◌∷◌, ℤ}
 use Rattle.std.specs.Coded.{×_prop, Unit-prop}
 use Rattle.std.proofs.Props.{props}
 use mathlib.Core.HLevel.{Σ_prop_path}
@@ -19,7 +19,7 @@ use Rattle.proof_tree.specs.Steps.{after_steps}
 use Rattle.proof_tree.specs.Tree.{Tree, tree, Body, stuck, goal, cases, Ending, empty, barred, next, branch, Branches, no_more, piece, Case, skip, left_open, go}
 use Rattle.strategy_arena.proofs.UniqueLines.{only_tree}
 use Rattle.search_kept.specs.Aside.{IsWhole, IsAsideBy, IsAside}
-use Rattle.search_kept.specs.Known.{IsDecided, IsKnownBy, IsKnown}
+use Rattle.search_kept.specs.Known.{IsKnownBy, IsKnown}
 
 sees_prop : (g : Game) (later : List Scope) (i : ℕ) (box : Box) (h : Option ℕ) → IsProp (SeesAhead g later i box h)
 sees_prop g [] i box h = hlevel props
@@ -49,16 +49,6 @@ mutual
   case_prop g left_open later i box h = Unit-prop
   case_prop g (go steps end) later i box h = ending_prop g end later i (after_steps steps box) h
 
-decided_prop : (g : Game) (i : ℕ) (h : Option ℕ) (won : Bool) (turns : ℕ) (t : Tree) (box : Box) → IsProp (IsDecided g i h won turns t box)
-decided_prop g i h won turns t box = hlevel (props, foresees_prop)
-
-known_by_prop : (g : Game) (i : ℕ) (h : Option ℕ) (vs : List ℤ) (won : Bool) (turns : ℕ) (ls : List Line) (t : Tree) → IsProp (IsKnownBy g i h vs won turns ls t)
-known_by_prop g i h vs won turns ls t = hlevel (props, decided_prop)
-
--- no other tree has these lines
-pub known_prop : (g : Game) (i : ℕ) (h : Option ℕ) (vs : List ℤ) (won : Bool) (turns : ℕ) (ls : List Line) → IsProp (IsKnown g i h vs won turns ls)
-known_prop g i h vs won turns ls = λ a b. Σ_prop_path (known_by_prop g i h vs won turns ls) (only_tree a.0 b.0 ls a.1.lines b.1.lines)
-
 sized_prop : (n : ℕ) (v : Verdict) → IsProp (IsSized n v)
 sized_prop n lost = Unit-prop
 sized_prop n (exact v) = hlevel props
@@ -83,3 +73,10 @@ aside_by_prop g i h vs v turns ls t = hlevel (props, whole_prop)
 
 pub aside_prop : (g : Game) (i : ℕ) (h : Option ℕ) (vs : List ℤ) (v : Verdict) (turns : ℕ) (ls : List Line) → IsProp (IsAside g i h vs v turns ls)
 aside_prop g i h vs v turns ls = λ a b. Σ_prop_path (aside_by_prop g i h vs v turns ls) (only_tree a.0 b.0 ls a.1.lines b.1.lines)
+
+known_by_prop : (g : Game) (i : ℕ) (h : Option ℕ) (vs : List ℤ) (v : Verdict) (turns : ℕ) (ls : List Line) (t : Tree) → IsProp (IsKnownBy g i h vs v turns ls t)
+known_by_prop g i h vs v turns ls t = hlevel (props, whole_prop)
+
+-- no other tree has these lines
+pub known_prop : (g : Game) (i : ℕ) (h : Option ℕ) (vs : List ℤ) (v : Verdict) (turns : ℕ) (ls : List Line) → IsProp (IsKnown g i h vs v turns ls)
+known_prop g i h vs v turns ls = λ a b. Σ_prop_path (known_by_prop g i h vs v turns ls) (only_tree a.0 b.0 ls a.1.lines b.1.lines)

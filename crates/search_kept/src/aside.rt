@@ -19,10 +19,10 @@ use crate::resemblance::is_fresh;
 use crate::turns::turns_in;
 use joins::Found;
 use model_levels::Level;
-use proof_tree::Line;
 use qc_model::{Problem, ScopeId};
 use search_box::SearchBox;
 use std::alloc::{AllocError, Global};
+use strategy_arena::Arena;
 
 /// How many lines all nodes have together at most.
 const MOST_LINES_IN_ALL: usize = 1_048_576;
@@ -38,10 +38,10 @@ pub struct AsideNode<'p> {
     pub found: Found,
     pub vector: Vec<i64>,
     pub turns: u64,
-    pub lines: Vec<Line>,
+    pub lines: Arena,
     ghost sure: { IsFalse (is_vague_verdict beats_none (verdict_of found vector.items)) },
     ghost few: { length vector.items ≤ length problem.now.scopes },
-    ghost aside: { IsAside problem.now scope.0 (scope_number horizon) values.items (verdict_of found vector.items) turns lines.items } by { aside_prop problem.now scope.0 (scope_number horizon) values.items (verdict_of found vector.items) turns lines.items },
+    ghost aside: { IsAside problem.now scope.0 (scope_number horizon) values.items (verdict_of found vector.items) turns lines } by { aside_prop problem.now scope.0 (scope_number horizon) values.items (verdict_of found vector.items) turns lines },
 }
 
 /// Whether both lists are the same.
@@ -71,7 +71,7 @@ impl<'p> AsideNode<'p> {
     ) -> bool
         requires game { level.now.problem.now ≡ self.now.problem.now }
         requires here { IsEntered level.now.problem.now level.now.number remains.now }
-        ensures { IsTrue result → StandsAside level.now.problem.now level.now.number (scope_number horizon) left remains.now.store.box (verdict_of self.now.found self.now.vector.items) self.now.turns self.now.lines.items }
+        ensures { IsTrue result → StandsAside level.now.problem.now level.now.number (scope_number horizon) left remains.now.store.box (verdict_of self.now.found self.now.vector.items) self.now.turns self.now.lines }
     {
         self.scope.0 == level.number
             && is_same(self.horizon, horizon)
@@ -81,10 +81,10 @@ impl<'p> AsideNode<'p> {
     }
 
     /// Its lines.
-    pub fn lines(&self) -> &[Line]
-        ensures { result.now ≡ self.now.lines.items }
+    pub fn lines(&self) -> &Arena
+        ensures { result.now ≡ self.now.lines }
     {
-        self.lines.as_slice()
+        &self.lines
     }
 
     /// Its vector.
@@ -164,11 +164,11 @@ impl<'p> AsideNodes<'p> {
         remains: &SearchBox,
         end: NodeEnd,
         vector: &[i64],
-        lines: Vec<Line>,
+        lines: Arena,
     ) -> Result<(), AllocError>
         requires game { level.now.problem.now ≡ self.old.problem.now }
         requires here { IsEntered level.now.problem.now level.now.number remains.now }
-        requires ended { IsEnded level.now.problem.now level.now.number remains.now.store.box (scope_number horizon) (verdict_of end.found vector.now) end.had end.left lines.items }
+        requires ended { IsEnded level.now.problem.now level.now.number remains.now.store.box (scope_number horizon) (verdict_of end.found vector.now) end.had end.left lines }
         ensures { self.new.problem.now ≡ self.old.problem.now }
     {
         match self.node_for(alloc, level, horizon, remains, end, vector, lines)? {
@@ -186,11 +186,11 @@ impl<'p> AsideNodes<'p> {
         remains: &SearchBox,
         end: NodeEnd,
         vector: &[i64],
-        lines: Vec<Line>,
+        lines: Arena,
     ) -> Result<Option<AsideNode<'p>>, AllocError>
         requires game { level.now.problem.now ≡ self.now.problem.now }
         requires here { IsEntered level.now.problem.now level.now.number remains.now }
-        requires ended { IsEnded level.now.problem.now level.now.number remains.now.store.box (scope_number horizon) (verdict_of end.found vector.now) end.had end.left lines.items }
+        requires ended { IsEnded level.now.problem.now level.now.number remains.now.store.box (scope_number horizon) (verdict_of end.found vector.now) end.had end.left lines }
         ensures { IfOk result (λ found. IfSome found (λ node. node.problem.now ≡ self.now.problem.now)) }
     {
         if end.left == 0 {
@@ -213,7 +213,7 @@ impl<'p> AsideNodes<'p> {
             values: Vec::from_slice(alloc, here)?,
             found: end.found,
             vector: Vec::from_slice(alloc, vector)?,
-            turns: turns_in(lines.as_slice()),
+            turns: turns_in(&lines),
             lines,
         }))
     }
@@ -240,7 +240,7 @@ impl<'p> AsideNodes<'p> {
         requires game { level.now.problem.now ≡ self.now.problem.now }
         requires here { IsEntered level.now.problem.now level.now.number remains.now }
         ensures within { IfSome result (λ at. at < length self.now.nodes.items) }
-        ensures stands { IfSome result (λ at. IfSome (slice_get self.now.nodes.items at) (λ n. StandsAside level.now.problem.now level.now.number (scope_number horizon) left remains.now.store.box (verdict_of n.found n.vector.items) n.turns n.lines.items)) }
+        ensures stands { IfSome result (λ at. IfSome (slice_get self.now.nodes.items at) (λ n. StandsAside level.now.problem.now level.now.number (scope_number horizon) left remains.now.store.box (verdict_of n.found n.vector.items) n.turns n.lines)) }
     {
         let mut at = self.nodes.len();
         'nodes: while at > 0 {

@@ -1,25 +1,26 @@
 //! Nodes that were settled before, whose lines stand wherever the position looks the same.
 //!
-//! Nothing is kept where a scope has a condition. So a node that is decided is lost, or exact with no value.
-ghost use Rattle.std.specs.Prelude.{◌≡◌, ◌<◌, Some, List, ℤ, not, length, slice_get, IfOk, IfSome, IsTrue};
+//! Such a node is lost, or exact with its vector. Whatever a condition or an aggregate mentions is looked at, so the node comes to
+//! the same at each of these positions.
+ghost use Rattle.std.specs.Prelude.{◌≡◌, ◌≤◌, ◌<◌, Some, List, ℤ, not, length, slice_get, IfOk, IfSome, IsTrue, IsFalse};
 ghost use Rattle.std.specs.List.{All};
 ghost use Rattle.std.proofs.Props.{props};
 ghost use Rattle.joins.specs.Seen.{verdict_of};
 ghost use Rattle.search_box.specs.Entered.{IsEntered};
 ghost use Rattle.search_box.specs.Looking.{scope_number};
 ghost use Rattle.search_kept.specs.Props.{known_prop};
-ghost use Rattle.search_kept.specs.Known.{IsFinished, IsKnown, StandsHere};
+ghost use Rattle.search_kept.specs.Known.{IsEnded, IsKnown, StandsHere};
 ghost use Rattle.search_parts.specs.Settled.{is_vague_verdict, beats_none};
 
 use crate::resemblance::{is_like, position_number, stand_alike};
 use crate::turns::turns_in;
 use joins::Found;
-use likeness::{Likeness, asks_nothing, is_won};
+use likeness::Likeness;
 use model_levels::{Level, Levels};
-use proof_tree::Line;
 use qc_model::{Problem, ScopeId};
 use search_box::SearchBox;
 use std::alloc::{AllocError, Global};
+use strategy_arena::Arena;
 
 /// How many nodes are kept at most.
 const PLACES: usize = 65_536;
@@ -39,35 +40,71 @@ const FIRST_NODES: u32 = 1_024;
 /// One in so many of the nodes that were kept has to have been met again, else no more are.
 const LEAST_SHARE: u32 = 8;
 
+/// How many positions of a scope are looked up before it is asked whether that serves.
+const FIRST_LOOKS: u32 = 2_000;
+
+/// One in so many of them has to have been known, else no more are looked up.
+const LEAST_MET: u32 = 50;
+
 /// How many bits of a position's number are left out of its place, so that there are as many places.
 const REST_BITS: u32 = 48;
 
-/// A node that was settled where nothing is optimised: its scope, the horizon in force, the number of its position and the
-/// values of the variables before the scope, whether it was won, how many turns its lines have at most, and these lines.
+/// A node that was settled: its scope, the horizon in force, the number of its position and the values of the variables before the
+/// scope, what it came to with its vector, how many turns its lines have at most, and these lines.
 #[derive(Drop)]
 pub struct KnownNode<'p> {
     problem: &'p Problem,
     scope: ScopeId,
     horizon: Option<ScopeId>,
     number: u64,
-    pub values: Vec<i64>,
-    pub won: bool,
+    values: Vec<i64>,
+    pub found: Found,
+    pub vector: Vec<i64>,
     pub turns: u64,
-    pub lines: Vec<Line>,
-    ghost known: { IsKnown problem.now scope.0 (scope_number horizon) values.items won turns lines.items } by { known_prop problem.now scope.0 (scope_number horizon) values.items won turns lines.items },
+    pub lines: Arena,
+    ghost sure: { IsFalse (is_vague_verdict beats_none (verdict_of found vector.items)) },
+    ghost few: { length vector.items ≤ length problem.now.scopes },
+    ghost known: { IsKnown problem.now scope.0 (scope_number horizon) values.items (verdict_of found vector.items) turns lines } by { known_prop problem.now scope.0 (scope_number horizon) values.items (verdict_of found vector.items) turns lines },
 }
 
 impl<'p> KnownNode<'p> {
-    /// Its lines.
-    pub fn lines(&self) -> &[Line]
-        ensures { result.now ≡ self.now.lines.items }
+    /// Whether its lines stand at the scope's node that is here, below this horizon, where so many turns are left.
+    fn stands_at(
+        &self,
+        likeness: &Likeness,
+        level: &Level,
+        horizon: Option<ScopeId>,
+        left: u64,
+        remains: &SearchBox,
+    ) -> bool
+        requires compared { likeness.now ≡ self.now.problem.now }
+        requires game { level.now.problem.now ≡ self.now.problem.now }
+        requires here { IsEntered level.now.problem.now level.now.number remains.now }
+        ensures { IsTrue result → StandsHere level.now.problem.now level.now.number (scope_number horizon) left remains.now.store.box (verdict_of self.now.found self.now.vector.items) self.now.turns self.now.lines }
     {
-        self.lines.as_slice()
+        self.scope.0 == level.number
+            && is_same(self.horizon, horizon)
+            && self.turns <= left
+            && is_like(likeness, level, remains, self.values.as_slice())
+    }
+
+    /// Its lines.
+    pub fn lines(&self) -> &Arena
+        ensures { result.now ≡ self.now.lines }
+    {
+        &self.lines
+    }
+
+    /// Its vector.
+    pub fn vector(&self) -> &[i64]
+        ensures { result.now ≡ self.now.vector.items }
+    {
+        self.vector.as_slice()
     }
 
     /// How many lines it has.
     fn len(&self) -> usize
-        ensures { result ≡ length self.now.lines.items }
+        ensures { result ≡ length self.now.lines }
     {
         self.lines.len()
     }
@@ -86,6 +123,20 @@ pub(crate) fn is_same(a: Option<ScopeId>, b: Option<ScopeId>) -> bool
     }
 }
 
+/// How often positions of a scope were looked up, and how often a node was known then.
+#[derive(Clone, Copy)]
+struct Look {
+    asked: u32,
+    met: u32,
+}
+
+impl Look {
+    /// Whether it serves to look another one up.
+    fn serves(&self) -> bool {
+        self.asked < FIRST_LOOKS || self.met >= self.asked / LEAST_MET
+    }
+}
+
 /// The nodes that are known, each in a place by the number of its position.
 #[derive(Drop)]
 pub struct KnownNodes<'p> {
@@ -100,6 +151,8 @@ pub struct KnownNodes<'p> {
     /// How many nodes were kept, and how often one was met again.
     kept: u32,
     met: u32,
+    /// For each scope how its positions were looked up so far.
+    looks: Vec<Look>,
     ghost compared: { IfSome likeness (λ l. l ≡ problem.now) } by { Prim.hlevel props },
     ghost same: { All (λ n. n.problem.now ≡ problem.now) nodes.items } by { Prim.hlevel props },
 }
@@ -125,7 +178,7 @@ pub fn is_decided(found: Found) -> bool
 }
 
 impl<'p> KnownNodes<'p> {
-    /// No node yet. Nodes are kept only where that is wanted and nothing is optimised. It fails only where memory runs out.
+    /// No node yet. Nodes are kept only where that is wanted. It fails only where memory runs out.
     pub fn new(
         alloc: Global,
         levels: &Levels<'p>,
@@ -143,6 +196,7 @@ impl<'p> KnownNodes<'p> {
             lines: 0,
             kept: 0,
             met: 0,
+            looks: vec![in alloc; Look { asked: 0, met: 0 }; levels.problem.scopes()]?,
         })
     }
 
@@ -159,7 +213,7 @@ impl<'p> KnownNodes<'p> {
             && end.left > 0
             && lines >= LEAST_LINES
             && lines <= MOST_LINES
-            && is_won(end.found).is_some()
+            && is_decided(end.found)
             && remains.is_fresh(level)
     }
 
@@ -172,14 +226,15 @@ impl<'p> KnownNodes<'p> {
         position: Option<u64>,
         remains: &SearchBox,
         end: NodeEnd,
-        lines: Vec<Line>,
+        vector: &[i64],
+        lines: Arena,
     ) -> Result<(), AllocError>
         requires game { level.now.problem.now ≡ self.old.problem.now }
         requires here { IsEntered level.now.problem.now level.now.number remains.now }
-        requires finished { IsFinished level.now.problem.now level.now.number remains.now.store.box (scope_number horizon) end.found end.had end.left lines.items }
+        requires ended { IsEnded level.now.problem.now level.now.number remains.now.store.box (scope_number horizon) (verdict_of end.found vector.now) end.had end.left lines }
         ensures { self.new.problem.now ≡ self.old.problem.now }
     {
-        match self.node_for(alloc, level, horizon, position, remains, end, lines)? {
+        match self.node_for(alloc, level, horizon, position, remains, end, vector, lines)? {
             Some(node) => self.put(node),
             None => Ok(()),
         }
@@ -194,35 +249,42 @@ impl<'p> KnownNodes<'p> {
         position: Option<u64>,
         remains: &SearchBox,
         end: NodeEnd,
-        lines: Vec<Line>,
+        vector: &[i64],
+        lines: Arena,
     ) -> Result<Option<KnownNode<'p>>, AllocError>
         requires game { level.now.problem.now ≡ self.now.problem.now }
         requires here { IsEntered level.now.problem.now level.now.number remains.now }
-        requires finished { IsFinished level.now.problem.now level.now.number remains.now.store.box (scope_number horizon) end.found end.had end.left lines.items }
+        requires ended { IsEnded level.now.problem.now level.now.number remains.now.store.box (scope_number horizon) (verdict_of end.found vector.now) end.had end.left lines }
         ensures { IfOk result (λ found. IfSome found (λ node. node.problem.now ≡ self.now.problem.now)) }
     {
         let Some(likeness) = &self.likeness else {
             return Ok(None);
         };
-        let Some(won) = is_won(end.found) else {
-            return Ok(None);
-        };
-        let here = remains.values_before(level);
         let Some(number) = position else {
             return Ok(None);
         };
-        if end.left == 0 || !stand_alike(likeness, level, remains, lines.as_slice()) {
+        if end.left == 0 {
             return Ok(None);
         }
-        likeness.plain();
+        if vector.len() > self.problem.scopes() {
+            return Ok(None);
+        }
+        if !is_decided(end.found) {
+            return Ok(None);
+        }
+        if !stand_alike(likeness, level, remains, &lines) {
+            return Ok(None);
+        }
+        let here = remains.values_before(level);
         Ok(Some(KnownNode {
             problem: self.problem,
             scope: ScopeId(level.number),
             horizon,
             number,
             values: Vec::from_slice(alloc, here)?,
-            won,
-            turns: turns_in(lines.as_slice()),
+            found: end.found,
+            vector: Vec::from_slice(alloc, vector)?,
+            turns: turns_in(&lines),
             lines,
         }))
     }
@@ -269,11 +331,32 @@ impl<'p> KnownNodes<'p> {
         Ok(())
     }
 
-    /// Learns that a node was met again.
-    pub fn tell_met(&mut self)
+    /// Learns that a position of the scope was looked up, and its node was known.
+    pub fn tell_met(&mut self, number: u8)
         ensures { self.new.problem.now ≡ self.old.problem.now }
     {
         self.met = self.met.saturating_add(1);
+        if let Some(look) = self.looks.get_mut(number as usize) {
+            look.asked = look.asked.saturating_add(1);
+            look.met = look.met.saturating_add(1);
+        }
+    }
+
+    /// Learns that one was looked up whose node wasn't known.
+    pub fn tell_missed(&mut self, number: u8)
+        ensures { self.new.problem.now ≡ self.old.problem.now }
+    {
+        if let Some(look) = self.looks.get_mut(number as usize) {
+            look.asked = look.asked.saturating_add(1);
+        }
+    }
+
+    /// Whether it serves to look a position of the scope up.
+    fn serves(&self, number: u8) -> bool {
+        match self.looks.get(number as usize) {
+            Some(look) => look.serves(),
+            None => false,
+        }
     }
 
     /// Has no node any more.
@@ -285,7 +368,7 @@ impl<'p> KnownNodes<'p> {
         self.lines = 0;
     }
 
-    /// The number of the position of the scope's node. None comes where nothing is kept for it.
+    /// The number of the position of the scope's node. None comes where nothing is kept for it, or it doesn't serve to look it up.
     pub fn position(
         &self,
         level: &Level,
@@ -297,6 +380,9 @@ impl<'p> KnownNodes<'p> {
         let Some(likeness) = &self.likeness else {
             return None;
         };
+        if !self.serves(level.number) {
+            return None;
+        }
         position_number(likeness, level, horizon, remains)
     }
 
@@ -313,7 +399,7 @@ impl<'p> KnownNodes<'p> {
         requires game { level.now.problem.now ≡ self.now.problem.now }
         requires here { IsEntered level.now.problem.now level.now.number remains.now }
         ensures within { IfSome result (λ at. at < length self.now.nodes.items) }
-        ensures stands { IfSome result (λ at. IfSome (slice_get self.now.nodes.items at) (λ n. StandsHere level.now.problem.now level.now.number (scope_number horizon) left remains.now.store.box n.values.items n.won n.turns n.lines.items)) }
+        ensures stands { IfSome result (λ at. IfSome (slice_get self.now.nodes.items at) (λ n. StandsHere level.now.problem.now level.now.number (scope_number horizon) left remains.now.store.box (verdict_of n.found n.vector.items) n.turns n.lines)) }
     {
         let Some(likeness) = &self.likeness else {
             return None;
@@ -324,13 +410,10 @@ impl<'p> KnownNodes<'p> {
             return None;
         }
         let node = self.node(at);
-        let is_it = node.number == number
-            && node.scope.0 == level.number
-            && is_same(node.horizon, horizon)
-            && node.turns <= left
-            && is_like(likeness, level, remains, node.values.as_slice());
-        likeness.plain();
-        if is_it { Some(at) } else { None }
+        if node.number == number && node.stands_at(likeness, level, horizon, left, remains) {
+            return Some(at);
+        }
+        None
     }
 
     /// The node that stands at this place of the list.
@@ -356,7 +439,7 @@ fn place_of(number: u64) -> usize {
     (number >> REST_BITS) as usize
 }
 
-/// What positions are compared by, where nodes are kept: that is wanted, and nothing is optimised.
+/// What positions are compared by, where nodes are kept.
 fn likeness_for<'p>(
     alloc: Global,
     levels: &Levels<'p>,
@@ -364,7 +447,7 @@ fn likeness_for<'p>(
 ) -> Result<Option<Likeness<'p>>, AllocError>
     ensures { IfOk result (λ found. IfSome found (λ likeness. likeness ≡ levels.now.problem.now)) }
 {
-    if !wanted || !asks_nothing(levels.problem) {
+    if !wanted {
         return Ok(None);
     }
     let likeness = Likeness::new(alloc, levels)?;

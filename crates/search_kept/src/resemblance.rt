@@ -10,9 +10,9 @@ ghost use Rattle.search_box.specs.Entered.{IsEntered};
 
 use likeness::Likeness;
 use model_levels::Level;
-use proof_tree::Line;
 use qc_model::ScopeId;
 use search_box::SearchBox;
+use strategy_arena::{Arena, LineCursor};
 
 /// Whether each variable from the scope's first on has all its declared values left.
 pub(crate) fn is_fresh(level: &Level, remains: &SearchBox) -> bool
@@ -70,12 +70,25 @@ pub(crate) fn stand_alike(
     likeness: &Likeness,
     level: &Level,
     remains: &SearchBox,
-    lines: &[Line],
+    lines: &Arena,
 ) -> bool
     requires game { level.now.problem.now ≡ likeness.now }
     requires here { IsEntered level.now.problem.now level.now.number remains.now }
     ensures like { IsTrue result → IsLike level.now.problem.now level.now.number (position level.now.problem.now level.now.number remains.now.store.box) remains.now.store.box }
     ensures looks { IsTrue result → IsTrue (list_all (line_looks level.now.problem.now level.now.number) lines.now) }
 {
-    is_like_itself(level, remains) && likeness.are_looking(level, lines)
+    is_like_itself(level, remains) && are_looking(likeness, level, &mut lines.cursor())
+}
+
+/// Whether each of the lines that removes values removes those of a variable that is looked at from the scope on.
+fn are_looking(likeness: &Likeness, level: &Level, lines: &mut LineCursor<'_>) -> bool
+    requires game { level.now.problem.now ≡ likeness.now }
+    ensures { result ≡ list_all (line_looks level.now.problem.now level.now.number) lines.old }
+{
+    while let Some(line) = lines.next() {
+        if !likeness.is_line_looking(level, line) {
+            return false;
+        }
+    }
+    true
 }

@@ -6,9 +6,10 @@ use Rattle.qc_model.specs.declared.problem.VarId.{VarId}
 use Rattle.qc_model.specs.Block.{constraints_in_force}
 use Rattle.qc_model.specs.Closed.{keeps_ends}
 use Rattle.qc_model.specs.Content.{Game}
-use Rattle.qc_model.specs.Domains.{Box, has_empty, is_single, values_left}
+use Rattle.qc_model.specs.Domains.{Values, Box, has_empty, is_single, is_sub_box, values_left}
 use Rattle.qc_model.specs.Game.{before}
 use Rattle.qc_model.proofs.Before.{before_up}
+use Rattle.model_arguments.specs.Asked.{is_box_of}
 use Rattle.model_levels.proofs.Singles.{still_single}
 use Rattle.qc_model.specs.Verdict.{Seen}
 use Rattle.proof_tree.specs.Cover.{box_to}
@@ -73,9 +74,15 @@ goes_next Open g i x v b c d w l inside e entered on h here =
       closed = h;
     }
 
--- the box was closed before x lost its other values
-pub was_closed : (g : Game) (i : ℕ) (x : VarId) (v : ℤ) (b c : Boxed) → IsClosedAt g i b.store.box → c.store.box ≡ box_to b.store.box x.0 (v ∷ []) → WasClosed g i (x ∷ []) c.store.box
-was_closed g i x v b c h e = subst (WasClosed g i (x ∷ [])) (sym e) (closed_before g i b.store.box x [] (v ∷ []) (closed_now g i b.store.box h))
+-- the box was closed before x lost its other values, and one more variable some
+pub was_closed : (g : Game) (i : ℕ) (x : VarId) (v : ℤ) (b c : Boxed) → is_box_of g b.store.box ≡ true → IsClosedAt g i b.store.box → is_sub_box c.store.box b.store.box ≡ true → c.store.box ≡ box_to b.store.box x.0 (v ∷ []) →
+    WasClosed g i (x ∷ []) c.store.box
+was_closed g i x v b c d h s e =
+    subst (WasClosed g i (x ∷ [])) (sym e) (closed_before g i b.store.box x [] (v ∷ []) (ap (λ box. is_sub_box box b.store.box) (sym e) ∙ s) (closed_now g i b.store.box d h))
+
+pub was_closed_more : (g : Game) (i : ℕ) (x : VarId) (changed : List VarId) (vs : Values) (b c : Boxed) → is_sub_box c.store.box b.store.box ≡ true → c.store.box ≡ box_to b.store.box x.0 vs → WasClosed g i changed b.store.box →
+    WasClosed g i (x ∷ changed) c.store.box
+was_closed_more g i x changed vs b c s e w = subst (WasClosed g i (x ∷ changed)) (sym e) (closed_before g i b.store.box x changed vs (ap (λ box. is_sub_box box b.store.box) (sym e) ∙ s) w)
 
 -- lines that are appended one after the other
 pub lines_both : (a b c first second : List Line) → b ≡ a ++ first → c ≡ b ++ second → c ≡ a ++ (first ++ second)

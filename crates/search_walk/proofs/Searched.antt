@@ -15,7 +15,7 @@ use Rattle.search_walk.specs.declared.walk.Walk.{Walk}
 use Rattle.search_walk.specs.Here.{Here, at_horizon, here_at, node_of, with_above}
 use Rattle.search_walk.specs.Put.{BodyPut, IsBack}
 use Rattle.search_walk.specs.Rivals.{StandsAbove, above_at}
-use Rattle.search_walk.specs.Told.{BelowAnswers, BelowEnded, HasFew, IsBackBelow, NodeAnswers, NodeEnded, NodeLines, NodeTold, SeesOn, came_to}
+use Rattle.search_walk.specs.Told.{BelowAnswers, BelowEnded, HasFew, IsBackBelow, NodeEnded, NodeLines, NodeTold, NodeWrites, SeesOn, came_to}
 use Rattle.search_walk.proofs.Here.{body_more, whole_node}
 
 -- one place in other words
@@ -44,13 +44,13 @@ node_searched node tree own below z found a w mid same beats ahead e lines told 
 
 -- the node below a tuple, in words of the scope above it
 module _ (s : Stage) (found : Found) (a w : Walk) where
-  pub below_told : NodeAnswers s.cuts s.levels.now.problem.now (s.level.now.number + 1) s.horizon found a w → BelowAnswers s found a w
+  pub below_told : NodeWrites s.cuts s.levels.now.problem.now (s.level.now.number + 1) s.horizon found a w → BelowAnswers s found a w
   below_told told few up stands =
       let n = s.level.now.number in
       let h = scope_number s.horizon in
       let t = told few up (subst (λ m. StandsAbove a.joins m up) (sym (add-one n)) stands) in
       subst (λ m. NodeLines (node_of s.cuts (above_at s.level.now.problem.now m up) s.level.now.problem.now m h a) found a w) (add-one n)
-      (subst (λ (f : Game). NodeLines (node_of s.cuts (above_at f (n + 1) up) f (n + 1) h a) found a w) (sym s.same) t.written)
+      (subst (λ (f : Game). NodeLines (node_of s.cuts (above_at f (n + 1) up) f (n + 1) h a) found a w) (sym s.same) t)
 
   pub below_ended : NodeEnded s.cuts s.levels.now.problem.now (s.level.now.number + 1) s.horizon found a w → BelowEnded s found a w
   below_ended ended =

@@ -25,7 +25,7 @@ use Rattle.search_parts.specs.Beaten.{firsts, seen_bounds}
 use Rattle.search_parts.specs.Settled.{is_ended, is_vague_verdict, beats_none}
 use Rattle.search_parts.specs.Written.{NodeWritten}
 use Rattle.search_kept.specs.Aside.{StandsAside}
-use Rattle.search_kept.specs.Known.{IsEnded, IsFinished, StandsHere}
+use Rattle.search_kept.specs.Known.{IsEnded, StandsHere}
 use Rattle.search_kept.specs.declared.known.NodeEnd.{NodeEnd}
 use Rattle.search_walk.specs.Aims.{tracked_at}
 use Rattle.search_walk.specs.Going.{IsGoing, GoesOn}
@@ -80,17 +80,17 @@ HasNoWorse p before = IsTrue (has_no_worse (tracked_at p.game p.number) (firsts 
 
 -- the node that is known at this place, or was kept aside at it, stands here
 abbrev pub KnownStands : Game → ℕ → Option ScopeId → Walk → ℕ → Type 0
-KnownStands g i h w at = IfSome (slice_get w.known.nodes.items at) (λ n. StandsHere g i (scope_number h) w.left w.remains.store.box n.values.items n.won n.turns n.lines.items)
+KnownStands g i h w at = IfSome (slice_get w.known.nodes.items at) (λ n. StandsHere g i (scope_number h) w.left w.remains.store.box (verdict_of n.found n.vector.items) n.turns n.lines)
 
 abbrev pub AsideStands : Stage → Walk → ℕ → Type 0
-AsideStands s w at = IfSome (slice_get w.aside.nodes.items at) (λ n. StandsAside s.level.now.problem.now (suc s.level.now.number) (scope_number s.horizon) w.left w.remains.store.box (verdict_of n.found n.vector.items) n.turns n.lines.items)
+AsideStands s w at = IfSome (slice_get w.aside.nodes.items at) (λ n. StandsAside s.level.now.problem.now (suc s.level.now.number) (scope_number s.horizon) w.left w.remains.store.box (verdict_of n.found n.vector.items) n.turns n.lines)
 
 -- the lines from `start` on are those of a node that ended so
 abbrev pub NodeFinished : Game → ℕ → Option ScopeId → NodeEnd → ℕ → Walk → Type 0
-NodeFinished g i h end start w = end.had < 2147483648 → IsFinished g i w.remains.store.box (scope_number h) end.found end.had end.left (drop start w.lines)
+NodeFinished g i h end start w = end.had < 2147483648 → IsEnded g i w.remains.store.box (scope_number h) (came_to end.found w) end.had end.left (drop start w.lines)
 
 abbrev pub BelowFinished : Stage → NodeEnd → ℕ → Walk → Type 0
-BelowFinished s end start w = end.had < 2147483648 → IsEnded s.level.now.problem.now (suc s.level.now.number) w.remains.store.box (scope_number s.horizon) (came_to end.found w) end.had end.left (drop start w.lines)
+BelowFinished s end start w = NodeFinished s.level.now.problem.now (suc s.level.now.number) s.horizon end start w
 
 -- the scope has nothing to keep up with
 abbrev pub HasNoRival : Stage → Type 0
@@ -141,12 +141,9 @@ BodyTold p found old new = BodyPut p (came_to found new) old.left new.left old.l
 abbrev pub NodeTold : Here → Found → Walk → Walk → Type 0
 NodeTold p found old new = NodePut p (came_to found new) old.left new.left old.lines new.lines new.joins
 
--- of the goal, or of a node that is known, whatever the search cuts and the scope right above beats
+-- of the goal, whatever the search cuts and the scope right above beats
 abbrev pub GoalAnswers : Game → ℕ → Option ScopeId → Found → Walk → Walk → Type 0
 GoalAnswers g i h found old new = (cuts : Bool) (above : ℤ → Bool) → NodeTold (node_of cuts above g i (scope_number h) old) found old new
-
-abbrev pub KnownAnswers : Bool → Game → ℕ → Option ScopeId → Found → Walk → Walk → Type 0
-KnownAnswers cuts g i h found old new = (above : ℤ → Bool) → NodeTold (node_of cuts above g i (scope_number h) old) found old new
 
 -- of a node that nobody passes, below a horizon that tells it
 abbrev pub StuckAnswers : Level → Found → Walk → Walk → Type 0
@@ -159,6 +156,10 @@ JoinAnswers l found old new = (xs : List Seen) → StandsAt old.joins l.number x
 -- so without what the node's join tells
 abbrev pub NodeLines : Here → Found → Walk → Walk → Type 0
 NodeLines p found old new = NodeWritten p.cuts p.above p.game (drop p.number p.game.scopes) p.number (demands p.game p.number) p.box p.horizon (came_to found new) old.left new.left old.lines new.lines
+
+-- so of a node that is known, whatever the scope right above beats
+abbrev pub KnownAnswers : Bool → Game → ℕ → Option ScopeId → Found → Walk → Walk → Type 0
+KnownAnswers cuts g i h found old new = (above : ℤ → Bool) → NodeLines (node_of cuts above g i (scope_number h) old) found old new
 
 -- how a node ended, by a search that cuts
 abbrev pub EndsSo : Game → ℕ → Option ScopeId → Found → Walk → Walk → Type 0
@@ -190,6 +191,10 @@ CaseAnswers p x v old new = (before : List Seen) → MayGoInto p old before → 
 -- a node, whatever the scope right above has seen
 abbrev pub NodeAnswers : Bool → Game → ℕ → Option ScopeId → Found → Walk → Walk → Type 0
 NodeAnswers cuts g i h found old new = HasFew old → (up : List Seen) → StandsAbove old.joins i up → NodeTold (node_of cuts (above_at g i up) g i (scope_number h) old) found old new
+
+-- its lines alone, whether it is searched or known
+abbrev pub NodeWrites : Bool → Game → ℕ → Option ScopeId → Found → Walk → Walk → Type 0
+NodeWrites cuts g i h found old new = HasFew old → (up : List Seen) → StandsAbove old.joins i up → NodeLines (node_of cuts (above_at g i up) g i (scope_number h) old) found old new
 
 -- the node below the stage's scope, where its lines were kept aside
 abbrev pub AsideAnswers : Stage → Found → Walk → Walk → Type 0

@@ -65,7 +65,6 @@ pub(crate) fn put_known(
     at: usize,
     walk: &mut Walk,
 ) -> Result<Found, AllocError>
-    requires scope { number < length levels.now.problem.now.scopes }
     requires joins { game_of walk.old.joins ≡ levels.now.problem.now }
     requires cuts { IsTrue cuts }
     requires within { at < length walk.old.known.nodes.items }
@@ -74,14 +73,12 @@ pub(crate) fn put_known(
     ensures ended { IfOk result (λ found. EndsSo levels.now.problem.now number horizon found walk.old walk.new) }
     ensures back { OnOk result (IsBack levels.now.problem.now number walk.old walk.new) }
 {
-    levels.problem.known();
     let node = walk.known.node(at);
-    walk.lines.put_all(node.lines())?;
+    walk.lines.put_copy(node.lines())?;
     walk.left = walk.left.saturating_sub(node.turns);
-    walk.joins.clear(ScopeId(number));
-    // a node that is won comes to what the goal does where it holds, and one that is lost to what it does else
-    let found = walk.joins.goal(node.won, walk.remains.all_values());
-    walk.known.tell_met();
+    walk.joins.hand_out(node.vector());
+    let found = node.found;
+    walk.known.tell_met(number);
     Ok(found)
 }
 
@@ -108,6 +105,7 @@ pub(crate) fn keep_node(
     if !cuts || end.had >= 2_147_483_648 || position.is_none() || start > walk.lines.len() {
         return Ok(());
     }
+    walk.known.tell_missed(number);
     let level = levels.level(ScopeId(number));
     let len = walk.lines.len() - start;
     if !walk.known.is_wanted(level, &walk.remains, end, len) {
@@ -121,6 +119,7 @@ pub(crate) fn keep_node(
         position,
         &walk.remains,
         end,
+        walk.joins.vector(),
         lines,
     )
 }
@@ -165,7 +164,7 @@ pub(crate) fn put_aside(stage: &Stage, at: usize, walk: &mut Walk) -> Result<Fou
     ensures back { OnOk result (IsBackBelow stage.now walk.old walk.new) }
 {
     let node = walk.aside.node(at);
-    walk.lines.put_all(node.lines())?;
+    walk.lines.put_copy(node.lines())?;
     walk.left = walk.left.saturating_sub(node.turns);
     walk.joins.hand_out(node.vector());
     Ok(node.found)

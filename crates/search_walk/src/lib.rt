@@ -6,9 +6,9 @@
 //!
 //! With cuts it keeps of each settled node the case that settled it alone, and tries first the tuple after which no other
 //! counted at the same position before, or else at other nodes of the scope, or one that a free search found (`search_advice`). What
-//! stands below a tuple that was tried and ended nothing is kept aside for where the values are gone over. Where
-//! nothing is optimised it copies the lines of a node whose position was decided before (`search_kept`). Without cuts it goes over
-//! the cases in order, so that what is left open took exactly the turns that it was given.
+//! stands below a tuple that was tried and ended nothing is kept aside for where the values are gone over, and the lines of a node
+//! whose position was decided before are copied (`search_kept`). Without cuts it goes over the cases in order, so that what is left
+//! open took exactly the turns that it was given.
 //!
 //! `node` goes through a scope's node, and `part` through the rest of a scope's own tree, whatever was seen before it. Their
 //! contracts (`specs/Told`) say which lines were put by what holds of the tree that they are (`search_parts`), not by how it was

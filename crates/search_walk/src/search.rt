@@ -34,7 +34,7 @@ ghost use Rattle.search_walk.specs.Put.{IsBack};
 ghost use Rattle.search_walk.specs.Here.{here_of};
 ghost use Rattle.search_walk.specs.Later.{LaterAnswers, LaterBack};
 ghost use Rattle.search_walk.specs.Stops.{MayStop};
-ghost use Rattle.search_walk.specs.Told.{BelowAnswers, BelowEnded, CaseAnswers, CasesAnswer, EndingAnswers, FirstTold, GoalIsClosed, GoesFrom, GoesOnFrom, HasFew, HasNoRival, IsAt, IsBackAt, IsBackBelow, IsBelow, IsSure, NodeAnswers, NodeEnded, OwnAnswers, PartAnswers, TreeAnswers};
+ghost use Rattle.search_walk.specs.Told.{BelowAnswers, BelowEnded, CaseAnswers, CasesAnswer, EndingAnswers, FirstTold, GoalIsClosed, GoesFrom, GoesOnFrom, HasFew, HasNoRival, IsAt, IsBackAt, IsBackBelow, IsBelow, IsSure, NodeAnswers, NodeEnded, NodeWrites, OwnAnswers, PartAnswers, TreeAnswers};
 
 use crate::aim::{Worse, aim_of};
 use crate::endings::{at_goal, is_ended, is_here, stuck, verdict};
@@ -63,8 +63,7 @@ use search_kept::{NodeEnd, is_decided};
 use strategy_arena::Arena;
 
 /// The node of a scope, or of the goal, in the box that the walk holds, below the horizon in force. Where it is exact,
-/// its vector is the one that the walk's joins handed out last.
-#[cycle(search)]
+/// its vector is the one that the walk's joins handed out last. The search begins with it, so whether it is known isn't asked.
 pub fn node(
     levels: &Levels,
     cuts: bool,
@@ -78,6 +77,33 @@ pub fn node(
     requires closed { GoalIsClosed levels.now.problem.now number walk.old.remains }
     requires joins { game_of walk.old.joins ≡ levels.now.problem.now }
     ensures told { IfOk result (λ found. NodeAnswers cuts levels.now.problem.now number horizon found walk.old walk.new) }
+    ensures ended { IfOk result (λ found. NodeEnded cuts levels.now.problem.now number horizon found walk.old walk.new) }
+    ensures back { OnOk result (IsBack levels.now.problem.now number walk.old walk.new) }
+    ensures stops { IfErr result (MayStop cuts) }
+{
+    levels.problem.known();
+    if number as usize == levels.problem.scopes() {
+        return Ok(at_goal(levels, horizon, number, walk)?);
+    }
+    searched_node(levels, cuts, horizon, number, None, walk)
+}
+
+/// The node below a tuple. In the first pass its lines are copied where it is known for its position; then the join of its scope
+/// isn't told, so of that nothing is said.
+#[cycle(search)]
+fn later_node(
+    levels: &Levels,
+    cuts: bool,
+    horizon: Option<ScopeId>,
+    number: u8,
+    walk: &mut Walk,
+) -> Result<Found, Stop>
+    requires scope { number ≤ length levels.now.problem.now.scopes }
+    requires horizon { IfSome horizon (λ h. h.0 ≤ length levels.now.problem.now.scopes) }
+    requires here { IsEntered levels.now.problem.now number walk.old.remains }
+    requires closed { GoalIsClosed levels.now.problem.now number walk.old.remains }
+    requires joins { game_of walk.old.joins ≡ levels.now.problem.now }
+    ensures told { IfOk result (λ found. NodeWrites cuts levels.now.problem.now number horizon found walk.old walk.new) }
     ensures ended { IfOk result (λ found. NodeEnded cuts levels.now.problem.now number horizon found walk.old walk.new) }
     ensures back { OnOk result (IsBack levels.now.problem.now number walk.old walk.new) }
     ensures stops { IfErr result (MayStop cuts) }
@@ -456,7 +482,7 @@ fn below_tuple(stage: &Stage, walk: &mut Walk) -> Result<Found, Stop>
     if let Some(at) = aside_at(stage, walk) {
         return Ok(put_aside(stage, at, walk)?);
     }
-    node(
+    later_node(
         stage.levels,
         stage.cuts,
         stage.horizon,

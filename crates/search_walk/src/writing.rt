@@ -161,11 +161,9 @@ pub(crate) fn drop_before(
 }
 
 /// A copy of the lines from place `at` on.
-pub(crate) fn copied_from(alloc: Global, lines: &Arena, at: usize) -> Result<Vec<Line>, AllocError>
+pub(crate) fn copied_from(alloc: Global, lines: &Arena, at: usize) -> Result<Arena, AllocError>
     requires { at ≤ length lines.now }
-    ensures { IfOk result (λ copy. copy.items ≡ drop at lines.now) }
+    ensures { IfOk result (λ copy. copy ≡ drop at lines.now) }
 {
-    let mut copy = Vec::with_capacity(alloc, lines.len().saturating_sub(at))?;
-    lines.copy_from(at, &mut copy)?;
-    Ok(copy)
+    lines.copied(alloc, at)
 }

@@ -22,12 +22,12 @@ returns-clause-told c =
     let box = a.remains.store.box in
     let node = c.node-node.result.now in
     let v = verdict_of node.found node.vector.items in
-    let here = subst (λ o. IfSome o (λ (n : AsideNode). StandsAside g i h a.left box (verdict_of n.found n.vector.items) n.turns n.lines.items)) c.node-node.ensures.node c.requires.stands in
-    let written = subst (λ (ls : List Line). c.put_all.new.self ≡ a.lines ++ ls) c.lines.ensures c.in_ok-put_all.ensures.put in
+    let here = subst (λ o. IfSome o (λ (n : AsideNode). StandsAside g i h a.left box (verdict_of n.found n.vector.items) n.turns n.lines)) c.node-node.ensures.node c.requires.stands in
+    let written = subst (λ (ls : List Line). c.put_copy.new.self ≡ a.lines ++ ls) c.lines.ensures c.in_ok-put_copy.ensures.put in
     let out = c.hand_out.ensures.out ∙ c.vector.ensures in
     λ above.
-    subst (λ vs. NodeWritten c.args.stage.now.cuts above g (drop i g.scopes) i (demands g i) box h (verdict_of node.found vs) a.left c.saturating_sub-walk.result a.lines c.put_all.new.self) (sym out)
-    (aside_written c.args.stage.now.cuts above g i box h v node.turns a.left _ node.lines.items a.lines c.put_all.new.self c.requires.cuts here c.saturating_sub-walk.ensures written)
+    subst (λ vs. NodeWritten c.args.stage.now.cuts above g (drop i g.scopes) i (demands g i) box h (verdict_of node.found vs) a.left c.saturating_sub-walk.result a.lines c.put_copy.new.self) (sym out)
+    (aside_written c.args.stage.now.cuts above g i box h v node.turns a.left _ node.lines a.lines c.put_copy.new.self c.requires.cuts here c.saturating_sub-walk.ensures written)
 
 pub returns-clause-ended : goal.returns-clause-ended
 returns-clause-ended c = node_ends c.args.stage.now.cuts beats_none _ _ _ _ _ _ _ _ _ _ _ c.requires.cuts refl refl (returns-clause-told c beats_none)

@@ -1,16 +1,17 @@
-use Rattle.std.proofs.Common.{◌≡◌, ◌<◌, ◌∙◌, ap, subst, arith, rules, suc, length, [], ◌∷◌, w64}
+use Rattle.std.proofs.Common.{◌≡◌, ◌<◌, ◌∙◌, ap, subst, arith, rules, suc, length, [], ◌∷◌, true, w64}
 use Rattle.std.proofs.lemmas.Int.{to_z-of_z}
 use Rattle.std.proofs.lemmas.Result.{IfOk-weaker}
 use mir.Val.{SFits}
 use Rattle.qc_model.specs.Content.{Game}
 use Rattle.qc_model.specs.Domains.{Box}
 use Rattle.qc_model.specs.Game.{before}
+use Rattle.model_arguments.specs.Asked.{is_box_of}
 use Rattle.proof_tree.specs.Cover.{box_to}
 use Rattle.search_box.proofs.Entering.{entered_on, leads_further}
 use Rattle.search_walk.specs.Narrowed.{NarrowTold, IsGivenUp}
 use Rattle.search_walk.specs.declared.narrowing.GivenUp.{GivenUp}
 use Rattle.search_walk.proofs.Losing.{closed_told, on_ok}
-use Rattle.search_walk.proofs.Remains.{goes_next}
+use Rattle.search_walk.proofs.Remains.{goes_next, was_closed, was_closed_more}
 use Rattle.search_walk.proofs.narrowing.narrow.Goals as goal
 
 pub returns-in_err-give_up-clause-on : goal.returns-in_err-give_up-clause-on
@@ -21,6 +22,31 @@ close_after-requires-in-Values-clause-here c =
     let l = c.args.stage.now.level.now in
     let lost = subst (λ (a : GivenUp). IsGivenUp a c.take.new.self.store.box c.give_up.new.walk.remains.store.box) c.in-Values.is c.in_ok-give_up.ensures.lost in
     entered_on l.problem.now l.number c.take.new.self c.give_up.new.walk.remains (c.take.ensures.here l.problem.now l.number c.requires.going.within.here) c.give_up.ensures.on lost.full
+
+pub close_after-requires-clause-earlier : goal.close_after-requires-clause-earlier
+close_after-requires-clause-earlier c =
+    let l = c.args.stage.now.level.now in
+    let b = c.args.walk.now.remains in
+    let m = c.give_up.new.walk.remains in
+    let fits : SFits w64 c.args.value = search rules in
+    let content : c.take.new.self.store.box ≡ box_to b.store.box c.args.x.0 (c.args.value ∷ []) = simp to_z-of_z at c.in_ok-take.ensures.content in
+    let declared = subst (λ (f : Game). is_box_of f b.store.box ≡ true) c.requires.going.within.here.game c.known-2.ensures.declared in
+    let lost = subst (λ (a : GivenUp). IsGivenUp a c.take.new.self.store.box m.store.box) c.in-Nothing.is c.in_ok-give_up.ensures.lost in
+    let on = leads_further b c.take.new.self m c.take.ensures.on c.give_up.ensures.on in
+    was_closed l.problem.now l.number c.args.x c.args.value b m declared c.requires.going.closed on.fewer (lost ∙ content)
+
+pub close_after-requires-in-Values-clause-earlier : goal.close_after-requires-in-Values-clause-earlier
+close_after-requires-in-Values-clause-earlier c =
+    let l = c.args.stage.now.level.now in
+    let g = l.problem.now in
+    let b = c.args.walk.now.remains in
+    let m = c.give_up.new.walk.remains in
+    let fits : SFits w64 c.args.value = search rules in
+    let content : c.take.new.self.store.box ≡ box_to b.store.box c.args.x.0 (c.args.value ∷ []) = simp to_z-of_z at c.in_ok-take.ensures.content in
+    let declared = subst (λ (f : Game). is_box_of f b.store.box ≡ true) c.requires.going.within.here.game c.known-2.ensures.declared in
+    let lost = subst (λ (a : GivenUp). IsGivenUp a c.take.new.self.store.box m.store.box) c.in-Values.is c.in_ok-give_up.ensures.lost in
+    was_closed_more g l.number c.in-Values.y (c.args.x ∷ []) lost.kept c.take.new.self m c.give_up.ensures.on.fewer lost.is_new
+    (was_closed g l.number c.args.x c.args.value b c.take.new.self declared c.requires.going.closed c.take.ensures.on.fewer content)
 
 pub returns-in-All-clause-on : goal.returns-in-All-clause-on
 returns-in-All-clause-on c = leads_further c.args.walk.now.remains c.take.new.self c.give_up.new.walk.remains c.take.ensures.on c.give_up.ensures.on

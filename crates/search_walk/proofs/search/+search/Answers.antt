@@ -64,8 +64,8 @@ after_tuple-below_tuple-requires t c =
       (c.tuple_allowed.ensures.entered, (λ e. goal_closed k k l.number now.store.box refl closed (add-one l.number ∙ e), c.requires.joins)),
     )
 
-pub below_tuple-node-requires : goal.below_tuple-node-requires
-below_tuple-node-requires t c =
+pub below_tuple-later_node-requires : goal.below_tuple-later_node-requires
+below_tuple-later_node-requires t c =
     let l = c.args.stage.now.level.now in
     let k = l.problem.now in
     let g = c.args.stage.now.levels.now.problem.now in
@@ -92,15 +92,15 @@ after_tuple-returns-then-not-tuple_allowed-clause-told t c =
 
 pub below_tuple-returns-clause-told : goal.below_tuple-returns-clause-told
 below_tuple-returns-clause-told t c =
-    IfOk-weaker c.node.result _ _ (λ found told. below_told c.args.stage.now found c.args.walk.now c.node.new.walk told) c.node.ensures.told
+    IfOk-weaker c.later_node.result _ _ (λ found told. below_told c.args.stage.now found c.args.walk.now c.later_node.new.walk told) c.later_node.ensures.told
 
 pub below_tuple-returns-clause-ended : goal.below_tuple-returns-clause-ended
 below_tuple-returns-clause-ended t c =
-    IfOk-weaker c.node.result _ _ (λ found ended. below_ended c.args.stage.now found c.args.walk.now c.node.new.walk ended) c.node.ensures.ended
+    IfOk-weaker c.later_node.result _ _ (λ found ended. below_ended c.args.stage.now found c.args.walk.now c.later_node.new.walk ended) c.later_node.ensures.ended
 
 pub below_tuple-returns-clause-back : goal.below_tuple-returns-clause-back
 below_tuple-returns-clause-back t c =
-    on_ok_weaker c.node.result (λ back. below_back c.args.stage.now c.args.walk.now c.node.new.walk back) c.node.ensures.back
+    on_ok_weaker c.later_node.result (λ back. below_back c.args.stage.now c.args.walk.now c.later_node.new.walk back) c.later_node.ensures.back
 
 pub after_tuple-keep_aside-requires : goal.after_tuple-keep_aside-requires
 after_tuple-keep_aside-requires t c =
@@ -305,6 +305,10 @@ later_cases-values-preserved t c =
           case_passed s x a c.values.walk z had old first c.first-first.result v c.values.before c.last_to_drop-dropped.result c.is_settled.result c.is_settled-in-values.result c.args.start c.len-at.result gone c.drop_before.new.lines c.in_ok-drop_before.ensures (c.in_ok-with_value.ensures.told (λ q. cc))
           (values_from (to_z w64 (of_z w64 c.in-Some.next)) vs) next.1 (now.goes had old first e goes);
     }
+
+pub later_node-returns-then-number-scopes-clause-told : goal.later_node-returns-then-number-scopes-clause-told
+later_node-returns-then-number-scopes-clause-told t c =
+    λ few up stands. (c.in_ok-at_goal.ensures.told c.args.cuts (above_at c.args.levels.now.problem.now c.args.number up)).written
 
 pub searched_node-returns-then-is_here-clause-told : goal.searched_node-returns-then-is_here-clause-told
 searched_node-returns-then-is_here-clause-told t c =

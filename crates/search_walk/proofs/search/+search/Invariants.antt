@@ -12,8 +12,8 @@ use Rattle.search_walk.proofs.Ahead.{Owed}
 use Rattle.search_walk.proofs.Covering.{ComesAfter}
 use Rattle.search_walk.proofs.search.+search.Given as goal
 
-abbrev pub decreases-node : goal.decreases-node
-decreases-node l = 15 * ((length l.levels.now.problem.now.scopes - l.number) + (length l.levels.now.problem.now.variables - before l.levels.now.problem.now l.number)) + 15
+abbrev pub decreases-later_node : goal.decreases-later_node
+decreases-later_node l = 15 * ((length l.levels.now.problem.now.scopes - l.number) + (length l.levels.now.problem.now.variables - before l.levels.now.problem.now l.number)) + 15
 
 abbrev pub decreases-searched_node : goal.decreases-searched_node
 decreases-searched_node l = 15 * ((length l.levels.now.problem.now.scopes - l.number) + (length l.levels.now.problem.now.variables - before l.levels.now.problem.now l.number)) + 14

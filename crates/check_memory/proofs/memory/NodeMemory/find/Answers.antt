@@ -1,4 +1,4 @@
-use Rattle.std.proofs.Common.{rules, arith, ◌≡◌, ◌∙◌, sym, subst, refl, ◌<◌, drop, length, take, IsTrue, true, get_or, List, ◌++◌, ℕ}
+use Rattle.std.proofs.Common.{rules, arith, ◌≡◌, ◌∙◌, sym, subst, refl, ◌<◌, drop, length, take, IsTrue, get_or, List, ◌++◌, ℕ}
 use Rattle.std.specs.Prelude.{ℤ}
 use Rattle.std.proofs.lemmas.Bool.Decides.{Decides-eqb}
 use Rattle.std.proofs.lemmas.Slice.Eq.{starts_is}
@@ -24,7 +24,7 @@ returns c =
     let inside : at < length ns = omega (arith, c.if-at-len.false, c.len.ensures) in
     let is : n ≡ get_or ns at n = search rules in
     let node : IsNodeOf g vs ts n = subst (IsNodeOf g vs ts) (sym is) (c.self.invariant.nodes at n inside) in
-    let plain : IsTrue (ask_nothing g.scopes) = subst (λ (u : Game). ask_nothing u.scopes ≡ true) same c.plain.ensures in
+    let plain : IsTrue (ask_nothing g.scopes) = search rules in
     let own : c.text_of.result.now ≡ take n.size (drop n.text ts) = c.text_of.ensures ∙ search rules in
     let part : c.values_of.result.now ≡ take n.count (drop n.values vs) = c.values_of.ensures ∙ search rules in
     let rest = drop (length c.text_of.result.now) text in
