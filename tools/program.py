@@ -1,12 +1,12 @@
 """The program that tools, comparisons and measurements run, named in one way: by the option --program, else by the environment
 variable QECODE, else the one that ./qecode has proved and built. Where it's qdense that runs, the variable is QDENSE, and the
-program that of ./qdense."""
+program that of ./qdense; so it is of qpart, which tools do without where it isn't there."""
 import os
 import shutil
 import subprocess
 
 TOP = os.path.dirname(os.path.dirname(os.path.realpath(__file__)))
-CRATES = {"qecode": "qc_program", "qdense": "dense_program"}
+CRATES = {"qecode": "qc_program", "qdense": "dense_program", "qpart": "qpart"}
 
 
 def built(tool):
@@ -47,8 +47,25 @@ class Program:
         return done.returncode, done.stdout
 
 
+def add_piece_option(parser):
+    parser.add_argument("--piece-program", metavar="PATH", help="the program for pieces, in place of QPART or the one that ./qpart built, "
+                                                                "where it's there; where PATH is empty, none")
+
+
+def piece_program(name=None):
+    """The path of qpart; None where no name is given and it isn't built."""
+    wanted = os.environ.get("QPART") if name is None else name
+    if wanted is None and os.access(built("qpart"), os.X_OK):
+        wanted = built("qpart")
+    return Program(wanted, "qpart").path if wanted else None
+
+
 # A call that proves and builds.
-FIRST = {"qecode": "print examples/price.qc", "qdense": "check crates/dense_program/data/sum.qc crates/dense_program/data/sum.cert"}
+FIRST = {
+    "qecode": "print examples/price.qc",
+    "qdense": "check crates/dense_program/data/sum.qc crates/dense_program/data/sum.cert",
+    "qpart": "solve examples/price.qc",
+}
 
 
 def missing(wanted, tool):

@@ -1,7 +1,7 @@
 """Small games at random, split into pieces as small as can be and merged again, against the outcome by brute force.
 
-    bench/run spread_fuzz [--games N] [--seed S] [--first N] [--program PATH] [--open] [--wish] [--engine clock|processes|dask]
-                          [--address A] [--jobs J]
+    bench/run spread_fuzz [--games N] [--seed S] [--first N] [--program PATH] [--piece-program PATH] [--open] [--wish]
+                          [--engine clock|processes|dask] [--address A] [--jobs J]
 
 The pieces get a turn or a few, so that they are split at every level that allows it. Whatever a merge states, `check` has to say
 yes to it, the oracle has to judge it alike, and a settled outcome has to be the one that the oracle finds by going over all moves.
@@ -21,7 +21,7 @@ from collections import Counter
 
 from compare.player import Maker
 from oracle.certificates import judged
-from program import Program, add_option
+from program import Program, add_option, add_piece_option, piece_program
 from spreading import engines
 from spreading.clock import Clock
 from spreading.merging import write_whole
@@ -64,10 +64,10 @@ class Shallow(Run):
 
 def engine_of(options, workers, folder):
     if options.engine == "clock":
-        return Clock(options.program.path, workers, os.path.join(folder, "clock"))
+        return Clock(options.program.path, workers, os.path.join(folder, "clock"), part=options.part)
     if options.engine == "dask":
-        return engines.Dask(options.program.path, workers, folder, options.address)
-    return engines.Processes(engines.here(options.program.path, workers), folder)
+        return engines.Dask(options.program.path, workers, folder, options.address, options.part)
+    return engines.Processes(engines.here(options.program.path, workers, options.part), folder)
 
 
 def spread(text, options, workers, policy, folder, deepest=None):
@@ -88,6 +88,12 @@ def merged(run, path):
         return file.read()
 
 
+def head_of(path):
+    """What stands before a piece's certificate."""
+    with open(path, "rb") as file:
+        return file.read(100_000).split(b"qcert", 1)[0]
+
+
 def played(task):
     """What was met in a game, and what went wrong in it, or None."""
     sys.setrecursionlimit(DEEPEST)
@@ -102,11 +108,14 @@ def played(task):
         with open(problem, "wb") as file:
             file.write(game.text)
         said = options.program.run("check", problem, path)[1].decode().strip()
+        heads = [head_of(leaf.file) for leaf in run.tree.leaves() if leaf.file]
     root, met = run.tree.root, Counter(run.met)
     met[f"games: {root.kind or 'open'}"] += 1
     met["games that were split"] += run.tree.splits > 0
     met["splits"] += run.tree.splits
     met["pieces with a bound"] += sum(leaf.bound is not None for leaf in run.tree.leaves())
+    met["pieces of the whole's text"] += sum(head.startswith(b"qpiece") for head in heads)
+    met["pieces that were told a value"] += sum(b"\nreached " in head for head in heads)
     plain = judged(game, data)[0].decode().strip()
     well = said == plain and said.startswith("yes open" if root.kind is None else f"yes {game.outcome()}")
     well = well and (root.kind is None or said == f"yes {game.outcome()}")
@@ -124,8 +133,9 @@ def options_of(words):
     for flag in ("--open", "--wish"):
         parser.add_argument(flag, action="store_true")
     add_option(parser)
+    add_piece_option(parser)
     options = parser.parse_args(words)
-    options.program = Program(options.program)
+    options.program, options.part = Program(options.program), piece_program(options.piece_program)
     return options
 
 

@@ -1,6 +1,7 @@
 """Kills what a spread run is made of while it is at work: the outcome has to stay the same, and be believed.
 
     bench/run spread_kill [--problem FILE --outcome O] [--what program|coordinator|worker] [--times N] [--every S] [--program PATH]
+                          [--piece-program PATH]
 
 program       the processes of pieces are killed, N of them, S seconds apart; their pieces are run again, or split
 coordinator   `tools/spread solve` itself is killed, N times, each time after a few results, and begun anew on the same store: it
@@ -20,7 +21,7 @@ import threading
 import time
 
 from measure.rungs import FAMILIES
-from program import TOP, Program, add_option
+from program import TOP, Program, add_option, add_piece_option, piece_program
 from spreading import engines, outcome
 from spreading.run import Policy, Run
 from spreading.store import Store
@@ -60,10 +61,10 @@ def with_kills(options, text, folder):
     """What `check` says after a run whose processes were killed, and how often."""
     store = Store(os.path.join(folder, "store"), text)
     if options.what == "worker":
-        engine = engines.Dask(options.program.path, 2, folder)
+        engine = engines.Dask(options.program.path, 2, folder, part=options.part)
         find = engine.worker_pids
     else:
-        engine = engines.Processes(engines.here(options.program.path, 2), store.folder)
+        engine = engines.Processes(engines.here(options.program.path, 2, options.part), store.folder)
         find = engine.pids
     killer = Killer(options, find)
     killer.start()
@@ -84,7 +85,7 @@ def begun_anew(options, text, folder):
     with open(problem, "wb") as file:
         file.write(text)
     words = [os.path.join(TOP, "tools", "spread"), "solve", problem, "--store", store, "--out", out, "--workers", "2"]
-    words += ["--program", options.program.path, "--quiet"]
+    words += ["--program", options.program.path, "--piece-program", options.part or "", "--quiet"]
     for number in range(options.times + 1):
         child = subprocess.Popen(words, stderr=subprocess.DEVNULL)
         before = journal_of(store)
@@ -115,8 +116,9 @@ def options_of(words):
     parser.add_argument("--times", type=int, default=5)
     parser.add_argument("--every", type=float, default=0.5)
     add_option(parser)
+    add_piece_option(parser)
     options = parser.parse_args(words)
-    options.program = Program(options.program)
+    options.program, options.part = Program(options.program), piece_program(options.piece_program)
     return options
 
 

@@ -1,10 +1,10 @@
 """Spoils merges of small games in many ways, to see that `check` says yes to none that states another outcome.
 
-    bench/run spread_wrong [--games N] [--seed S] [--program PATH]
+    bench/run spread_wrong [--games N] [--seed S] [--program PATH] [--piece-program PATH]
 
 Each game at random is split into pieces of a turn, and merged six times with one fault: a piece has another one's answer, or a cut
 or a damaged one; the head states something else; the merged text is damaged; a piece isn't merged where it belongs but its
-neighbour twice; a bound takes more than it may. A merge that stops with a named reason is as good as one that isn't believed.
+neighbour twice; a bound takes more than it may; a piece is said to have been told another value, or none. A merge that stops with a named reason is as good as one that isn't believed.
 """
 import argparse
 import os
@@ -16,13 +16,13 @@ from collections import Counter
 from compare.player import Maker, damaged
 from compare.spread_fuzz import merged, spread
 from oracle.games import Var
-from program import Program, add_option
+from program import Program, add_option, add_piece_option, piece_program
 from spreading.certificates import NotWhole
 from spreading.run import Policy
 
 POLICY = Policy(turns=1, first=1, pieces=0, fan=2, patience=None, regret=None)
 TIMES = 6
-HOWS = "answer cut damage head text twice bound".split()
+HOWS = "answer cut damage head text twice bound told".split()
 
 
 def data_of(path):
@@ -54,6 +54,8 @@ class Spoiler:
                 piece.file = self.written(damaged(self.chance, data_of(piece.file)))
             elif how == "bound":
                 self.bound(piece)
+            elif how == "told":
+                piece.file = self.written(self.told(data_of(piece.file)))
             elif how == "twice":
                 return self.twice(piece)
             data = merged(self.run, os.path.join(self.folder, "spoilt"))
@@ -72,6 +74,14 @@ class Spoiler:
             cut = self.chance.randint(domain.low, domain.high)
             piece.bound = b"b %d %d %d\n" % (wish[1].var + 1, *sorted((cut, self.chance.choice((domain.low, domain.high)))))
 
+    def told(self, data):
+        """The piece with another value that was reached, or without one, and with another answer by that."""
+        before, _, certificate = data.partition(b"qcert 2\n")
+        kept = [line for line in before.splitlines(keepends=True) if not line.startswith(b"reached")] or [b"qpiece 1\n"]
+        if self.chance.random() < 0.7:
+            kept.append(b"reached %d\n" % self.chance.randrange(-5, 9))
+        return b"".join(kept) + b"qcert 2\n" + certificate
+
     def twice(self, piece):
         children = piece.parent.children
         kept = list(children)
@@ -87,8 +97,9 @@ def options_of(words):
     parser.add_argument("--games", type=int, default=100)
     parser.add_argument("--seed", type=int, default=1)
     add_option(parser)
+    add_piece_option(parser)
     options = parser.parse_args(words)
-    options.program, options.engine = Program(options.program), "clock"
+    options.program, options.part, options.engine = Program(options.program), piece_program(options.piece_program), "clock"
     return options
 
 

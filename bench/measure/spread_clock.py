@@ -1,7 +1,7 @@
 """How long a game takes with 1, 2, 4, 16 workers, on a clock of processor seconds.
 
     bench/run spread_clock [NAME ..] [--workers N,N..] [--turns N] [--first N] [--pieces N] [--patience S] [--regret S] [--fan N]
-                           [--overhead S] [--keep FOLDER] [--program PATH]
+                           [--overhead S] [--keep FOLDER] [--program PATH] [--piece-program PATH]
 
 Each piece is really run, once, and its processor seconds are how long a worker takes for it; so what is told doesn't depend on what
 else the machine does, nor on how many processors it has. Names are those of rungs of the ladder (`bench/run ladder --list`), or files.
@@ -22,7 +22,7 @@ import tempfile
 
 from measure.ladder import run as timed
 from measure.rungs import FAMILIES
-from program import Program, add_option
+from program import Program, add_option, add_piece_option, piece_program
 from spreading.clock import Clock
 from spreading.merging import write_whole
 from spreading.run import Policy, Run
@@ -46,7 +46,7 @@ def texts(names):
 
 
 def measured(options, text, workers, folder):
-    clock = Clock(options.program.path, workers, options.keep or os.path.join(folder, "clock"), options.overhead)
+    clock = Clock(options.program.path, workers, options.keep or os.path.join(folder, "clock"), options.overhead, options.part)
     with tempfile.TemporaryDirectory(dir=clock.folder) as place:
         store = Store(place, text)
         policy = Policy(options.turns, options.first, options.pieces, options.patience, options.regret, options.fan)
@@ -71,8 +71,9 @@ def options_of(words):
     parser.add_argument("--overhead", type=float, default=0.01)
     parser.add_argument("--keep", metavar="FOLDER")
     add_option(parser)
+    add_piece_option(parser)
     options = parser.parse_args(words)
-    options.program = Program(options.program)
+    options.program, options.part = Program(options.program), piece_program(options.piece_program)
     return options
 
 

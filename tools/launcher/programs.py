@@ -167,4 +167,27 @@ What the lines of a list mean stands in docs/lemmas.md, what the statuses mean i
 """,
 )
 
-PROGRAMS = {it.name: it for it in (QECODE, QTELL, QDENSE)}
+QPART = Program(
+    name="qpart",
+    crate="qpart",
+    what="solves a piece of a game, for certificates that many processors make together.",
+    commands=(
+        Command("solve", "solve PROBLEM [--keep X L H].. [--reached V] [--turns N]",
+                "solves the game in which the variable named X keeps its values from L to H only, and writes the piece's lines\n"
+                "below what it is a piece of; V is a value of the first scope's wish that another piece has reached",
+                "solve examples/tolls.qc --keep t1 0 3 --reached 20", ((1, TEXT),)),
+    ),
+    notes="""\
+  --now COMMAND WORDS
+      answers within minutes on a fresh machine, by a build of which nothing is proved
+  --version
+      the commit, the kit, and whether the program is built
+  --help
+      this page
+
+A piece is no certificate. tools/spread makes one of pieces, and has ./qecode check it: docs/many.md. Words, lines and
+statuses stand in docs/command.md.
+""",
+)
+
+PROGRAMS = {it.name: it for it in (QECODE, QTELL, QDENSE, QPART)}

@@ -8,4 +8,5 @@ that reads them and knows the predicates. The tools for people use it, and the c
     promises      what `solve` promises of its certificates besides
     lemmas        reads lists of lemmas, and says what they prove
     optima        what a value and two such lists prove, where both sides care for one quantity
+    dense         reads dense certificates, and says what they prove
 """

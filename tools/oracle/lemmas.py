@@ -270,18 +270,23 @@ class Proof:
 
     def is_kept(self, k, box):
         c = self.game.constraints[k]
-        args = [boxed(kind, arg, box) for kind, arg in zip(SIGNATURES[c.name], c.args)]
-        if c.name in ENTAILED and ENTAILED[c.name](*args):
-            return True
-        if c.name in ("array_var_int_element", "array_var_bool_element") and is_picked(*args):
-            return True
-        if all(len(box[x]) == 1 for x in variables(c.args)) and not refutes(c, box):
+        if entails(c, box):
             return True
         form = linear(c)
         if not form:
             return False
         least, greatest = self.sum_known(k, None, box)
         return greatest <= form[2] and (not form[3] or least >= form[2])
+
+
+def entails(c, box):
+    """Whether all values in the box satisfy the constraint, as far as the table, an element or a single tuple tells."""
+    args = [boxed(kind, arg, box) for kind, arg in zip(SIGNATURES[c.name], c.args)]
+    if c.name in ENTAILED and ENTAILED[c.name](*args):
+        return True
+    if c.name in ("array_var_int_element", "array_var_bool_element") and is_picked(*args):
+        return True
+    return all(len(box[x]) == 1 for x in variables(c.args)) and not refutes(c, box)
 
 
 def is_picked(index, items, result):

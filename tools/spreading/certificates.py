@@ -15,6 +15,8 @@ from spreading.domains import Domain
 
 CHUNK = 1 << 20
 WORDS = (b"true", b"false", b"open")
+# What stands before the certificate where `qpart` wrote it: what it is a piece of, and a value that was reached elsewhere.
+HEAD = re.compile(rb"(?:qpiece 1\n(?:keep [^\n]*\n)*(?:reached (-?\d+)\n)?)?")
 # The lines that open or end something. Steps and cases that are left out lie between.
 SHAPING = re.compile(rb"^[hv.tgex]", re.MULTILINE)
 TAKEN = (b"e", b"x", b"v", b"g", b"t")
@@ -74,20 +76,29 @@ def numbers(line):
 
 
 class Stated(NamedTuple):
-    """What a certificate states, and where its tree begins."""
+    """What a certificate states, where its tree begins, and the value beside which it states that, where one was reached elsewhere."""
 
     word: str
     number: object
     tree: int
+    reached: object
 
 
 def stated(data):
-    head = data[:100].split(b"\n", 2)
+    before = HEAD.match(data)
+    head = data[before.end() : before.end() + 100].split(b"\n", 2)
     words = head[1].split() if len(head) == 3 and head[0] == b"qcert 2" else []
     if not words or words[0] not in WORDS or len(words) > 2 or data[len(data) - 1 :] != b"\n":
         raise NotWhole("it isn't a certificate of the second version")
     number = int(words[1]) if len(words) == 2 else None
-    return Stated(words[0].decode(), number, len(head[0]) + len(head[1]) + 2)
+    reached = None if before[1] is None else int(before[1])
+    return Stated(words[0].decode(), number, before.end() + len(head[0]) + len(head[1]) + 2, reached)
+
+
+def certificate_in(data):
+    """The bytes of a certificate without what stands before it, in chunks."""
+    stated(data)
+    return Lines(data, HEAD.match(data).end()).rest()
 
 
 @contextmanager
@@ -145,10 +156,12 @@ class Beginning:
     force. It goes up to the node of scope `level`, or where that is None up to the first branch or the end before one."""
 
     def __init__(self, data, box, level=None):
-        lines = self.lines = Lines(data, stated(data).tree)
+        told = stated(data)
+        lines = self.lines = Lines(data, told.tree)
         self.steps, self.horizon, self.scope, self.box = [[]], None, 0, box
         self.entered = box  # the box where the last scope's node begins
-        self.is_bounded = False  # whether a `b` line stands before, which no other tree may take over
+        self.is_reached = told.reached is not None
+        self.is_bounded = False  # whether a `b` line stands before, by a value that another tree may not have
         while True:
             if lines.peek() == b"h":
                 self.horizon = Horizon(lines)
@@ -165,7 +178,7 @@ class Beginning:
     def take_steps(self):
         while self.lines.peek() in (b"p", b"b"):
             line = self.lines.take()
-            self.is_bounded = self.is_bounded or line[:1] == b"b"
+            self.is_bounded = self.is_bounded or line[:1] == b"b" and not self.is_reached
             self.steps[-1].append(line)
             self.box = removed(self.box, line)
 

@@ -8,12 +8,14 @@ import heapq
 import os
 import subprocess
 
+from spreading.asking import asked
 from spreading.engines import CANCELLED, Answer
 
 
 class Clock:
-    def __init__(self, program, workers, folder, overhead=0.0):
+    def __init__(self, program, workers, folder, overhead=0.0, part=None):
         self.program, self.workers, self.folder, self.overhead = program, workers, folder, overhead
+        self.part, self.has_part = part, part is not None
         self.time, self.work, self.running, self.ended = 0.0, 0.0, [], []
         os.makedirs(folder, exist_ok=True)
 
@@ -31,7 +33,8 @@ class Clock:
             with open(name + ".qc", "wb") as file:
                 file.write(text)
             with open(name, "wb") as file:
-                child = subprocess.Popen([self.program, "solve", name + ".qc", "--turns", str(turns)], stdout=file)
+                is_part, words = asked(text, turns)
+                child = subprocess.Popen([self.part if is_part else self.program, "solve", name + ".qc", *words], stdout=file)
                 _, status, usage = os.wait4(child.pid, 0)
             child.returncode = os.waitstatus_to_exitcode(status)
             os.remove(name + ".qc")

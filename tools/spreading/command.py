@@ -7,8 +7,9 @@ import sys
 import tempfile
 
 from oracle.reader import Refused
-from program import NoProgram, Program, add_option
+from program import NoProgram, Program, add_option, add_piece_option, piece_program
 from spreading import engines, folder, outcome
+from spreading.asking import asked
 from spreading.certificates import NotWhole
 from spreading.progress import Progress
 from spreading.run import Policy, Run, Unfit
@@ -17,8 +18,8 @@ from spreading.tree import Tree
 
 DONE, NOT_PROVED, OPEN, USAGE, TOO_LONG, READ_FAULT, WRITE_FAULT, OTHER, STOPPED = 0, 1, 2, 3, 6, 7, 8, 21, 130
 ROUNDS = 3  # in which results that aren't believed are made anew
-DESCRIPTION = """Solves one game with many processors and machines. It is cut into pieces, each of which `qecode solve` goes over
-in a process of its own, and what they find is merged into one certificate of the whole, which is handed out only where
+DESCRIPTION = """Solves one game with many processors and machines. It is cut into pieces, each of which `qecode solve`, or `qpart
+solve` where that is there, goes over in a process of its own, and what they find is merged into one certificate of the whole, which is handed out only where
 `qecode check` says yes to it. docs/many.md tells more.
 
   spread solve PROBLEM            splits, solves, merges and checks, and writes the certificate
@@ -71,6 +72,7 @@ def words_of(words):
     solve.add_argument("--hosts", metavar="A,B:8", help="other machines, by ssh: each runs as many pieces as it has processors, or as a colon says")
     solve.add_argument("--ssh", default="ssh -o BatchMode=yes", metavar="WORDS", help="the command that reaches a host (%(default)s)")
     solve.add_argument("--there", metavar="PATH", help="the program's path on other machines, where it is another one")
+    solve.add_argument("--there-piece", metavar="PATH", help="the path of the program for pieces there; without it, --there is for all pieces")
     solve.add_argument("--engine", choices=("processes", "dask"), default="processes")
     solve.add_argument("--address", metavar="A", help="of a dask scheduler, as tcp://HOST:8786; without it, workers are started here")
     solve.add_argument("--store", metavar="FOLDER", help="keeps results there, so that the same words go on where a run was ended")
@@ -93,6 +95,7 @@ def words_of(words):
     for one in (solve, split, merge, piece):
         one.add_argument("--quiet", action="store_true", help="tells no progress")
         add_option(one)
+        add_piece_option(one)
     return parser.parse_args(words)
 
 
@@ -157,14 +160,15 @@ def concluded(tree, store, program, progress):
 
 
 def engine_of(options, program, store, progress):
-    there = options.there or program.path
+    there, part = options.there or program.path, piece_program(options.piece_program)
+    part_there = options.there_piece or (None if options.there else part)
     if options.engine == "dask":
-        return engines.Dask(there, options.workers or processors(), store.folder, options.address)
-    places = engines.there(options.hosts.split(","), there, options.ssh) if options.hosts else []
+        return engines.Dask(there, options.workers or processors(), store.folder, options.address, part_there)
+    places = engines.there(options.hosts.split(","), there, options.ssh, part_there) if options.hosts else []
     here = options.workers if options.workers is not None else 0 if options.hosts else processors()
     if not places and not here:
         raise Stop(USAGE, "there are no workers")
-    return engines.Processes(engines.here(program.path, here) + places, store.folder, progress.say)
+    return engines.Processes(engines.here(program.path, here, part) + places, store.folder, progress.say)
 
 
 def problem_text(path, program):
@@ -197,7 +201,7 @@ def merge(options, program, progress):
     store = Store(options.folder)
     try:
         for _ in range(ROUNDS):
-            tree = Tree(store.text)
+            tree = Tree(store.text, has_part=piece_program(options.piece_program) is not None)
             store.replay(tree)
             taken = folder.take_answers(store, tree, progress.say)
             if options.pieces:
@@ -214,7 +218,8 @@ def cut(options, program, progress, store, tree, is_split=True):
     """Splits what is left, where that is asked for, and hands out the pieces, or the whole. None where pieces have to be solved
     again first."""
     if is_split:
-        engine = engines.Processes(engines.here(program.path, options.workers or processors()), store.folder, progress.say)
+        part = piece_program(options.piece_program)
+        engine = engines.Processes(engines.here(program.path, options.workers or processors(), part), store.folder, progress.say)
         try:
             run = folder.Cutting(store, engine, tree)
             run.go()
@@ -236,10 +241,12 @@ def piece(options, program, _progress):
     for path in options.files:
         if not path.endswith(".qc"):
             raise Stop(USAGE, f"{path} doesn't end in .qc")
+        with open(path, "rb") as file:
+            is_part, words = asked(file.read(), options.turns)
         result = path.removesuffix(".qc") + ".cert"
         part = f"{result}.part{os.getpid()}"
         with open(part, "wb") as file:
-            status, _ = program.run("solve", path, "--turns", str(options.turns), stdout=file)
+            status, _ = (Program(options.piece_program, "qpart") if is_part else program).run("solve", path, *words, stdout=file)
         if status not in (DONE, OPEN):
             os.remove(part)
             raise Stop(status if status > 0 else OTHER, f"{path}: the program ends with status {status}")

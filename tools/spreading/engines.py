@@ -1,6 +1,7 @@
 """Engines run the program on texts. An engine has
 
     workers                           how many texts it works at, at a time
+    has_part                          whether texts may be for `qpart`
     submit(key, text, turns, path)    what the program writes is to stand in the file `path`
     next(seconds)                     an Answer, or None where none comes within so many seconds (None: however long it takes)
     cancel(key)                       its answer comes too, and soon
@@ -21,6 +22,8 @@ import zlib
 from concurrent.futures import ThreadPoolExecutor
 from typing import NamedTuple
 
+from spreading.asking import asked
+
 DIED, CANCELLED = "died", "cancelled"
 # Statuses by which a shell says that it found no program.
 NO_PROGRAM = 126, 127
@@ -30,13 +33,15 @@ NO_HOST = 255
 PATIENCE = 3
 
 # Reads the text from its input, and ends the program when the input ends: so no program outlives who wants its answer, here or on
-# another machine. Words: the program, the bytes of the text, the turns.
+# another machine. Words: the program, the bytes of the text, and those behind the text's file.
 SCRIPT = r"""
+program=$1 size=$2
+shift 2
 file=$(mktemp) || exit 8
 trap 'rm -f "$file"' EXIT
-head -c "$2" > "$file" || exit 8
+head -c "$size" > "$file" || exit 8
 exec 3<&0
-"$1" solve "$file" --turns "$3" 3<&- < /dev/null &
+"$program" solve "$file" "$@" 3<&- < /dev/null &
 piece=$!
 { cat <&3; kill -9 "$piece"; } > /dev/null 2>&1 &
 watch=$!
@@ -66,6 +71,12 @@ class Place(NamedTuple):
     host: object
     words: tuple
     program: str
+    part: object = None  # `qpart`, where it's used
+
+    def asked(self, text, turns):
+        """The program for a text, and the words behind the text's file."""
+        is_part, words = asked(text, turns)
+        return self.part if is_part else self.program, words
 
 
 class Processes:
@@ -74,7 +85,7 @@ class Processes:
     def __init__(self, places, folder, say=print):
         self.env = os.environ | {"TMPDIR": folder}  # what a killed shell leaves goes with the folder
         self.say, self.answers, self.free = say, queue.SimpleQueue(), queue.SimpleQueue()
-        self.workers = len(places)
+        self.workers, self.has_part = len(places), all(place.part for place in places)
         for place in places:
             self.free.put(place)
         self.pool = ThreadPoolExecutor(max(len(places), 1))
@@ -101,11 +112,12 @@ class Processes:
         if self.keeps(place, failed):
             self.free.put(place)
         if status in NO_PROGRAM and not failed:
-            raise EngineFault(f"{place.program} can't be run")
+            raise EngineFault(f"{place.asked(text, turns)[0]} can't be run")
         return status if isinstance(status, str) or 0 <= status < NO_PROGRAM[0] else DIED
 
     def solved(self, place, key, text, turns, path):
-        words = [*place.words, *remote(SCRIPT, place, len(text), turns)]
+        program, more = place.asked(text, turns)
+        words = [*place.words, *remote(SCRIPT, place, program, len(text), *more)]
         with open(path, "wb") as file:
             child = subprocess.Popen(words, stdin=subprocess.PIPE, stdout=file, stderr=subprocess.DEVNULL, env=self.env,
                                      start_new_session=True)
@@ -187,32 +199,35 @@ def let_go(child, place):
 
 def remote(script, place, *words):
     """The words that run a script at a place. ssh hands over one text, which a shell there reads."""
-    words = ["sh", "-c", script, NAME, place.program, *map(str, words)]
+    words = ["sh", "-c", script, NAME, *map(str, words)]
     return words if place.host is None else [shlex.join(words)]
 
 
-def here(program, workers):
-    return [Place(None, (), program)] * workers
+def here(program, workers, part=None):
+    return [Place(None, (), program, part)] * workers
 
 
-# A host tells how many processors it has, and that the program is there: without words it writes its usage, with status 3.
+# A host tells how many processors it has, and that programs are there: without words each writes its usage, with status 3.
 GREETING = r"""
-"$1" < /dev/null > /dev/null 2>&1
+for program do
+"$program" < /dev/null > /dev/null 2>&1
 test $? -eq 3 || exit 127
+done
 nproc
 """
 
 
-def there(hosts, program, ssh):
+def there(hosts, program, ssh, part=None):
     """The places that hosts offer. Each is a name, or a name, a colon and how many pieces it is to run at a time."""
     places = []
     for name in hosts:
         host, _, many = name.partition(":")
-        place = Place(host, (*shlex.split(ssh), host), program)
-        words = [*place.words, *remote(GREETING, place)]
+        place = Place(host, (*shlex.split(ssh), host), program, part)
+        programs = [program] + [part] * bool(part)
+        words = [*place.words, *remote(GREETING, place, *programs)]
         done = subprocess.run(words, stdin=subprocess.DEVNULL, capture_output=True, text=True, check=False)
         if done.returncode:
-            why = f"{program} can't be run there" if done.returncode in NO_PROGRAM else done.stderr.strip() or "it can't be reached"
+            why = f"{' or '.join(programs)} can't be run there" if done.returncode in NO_PROGRAM else done.stderr.strip() or "it can't be reached"
             raise EngineFault(f"{host}: {why}")
         if many and not many.isdigit():
             raise EngineFault(f"{name}: after the colon comes how many pieces the host is to run at a time")
@@ -223,8 +238,8 @@ def there(hosts, program, ssh):
 # ---- dask.distributed
 
 
-def dask_piece(key, script, program, text, turns):
-    """Runs on a worker. The program's input stays open as long as the worker lives and wants the answer."""
+def dask_piece(key, script, program, text, more):
+    """Runs on a worker, with more words behind the text's file. The program's input stays open as long as the worker lives and wants the answer."""
     import subprocess
     import tempfile
     import zlib
@@ -236,7 +251,7 @@ def dask_piece(key, script, program, text, turns):
     gone = worker.__dict__.setdefault("spread_gone", set())
     text = zlib.decompress(text)
     with tempfile.TemporaryFile() as file:
-        words = ["sh", "-c", script, "spread", program, str(len(text)), str(turns)]
+        words = ["sh", "-c", script, "spread", program, str(len(text)), *more]
         child = subprocess.Popen(words, stdin=subprocess.PIPE, stdout=file, stderr=subprocess.DEVNULL, start_new_session=True)
         live[key] = child
         try:
@@ -266,7 +281,7 @@ class Dask:
 
     now = staticmethod(time.monotonic)
 
-    def __init__(self, program, workers, folder, address=None):
+    def __init__(self, program, workers, folder, address=None, part=None):
         try:
             distributed = importlib.import_module("distributed")
             import cloudpickle
@@ -281,7 +296,8 @@ class Dask:
             self.client = distributed.Client(address or self.cluster)
         except (OSError, ValueError) as fault:
             raise EngineFault(f"no dask scheduler: {fault}") from None
-        self.program, self.answers, self.futures, self.cancelled = program, queue.SimpleQueue(), {}, set()
+        self.place, self.has_part = Place(None, (), program, part), part is not None
+        self.answers, self.futures, self.cancelled = queue.SimpleQueue(), {}, set()
         self.run_name = uuid.uuid4().hex  # keys of several runs on one scheduler mustn't meet
         self.seen_at, self.seen = 0.0, 0
 
@@ -298,7 +314,8 @@ class Dask:
 
     def submit(self, key, text, turns, path):
         name = self.key(key)
-        future = self.client.submit(dask_piece, name, SCRIPT, self.program, zlib.compress(text, 1), turns, pure=False, key=name)
+        program, more = self.place.asked(text, turns)
+        future = self.client.submit(dask_piece, name, SCRIPT, program, zlib.compress(text, 1), more, pure=False, key=name)
         self.futures[key] = future
         future.add_done_callback(lambda done: self.finished(key, done, path))
 
@@ -313,7 +330,7 @@ class Dask:
                     file.write(zlib.decompress(data))
                 status = code if 0 <= code < NO_PROGRAM[0] else DIED
                 if code in NO_PROGRAM:
-                    status = EngineFault(f"{self.program} can't be run by a dask worker")
+                    status = EngineFault(f"{self.place.program} can't be run by a dask worker")
             except Exception:  # the worker died, or gave it up
                 status = CANCELLED if key in self.cancelled else DIED
         self.futures.pop(key, None)

@@ -6,6 +6,7 @@ them there are to be.
 """
 import os
 
+from spreading.asking import text_of
 from spreading.certificates import NotWhole, stated_of
 from spreading.merging import MOST_TURNS
 from spreading.run import LOOK, Policy, Run
@@ -85,7 +86,7 @@ def hand_out(store, tree):
         if tree.bind(piece, tree.best):
             store.note(piece, None)
             continue
-        text = tree.problem.narrowed(piece.box)
+        text = text_of(tree, piece)
         name = name_of(text)
         if os.path.exists(most := store.path(f"{name}-{MOST_TURNS}.cert")):
             piece.file, piece.state = most, LEFT_OPEN

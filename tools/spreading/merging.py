@@ -1,5 +1,5 @@
 """The certificate of the whole, from the certificates of its pieces."""
-from spreading.certificates import CHUNK, as_case, opened, turns_of
+from spreading.certificates import as_case, certificate_in, opened, turns_of
 
 MOST_TURNS = 10_000_000
 
@@ -26,8 +26,7 @@ def certificate(tree):
 
 def copied(path):
     with opened(path) as data:
-        for at in range(0, len(data), CHUNK):
-            yield data[at : at + CHUNK]
+        yield from certificate_in(data)
 
 
 def settled(tree):

@@ -3,7 +3,7 @@ import os
 import sys
 from typing import NamedTuple
 
-from spreading.certificates import NotWhole, stated_of
+from spreading.certificates import NotWhole, certificate_in, opened, stated_of
 from spreading.merging import write_whole
 
 TOO_LONG = 6
@@ -29,7 +29,7 @@ def checked(program, problem, path):
     """What `check` writes of a certificate, where that is yes to what it states."""
     status, written = program.run("check", problem, path)
     line = written.decode("ascii", "replace").strip()
-    word, number, _ = stated_of(path)
+    word, number, *_ = stated_of(path)
     if status != 0 or line != "yes " + word + ("" if number is None else f" {number}"):
         raise Disbelieved(path, status, line)
     return line
@@ -46,20 +46,29 @@ def conclude(tree, store, program):
 
 
 def bad_results(tree, store, program):
-    """Sets aside each result of the tree that `check` doesn't believe of its own text, and says their names."""
-    bad, text = [], store.half("piece")
+    """Sets aside each result of the tree that `check` doesn't believe of its own text, and says their names. A tree of `qpart` is
+    judged in the narrowed text, where it stands as in the whole. That nothing is better than a value that was reached elsewhere
+    can't be judged there, so such a result isn't kept."""
+    bad, text, part = [], store.half("text"), store.half("part")
     for leaf in tree.leaves():
         if leaf.file and os.path.exists(leaf.file):
-            with open(text, "wb") as file:
-                file.write(tree.problem.narrowed(leaf.box))
             try:
-                checked(program, text, leaf.file)
+                with opened(leaf.file) as data:
+                    write_parts(text, tree.problem.narrowed(leaf.box))
+                    write_parts(part, *certificate_in(data))
+                checked(program, text, part)
             except (Disbelieved, NotWhole):
                 store.set_aside(leaf.file)
                 bad.append(os.path.basename(leaf.file))
-    if os.path.exists(text):
-        os.remove(text)
+    for path in text, part:
+        if os.path.exists(path):
+            os.remove(path)
     return bad
+
+
+def write_parts(path, *parts):
+    with open(path, "wb") as file:
+        file.writelines(parts)
 
 
 def handed_out(path, out):

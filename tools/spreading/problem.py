@@ -32,6 +32,7 @@ class Problem:
         self.aggregates = [Aggregate(q.owner, q.fold[0], q.fold[1], meant[q.target.value]) for q in aggregates]
         self.owners = [item.owner for item in variables]
         self.constraint_owners = [item.owner for item in of("constraint")]
+        self.names = [item.name.value for item in variables]
         self.domains = tuple(map(self.domain_of, variables))
         self.rules = Rules(self)
         self.lists = self.rules.lists

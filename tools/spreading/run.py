@@ -9,6 +9,7 @@ import heapq
 import os
 from dataclasses import dataclass
 
+from spreading.asking import text_of
 from spreading.certificates import NotWhole
 from spreading.engines import CANCELLED, DIED, EngineFault
 from spreading.store import name_of
@@ -95,7 +96,7 @@ class Run:
 
     def replayed(self):
         """The tree as the journal has it."""
-        tree = Tree(self.store.text, self.policy.fan)
+        tree = Tree(self.store.text, self.policy.fan, self.engine.has_part)
         self.store.replay(tree)
         return tree
 
@@ -144,7 +145,7 @@ class Run:
 
     def start(self, piece, turns):
         piece.state = RUNNING
-        self.submit(Job(piece, self.tree.problem.narrowed(piece.box), turns, self.engine.now()))
+        self.submit(Job(piece, text_of(self.tree, piece), turns, self.engine.now()))
 
     def submit(self, job):
         found = self.store.result(job.text, job.turns)

@@ -4,7 +4,7 @@ A piece is the problem kept to a box: a case of scope `level`, where every varia
 
     true     the player wins; `value` is the first scope's best value, where that has a wish
     false    the player doesn't
-    bound    nothing in it is better than the best value that was reached elsewhere
+    bound    nothing in it is better than the best value that was reached elsewhere, or the player doesn't win
 
 and so does a piece that was split, by its parts, as the tables of verdicts say (docs/many.md).
 """
@@ -27,6 +27,11 @@ class Piece:
         self.scope = self.branch = self.steps = self.opener = None  # of a split: where, and the file that told it
         self.passed = None
 
+    @property
+    def reached(self):
+        """The best value that its run is told; None where its box has no other values left anyhow."""
+        return None if self.bound else self.best
+
     def is_settled(self):
         return self.kind is not None
 
@@ -44,8 +49,8 @@ class Piece:
 
 
 class Tree:
-    def __init__(self, text, fan=FAN):
-        self.problem, self.fan = Problem(text), fan
+    def __init__(self, text, fan=FAN, has_part=False):
+        self.problem, self.fan, self.has_part = Problem(text), fan, has_part
         self.root = Piece(None, 0, self.problem.domains, ())
         self.best = None
         self.settled = self.splits = 0
@@ -74,6 +79,21 @@ class Tree:
         if not self.wish or not isinstance(self.wish[1], Var) or piece.parent is None or not self.is_free(piece.level):
             return False
         return not any(self.problem.conditions[1 : self.problem.owners[self.wish[1].var] + 1])
+
+    def may_reach(self, piece):
+        """Whether a piece's run may be told the best value, by `qpart` alone: where the wish is over an aggregate, in a choice of the
+        player before the opponent's, or among the opponent's moves over which it's folded, where one of them bounds it."""
+        if not self.has_part or not self.wish or not isinstance(self.wish[1], Agg) or piece.parent is None:
+            return False
+        return self.is_free(piece.level) or self.is_one_sided(piece.level)
+
+    def is_one_sided(self, scope):
+        """Whether the wish is over an aggregate of this scope to which no move of the opponent is an advantage: the greatest that is to
+        be small, or the least that is to be great."""
+        aggregate = self.wish and isinstance(self.wish[1], Agg) and self.problem.aggregates[self.wish[1].agg]
+        if not aggregate or aggregate.owner != scope or any(self.problem.conditions[1 : aggregate.owner]):
+            return False
+        return (self.wish[0], aggregate.fold) in (("minimize", "greatest"), ("maximize", "least"))
 
     def target(self, scope):
         """What the wish asks of this scope: its target, seen through the aggregates of the universal scopes between."""
@@ -154,12 +174,7 @@ class Tree:
     def outdoing(self, piece):
         """A part of a universal scope by which the choice before it comes to nothing better than the best value; None where
         there is none. The opponent's worst branch counts, so one is enough."""
-        if not self.wish or not isinstance(self.wish[1], Agg) or self.best is None:
-            return None
-        aggregate = self.problem.aggregates[self.wish[1].agg]
-        if aggregate.owner != piece.scope or any(self.problem.conditions[1 : aggregate.owner]):
-            return None
-        if (self.wish[0], aggregate.fold) not in (("minimize", "greatest"), ("maximize", "least")):
+        if self.best is None or not self.is_one_sided(piece.scope):
             return None
         return next((child for child in piece.children if self.is_outdone(child, piece.scope)), None)
 
@@ -208,6 +223,8 @@ class Tree:
         """Gives up what is no better than the best value. Whether that leaves nothing of the piece, which has then ended."""
         worse = self.worse(piece, best)
         if worse is None:
+            if best is not None and self.may_reach(piece):
+                piece.best = best
             return False
         piece.best, piece.bound = best, b"b %d %d %d\n" % (self.wish[1].var + 1, worse.low, worse.high)
         piece.box = removed(piece.unbounded, piece.bound)
@@ -224,11 +241,11 @@ class Tree:
 
     def take(self, piece, path):
         """Takes a certificate of the piece. Whether it has told anything: it ends the piece or splits it."""
-        word, value, _ = stated_of(path)
+        word, value, _, reached = stated_of(path)
         if word == "open":
             return piece.children is None and self.split(piece, path)
         piece.file = path
-        self.end(piece, "bound" if word == "false" and piece.bound else word, value)
+        self.end(piece, "bound" if word == "false" and (piece.bound or reached is not None) else word, value)
         return True
 
     def split(self, piece, path):

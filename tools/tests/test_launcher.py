@@ -181,7 +181,7 @@ class Pages(LauncherCase):
                 self.assertTrue(os.path.exists(os.path.join(TOP, name)), name)
 
     def test_help_names_the_commands_of_the_program(self):
-        for program, page in ((programs.QECODE, "command.md"), (programs.QTELL, "tell.md"), (programs.QDENSE, "command.md")):
+        for program, page in ((programs.QECODE, "command.md"), (programs.QTELL, "tell.md"), (programs.QDENSE, "command.md"), (programs.QPART, "command.md")):
             table = read(os.path.join(TOP, "docs", page)).decode()
             told = {it.name for it in program.commands}
             self.assertEqual(told, set(re.findall(rf"^\| `{program.name} (\w+)", table, re.M)))

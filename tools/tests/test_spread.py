@@ -14,13 +14,15 @@ sys.path[:0] = [TOOLS, os.path.join(TOP, "bench")]
 
 from compare.player import Maker  # noqa: E402
 from oracle.games import Game  # noqa: E402
-from program import NoProgram, Program  # noqa: E402
-from spreading import engines, outcome  # noqa: E402
+from program import NoProgram, Program, piece_program  # noqa: E402
+from spreading import asking, engines, outcome  # noqa: E402
+from spreading.certificates import HEAD, NotWhole, certificate_in, stated  # noqa: E402
 from spreading.clock import Clock  # noqa: E402
 from spreading.domains import Domain  # noqa: E402
 from spreading.problem import Problem  # noqa: E402
 from spreading.run import Policy, Run  # noqa: E402
 from spreading.store import InUse, OtherProblem, Store  # noqa: E402
+from spreading.tree import Piece, Tree  # noqa: E402
 
 try:
     PROGRAM = Program()
@@ -30,6 +32,13 @@ except NoProgram:
 TOLLS = os.path.join(TOP, "examples", "tolls.qc")
 TOLLS_OUTCOME = "true 26"
 SMALLEST = Policy(turns=1, first=1, pieces=0, fan=2, patience=None, regret=None)
+STAND_IN = os.path.join(TOOLS, "tests", "stand_in_qpart.py")
+PART = piece_program() or STAND_IN
+# The greatest of what y comes to beside x is to be small: 4 where x is 4.
+GUARDED = (
+    "exists minimize m; var 0..8: x; forall; var 0..8: y; aggregate m = greatest(d) else 0; exists; var 0..8: d;"
+    " constraint int_lin_le([1,-1,-1],[x,y,d],0); constraint int_lin_le([1,-1,-1],[y,x,d],0); goal; solve;"
+)
 FOLLOWER = (
     "exists minimize c; var 0..1: x; exists minimize d; var 0..1: y; var 0..9: c; var 0..0: d;"
     " constraint int_lin_eq([4,1,-1],[y,x,c],0); goal; solve;"
@@ -72,6 +81,43 @@ class Narrowing(unittest.TestCase):
             b"exists; var {1,4}: x; var 1..1: b; constraint bool_eq(true,true); goal; constraint int_le_reif(x,3,true); solve;",
         )
         self.assertEqual(len(Game(narrowed).constraints), len(Game(text).constraints))
+
+
+class Asking(unittest.TestCase):
+    TEXT = b"exists minimize m; var 0..5: x; var bool: b; forall; var {1,4,9}: y; aggregate m = greatest(x) else 0; goal; solve;"
+
+    def asked(self, best, has_part, *box):
+        tree = Tree(self.TEXT, has_part=has_part)
+        piece = Piece(tree.root, 0, tuple(map(Domain.of, box)), (0,))
+        tree.bind(piece, best)
+        return asking.text_of(tree, piece)
+
+    def test_words_keep_a_piece_and_tell_a_value(self):
+        text = self.asked(-3, True, [1, 2], [1], [4, 9])
+        words = "--keep x 1 2 --keep b 1 1 --keep y 4 9 --reached -3"
+        self.assertEqual(text, f"%qpart {words}\n".encode() + self.TEXT)
+        self.assertEqual(asking.asked(text, 7), (True, [*words.split(), "--turns", "7"]))
+        self.assertEqual(Game(text).text[:6], b"%qpart")  # a comment to a reader
+
+    def test_what_no_words_keep_is_a_text(self):
+        for has_part, ys in (True, [1, 9]), (False, [1, 4]):
+            text = self.asked(2, has_part, [1, 2], [0, 1], ys)
+            self.assertEqual(text, self.TEXT.replace(b"0..5", b"1..2").replace(b"{1,4,9}", b"{%d,%d}" % tuple(ys)))
+            self.assertEqual(asking.asked(text, 7), (False, ["--turns", "7"]))
+
+    def test_a_problem_is_not_taken_for_words(self):
+        tree = Tree(b"%qpart --keep x 1 1\n" + self.TEXT, has_part=True)
+        self.assertEqual(asking.words_in(asking.text_of(tree, tree.root)), [])
+
+    def test_a_piece_that_was_written(self):
+        for head, reached in (b"", None), (b"qpiece 1\nkeep x -1 4\nkeep b 0 0\n", None), (b"qpiece 1\nreached -17\n", -17):
+            data = head + b"qcert 2\ntrue 3\nn\ng\n"
+            told = stated(data)
+            self.assertEqual((told.word, told.number, data[told.tree :], told.reached), ("true", 3, b"n\ng\n", reached))
+            self.assertEqual(b"".join(certificate_in(data)), b"qcert 2\ntrue 3\nn\ng\n")
+        for bad in b"qpiece 1\n", b"qpiece 2\nqcert 2\ntrue\ng\n", b"qpiece 1\nreached x\nqcert 2\ntrue\ng\n", b"qpiece 1\nqcert 2\n":
+            with self.assertRaises(NotWhole):
+                stated(bad)
 
 
 class Folder(unittest.TestCase):
@@ -117,6 +163,33 @@ class Merges(Folder):
                 if run.tree.root.is_settled():
                     believed = outcome.conclude(run.tree, run.store, PROGRAM)
                     self.assertEqual(believed.line, f"yes {game.outcome()}")
+
+    def test_pieces_by_words_come_to_the_same(self):
+        """By `qpart`, or a stand-in; a wish over an aggregate is told values."""
+        told = 0
+        for number, text in enumerate([bytes_of(TOLLS), GUARDED.encode()]):
+            with self.subTest(number=number), tempfile.TemporaryDirectory() as self.place.name:
+                os.environ["QECODE"] = PROGRAM.path
+                clock = Clock(PROGRAM.path, 2, self.path("clock"), part=PART)
+                run = Run(self.store(text), clock, Policy(first=2, fan=4, pieces=1))
+                run.go()
+                run.store.close()
+                heads = [HEAD.match(bytes_of(leaf.file))[0] for leaf in run.tree.leaves() if leaf.file]
+                self.assertTrue(any(heads))
+                told += sum(b"reached" in head for head in heads)
+                self.assertEqual(outcome.conclude(run.tree, run.store, PROGRAM).line, "yes " + (TOLLS_OUTCOME, "true 4")[number])
+        self.assertTrue(told)
+
+    def test_a_wrong_value_is_not_believed(self):
+        """Pieces that were told a value that nobody reached."""
+        os.environ["QECODE"] = PROGRAM.path
+        run = Run(self.store(GUARDED.encode()), Clock(PROGRAM.path, 1, self.path("clock"), part=PART), Policy(first=2, fan=4, pieces=1))
+        run.tree.best = 3
+        run.go()
+        run.store.close()
+        with self.assertRaises((outcome.Disbelieved, NotWhole)):
+            outcome.conclude(run.tree, run.store, PROGRAM)
+        self.assertTrue(outcome.bad_results(run.tree, run.store, PROGRAM))
 
     def test_a_follower_with_a_wish_is_not_split(self):
         run = self.spread(FOLLOWER.encode(), policy=Policy(turns=2, first=1, pieces=0, fan=2, patience=None))

@@ -97,18 +97,18 @@ HasFewCases g = (t : Tree) → IsTrue (root_in_place g t) → IsTrue (each_case 
 abbrev HasMeanings : Game → Type 0
 HasMeanings g = (outcome : Outcome) (optimum : Option ℤ) (t : Tree) → IsTrue (proves g outcome optimum t) → OutcomeMeans outcome optimum g t
 
-abbrev HaveFits : Type 0
+abbrev pub HaveFits : Type 0
 HaveFits = (version : Version) (t : Tree) → IsTrue (tree_fits version t) → IsTrue (list_all line_fits (tree_lines t))
 
-at_least : (m n : ℕ) → m ≤ n → nat_le m n ≡ true
+pub at_least : (m n : ℕ) → m ≤ n → nat_le m n ≡ true
 at_least m n h = grind (arith, nat_tests)
 
 -- what a root's own value says beside its verdict
-record OwnSays (optimises : Bool) (v : Verdict) (own : Option ℤ) : Type 0 where
+pub record OwnSays (optimises : Bool) (v : Verdict) (own : Option ℤ) : Type 0 where
   pub known : is_exact v ≡ true → is_some own ≡ optimises
   pub none : is_exact v ≡ false → own ≡ None
 
-own_says : (g : Game) (t : Tree) (later : List Scope) (i : ℕ) (d : List Condition) (box : Box) (h : Option ℕ) → in_place g t later i d box h ≡ true → OwnSays (optimises_first later) (read g t later i d box).verdict (read g t later i d box).own
+pub own_says : (g : Game) (t : Tree) (later : List Scope) (i : ℕ) (d : List Condition) (box : Box) (h : Option ℕ) → in_place g t later i d box h ≡ true → OwnSays (optimises_first later) (read g t later i d box).verdict (read g t later i d box).own
 own_says g (tree z stuck) [] i d box h e = record { known = λ f. cc; none = λ f. refl }
 own_says g (tree z stuck) (s ∷ later) i d box h e = by s.kind s.condition
   where

@@ -1,2 +1,5 @@
 pub mod Attempted
+pub mod Beside
+pub mod Ends
+pub mod Pieces
 pub mod Solution

@@ -1,12 +1,15 @@
 //! The lines of a certificate within a budget of turns.
-ghost use Rattle.std.specs.Prelude.{◌≡◌, ◌≤◌, ◌<◌, IfOk, IfSome, IsFalse, false, true, None, List, ℤ, length};
+ghost use Rattle.std.specs.Prelude.{◌≡◌, ◌≤◌, ◌<◌, [], IfErr, IfOk, IfSome, IsFalse, false, true, None, List, ℤ, length};
+ghost use Rattle.qc_model.specs.Domains.{declared_box};
 ghost use Rattle.qc_model.specs.Verdict.{Seen};
 ghost use Rattle.joins.specs.Seen.{verdict_of};
 ghost use Rattle.joins.specs.Joins.{game_of, StandsAt};
 ghost use Rattle.joins.specs.Verdicts.{own_at};
 ghost use Rattle.search_parts.specs.Settled.{beats_none, is_vague_verdict};
 ghost use Rattle.game_search.specs.Solution.{SolutionLines, outcome_by};
+ghost use Rattle.search_box.specs.Entered.{IsEntered};
 ghost use Rattle.game_search.specs.Attempted.{Attempted};
+ghost use Rattle.search_walk.specs.Stops.{MayStop};
 
 use joins::{Found, Joins};
 use model_levels::Levels;
@@ -70,7 +73,7 @@ fn first_pass(alloc: Global, levels: &Levels, turns: u64) -> Result<Option<Root>
     }
 }
 
-fn decided(root: Root) -> Option<Root>
+pub(crate) fn decided(root: Root) -> Option<Root>
     ensures same { IfSome result (λ r. r ≡ root) }
     ensures decided { IfSome result (λ r. (v : List ℤ) → IsFalse (is_vague_verdict beats_none (verdict_of r.found v))) }
 {
@@ -88,7 +91,8 @@ fn second_pass(alloc: Global, levels: &Levels, turns: u64) -> Result<Root, Alloc
 {
     match attempt(alloc, levels, turns, false) {
         Ok(root) => Ok(root),
-        Err(_) => Err(AllocError),
+        Err(Stop::Turns) => unreachable!(),
+        Err(Stop::Memory(refused)) => Err(refused),
     }
 }
 
@@ -101,7 +105,7 @@ pub(crate) struct Root {
     pub(crate) arena: Arena,
 }
 
-fn answer(root: Root, turns: u64) -> Flat
+pub(crate) fn answer(root: Root, turns: u64) -> Flat
     ensures outcome { (v : List ℤ) → result.outcome ≡ outcome_by (verdict_of root.found v) turns }
     ensures optimum { result.optimum ≡ root.own }
     ensures lines { result.arena ≡ root.arena }
@@ -114,16 +118,41 @@ fn answer(root: Root, turns: u64) -> Flat
 }
 
 /// Goes through the game within so many turns. With `cuts` settled nodes keep the case that settled them alone,
-/// so that the turns of the lines may be fewer than those that were done.
+/// so that the turns of the lines may be fewer than those that were done. It ends for want of turns only with `cuts`.
 pub(crate) fn attempt(alloc: Global, levels: &Levels, turns: u64, cuts: bool) -> Result<Root, Stop>
     requires { turns ≤ 10000000 }
-    ensures { IfOk result (λ root. Attempted cuts levels.now.problem.now turns root.found root.own root.arena) }
+    ensures attempted { IfOk result (λ root. Attempted cuts levels.now.problem.now turns root.found root.own root.arena) }
+    ensures stops { IfErr result (MayStop cuts) }
+{
+    let mut walk = begin(alloc, levels, turns, cuts)?;
+    let found = node(levels, cuts, None, 0, &mut walk)?;
+    let own = first_own(levels.problem, &walk.joins);
+    Ok(Root {
+        found,
+        own,
+        arena: walk.lines,
+    })
+}
+
+/// A walk that hasn't gone anywhere: each variable has its declared values, no line is written, and all turns are left. It fails
+/// only where memory runs out.
+pub(crate) fn begin<'p>(
+    alloc: Global,
+    levels: &Levels<'p>,
+    turns: u64,
+    cuts: bool,
+) -> Result<Walk<'p>, AllocError>
+    ensures declared { IfOk result (λ walk. walk.remains.store.box ≡ declared_box levels.now.problem.now) }
+    ensures here { IfOk result (λ walk. IsEntered levels.now.problem.now 0 walk.remains) }
+    ensures joins { IfOk result (λ walk. game_of walk.joins ≡ levels.now.problem.now) }
+    ensures lines { IfOk result (λ walk. walk.lines ≡ []) }
+    ensures left { IfOk result (λ walk. walk.left ≡ turns) }
 {
     let remains = SearchBox::new(alloc, levels.problem)?;
     let joins = Joins::new(alloc, levels.problem)?;
     let advice = Advice::new(alloc, levels, cuts)?;
     let known = KnownNodes::new(alloc, levels, cuts)?;
-    let mut walk = Walk {
+    Ok(Walk {
         alloc,
         remains,
         joins,
@@ -134,18 +163,11 @@ pub(crate) fn attempt(alloc: Global, levels: &Levels, turns: u64, cuts: bool) ->
         advice,
         known,
         aside: AsideNodes::new(alloc, levels.problem),
-    };
-    let found = node(levels, cuts, None, 0, &mut walk)?;
-    let own = first_own(levels.problem, &walk.joins);
-    Ok(Root {
-        found,
-        own,
-        arena: walk.lines,
     })
 }
 
 /// The value of the first scope's own condition, by its join; None where there is no scope.
-fn first_own(problem: &Problem, joins: &Joins) -> Option<i64>
+pub(crate) fn first_own(problem: &Problem, joins: &Joins) -> Option<i64>
     requires { game_of joins.now ≡ problem.now }
     ensures own { 0 < length problem.now.scopes → (xs : List Seen) → StandsAt joins.now 0 xs → result ≡ own_at problem.now 0 xs }
     ensures none { length problem.now.scopes ≡ 0 → result ≡ None }

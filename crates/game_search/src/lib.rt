@@ -10,7 +10,10 @@
 #![tactic(auto)]
 
 mod attempts;
+mod beside;
 mod certify;
+mod pieces;
 
 pub use attempts::{Flat, solve_flat};
 pub use certify::solve;
+pub use pieces::{Keep, solve_piece};

@@ -1,4 +1,4 @@
-//! Trials of the three programs' commands by rows of texts: worked runs of `run` over files and an output in memory.
+//! Trials of the four programs' commands by rows of texts: worked runs of `run` over files and an output in memory.
 //!
 //! They show what no clause says: answers that were found by hand, the printed lines, each refusal with its place, and what
 //! is answered where a file ends anywhere or a call fails. A row more costs no proof.
@@ -17,7 +17,7 @@
 //! | `read_fails CALL` | this call for bytes of files fails, counted from 1 on in the row |
 //! | `takes COUNT` | the output takes at most so many bytes in a call |
 //! | `write_fails CALL` | this call of the output fails, counted from 1 on in each run |
-//! | `run PROGRAM WORDS` | `qecode`, `qtell` or `qdense` runs with these words, of which `""` is empty; what it writes is the file `written` from then on |
+//! | `run PROGRAM WORDS` | `qecode`, `qtell`, `qdense` or `qpart` runs with these words, of which `""` is empty; what it writes is the file `written` from then on |
 //! | `status NAME` | the run ended so, by the names of `docs/command.md`; each run has to have this line |
 //! | `writes TEXT` | it wrote this and nothing else |
 //! | `begins TEXT` | what it wrote begins with this |

@@ -15,6 +15,10 @@ fn qdense(alloc: Global, words: &[&str], shelf: &mut MemoryShelf, out: &mut Memo
     dense_commands::run(alloc, words, shelf, out)
 }
 
+fn qpart(alloc: Global, words: &[&str], shelf: &mut MemoryShelf, out: &mut MemorySink) -> Status {
+    part_commands::run(alloc, words, shelf, out)
+}
+
 /// How a run of the program of this name ends, None where no program is called so.
 pub(crate) fn run_program(
     alloc: Global,
@@ -31,6 +35,9 @@ pub(crate) fn run_program(
     }
     if name == "qdense" {
         return Some(qdense(alloc, words, shelf, out));
+    }
+    if name == "qpart" {
+        return Some(qpart(alloc, words, shelf, out));
     }
     None
 }

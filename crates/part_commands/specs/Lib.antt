@@ -1,0 +1,5 @@
+pub mod Words
+pub mod View
+pub mod Pieces
+pub mod Answers
+pub mod Complete
