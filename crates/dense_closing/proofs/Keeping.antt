@@ -152,7 +152,7 @@ module _ (g : Game) (valid : IsValid g) (k : ℕ) (c : Rule) (e : slice_get g.co
             clash (refutes_at c small x h) (refuted h (inside low high h from upto) there) (greatest_kept takes c small kept x own t)
 
     -- nor does it refute the whole box, if it has a variable
-    box_stands : is_none_of (variables_of c.args) ≡ false → refuted_by c box ≡ true → ⊥
+    pub box_stands : is_none_of (variables_of c.args) ≡ false → refuted_by c box ≡ true → ⊥
     box_stands some r = by (variables_of c.args) refl some
       where
         by : (xs : List ℕ) → variables_of c.args ≡ xs → is_none_of xs ≡ false → ⊥

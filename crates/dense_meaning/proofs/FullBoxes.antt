@@ -16,7 +16,7 @@ least_among : (d : Values) → is_none_left d ≡ false → (v : ℤ) × Among v
 least_among [] e = cc
 least_among (v ∷ d) e = (v, inl refl)
 
-some_values : (n : ℕ) (ds : Box) → has_empty ds ≡ false → n ≤ length ds → (t : List ℤ) × (length t ≡ n) × InBox t ds
+pub some_values : (n : ℕ) (ds : Box) → has_empty ds ≡ false → n ≤ length ds → (t : List ℤ) × (length t ≡ n) × InBox t ds
 some_values zero ds e l = ([], refl, tt)
 some_values (suc n) [] e l = absurd (omega arith)
 some_values (suc n) (d ∷ ds) e l =

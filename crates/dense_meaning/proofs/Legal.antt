@@ -19,13 +19,13 @@ use Rattle.dense_meaning.proofs.Removing.{remove_through, remove_own}
 use Rattle.dense_meaning.proofs.WholePlays.{refuted_keeps, removal_later, removal_earlier}
 
 -- the scopes of a block are the player's
-record Ahead (g : Game) (later : List Scope) (i stop : ℕ) (box : Box) : Type 0 where
-  count : ℕ
-  stops : count + i ≡ stop
-  few : count ≤ suc (length later)
-  free : NeverStuck g (take count later) i box
+pub record Ahead (g : Game) (later : List Scope) (i stop : ℕ) (box : Box) : Type 0 where
+  pub count : ℕ
+  pub stops : count + i ≡ stop
+  pub few : count ≤ suc (length later)
+  pub free : NeverStuck g (take count later) i box
 
-ahead : (g : Game) (later : List Scope) (i : ℕ) (box : Box) → Ahead g later i (block_stop later i) box
+pub ahead : (g : Game) (later : List Scope) (i : ℕ) (box : Box) → Ahead g later i (block_stop later i) box
 ahead g [] i box = record { count = 1; stops = omega arith; few = omega arith; free = tt }
 ahead g (s ∷ later) i box = by s.kind s.condition (ahead g later (suc i) box)
   where

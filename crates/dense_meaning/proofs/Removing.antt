@@ -27,7 +27,7 @@ Stays g later i box small a =
 
 -- a strategy in the box stays in the smaller one, which keeps what goes on through the next n scopes, before scope j, and is
 -- as wide past them, unless nothing is
-stay_through : (g : Game) (later : List Scope) (n i j : ℕ) (box small : Box) → n + i ≡ j → (length later < n) ⊎ KeepsFrom g j box small → NeverStuck g (take n later) i box →
+pub stay_through : (g : Game) (later : List Scope) (n i j : ℕ) (box small : Box) → n + i ≡ j → (length later < n) ⊎ KeepsFrom g j box small → NeverStuck g (take n later) i box →
     (a : List ℤ) → IsPositionIn g i box a → ((w : List ℤ) → GoesOn g later n i a w → InBox w box → InBox w small) →
     (r : Plan) → Optimal g later i a r → PlaysLie box a r → PlaysLie small a r
 stay_through g later zero i j box small e rest free a at f r o h =

@@ -72,17 +72,17 @@ pub target_left : (g : Game) (later : List Scope) (i : ℕ) (s : Sense) (y : Var
 target_left g later i s y d box p sees f a at r o = f (value g r (Var y) a) (value_left g later i y box a r at.count sees o.optimal o.lies)
 
 -- plays in which a variable has some of its values
-in_set : (a : List ℤ) (box : Box) (x : ℕ) (us : List ℤ) → x < length a → InBox a box → Among (slice_index_or a x (pos 0)) us → InBox a (set box x us)
+pub in_set : (a : List ℤ) (box : Box) (x : ℕ) (us : List ℤ) → x < length a → InBox a box → Among (slice_index_or a x (pos 0)) us → InBox a (set box x us)
 in_set [] box x us l h m = absurd (omega arith)
 in_set (v ∷ a) [] x us l h m = absurd h
 in_set (v ∷ a) (d ∷ box) zero us l h m = (m, h.1)
 in_set (v ∷ a) (d ∷ box) (suc x) us l h m = (h.0, in_set a box x us (omega arith) h.1 m)
 
-lie_set : (box : Box) (x : ℕ) (us : List ℤ) (a : List ℤ) (r : Plan) → x < length a → Among (slice_index_or a x (pos 0)) us → PlaysLie box a r → PlaysLie (set box x us) a r
+pub lie_set : (box : Box) (x : ℕ) (us : List ℤ) (a : List ℤ) (r : Plan) → x < length a → Among (slice_index_or a x (pos 0)) us → PlaysLie box a r → PlaysLie (set box x us) a r
 lie_set box x us a r l m h =
     lie_part (suc x) box (set box x us) (λ w j k. still_in (suc x) x us w box (omega arith) j k) r a (omega arith) (in_set a box x us l (lie_front box r a h) m) h
 
-lie_kept : (g : Game) (later : List Scope) (i : ℕ) (x : VarId) (box : Box) (us : List ℤ) (a : List ℤ) (r : Plan) → length a ≡ before g i → IsVisible g later i (Var x) → Optimal g later i a r → PlaysLie box a r →
+pub lie_kept : (g : Game) (later : List Scope) (i : ℕ) (x : VarId) (box : Box) (us : List ℤ) (a : List ℤ) (r : Plan) → length a ≡ before g i → IsVisible g later i (Var x) → Optimal g later i a r → PlaysLie box a r →
     Among (value g r (Var x) a) us → PlaysLie (set box x.0 us) a r
 lie_kept g [] i x box us a finish n s o h m = lie_set box x.0 us a finish (omega arith) m h
 lie_kept g [] i x box us a (choose t r) n s o h m = absurd o.0

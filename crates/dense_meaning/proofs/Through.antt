@@ -34,7 +34,7 @@ lost_later g (suc n) i (s ∷ scopes) d e box l f h =
     step_lost s.kind s.condition g scopes i d e box f.0
     (lost_later g n (suc i) scopes e e box (omega arith) f.1 (subst (λ j. Throughout lost g (drop n scopes) j e box) (let q : suc n + i ≡ n + suc i = omega arith in q) h))
 
-goes_count : (g : Game) (later : List Scope) (n i : ℕ) (a w : List ℤ) → n ≤ length later → length a ≡ before g i → GoesOn g later n i a w → length w ≡ before g (n + i)
+pub goes_count : (g : Game) (later : List Scope) (n i : ℕ) (a w : List ℤ) → n ≤ length later → length a ≡ before g i → GoesOn g later n i a w → length w ≡ before g (n + i)
 goes_count g later zero i a w l e h = ap length h ∙ e ∙ ap (before g) (let q : i ≡ 0 + i = omega arith in q)
 goes_count g [] (suc n) i a w l e h = absurd (omega arith)
 goes_count g (s ∷ later) (suc n) i a w l e h =

@@ -36,18 +36,18 @@ use Rattle.dense_meaning.specs.Plays.{NeverStuck, IsPlay, GoesOn, KeepsThrough, 
 use Rattle.dense_meaning.proofs.Staying.{plays_lost, never_front}
 use Rattle.dense_meaning.proofs.Bits.{place_of, all_from, has_to}
 
-append_none : (a : List ℤ) → a ++ [] ≡ a
+pub append_none : (a : List ℤ) → a ++ [] ≡ a
 append_none [] = refl
 append_none (v ∷ a) = ap (λ u. v ∷ u) (append_none a)
 
 -- what goes on through n scopes, where the goal counts as one
-goes_moves : (g : Game) → IsOrdered g → (later : List Scope) (n i : ℕ) (a w : List ℤ) → i + length later ≡ length g.scopes → n ≤ suc (length later) → GoesOn g later n i a w → MovesOn g n i a w
+pub goes_moves : (g : Game) → IsOrdered g → (later : List Scope) (n i : ℕ) (a w : List ℤ) → i + length later ≡ length g.scopes → n ≤ suc (length later) → GoesOn g later n i a w → MovesOn g n i a w
 goes_moves g p later zero i a w e l h = h
 goes_moves g p [] (suc zero) i a w e l h = ([], goal_move g p i a (omega arith) h.1, h.0 ∙ sym (append_none a))
 goes_moves g p [] (suc (suc n)) i a w e l h = absurd (omega arith)
 goes_moves g p (s ∷ later) (suc n) i a w e l h = (h.0, h.1, goes_moves g p later n (suc i) (a ++ h.0) w (omega arith) (omega arith) h.2)
 
-moves_count : (g : Game) (n i : ℕ) (a w : List ℤ) → length a ≡ before g i → MovesOn g n i a w → length w ≡ before g (n + i)
+pub moves_count : (g : Game) (n i : ℕ) (a w : List ℤ) → length a ≡ before g i → MovesOn g n i a w → length w ≡ before g (n + i)
 moves_count g zero i a w e h = ap length h ∙ e ∙ ap (before g) (let q : i ≡ 0 + i = omega arith in q)
 moves_count g (suc n) i a w e h =
     moves_count g n (suc i) (a ++ h.0) w (move_count g i a h.0 e h.1) h.2 ∙ ap (before g) (let q : n + suc i ≡ suc n + i = omega arith in q)
@@ -56,7 +56,7 @@ pub record Whole (g : Game) (i : ℕ) (w : List ℤ) : Type 0 where
   pub passes : Passes g i (suc (length g.scopes)) w
   pub count : length w ≡ length (declared_box g)
 
-whole : (g : Game) → IsSound g → (i : ℕ) (a w : List ℤ) (box : Box) → i ≤ length g.scopes → IsDeclared g box → length a ≡ before g i → IsPlay g (drop i g.scopes) i a w → InBox w box → Whole g i w
+pub whole : (g : Game) → IsSound g → (i : ℕ) (a w : List ℤ) (box : Box) → i ≤ length g.scopes → IsDeclared g box → length a ≡ before g i → IsPlay g (drop i g.scopes) i a w → InBox w box → Whole g i w
 whole g r i a w box le d n h j =
     let left : i + length (drop i g.scopes) ≡ length g.scopes = left_from g i le in
     let m = goes_moves g r.ordered (drop i g.scopes) (suc (length (drop i g.scopes))) i a w left (omega arith) h in
@@ -85,7 +85,7 @@ fewer g i k w l p = record {
     up c o = wider i c.owner.0 (length g.scopes) l o
 
 -- the box of single values
-singles_sub : (w : List ℤ) (box : Box) → length w ≡ length box → InBox w box → is_sub_box (singles w) box ≡ true
+pub singles_sub : (w : List ℤ) (box : Box) → length w ≡ length box → InBox w box → is_sub_box (singles w) box ≡ true
 singles_sub [] [] n h = refl
 singles_sub [] (d ∷ box) n h = cc
 singles_sub (v ∷ w) [] n h = absurd h
@@ -95,27 +95,27 @@ singles_sub (v ∷ w) (d ∷ box) n h = by (has_value d v) (is_sub_box (singles 
     by true b p q = q
     by false b p q = cc
 
-sub_in : (w : List ℤ) (box : Box) → is_sub_box (singles w) box ≡ true → InBox w box
+pub sub_in : (w : List ℤ) (box : Box) → is_sub_box (singles w) box ≡ true → InBox w box
 sub_in [] box e = tt
 sub_in (v ∷ w) [] e = cc
 sub_in (v ∷ w) (d ∷ box) e =
     let p = both (has_value d v && true) (is_sub_box (singles w) box) e in
     let q = both (has_value d v) true p.0 in (has_to d v q.0, sub_in w box p.1)
 
-singles_full : (w : List ℤ) → has_empty (singles w) ≡ false
+pub singles_full : (w : List ℤ) → has_empty (singles w) ≡ false
 singles_full [] = refl
 singles_full (v ∷ w) = singles_full w
 
-in_own : (w : List ℤ) → InBox w (singles w)
+pub in_own : (w : List ℤ) → InBox w (singles w)
 in_own [] = tt
 in_own (v ∷ w) = (inl refl, in_own w)
 
-least_stays : (w : List ℤ) (x : ℕ) → set (singles w) x (least_value (get_or (singles w) x []) ∷ []) ≡ singles w
+pub least_stays : (w : List ℤ) (x : ℕ) → set (singles w) x (least_value (get_or (singles w) x []) ∷ []) ≡ singles w
 least_stays [] x = refl
 least_stays (v ∷ w) zero = refl
 least_stays (v ∷ w) (suc x) = ap (λ ds. (v ∷ []) ∷ ds) (least_stays w x)
 
-greatest_stays : (w : List ℤ) (x : ℕ) → set (singles w) x (greatest_value (get_or (singles w) x []) ∷ []) ≡ singles w
+pub greatest_stays : (w : List ℤ) (x : ℕ) → set (singles w) x (greatest_value (get_or (singles w) x []) ∷ []) ≡ singles w
 greatest_stays [] x = refl
 greatest_stays (v ∷ w) zero = refl
 greatest_stays (v ∷ w) (suc x) = ap (λ ds. (v ∷ []) ∷ ds) (greatest_stays w x)

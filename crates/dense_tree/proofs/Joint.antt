@@ -37,7 +37,7 @@ answerless = refl
 
 -- n below x = 0 and x = 1 by closing: c takes no value of y, so after it both of the opponent's moves are still owed
 abbrev after_closing : Certificate
-after_closing = alone (plainly (close ∷ []) (branch (var 0) (case_one no_steps (next (plainly no_steps (next (plainly (close ∷ []) (next (plainly no_steps on_to_goal)))))) (skip_one no_more))))
+after_closing = alone (plainly (close ∷ []) (branch (var 0) (case_one no_steps (next (plainly no_steps (next (plainly (close ∷ []) on_to_goal)))) (skip_one no_more))))
 
 moves_stay : proves move_without_answer True None after_closing ≡ false
 moves_stay = refl

@@ -11,7 +11,7 @@ use Rattle.qc_model.specs.declared.problem.Pred.TheVariants.{IntLe, IntLt}
 use Rattle.qc_model.specs.Content.{Game}
 use Rattle.proof_tree.specs.declared.tree.Outcome.TheVariants.{True, False}
 use Rattle.proof_tree.proofs.Build.{var, scope, optimising, variable, aggregate}
-use Rattle.dense_tree.specs.Tree.{Certificate, Node, node, again, close, bound, cases, empty, next, branch, no_more}
+use Rattle.dense_tree.specs.Tree.{Certificate, Node, node, again, Ending, close, bound, stuck, cases, empty, next, branch, no_more}
 use Rattle.dense_tree.specs.Proves.{proves}
 use Rattle.dense_tree.proofs.Words.{scope_id, game, of_variable, at, num, rule_two, sum_at_most, plainly, named, no_steps, on_to_goal, at_stuck, case_one, skip_one, alone}
 
@@ -60,6 +60,33 @@ stuck_at_the_horizon = refl
 
 other_horizon : proves nobody_passes False None (below_a_horizon (again 0)) ≡ false
 other_horizon = refl
+
+-- exists; var 0..1: x; exists; var 0..1: y; exists; var 0..1: z; constraint int_lt(z,0); goal; solve;
+abbrev nobody_passes_open : Game
+nobody_passes_open = game (scope Exists ∷ scope Exists ∷ scope Exists ∷ []) (variable 0 Bits ∷ variable 1 Bits ∷ variable 2 Bits ∷ [])
+    (rule_two 2 IntLt (at 2) (num (pos 0)) ∷ [])
+
+-- h 3, FIRST, v 2, n, m, t, n, LAST, .: where FIRST takes x, or leaves it open
+abbrev told_at_a_horizon : (Ending → Ending) → Node → Certificate
+told_at_a_horizon first last = alone (node false (Some (scope_id 2)) (cases no_steps
+    (first (branch (var 1) (case_one no_steps (next (node true None stuck)) (case_one no_steps (next last) no_more))))))
+
+abbrev taken_first : Ending → Ending
+taken_first end = branch (var 0) (case_one no_steps (next (plainly no_steps end)) (case_one no_steps (next (plainly no_steps end)) no_more))
+
+abbrev open_first : Ending → Ending
+open_first end = next (plainly no_steps end)
+
+-- m names two nodes here, and the first is told again
+told_at_one : proves nobody_passes_open False None (told_at_a_horizon taken_first (again 0)) ≡ true
+told_at_one = refl
+
+-- with x open nobody is known to pass the horizon from each position there
+told_at_several : proves nobody_passes_open False None (told_at_a_horizon open_first (again 0)) ≡ false
+told_at_several = refl
+
+said_at_several : proves nobody_passes_open False None (told_at_a_horizon open_first at_stuck) ≡ true
+said_at_several = refl
 
 -- exists maximize s; forall; var 0..1: x; aggregate s = least(z) else 0; exists; var 0..3: z; constraint int_lin_le([2,1],[x,z],3); goal; solve;
 abbrev pruned_sum : Game

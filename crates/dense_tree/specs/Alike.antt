@@ -1,5 +1,5 @@
 -- When a node comes to what an earlier node came to.
-use Rattle.std.specs.Prelude.{ℕ, zero, suc, ◌==◌, nat_le, Bool, true, false, not, ◌&&◌, ◌||◌, cond, Option, Some, None, List, [], ◌∷◌, ◌++◌, take, drop, ℤ}
+use Rattle.std.specs.Prelude.{ℕ, zero, suc, ◌==◌, nat_le, Bool, true, false, not, ◌&&◌, ◌||◌, cond, Option, Some, None, List, [], ◌∷◌, ◌++◌, take, drop, is_none, ℤ}
 use Rattle.std.specs.List.{list_any, list_all}
 use Rattle.qc_model.specs.Arguments.{variables_of}
 use Rattle.qc_model.specs.Content.{Game, Rule}
@@ -55,6 +55,11 @@ same_left [] (e ∷ es) = false
 same_left (d ∷ ds) [] = false
 same_left (d ∷ ds) (e ∷ es) = same_values d e && same_left ds es
 
+-- what is said below a horizon is so where nobody passes it: in a loose part there may be positions of which that isn't known, so of a
+-- loose node only what has no horizon is told again
+abbrev pub tells_of_all : Place → Bool
+tells_of_all q = not q.loose || is_none q.horizon
+
 -- what a bound above took isn't missed: none of the block stands above either place, or as much is left to what comes
 abbrev pub misses_nothing : Game → Place → Place → Bool
 misses_nothing g p q =
@@ -63,5 +68,5 @@ misses_nothing g p q =
 -- a node at p comes to what the one at q came to
 abbrev pub are_alike : Game → Place → Place → Bool
 are_alike g p q =
-    (p.number == q.number) && same_horizon p.horizon q.horizon && misses_nothing g p q
+    (p.number == q.number) && same_horizon p.horizon q.horizon && tells_of_all q && misses_nothing g p q
     && reads_one_position g p.number p.box && reads_one_position g p.number q.box && look_same g p.number p.box q.box
