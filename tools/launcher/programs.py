@@ -63,6 +63,16 @@ def shown(path):
 # A problem or a formula, a certificate, and both as `play` reads them with its moves.
 TEXT, CERTIFICATE, PLAYED, MOVES = 4 * MEBI, 1024 * MEBI, 32 * MEBI, 65_536
 
+# The words that every launcher takes.
+EVERYWHERE = """\
+  --now COMMAND WORDS
+      answers within minutes on a fresh machine, by a build of which nothing is proved
+  --version
+      the commit, the kit, and whether the program is built
+  --help
+      this page
+"""
+
 QECODE = Program(
     name="qecode",
     crate="qc_program",
@@ -126,14 +136,7 @@ QTELL = Program(
                 "writes one of the two certificates behind ./qecode worst PROBLEM SCOPE --gap",
                 "gap examples/tolls.qc 1 --sure > sure.cert", ((1, TEXT),)),
     ),
-    notes="""\
-  --now COMMAND WORDS
-      answers within minutes on a fresh machine, by a build of which nothing is proved
-  --version
-      the commit, the kit, and whether the program is built
-  --help
-      this page
-
+    notes=EVERYWHERE + """
 Where to read: docs/tell.md (words, lines and statuses), docs/command.md (the other programs).
 """,
 )
@@ -154,15 +157,7 @@ QDENSE = Program(
                 "solves a quantified Boolean formula in the QDIMACS format",
                 "qbf examples/formulas/copycat.qdimacs", ((1, TEXT),)),
     ),
-    notes="""\
-  --now COMMAND WORDS
-      answers within minutes on a fresh machine, by a build of which nothing is proved; without it the first call
-      proves and builds the program
-  --version
-      the commit, the kit, and whether the program is built
-  --help
-      this page
-
+    notes=EVERYWHERE + """
 What the lines of a list mean stands in docs/lemmas.md, what the statuses mean in docs/command.md.
 """,
 )
@@ -177,14 +172,7 @@ QPART = Program(
                 "below what it is a piece of; V is a value of the first scope's wish that another piece has reached",
                 "solve examples/tolls.qc --keep t1 0 3 --reached 20", ((1, TEXT),)),
     ),
-    notes="""\
-  --now COMMAND WORDS
-      answers within minutes on a fresh machine, by a build of which nothing is proved
-  --version
-      the commit, the kit, and whether the program is built
-  --help
-      this page
-
+    notes=EVERYWHERE + """
 A piece is no certificate. tools/spread makes one of pieces, and has ./qecode check it: docs/many.md. Words, lines and
 statuses stand in docs/command.md.
 """,

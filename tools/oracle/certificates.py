@@ -102,6 +102,13 @@ class Text:
         self.expect("qcert ")
         version = int(self.choice("12"))
         self.expect(str(version) + "\n")
+        certificate = Certificate(version, *self.outcome(), list(self.lines(version)))
+        if self.at < len(self.data):
+            raise BadCertificate(self.at)
+        return certificate
+
+    def outcome(self):
+        """The line of the outcome: its word, and the optimum or the turns behind it."""
         word = {"t": "true", "f": "false", "o": "open"}[self.choice("tfo")]
         self.expect(word)
         number = None
@@ -109,10 +116,7 @@ class Text:
             self.expect(" ")
             number = self.number(*(TURNS if word == "open" else OPTIMUM))
         self.expect("\n")
-        certificate = Certificate(version, word, number, list(self.lines(version)))
-        if self.at < len(self.data):
-            raise BadCertificate(self.at)
-        return certificate
+        return word, number
 
     def lines(self, version):
         owed = ["node"]

@@ -7,7 +7,7 @@ Python's own limit of calls can't be read.
 from typing import NamedTuple
 
 from oracle import certificates
-from oracle.certificates import LOST, NUMBER, OPTIMUM, SCOPE, TURNS, UNKNOWN, VARIABLE, BadCertificate, Certificate, Line
+from oracle.certificates import LOST, NUMBER, SCOPE, UNKNOWN, VARIABLE, BadCertificate, Certificate, Line
 from oracle.certificates import NotProved, Rules, replaced
 from oracle.games import Var, better, flat, refutes
 from oracle.lemmas import entails
@@ -31,13 +31,7 @@ class Text(certificates.Text):
 
     def certificate(self):
         self.expect("qcert 4\n")
-        word = {"t": "true", "f": "false", "o": "open"}[self.choice("tfo")]
-        self.expect(word)
-        number = None
-        if word == "open" or word == "true" and self.choice(" \n") == " ":
-            self.expect(" ")
-            number = self.number(*(TURNS if word == "open" else OPTIMUM))
-        self.expect("\n")
+        word, number = self.outcome()
         lines, owed = [], ["given"]
         while owed:
             lines.append(self.line(self.LETTERS[owed[-1]]))
