@@ -1,5 +1,6 @@
 pub mod Ends
 pub mod ProductSteps
+pub mod Coded
 pub mod Products
 pub mod Sums
 pub mod Divisors

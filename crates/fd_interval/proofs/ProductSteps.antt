@@ -1,5 +1,5 @@
 -- What the code of the product computes, without the passage to bits and back.
-use Rattle.std.proofs.Common.{◌≡◌, ◌∙◌, ap, ℤ, ◌*ℤ◌, arith, FitsSigned}
+use Rattle.std.proofs.Common.{◌≡◌, ◌∙◌, sym, ap, subst, ℤ, ◌*ℤ◌, ◌≤ℤ◌, arith, FitsSigned}
 use Rattle.std.specs.Int.{int_min, int_max}
 use Rattle.std.proofs.lemmas.Int.{ints, clamps, to_z-of_z}
 use mir.Syntax.{w128}
@@ -55,3 +55,9 @@ highest_product a b m n l p q r s fm fn em en el =
 
 pub back_within : (z : ℤ) → IsWithinLimit z → IsWithinLimit (back z)
 back_within z h = omega (arith, ints)
+
+pub product_fits : (x y : ℤ) → IsWithinLimit x → IsWithinLimit y → IsWithinLimit (x *ℤ y) → FitsSigned w128 (back x *ℤ back y)
+product_fits x y p q r = subst (FitsSigned w128) (sym (λ i. back_is x p i *ℤ back_is y q i)) (fits (x *ℤ y) r)
+
+pub four_ordered : (p q r s l h : ℤ) → l ≡ least_of_four p q r s → h ≡ greatest_of_four p q r s → l ≤ℤ h
+four_ordered p q r s l h e f = omega (arith, ints, clamps)

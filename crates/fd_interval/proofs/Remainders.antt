@@ -7,11 +7,11 @@ use Rattle.fd_interval.specs.declared.span.Span.{Span}
 use Rattle.fd_interval.specs.Spans.{IsBetween, IsIn}
 use Rattle.fd_interval.specs.Remainders.{IsRemainder, IsZero, farthest_remainder, lower_end, upper_end}
 
-above : (x y : ℤ) → pos 0 ≤ℤ x → IsBetween (pos 0) x (int_rem x y)
+pub above : (x y : ℤ) → pos 0 ≤ℤ x → IsBetween (pos 0) x (int_rem x y)
 above (pos a) y h = record { from = omega (arith, ints); to = omega (arith, ints, mod-le a (unsigned_abs y)) }
 above (negsuc a) y h = absurd h.le
 
-below : (x y : ℤ) → x ≤ℤ pos 0 → IsBetween x (pos 0) (int_rem x y)
+pub below : (x y : ℤ) → x ≤ℤ pos 0 → IsBetween x (pos 0) (int_rem x y)
 below (pos zero) y h = record { from = omega (arith, ints); to = omega (arith, ints, mod-le 0 (unsigned_abs y)) }
 below (pos (suc a)) y h = absurd (omega (arith, ints))
 below (negsuc a) y h = let k = mod-le (suc a) (unsigned_abs y) in record { from = omega (arith, ints, k); to = omega (arith, ints, k) }

@@ -17,6 +17,7 @@ mod Dense
 mod Listing
 mod ListSpan
 mod Ranged
+mod CutEnds
 mod Building
 pub mod FullDomains
 mod Nexts

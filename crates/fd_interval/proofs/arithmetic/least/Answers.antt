@@ -1,14 +1,23 @@
-use Rattle.std.proofs.Common.{◌≡◌, arith}
-use Rattle.std.specs.Int.{int_min}
+use Rattle.std.proofs.Common.{◌∙◌, arith}
 use Rattle.std.proofs.lemmas.Int.{ints, clamps}
+use Rattle.fd_interval.proofs.Coded.{smaller}
 use Rattle.fd_interval.proofs.Sums.{smaller_is_least}
 use Rattle.fd_interval.proofs.arithmetic.least.Goals as goal
 
 pub span_of-requires-clause-ordered : goal.span_of-requires-clause-ordered
 span_of-requires-clause-ordered c = omega (arith, ints, clamps, c.args.a.ordered, c.args.b.ordered)
 
+pub span_of-requires-clause-lo_within : goal.span_of-requires-clause-lo_within
+span_of-requires-clause-lo_within c = (smaller c.args.a.lo c.args.b.lo c.min.result c.args.a.lo_within c.args.b.lo_within c.min.ensures.value).0
+
+pub span_of-requires-clause-hi_within : goal.span_of-requires-clause-hi_within
+span_of-requires-clause-hi_within c = (smaller c.args.a.hi c.args.b.hi c.min-2.result c.args.a.hi_within c.args.b.hi_within c.min-2.ensures.value).0
+
+pub returns-clause-lo : goal.returns-clause-lo
+returns-clause-lo c = c.span_of.ensures.lo ∙ (smaller c.args.a.lo c.args.b.lo c.min.result c.args.a.lo_within c.args.b.lo_within c.min.ensures.value).1
+
+pub returns-clause-hi : goal.returns-clause-hi
+returns-clause-hi c = c.span_of.ensures.hi ∙ (smaller c.args.a.hi c.args.b.hi c.min-2.result c.args.a.hi_within c.args.b.hi_within c.min-2.ensures.value).1
+
 pub returns-clause-least : goal.returns-clause-least
-returns-clause-least c =
-    let lo : c.span_of.result.lo ≡ int_min c.args.a.lo c.args.b.lo = omega (arith, ints, clamps) in
-    let hi : c.span_of.result.hi ≡ int_min c.args.a.hi c.args.b.hi = omega (arith, ints, clamps) in
-    smaller_is_least c.args.a c.args.b c.span_of.result lo hi
+returns-clause-least c = smaller_is_least c.args.a c.args.b c.span_of.result (returns-clause-lo c) (returns-clause-hi c)
