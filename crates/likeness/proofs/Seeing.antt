@@ -11,7 +11,7 @@ use Rattle.qc_model.specs.Lists.{Among}
 use Rattle.model_arguments.specs.Written.{args_at, ints_at}
 use Rattle.model_arguments.proofs.Written.{many_fill, numbers_fill}
 use Rattle.proof_alike.specs.Alike.{is_looked_at, sees}
-use Rattle.proof_alike.specs.Reading.{Reading, as_sum, as_clause, by_value, reading, left_sum, seen_as}
+use Rattle.proof_alike.specs.Reading.{Reading, as_sum, as_plus, as_clause, by_value, reading, left_sum, seen_as}
 use Rattle.likeness.specs.Seeing.{is_telling, tells}
 
 -- what passes of the first k + 1 is what passes of the first k, and the next one where it passes
@@ -50,6 +50,7 @@ telling_alike g i vs ws c f = by (reading c) f
     by : (r : Reading) → (is_telling r ≡ true → seen_as r (λ x. not (is_looked_at g i x)) vs c ≡ seen_as r (λ x. not (is_looked_at g i x)) ws c) →
         seen_as r (λ x. not (is_looked_at g i x)) vs c ≡ seen_as r (λ x. not (is_looked_at g i x)) ws c
     by as_sum f = f refl
+    by as_plus f = f refl
     by as_clause f = f refl
     by by_value f = refl
 

@@ -2,16 +2,17 @@
 use Rattle.std.specs.Prelude.{◌≡◌, ℕ, nat_le, Bool, true, false, IsTrue, List, filter, map, slice_index_or, ℤ, pos}
 use Rattle.qc_model.specs.Content.{Game, Rule}
 use Rattle.qc_model.specs.Lists.{Among}
-use Rattle.proof_alike.specs.Reading.{Reading, as_sum, as_clause, by_value, reading}
+use Rattle.proof_alike.specs.Reading.{Reading, as_sum, as_plus, as_clause, by_value, reading}
 use Rattle.proof_alike.specs.Alike.{sees}
 use Rattle.std.specs.Borrow.{Bor}
 use Rattle.likeness.specs.Marks.{AreMarksOf}
 use Rattle.likeness.specs.declared.reading.Reading.{Reading as ReadingOfCode}
-use Rattle.likeness.specs.declared.reading.Reading.TheVariants.{Sum, Clause, Value}
+use Rattle.likeness.specs.declared.reading.Reading.TheVariants.{Sum, Plus, Clause, Value}
 
 -- a reading of the code
 abbrev pub read_as : ReadingOfCode → Reading
 read_as Sum = as_sum
+read_as Plus = as_plus
 read_as Clause = as_clause
 read_as Value = by_value
 
@@ -22,6 +23,7 @@ SeeAlike g i vs ws = (c : Rule) → Among c g.constraints → IsTrue (nat_le i c
 -- the constraint sees values other than by themselves
 abbrev pub is_telling : Reading → Bool
 is_telling as_sum = true
+is_telling as_plus = true
 is_telling as_clause = true
 is_telling by_value = false
 

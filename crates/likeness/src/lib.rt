@@ -2,7 +2,8 @@
 //!
 //! From a scope on a variable is looked at where it belongs to that scope or a later one, where a
 //! constraint of these, or of the goal, reads its value, or where a condition or an aggregate mentions
-//! it. A sum reads by value only what it is compared with, and sees of its terms what they come to; a
+//! it. A sum reads by value only what it is compared with, and sees of its terms what they come to;
+//! a + b = c reads no value, and sees what those of a and b that are known come to, less c where it is; a
 //! clause reads no value, and sees whether a variable that isn't looked at satisfies it. Whatever is
 //! looked at from a scope on is looked at from each earlier one on, too. So one number for each variable
 //! tells all: the last scope from which on it is looked at. `Sight` finds these numbers in one pass over
@@ -20,6 +21,7 @@
 mod clauses;
 mod likeness;
 mod marks;
+mod pluses;
 mod reading;
 mod residues;
 mod sight;

@@ -13,6 +13,8 @@ use std::alloc::{AllocError, Global};
 pub(crate) enum Reading {
     /// What the known terms of a sum come to.
     Sum,
+    /// What the known ones of a, b and c of a + b = c come to.
+    Plus,
     /// Whether a known literal is true.
     Clause,
     /// Each value by itself.
@@ -29,6 +31,7 @@ pub(crate) fn reading_of(rule: &Constraint) -> Reading
     }
     match row.meaning {
         Meaning::SumEqual | Meaning::SumDifferent | Meaning::SumAtMost => Reading::Sum,
+        Meaning::Plus => Reading::Plus,
         Meaning::Clause => Reading::Clause,
         _ => Reading::Value,
     }
@@ -44,7 +47,7 @@ pub(crate) fn variables_by_value(
 {
     match reading {
         Reading::Sum => after_terms(alloc, args),
-        Reading::Clause => Ok(Vec::new(alloc)),
+        Reading::Plus | Reading::Clause => Ok(Vec::new(alloc)),
         Reading::Value => own_variables(alloc, args),
     }
 }
@@ -64,7 +67,7 @@ pub(crate) fn is_telling(reading: Reading) -> bool
     ensures { result ≡ is_telling_by (read_as reading) }
 {
     match reading {
-        Reading::Sum | Reading::Clause => true,
+        Reading::Sum | Reading::Plus | Reading::Clause => true,
         Reading::Value => false,
     }
 }

@@ -1,7 +1,7 @@
 //! What the constraints ahead still see of the variables before a scope, as one number.
 //!
 //! At a node of a scope each variable before it has one value. A constraint of this scope or of a later one sees of them, where
-//! it is a linear sum, what their terms sum to; where it is a clause, whether one of them satisfies it; where all are to
+//! it is a linear sum or a + b = c, what their terms sum to; where it is a clause, whether one of them satisfies it; where all are to
 //! differ, which values are taken; else their values.
 //! Where all this is the same at two nodes of the scope, the same game is ahead of both, so a tuple that settles the one
 //! settles the other, and one that outdoes it gives the other the same bound. The number is a hash: two positions may share one

@@ -6,6 +6,7 @@ ghost use Rattle.qc_model.specs.Lists.{Among};
 ghost use Rattle.likeness.specs.Seeing.{SeeAlike};
 
 use crate::clauses::are_clauses_alike;
+use crate::pluses::are_pluses_alike;
 use crate::reading::{Reading, reading_of};
 use crate::sources::{mark_seen, own_scopes, telling_rules};
 use crate::sums::are_sums_alike;
@@ -66,8 +67,8 @@ impl<'p> Sight<'p> {
     }
 
     /// Whether each constraint of a scope from i on, or of the goal, sees the same of both values of the first variables,
-    /// besides what it reads by value: a sum comes to the same, and a clause is satisfied by both, or by neither and has the
-    /// same values. A sum that overflows 128 bits counts as different. It takes no memory.
+    /// besides what it reads by value: a sum comes to the same, and so does a + b = c, and a clause is satisfied by both, or
+    /// by neither and has the same values. A sum that overflows 128 bits counts as different. It takes no memory.
     pub fn sees_alike(&self, i: ScopeId, kept: &[i64], here: &[i64]) -> bool
         ensures { IsTrue result → SeeAlike self.now i.0 kept.now here.now }
     {
@@ -81,6 +82,7 @@ fn is_rule_alike(sight: &Sight, i: ScopeId, rule: &Constraint, kept: &[i64], her
 {
     match reading_of(rule) {
         Reading::Sum => are_sums_alike(arguments(rule), kept, here),
+        Reading::Plus => are_pluses_alike(arguments(rule), kept, here),
         Reading::Clause => are_clauses_alike(sight, i, rule, kept, here),
         Reading::Value => true,
     }

@@ -111,7 +111,7 @@ fn push_telling<'p>(rules: &mut Vec<&'p Constraint>, rule: &'p Constraint) -> Re
     Ok(())
 }
 
-/// The constraints that see values other than by themselves: sums and clauses.
+/// The constraints that see values other than by themselves: sums, a + b = c, and clauses.
 pub(crate) fn telling_rules<'p>(
     alloc: Global,
     problem: &'p Problem,

@@ -1,10 +1,10 @@
 -- Boxes that look the same, and what the law asks of them and of the tree.
 use Rattle.std.proofs.Common.{◌≡◌, inl, inr, ℕ, zero, suc, ◌<◌, Bool, true, false, [], ◌∷◌, length, drop, refl, sym, subst, arith, ℤ, None}
-use Rattle.std.specs.Prelude.{pos, codes, nat_le, IsTrue, IsFalse}
+use Rattle.std.specs.Prelude.{pos, negsuc, codes, nat_le, IsTrue, IsFalse}
 use Rattle.qc_model.specs.declared.problem.Kind.TheVariants.{Exists}
 use Rattle.qc_model.specs.declared.problem.Arg.TheVariants.{Var, Num}
 use Rattle.qc_model.specs.declared.problem.Argument.TheVariants.{One, Many, Numbers}
-use Rattle.qc_model.specs.declared.problem.Pred.TheVariants.{IntLt, IntLinLe, BoolClause}
+use Rattle.qc_model.specs.declared.problem.Pred.TheVariants.{IntLt, IntLinLe, IntPlus, BoolClause}
 use Rattle.qc_model.specs.declared.problem.Domain.TheVariants.{Bits, Range}
 use Rattle.qc_model.specs.Closed.{refutes_at}
 use Rattle.qc_model.specs.Content.{Game, Rule}
@@ -154,6 +154,66 @@ early_looks_away = refl
 
 early_in_one : (in_place summing early_removal (drop 1 summing.scopes) 1 (demands summing 1) none_and_two None ≡ true) × (in_place summing early_removal (drop 1 summing.scopes) 1 (demands summing 1) one_and_one None ≡ false)
 early_in_one = (refl, refl)
+
+-- exists; var 0..2: x; var 0..2: y; exists; var 0..2: z; constraint int_plus(x,z,y); goal; solve;
+abbrev difference : Rule
+difference = rule 1 IntPlus (One (Var (var 0)) ∷ One (Var (var 2)) ∷ One (Var (var 1)) ∷ [])
+
+abbrev differing : Game
+differing = record {
+  scopes = scope Exists ∷ scope Exists ∷ [];
+  variables = variable 0 (Range (pos 0) (pos 2)) ∷ variable 0 (Range (pos 0) (pos 2)) ∷ variable 1 (Range (pos 0) (pos 2)) ∷ [];
+  aggregates = [];
+  constraints = difference ∷ [];
+}
+
+abbrev one_and_none : Box
+one_and_none = sum_box (pos 1) (pos 0)
+
+abbrev two_and_one : Box
+two_and_one = sum_box (pos 2) (pos 1)
+
+-- x exceeds y by 1 in two of the boxes, by other values
+pluses_look_the_same : AreAlike differing 1 one_and_none two_and_one
+pluses_look_the_same = record { size = refl; same = same; others = others; rules = rules }
+  where
+    same : (x : ℕ) → IsTrue (is_looked_at differing 1 x) → values_left one_and_none x ≡ values_left two_and_one x
+    same zero h = cc
+    same (suc zero) h = cc
+    same (suc (suc zero)) h = refl
+    same (suc (suc (suc x))) h = refl
+
+    others : (x : ℕ) → x < length one_and_none → IsFalse (is_looked_at differing 1 x) → (is_single (values_left one_and_none x) ≡ true) × (is_single (values_left two_and_one x) ≡ true)
+    others zero l h = (refl, refl)
+    others (suc zero) l h = (refl, refl)
+    others (suc (suc zero)) l h = cc
+    others (suc (suc (suc x))) l h = absurd (omega arith)
+
+    rules : (c : Rule) → Among c differing.constraints → IsTrue (nat_le 1 c.owner.0) → sees differing 1 (position differing 1 one_and_none) c ≡ sees differing 1 (position differing 1 two_and_one) c
+    rules c m h = elim m [
+      | inl q ↦ subst (λ r. sees differing 1 (position differing 1 one_and_none) r ≡ sees differing 1 (position differing 1 two_and_one) r) (sym q) refl
+      | inr k ↦ absurd k
+    ]
+
+-- and is the same in the third
+pluses_differ : (sees differing 1 (position differing 1 one_and_none) difference ≡ pos 1 ∷ []) × (sees differing 1 (position differing 1 one_and_one) difference ≡ pos 0 ∷ [])
+pluses_differ = (refl, refl)
+
+-- so where it exceeds y no value is left to z
+abbrev plus_removal : Tree
+plus_removal = tree None (cases (prune 2 (pos 0) (pos 2) 0 ∷ []) empty)
+
+plus_in_two : (in_place differing plus_removal (drop 1 differing.scopes) 1 (demands differing 1) one_and_none None ≡ true)
+    × (in_place differing plus_removal (drop 1 differing.scopes) 1 (demands differing 1) two_and_one None ≡ true)
+    × (in_place differing plus_removal (drop 1 differing.scopes) 1 (demands differing 1) one_and_one None ≡ false)
+plus_in_two = (refl, refl, refl)
+
+-- int_plus(x,x,3): a variable that stands twice counts twice, and a number counts
+abbrev doubled : Rule
+doubled = rule 1 IntPlus (One (Var (var 0)) ∷ One (Var (var 0)) ∷ One (Num (pos 3)) ∷ [])
+
+doubled_counts : (sees differing 1 (position differing 1 one_and_none) doubled ≡ negsuc 0 ∷ []) × (sees differing 1 (position differing 1 two_and_one) doubled ≡ pos 1 ∷ [])
+doubled_counts = (refl, refl)
 
 -- exists; var bool: x; var bool: y; exists; var bool: z; constraint bool_clause([x,z],[y]); goal; solve;
 abbrev either : Rule

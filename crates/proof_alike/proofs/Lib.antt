@@ -6,6 +6,7 @@ pub mod Arrays
 pub mod Terms
 pub mod Starting
 pub mod Sums
+pub mod Pluses
 pub mod Clauses
 pub mod Seeing
 pub mod Rules

@@ -9,11 +9,12 @@ use Rattle.qc_model.specs.Lists.{Among}
 use Rattle.model_arguments.proofs.Bools.{or_left, or_right}
 use Rattle.proof_tree.specs.Place.{position}
 use Rattle.proof_alike.specs.Alike.{is_among, constrains, is_named, is_seen, is_looked_at, AreAlike}
-use Rattle.proof_alike.specs.Reading.{Reading, as_sum, as_clause, by_value, reading, variables_by_value, read_alone, seen_as, known_sum}
+use Rattle.proof_alike.specs.Reading.{Reading, as_sum, as_plus, as_clause, by_value, reading, variables_by_value, read_alone, seen_as, known_sum, known_plus}
 use Rattle.proof_alike.proofs.Boxes.{join, SameRule, RuleAlike, Look}
 use Rattle.proof_alike.proofs.ByValue.{same_by_value}
 use Rattle.proof_alike.proofs.Clauses.{same_clause}
 use Rattle.proof_alike.proofs.Filling.{any_of}
+use Rattle.proof_alike.proofs.Pluses.{same_plus}
 use Rattle.proof_alike.proofs.Sums.{same_sum}
 
 -- what a constraint of the game, of a scope from i on, reads by value is looked at
@@ -32,6 +33,7 @@ rule_alike g i a b l c m e u w v = by (reading c) refl (rule_looks g i c m e) (l
     by : (r : Reading) → reading c ≡ r → ((x : ℕ) → is_among (variables_by_value r c.args) x ≡ true → is_looked_at g i x ≡ true) →
         seen_as r (λ x. not (is_looked_at g i x)) (position g i a) c ≡ seen_as r (λ x. not (is_looked_at g i x)) (position g i b) c → SameRule g i c u w
     by as_sum q looks s = same_sum g i a b l u w v c q looks (same_head (known_sum (position g i a) c) (known_sum (position g i b) c) s)
+    by as_plus q looks s = same_plus g i a b l u w v c q (same_head (known_plus (position g i a) c) (known_plus (position g i b) c) s)
     by as_clause q looks s = same_clause g i a b l u w v c q s
     by by_value q looks s = same_by_value g i c u w (λ x h. v.same x (looks x h))
 

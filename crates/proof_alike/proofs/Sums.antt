@@ -24,25 +24,25 @@ use Rattle.proof_alike.proofs.Positions.{early_value, value_same}
 use Rattle.proof_alike.proofs.Starting.{early, one_left}
 use Rattle.proof_alike.proofs.Terms.{total, products_total, range_total, balance, cancel, one_product}
 
-swapped : (p q : ℤ) → (p +ℤ q) ≡ (q +ℤ p)
+pub swapped : (p q : ℤ) → (p +ℤ q) ≡ (q +ℤ p)
 swapped p q = omega (arith, ints)
 
 module _ (g : Game) (i : ℕ) (a b : Box) (l : AreAlike g i a b) (u w : Box) (v : Varied g i a b u w) where
   -- the known value of a term before scope i, in each box
-  abbrev first_known : Arg → ℤ
+  abbrev pub first_known : Arg → ℤ
   first_known x = arg_value (position g i a) x
 
-  abbrev second_known : Arg → ℤ
+  abbrev pub second_known : Arg → ℤ
   second_known x = arg_value (position g i b) x
 
-  known_same : (x : ℕ) → is_looked_at g i x ≡ true → slice_index_or (position g i a) x (pos 0) ≡ slice_index_or (position g i b) x (pos 0)
+  pub known_same : (x : ℕ) → is_looked_at g i x ≡ true → slice_index_or (position g i a) x (pos 0) ≡ slice_index_or (position g i b) x (pos 0)
   known_same x q = value_same (before g i) x a b (l.same x q)
 
   -- a variable that isn't looked at has its known value alone
-  first_left : (x : ℕ) → is_looked_at g i x ≡ false → least_value (values_left u x) ≡ slice_index_or (position g i a) x (pos 0)
+  pub first_left : (x : ℕ) → is_looked_at g i x ≡ false → least_value (values_left u x) ≡ slice_index_or (position g i a) x (pos 0)
   first_left x q = ap least_value (v.first x q) ∙ sym (early_value (before g i) x a (early g i x q))
 
-  second_left : (x : ℕ) → is_looked_at g i x ≡ false → least_value (values_left w x) ≡ slice_index_or (position g i b) x (pos 0)
+  pub second_left : (x : ℕ) → is_looked_at g i x ≡ false → least_value (values_left w x) ≡ slice_index_or (position g i b) x (pos 0)
   second_left x q = ap least_value (v.second x q) ∙ sym (early_value (before g i) x b (early g i x q))
 
   first_term : (n : ℤ) (x : ℕ) → is_looked_at g i x ≡ false → product (point n) (span (values_left u x)) ≡ point (n *ℤ slice_index_or (position g i a) x (pos 0))
