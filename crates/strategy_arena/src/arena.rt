@@ -6,7 +6,7 @@ ghost use Rattle.proof_tree.specs.Tree.{Tree};
 ghost use Rattle.strategy_arena.specs.Certificate.{IsOneTree};
 
 use crate::line_cursor::LineCursor;
-use crate::moving::{carry_each, keep_all, lengthen_each, put_each, shift};
+use crate::moving::{carry_each, keep_all, put_each, shift};
 use crate::read::node;
 use crate::short::{Short, keep, lengthen};
 use proof_tree::{Line, Node};
@@ -197,15 +197,6 @@ impl Arena {
                 Err(refused)
             }
         }
-    }
-
-    /// Appends the lines from place `start` on to a list. It goes over those alone. After a refusal the list may have
-    /// some of them.
-    pub fn copy_from(&self, start: usize, into: &mut Vec<Line>) -> Result<(), AllocError>
-        requires { start ≤ length self.now }
-        ensures { OnOk result (into.new.items ≡ into.old.items ++ drop start self.now) }
-    {
-        lengthen_each(&self.lines.as_slice()[start..], self.wide.as_slice(), into)
     }
 
     /// The node whose lines these are. It asks that they are the lines of one tree, nested at most 1,000 deep, and fails

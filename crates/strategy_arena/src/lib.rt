@@ -14,7 +14,7 @@
 //!   early wait for those that stand before them. A pair of calls copies each line twice, and asks for memory only where an arena
 //!   gets longer than it ever was, and for each line whose numbers do not fit 32 bits.
 //! - `copied` makes an arena of the last lines, and `put_copy` appends those of another; `cursor` goes over all.
-//! - `cut` keeps the first lines, `len` counts them, and `copy_from` copies the last ones.
+//! - `cut` keeps the first lines, and `len` counts them.
 //! - `write_from` writes the text of the certificate that has a head and these lines. It takes no memory: each line
 //!   is spelled into a buffer on the stack, and 65,536 bytes are gathered before a sink gets them.
 #![tactic(auto)]

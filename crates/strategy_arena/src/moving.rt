@@ -3,7 +3,7 @@ ghost use Rattle.std.specs.Prelude.{◌≡◌, ◌≤◌, ◌+◌, ◌++◌, [],
 ghost use Rattle.std.specs.Vec.{vec_len, vec_capacity};
 ghost use Rattle.strategy_arena.specs.Short.{AllStand, Extends, lines_of, written_over};
 
-use crate::short::{Short, carry, keep, lengthen};
+use crate::short::{Short, carry, keep};
 use proof_tree::Line;
 use std::alloc::AllocError;
 
@@ -102,20 +102,6 @@ pub(crate) fn carry_each(
     for short in from {
         let carried = carry(*short, known, wide)?;
         lines.push_reserved(carried);
-    }
-    Ok(())
-}
-
-/// Appends the lines that these stand for.
-pub(crate) fn lengthen_each(
-    shorts: &[Short],
-    wide: &[Line],
-    into: &mut Vec<Line>,
-) -> Result<(), AllocError>
-    ensures { OnOk result (into.new.items ≡ into.old.items ++ lines_of wide.now shorts.now) }
-{
-    for short in shorts {
-        into.push(lengthen(*short, wide))?;
     }
     Ok(())
 }
