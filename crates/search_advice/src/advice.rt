@@ -11,6 +11,7 @@ ghost use Rattle.qc_model.specs.Domains.{has_empty, has_value, values_left};
 use crate::bests::{Bests, Sought};
 use crate::looks::Looks;
 use crate::positions::Positions;
+use crate::rated::Rated;
 use crate::signs::Signs;
 use crate::standing::{Source, Standing};
 use crate::tuples::{KEPT, Tuples};
@@ -35,6 +36,7 @@ const MOST_WIDTH: usize = 32;
 pub struct Advice<'p> {
     values: Vec<i64>,
     tuples: Tuples,
+    rated: Rated,
     scopes: Vec<Standing>,
     residues: Residues,
     positions: Positions,
@@ -50,6 +52,7 @@ impl<'p> Advice<'p> {
         levels.problem.known();
         let values = vec![in alloc; 0i64; levels.problem.variables()]?;
         let tuples = Tuples::new(alloc, levels.problem.variables())?;
+        let rated = Rated::new(alloc, levels.problem.variables(), levels.problem.scopes())?;
         let mut scopes = vec![in alloc; Standing::new(); levels.problem.scopes()]?;
         let wanted = wanted_scopes(alloc, levels, tries)?;
         let residues = Residues::new(alloc, levels, wanted.as_slice())?;
@@ -61,6 +64,7 @@ impl<'p> Advice<'p> {
         Ok(Advice {
             values,
             tuples,
+            rated,
             scopes,
             residues,
             positions,
@@ -84,8 +88,10 @@ impl<'p> Advice<'p> {
         let position = self.number(level, position, values);
         if let Some(standing) = self.scopes.get_mut(level.number as usize) {
             standing.position = position;
+            standing.node = standing.node.wrapping_add(1);
         }
         self.begin(level);
+        self.set_again(level, false);
         if self.looks.look(level, values, left)? {
             self.take_found(level);
         }
@@ -133,11 +139,18 @@ impl<'p> Advice<'p> {
         }
     }
 
-    /// From now on the first tuple is tried again.
+    /// From now on the first tuple is tried again, the latest one.
     pub fn begin(&mut self, level: &Level) {
         if let Some(standing) = self.scopes.get_mut(level.number as usize) {
             standing.source = Source::Nowhere;
             standing.next = 0;
+            standing.is_again = true;
+        }
+    }
+
+    fn set_again(&mut self, level: &Level, is_again: bool) {
+        if let Some(standing) = self.scopes.get_mut(level.number as usize) {
+            standing.is_again = is_again;
         }
     }
 
@@ -162,6 +175,9 @@ impl<'p> Advice<'p> {
         {
             self.take_kept(level, number);
             return true;
+        }
+        if standing.is_rated && !standing.is_again {
+            return self.take_rated(level, remains);
         }
         if standing.is_known {
             return self.take_last(level, next, remains);
@@ -296,6 +312,27 @@ impl<'p> Advice<'p> {
         allowed.is_some()
     }
 
+    /// Takes the tuple that is tried next by what came of each, where there is one whose values are all left.
+    fn take_rated(&mut self, level: &Level, remains: &SearchBox) -> bool
+        requires game { remains.now.game ≡ level.now.problem.now }
+    {
+        let Some(standing) = self.scopes.get(level.number as usize) else {
+            return false;
+        };
+        let node = standing.node;
+        let place = self.rated.take_best(level, node, remains);
+        if let Some(k) = place {
+            for x in level.from..level.stop {
+                let value = self.rated.value(k, x);
+                self.put(x, value);
+            }
+        }
+        if let Some(standing) = self.scopes.get_mut(level.number as usize) {
+            standing.take_rated(place);
+        }
+        place.is_some()
+    }
+
     /// The value that x takes in the tuple that is tried, one that is left to it. None comes where it can't take its own.
     pub fn value(&self, level: &Level, x: VarId, remains: &SearchBox) -> Option<i64>
         requires var { x.0 < length remains.now.store.box }
@@ -355,9 +392,21 @@ impl<'p> Advice<'p> {
         if let Some(standing) = self.scopes.get_mut(level.number as usize) {
             standing.tell_ended();
         }
+        self.rate_ended(level, values);
         self.tuples.keep(level, values);
         if let Some(number) = self.position(level) {
             self.keep(number, level, values);
+        }
+    }
+
+    /// Counts the node for its tuple in these values, where tuples are chosen by what came of them.
+    fn rate_ended(&mut self, level: &Level, values: &[i64]) {
+        let Some(standing) = self.scopes.get(level.number as usize) else {
+            return;
+        };
+        if standing.is_rated {
+            let node = standing.node;
+            self.rated.keep(level, node, values);
         }
     }
 
@@ -378,6 +427,20 @@ impl<'p> Advice<'p> {
     pub fn tell(&mut self, level: &Level, served: bool, has_rival: bool) {
         if let Some(standing) = self.scopes.get_mut(level.number as usize) {
             standing.tell(served, has_rival);
+            standing.is_rated |= has_rival;
+        }
+        if !served {
+            self.rate_failed(level);
+        }
+    }
+
+    /// Counts the node against the tuple that was tried, where that was chosen by what came of it.
+    fn rate_failed(&mut self, level: &Level) {
+        let Some(standing) = self.scopes.get(level.number as usize) else {
+            return;
+        };
+        if let Source::Rated(k) = standing.source {
+            self.rated.fail(level, k);
         }
     }
 }

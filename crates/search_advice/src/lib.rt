@@ -13,6 +13,7 @@ mod advice;
 mod bests;
 mod looks;
 mod positions;
+mod rated;
 mod signs;
 mod standing;
 mod tuples;

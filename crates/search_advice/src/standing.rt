@@ -33,6 +33,8 @@ pub(crate) enum Source {
     Position,
     /// It is one of the last that ended nodes of the scope.
     Last,
+    /// It is the one at this place of those that are kept with what came of them.
+    Rated(usize),
     /// It follows the signs of literals.
     Signs,
 }
@@ -61,6 +63,11 @@ pub(crate) struct Standing {
     was_met: bool,
     /// The number of the position that the search is at, where a tuple may be kept for it.
     pub(crate) position: Option<u64>,
+    /// How many nodes were begun, and whether the latest tuple is tried again at the last of them.
+    pub(crate) node: u64,
+    pub(crate) is_again: bool,
+    /// Whether tuples are chosen by what came of them: the scope above could outdo this one where one was tried.
+    pub(crate) is_rated: bool,
 }
 
 impl Standing {
@@ -79,6 +86,9 @@ impl Standing {
             met: 0,
             was_met: false,
             position: None,
+            node: 0,
+            is_again: false,
+            is_rated: false,
         }
     }
 
@@ -145,6 +155,17 @@ impl Standing {
         };
     }
 
+    /// From now on the tuple at this place of those that are kept with what came of them is tried, or none.
+    pub(crate) fn take_rated(&mut self, place: Option<usize>) {
+        match place {
+            Some(k) => self.source = Source::Rated(k),
+            None => {
+                self.source = Source::Nowhere;
+                self.next = KEPT;
+            }
+        }
+    }
+
     /// Learns whether a try served. A tuple that served was kept just now; it was one of a position where that had been met. Where
     /// the scope above can outdo this one, a tuple that fails costs one case of many, and is no reason to ask no more.
     pub(crate) fn tell(&mut self, served: bool, has_rival: bool) {
@@ -157,6 +178,7 @@ impl Standing {
             }
             Source::Position => self.last = trusted_then(self.last, served),
             Source::Last => self.last = trusted_then(self.last, served),
+            Source::Rated(_) => self.last = trusted_then(self.last, served),
         }
     }
 }

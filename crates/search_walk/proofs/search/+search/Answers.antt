@@ -538,6 +538,12 @@ own_part-returns-clause-told t c =
     (λ told. part_again c.args.stage.now c.args.walk.now c.shortened_part-2.new.walk c.advised_part.new.walk.remains.store.box c.advised_part.new.walk.left c.advised_part.new.walk.lines (c.is_advised.ensures c.if-not-is_advised.false) back.box back.left stand told)
     c.shortened_part-2.ensures.told
 
+pub advised_part-returns-then-branch-clause-told : goal.advised_part-returns-then-branch-clause-told
+advised_part-returns-then-branch-clause-told t c =
+    let from = c.tries.walk in
+    let back = c.tries.invariant.back in
+    λ told. part_again c.args.stage.now c.args.walk.now c.tried_part.new.walk from.remains.store.box from.left from.lines c.requires.cuts back.box back.left c.tries.invariant.same (c.in_ok-tried_part.ensures.told c.if-branch.true)
+
 pub shortened_part-returns-then-branch-clause-told : goal.shortened_part-returns-then-branch-clause-told
 shortened_part-returns-then-branch-clause-told t c =
     let a = c.args.walk.now in
