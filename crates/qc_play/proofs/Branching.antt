@@ -1,5 +1,5 @@
 -- The cases of a branch, one after the other.
-use Rattle.std.proofs.Common.{◌≡◌, ℕ, suc, ◌+◌, ◌<◌, List, ◌∷◌, ◌++◌, length, drop, refl, sym, ap, ◌∙◌, subst, ℤ, Option, get_or, drop-cons, add-one}
+use Rattle.std.proofs.Common.{◌≡◌, ℕ, ◌+◌, ◌++◌, refl, sym, ap, ◌∙◌, subst, ℤ, Option}
 use Rattle.std.specs.Prelude.{pos, ◌+ℤ◌}
 use Rattle.qc_model.specs.Content.{Game}
 use Rattle.qc_model.specs.Domains.{Box, Values, box_within, values_left}
@@ -9,7 +9,6 @@ use Rattle.check_box.specs.Cases.{IsCase}
 use Rattle.proof_tree.specs.Counts.{branch_ends, case_ends}
 use Rattle.proof_tree.specs.Cover.{covered, uncovered, box_to}
 use Rattle.proof_tree.specs.Tree.{Branches, no_more, piece, Case}
-use Rattle.proof_tree.specs.declared.tree.Piece.{Piece}
 use Rattle.qc_play.specs.declared.gathering.Gathering.{Gathering}
 use Rattle.qc_play.specs.declared.walk.Walk.{Walk}
 use Rattle.qc_play.specs.Walk.{pieces_leaves, taken_leaves, CanReadBranches, CanReadCase, IsBack, Tells}
@@ -71,7 +70,3 @@ module _ (g : Game) (i x : ℕ) (all : Branches) (old : Walk) (a : Gathering) wh
 
   pub all_branched : (from : ℤ) (new : Walk) (b : Gathering) → Branched g i x from all no_more old new a b → Tells g i old.joins a new.joins b (branch_ends all) (pieces_leaves g all x (values_left old.remains.box x) i old.remains.box)
   all_branched from new b h = h.tells new.joins b (tells_none g i new.joins b)
-
--- the next case of a list
-pub first_piece : (ps : List Piece) (k : ℕ) (p : Piece) → k < length ps → p ≡ get_or ps k p → drop k ps ≡ p ∷ drop (k + 1) ps
-first_piece ps k p l e = drop-cons ps k p l ∙ (ap (λ q. q ∷ drop (suc k) ps) (sym e) ∙ ap (λ n. p ∷ drop n ps) (sym (add-one k)))

@@ -21,7 +21,14 @@ pub mod ShownVerdicts
 pub mod Backs
 pub mod TreeSizes
 pub mod Tellings
+pub mod PartLines
+pub mod StepLines
+pub mod CaseLines
+pub mod NodeLines
 pub mod Stepping
+mod Putting
+mod Judging
+mod Listings
 pub mod ScopeEnds
 pub mod Branching
 pub mod Readable

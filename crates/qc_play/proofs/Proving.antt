@@ -1,6 +1,6 @@
 -- What a certificate proves, by its head and by what the checker answers.
-use Rattle.std.proofs.Common.{◌≡◌, Bool, true, false, not, ◌&&◌, refl, sym, Option, Some, None, ℤ, ◌↔◌, IsTrue}
-use Rattle.std.proofs.lemmas.Bool.{and_right}
+use Rattle.std.proofs.Common.{◌≡◌, Bool, true, false, not, ◌&&◌, refl, sym, ◌∙◌, Option, Some, None, ℤ, ◌↔◌, IsTrue}
+use Rattle.std.proofs.lemmas.Bool.{and_right, true≢false}
 use Rattle.qc_model.specs.Content.{Game}
 use Rattle.qc_model.specs.Verdict.{is_exact}
 use Rattle.proof_tree.specs.declared.tree.Outcome.{Outcome}
@@ -29,6 +29,14 @@ module _ (g : Game) (t : Tree) where
   -- under another head nothing is proved
   pub no_head_proves : (o : Outcome) (p : Option ℤ) → is_head g.scopes o p ≡ false → proves g o p t ≡ false
   no_head_proves o p e = and_right (root_in_place g t) (shows g t (root_finding g t) o p) (no_head o p e)
+
+  -- so what is proved has such a head
+  pub head_of_proved : (o : Outcome) (p : Option ℤ) → proves g o p t ≡ true → is_head g.scopes o p ≡ true
+  head_of_proved o p e = by (is_head g.scopes o p) refl
+    where
+      by : (b : Bool) → is_head g.scopes o p ≡ b → is_head g.scopes o p ≡ true
+      by true h = h
+      by false h = absurd (true≢false (sym e ∙ no_head_proves o p h))
 
 -- where the checker says yes, and where it doesn't
 pub yes_proves : (b : Bool) → (Yes ≡ Yes) ↔ IsTrue b → true ≡ b

@@ -1,5 +1,5 @@
 -- Removals, one after the other.
-use Rattle.std.proofs.Common.{◌≡◌, ℕ, suc, ◌+◌, ◌<◌, Bool, true, false, not, ◌&&◌, cond, List, [], ◌∷◌, ◌++◌, length, map, drop, refl, sym, ap, ◌∙◌, subst, arith, ℤ, Some, None, Option, append_assoc, append-nil, get_or, drop-cons, add-one}
+use Rattle.std.proofs.Common.{◌≡◌, ℕ, suc, ◌+◌, ◌<◌, Bool, true, false, not, ◌&&◌, cond, List, [], ◌∷◌, ◌++◌, length, map, drop, refl, sym, ap, ◌∙◌, subst, arith, ℤ, Some, None, Option, append_assoc, append-nil}
 use Rattle.std.specs.Prelude.{slice_get}
 use Rattle.qc_model.specs.declared.problem.Condition.{Condition}
 use Rattle.qc_model.specs.declared.problem.Kind.{Kind}
@@ -177,7 +177,3 @@ one_stepped g i all s rest old mid new h e within on stands = record {
 
 pub all_stepped : (g : Game) (i : ℕ) (all : List Step) (old new : Walk) → Stepped g i all [] old new → (xs : List Seen) → StandsAt old.joins i xs → StandsAt new.joins i (xs ++ marks_seen g i all old.remains.box)
 all_stepped g i all old new h xs k = let m = h.stands xs k in subst (StandsAt new.joins i) (sym (append-nil m.0) ∙ m.2) m.1
-
--- the next step of a list
-pub first_step : (ss : List Step) (k : ℕ) (d : Step) → k < length ss → drop k ss ≡ get_or ss k d ∷ drop (k + 1) ss
-first_step ss k d l = drop-cons ss k d l ∙ ap (λ n. get_or ss k d ∷ drop n ss) (sym (add-one k))

@@ -13,3 +13,6 @@ pub mod Gathers
 pub mod Evidence
 pub mod Heads
 pub mod Walk
+pub mod Beginnings
+pub mod Roots
+pub mod Listing

@@ -111,6 +111,11 @@ pub record IsBack (g : Game) (i : ℕ) (old new : Walk) : Type 0 where
   pub past : IsUndone (trail_len old.remains) old.remains new.remains
   pub box : new.remains.box ≡ old.remains.box
 
+-- these steps of scope i's own tree were taken: they leave this box, and the join stands for the marks of bounds too
+pub record TakesSteps (g : Game) (i : ℕ) (steps : List Step) (old new : Walk) : Type 0 where
+  pub box : new.remains.box ≡ after_steps steps old.remains.box
+  pub stands : (xs : List Seen) → StandsAt old.joins i xs → StandsAt new.joins i (xs ++ marks_seen g i steps old.remains.box)
+
 -- of scope i's own tree these leaves were seen: its join stands for them, they are gathered, and they come from n ends
 pub record HasSeen (g : Game) (i : ℕ) (js : Joins) (x : Gathering) (n : ℕ) (ls : List Leaf) : Type 0 where
   pub stands : StandsAt js i (map seen_of ls)

@@ -1,14 +1,19 @@
 //! What a certificate shows, whatever it states.
 ghost use Rattle.std.specs.Prelude.{◌≡◌, IfOk, OnErr, IsTrue};
-ghost use Rattle.proof_tree.specs.Shape.{tree_of};
+ghost use Rattle.proof_tree.specs.Lines.{tree_lines};
+ghost use Rattle.proof_tree.specs.Proves.{proves};
+ghost use Rattle.proof_tree.specs.Tree.{Tree};
 ghost use Rattle.qc_play.specs.Evidence.{IsEvidence};
 ghost use Rattle.qc_play.specs.Heads.{is_head};
+ghost use Rattle.qc_play.specs.Roots.{IsListed};
 
 use crate::counter::Counter;
-use crate::judged::proves;
-use crate::make::{make_counter, make_plan};
+use crate::judged::lines_prove;
+use crate::listed::CertificateLines;
 use crate::plan::Plan;
-use proof_tree::{Certificate, Outcome};
+use crate::root::{counter_of_root, plan_of_root};
+use proof_meaning::{outcomes_are_true, trees_answer_all_tuples};
+use proof_tree::Outcome;
 use qc_model::Problem;
 use std::alloc::{AllocError, Global};
 
@@ -25,60 +30,48 @@ pub enum Evidence {
     NotProved,
 }
 
-fn won_answer(alloc: Global, problem: &Problem, cert: &Certificate) -> Result<Evidence, AllocError>
-    requires { cert.now.outcome ≡ Outcome.True }
-    ensures shows { IfOk result (λ e. IsEvidence problem.now cert.now.outcome cert.now.optimum (tree_of cert.now.root) e) }
-    ensures asked { OnErr result (IsTrue (is_head problem.now.scopes cert.now.outcome cert.now.optimum)) }
-{
-    match make_plan(alloc, problem, cert)? {
-        Some(plan) => Ok(Evidence::Plan(plan)),
-        None => Ok(Evidence::NotProved),
-    }
-}
-
-fn lost_answer(alloc: Global, problem: &Problem, cert: &Certificate) -> Result<Evidence, AllocError>
-    requires { cert.now.outcome ≡ Outcome.False }
-    ensures shows { IfOk result (λ e. IsEvidence problem.now cert.now.outcome cert.now.optimum (tree_of cert.now.root) e) }
-    ensures asked { OnErr result (IsTrue (is_head problem.now.scopes cert.now.outcome cert.now.optimum)) }
-{
-    match make_counter(alloc, problem, cert)? {
-        Some(counter) => Ok(Evidence::Counter(counter)),
-        None => Ok(Evidence::NotProved),
-    }
-}
-
-fn open_answer(
+/// What a certificate shows that proves what it states.
+fn proved_evidence(
     alloc: Global,
     problem: &Problem,
-    cert: &Certificate,
-    turns: u64,
+    cert: &CertificateLines,
 ) -> Result<Evidence, AllocError>
-    requires { cert.now.outcome ≡ Outcome.Open turns }
-    ensures shows { IfOk result (λ e. IsEvidence problem.now cert.now.outcome cert.now.optimum (tree_of cert.now.root) e) }
-    ensures asked { OnErr result (IsTrue (is_head problem.now.scopes cert.now.outcome cert.now.optimum)) }
+    requires listed { IsListed cert.now.outcome cert.now.lines.items }
+    requires proved { (t : Tree) → cert.now.lines.items ≡ tree_lines t → IsTrue (proves problem.now cert.now.outcome cert.now.optimum t) }
+    ensures { IfOk result (λ e. (t : Tree) → cert.now.lines.items ≡ tree_lines t → IsEvidence problem.now cert.now.outcome cert.now.optimum t e) }
 {
-    let proved = proves(alloc, problem, cert)?;
-    if proved {
-        Ok(Evidence::Open(turns))
-    } else {
-        Ok(Evidence::NotProved)
+    problem.known();
+    outcomes_are_true();
+    trees_answer_all_tuples();
+    match cert.outcome {
+        Outcome::True => {
+            let plan = plan_of_root(alloc, problem, cert.lines.as_slice())?;
+            Ok(Evidence::Plan(plan))
+        }
+        Outcome::False => {
+            let counter = counter_of_root(alloc, problem, cert.lines.as_slice())?;
+            Ok(Evidence::Counter(counter))
+        }
+        Outcome::Open(turns) => Ok(Evidence::Open(turns)),
     }
 }
 
-/// What a certificate shows. NotProved comes exactly where it doesn't prove what it states.
+/// What a certificate shows that is known by its lines, which are those of a tree that a certificate may have (`read_lines`).
+/// NotProved comes exactly where it doesn't prove what it states.
 ///
-/// It fails as `make_plan` does, and asks for no memory where the certificate states an optimum that no tree can show.
+/// It fails only where memory is refused, and asks for none where the certificate states an optimum that no tree can show.
 pub fn make_evidence(
     alloc: Global,
     problem: &Problem,
-    cert: &Certificate,
+    cert: &CertificateLines,
 ) -> Result<Evidence, AllocError>
-    ensures shows { IfOk result (λ e. IsEvidence problem.now cert.now.outcome cert.now.optimum (tree_of cert.now.root) e) }
+    requires { IsListed cert.now.outcome cert.now.lines.items }
+    ensures shows { IfOk result (λ e. (t : Tree) → cert.now.lines.items ≡ tree_lines t → IsEvidence problem.now cert.now.outcome cert.now.optimum t e) }
     ensures asked { OnErr result (IsTrue (is_head problem.now.scopes cert.now.outcome cert.now.optimum)) }
 {
-    match cert.outcome {
-        Outcome::True => won_answer(alloc, problem, cert),
-        Outcome::False => lost_answer(alloc, problem, cert),
-        Outcome::Open(turns) => open_answer(alloc, problem, cert, turns),
+    let proved = lines_prove(alloc, problem, cert)?;
+    if !proved {
+        return Ok(Evidence::NotProved);
     }
+    proved_evidence(alloc, problem, cert)
 }

@@ -6,9 +6,11 @@
 //! the game with such a tree on one side and given moves on the other, and writes what happened, scope by scope. With an
 //! optimal strategy a play ends with a goal that holds, or with an opponent who has no allowed tuple. With a
 //! counterstrategy that wins it ends with a goal that doesn't hold, or with a player from whose tuples nobody can go on.
-//! `make_evidence` tells what a certificate shows, whatever it states.
+//! `read_lines` reads a certificate's text into the lines of its tree, and `make_evidence` tells what they show, whatever
+//! the certificate states; no tree is made.
 //!
-//! A `Walk` goes over the tree, which the checker said yes to before, so that it stands in place. What the leaves
+//! A `Walk` goes over the lines of a tree, which the checker said yes to before, so that it stands in place: each call takes
+//! the lines of its part off a cursor. `make_plan` and `make_counter` put the lines of their tree in a row for it. What the leaves
 //! of a scope come to is added up in 64 bits: a certificate has at most 2^30 ends, and each brings a value of a
 //! variable at most. A scope's own tree is read leaf by leaf: a `Gathering` takes the leaves that go on, and gives
 //! the trees of choices of the scope from those of its leaves. It keeps of a scope of the player the best leaf, and
@@ -17,7 +19,8 @@
 //!
 //! `specs/` says which tree a value is (`Shape`), how a play goes (`Play`), its text (`PlayText`), what it ends with
 //! (`Ends`), what is made of a certificate (`Made`), what one shows (`Evidence`), whether any tree may show it (`Heads`),
-//! what a node shows (`Shown`), what is gathered of leaves (`Gathers`), and what a walk may read and tells (`Walk`).
+//! what a node shows (`Shown`), what is gathered of leaves (`Gathers`), what a walk may read and tells (`Walk`), which parts lines
+//! begin with (`Beginnings`), which lines a certificate has (`Roots`), and what was read of a text (`Listing`).
 #![tactic(auto)]
 
 mod alone;
@@ -30,25 +33,32 @@ mod fault;
 mod gathering;
 mod heads;
 mod judged;
+mod line_cursor;
 mod lines;
+mod listed;
 mod make;
 mod numbers;
 mod opponent_leaves;
 mod plan;
 mod player_leaves;
+mod read;
 mod root;
 mod scope;
 mod shown;
 mod side;
 mod steps;
 mod tables;
+mod taking;
 mod tuple;
+mod unrolled;
 mod walk;
 
 pub use board::play;
 pub use counter::{Counter, CounterEntry, CounterList};
 pub use evidence::{Evidence, make_evidence};
 pub use fault::PlayFault;
+pub use listed::CertificateLines;
 pub use make::{make_counter, make_plan};
 pub use plan::{Plan, PlanEntry, PlanList};
+pub use read::read_lines;
 pub use side::Side;

@@ -8,6 +8,7 @@ use crate::counter::Counter;
 use crate::judged::proves;
 use crate::plan::Plan;
 use crate::root::{counter_of_root, plan_of_root};
+use crate::unrolled::lines_of;
 use proof_meaning::{outcomes_are_true, trees_answer_all_tuples};
 use proof_tree::{Certificate, Outcome};
 use qc_model::Problem;
@@ -30,7 +31,8 @@ fn won_plan(
     if !won {
         return Ok(None);
     }
-    let plan = plan_of_root(alloc, problem, &cert.root)?;
+    let lines = lines_of(alloc, &cert.root)?;
+    let plan = plan_of_root(alloc, problem, lines.as_slice())?;
     Ok(Some(plan))
 }
 
@@ -51,7 +53,8 @@ fn lost_counter(
     if !lost {
         return Ok(None);
     }
-    let counter = counter_of_root(alloc, problem, &cert.root)?;
+    let lines = lines_of(alloc, &cert.root)?;
+    let counter = counter_of_root(alloc, problem, lines.as_slice())?;
     Ok(Some(counter))
 }
 

@@ -1,5 +1,5 @@
 //! Removals in a scope's own tree, and the marks of bounds.
-ghost use Rattle.std.specs.Prelude.{◌≡◌, ◌∷◌, ◌++◌, ◌<◌, [], List, ℕ, true, false, length};
+ghost use Rattle.std.specs.Prelude.{◌≡◌, ◌∷◌, ◌++◌, ◌<◌, ◌≤◌, [], List, ℕ, true, false, length};
 ghost use Rattle.qc_model.specs.declared.problem.Scope.{Scope as OneScope};
 ghost use Rattle.qc_model.specs.Content.{Game};
 ghost use Rattle.qc_model.specs.Domains.{is_none_left, values_left, values_within};
@@ -7,14 +7,21 @@ ghost use Rattle.qc_model.specs.Verdict.{Seen};
 ghost use Rattle.joins.specs.DemandLists.{HasLists};
 ghost use Rattle.joins.specs.Joins.{StandsAt};
 ghost use Rattle.proof_tree.specs.Place.{tracked_variable};
-ghost use Rattle.proof_tree.specs.Steps.{after_step, after_steps, is_tracked, step_marks};
+ghost use Rattle.proof_tree.specs.Steps.{after_step, is_tracked, step_marks};
+ghost use Rattle.proof_tree.specs.declared.line.Line.{Line as OneLine};
+ghost use Rattle.proof_tree.specs.declared.tree.Step.{Step as OneStep};
 ghost use Rattle.proof_tree.specs.declared.tree.Step.TheVariants.{Bound as BoundStep};
-ghost use Rattle.qc_play.specs.Walk.{game_of, steps_fit, marks_seen, IsWithin, LeadsOn};
+ghost use Rattle.proof_tree.specs.Lines.{ending_lines};
+ghost use Rattle.proof_tree.specs.Tree.{Ending};
+ghost use Rattle.qc_play.specs.Beginnings.{ArePart, BeginsPart};
+ghost use Rattle.qc_play.specs.Walk.{game_of, steps_fit, marks_seen, IsWithin, LeadsOn, TakesSteps};
 
+use crate::line_cursor::LineCursor;
 use crate::tables::Tables;
+use crate::taking::step_of;
 use crate::walk::Walk;
 use fd_store::Store;
-use proof_tree::Step;
+use proof_tree::{Line, Step};
 use qc_model::{Condition, ScopeId, Sense, VarId};
 
 /// The best value of x from lo to hi, where the list wishes for x first.
@@ -67,19 +74,29 @@ impl<'p> Walk<'p> {
         }
     }
 
-    /// Takes the removals of a part of scope i's own tree.
-    pub(crate) fn take_steps(&mut self, tables: &Tables<'p>, i: ScopeId, steps: &[Step])
+    /// Takes the removals of a part of scope i's own tree, which begins with a line that was taken: the line after them.
+    pub(crate) fn take_steps(
+        &mut self,
+        tables: &Tables<'p>,
+        i: ScopeId,
+        first: Line,
+        lines: &mut LineCursor<'_>,
+    ) -> Line
         requires lists { HasLists (game_of tables.now) tables.now.demands }
         requires within { IsWithin (game_of tables.now) self.old i.0 }
         requires scope { i.0 < length (game_of tables.now).scopes }
-        requires fits { steps_fit (game_of tables.now) steps.now i.0 self.old.remains.box ≡ true }
-        ensures content { self.new.remains.box ≡ after_steps steps.now self.old.remains.box }
+        requires tree { BeginsPart (game_of tables.now) (first ∷ lines.old) i.0 self.old.remains.box }
         ensures within { IsWithin (game_of tables.now) self.new i.0 }
         ensures on { LeadsOn (game_of tables.now) i.0 self.old self.new }
-        ensures stands { (xs : List Seen) → StandsAt self.old.joins i.0 xs → StandsAt self.new.joins i.0 (xs ++ marks_seen (game_of tables.now) i.0 steps.now self.old.remains.box) }
+        ensures taken { (steps : List OneStep) (e : Ending) (rest : List OneLine) → ArePart (first ∷ lines.old) steps e rest → steps_fit (game_of tables.now) steps i.0 self.old.remains.box ≡ true →
+            (result ∷ lines.new ≡ ending_lines e ++ rest) × TakesSteps (game_of tables.now) i.0 steps self.old self.new }
+        ensures shorter { length lines.new ≤ length lines.old }
     {
-        for step in steps {
-            self.take_step(tables, i, *step);
+        let mut line = first;
+        while let Some(step) = step_of(line) {
+            self.take_step(tables, i, step);
+            line = lines.take();
         }
+        line
     }
 }

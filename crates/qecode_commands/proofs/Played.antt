@@ -7,6 +7,7 @@ use Rattle.qc_model.specs.Content.{Game}
 use Rattle.qc_model.specs.Plan.{Plan as Choices}
 use Rattle.qc_model.specs.Optimal.{Optimal}
 use Rattle.proof_tree.specs.declared.tree.Outcome.{Outcome}
+use Rattle.proof_tree.specs.declared.line.Line.{Line}
 use Rattle.proof_tree.specs.Tree.{Tree}
 use Rattle.proof_tree.specs.Proves.{proves}
 use Rattle.proof_text.specs.declared.fault.CertFault.{CertFault}
@@ -20,6 +21,7 @@ use Rattle.qc_play.specs.Shape.{plan_of, tree_of_counter}
 use Rattle.qc_play.specs.Ends.{IsWinning}
 use Rattle.qc_play.specs.Made.{IsPlanOf, IsCounterOf}
 use Rattle.qc_play.specs.Evidence.{IsLeftOpen}
+use Rattle.qc_play.specs.Listing.{IsReadFrom}
 use Rattle.qc_play.specs.Play.{play_of}
 use Rattle.qc_play.specs.Playing.{IsFaultOf}
 use Rattle.qecode_commands.specs.declared.status.Status.{Status}
@@ -27,7 +29,7 @@ use Rattle.qecode_commands.specs.declared.status.Status.TheVariants.{NotProved, 
 use Rattle.qecode_commands.specs.declared.moves.NoMoves.{NoMoves}
 use Rattle.qecode_commands.specs.declared.moves.NoMoves.TheVariants.{Bad, Memory as Want}
 use Rattle.qecode_commands.specs.Files.{IsFile, TurnsFileDown}
-use Rattle.qecode_commands.specs.Certificates.{TurnsFaultDown, TurnsCertificateTextDown, TurnsCertificateDown}
+use Rattle.qecode_commands.specs.Certificates.{HasLinesOf, TurnsFaultDown, TurnsCertificateTextDown, TurnsCertificateDown}
 use Rattle.qecode_commands.specs.Moves.{ExplainsMoves, TurnsMovesFaultDown, TurnsMovesDown}
 use Rattle.qecode_commands.specs.Plays.{side_of, shown_tree, ShowsSide, FailLine, TurnsPlayDown, PlaysMoves, PlaysFile, PlaysCertificate, PlaysProblem}
 use Rattle.qecode_commands.proofs.Down.{file_before}
@@ -48,6 +50,10 @@ pub no_certificate_file : (name : List ℕ) (told : Option (List ℕ)) (gave : �
     TurnsFileDown 33554432 name told gave s t → TurnsCertificateDown name told gave s t
 no_certificate_file name told gave BadCertificate t h = absurd h
 no_certificate_file name told gave s t h = h
+
+-- a text that is one's, by its lines
+pub read_lines_of : (told : Option (List ℕ)) (bytes : List ℕ) (o : Outcome) (p : Option ℤ) (lines : List Line) → IsFile 33554432 told bytes → IsReadFrom bytes o p lines → HasLinesOf told o p lines
+read_lines_of told bytes o p lines file r = record { root = r.root; of = record { bytes = bytes; file = file; version = r.version; read = r.read }; is = r.is; listed = r.listed }
 
 -- a text that is no moves
 pub moves_down : (bytes : List ℕ) (f : NoMoves) (s : Status) (t : List ℕ) → ExplainsMoves bytes f → TurnsMovesFaultDown f s t → TurnsMovesDown bytes s t

@@ -2,11 +2,14 @@
 use Rattle.std.specs.Prelude.{◌≡◌, ℕ, ℤ, List, [], ◌++◌, codes, decimal, Option}
 use Rattle.proof_tree.specs.declared.tree.Version.{Version}
 use Rattle.proof_tree.specs.declared.tree.Outcome.{Outcome}
+use Rattle.proof_tree.specs.declared.line.Line.{Line}
+use Rattle.proof_tree.specs.Lines.{tree_lines}
 use Rattle.proof_tree.specs.Tree.{Tree}
 use Rattle.proof_text.specs.declared.fault.CertFault.{CertFault}
 use Rattle.proof_text.specs.declared.fault.CertFault.TheVariants.{NotACertificate, TooDeep, Memory as Want}
 use Rattle.proof_text.specs.Places.{IsFault}
 use Rattle.qc_check.specs.Checking.{IsCertificate}
+use Rattle.qc_play.specs.Roots.{IsListed}
 use Rattle.qecode_commands.specs.declared.status.Status.{Status}
 use Rattle.qecode_commands.specs.declared.status.Status.TheVariants.{BadCertificate, Memory}
 use Rattle.qecode_commands.specs.Files.{IsFile, TurnsFileDown}
@@ -52,3 +55,10 @@ pub record IsCertificateOf (told : Option (List ℕ)) (outcome : Outcome) (optim
   pub file : IsFile 33554432 told bytes
   pub version : Version
   pub read : IsCertificate bytes version outcome optimum root
+
+-- and the tree has these lines
+pub record HasLinesOf (told : Option (List ℕ)) (outcome : Outcome) (optimum : Option ℤ) (lines : List Line) : Type 0 where
+  pub root : Tree
+  pub of : IsCertificateOf told outcome optimum root
+  pub is : lines ≡ tree_lines root
+  pub listed : IsListed outcome lines

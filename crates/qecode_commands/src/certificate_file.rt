@@ -1,31 +1,30 @@
-//! The certificate of a file, read whole, or the answer that tells why there is none.
+//! The certificate of a file, read whole into its lines, or the answer that tells why there is none.
 ghost use Rattle.std.specs.Prelude.{◌≡◌, ◌≢◌, ◌≤◌, Err, length, IfOk, IfErr, OnOk};
 ghost use Rattle.qc_io.specs.Counts.{Rose, RoseBy};
-ghost use Rattle.proof_tree.specs.Shape.{tree_of};
-ghost use Rattle.qc_check.specs.Checking.{IsCertificate};
+ghost use Rattle.qc_play.specs.Listing.{IsReadFrom};
 ghost use Rattle.qecode_commands.specs.Files.{Wrote};
-ghost use Rattle.qecode_commands.specs.Certificates.{IsCertificateOf, TurnsCertificateDown, TurnsCertificateTextDown, TurnsFaultDown};
+ghost use Rattle.qecode_commands.specs.Certificates.{HasLinesOf, TurnsCertificateDown, TurnsCertificateTextDown, TurnsFaultDown};
 
 use crate::check::refuse;
 use crate::file::open_file;
 use crate::status::Status;
-use proof_text::{CertFault, read_cert};
-use proof_tree::Certificate;
+use proof_text::CertFault;
 use qc_io::{Shelf, Sink};
+use qc_play::{CertificateLines, read_lines};
 use std::alloc::Global;
 
 /// The most bytes of the text of a certificate that is read whole.
 const TREE_LIMIT: u64 = 33_554_432;
 
-/// The certificate of a file. Where it can't be read, is too long or has none, the answer is written, and its status
+/// The certificate of a file, by its lines. Where it can't be read, is too long or has none, the answer is written, and its status
 /// given.
 pub fn open_certificate<S: Shelf, K: Sink>(
     alloc: Global,
     name: &str,
     shelf: &mut S,
     out: &mut K,
-) -> Result<Certificate, Status>
-    ensures certificate { IfOk result (λ cert. IsCertificateOf (S.told shelf.old name.now) cert.outcome cert.optimum (tree_of cert.root)) }
+) -> Result<CertificateLines, Status>
+    ensures certificate { IfOk result (λ cert. HasLinesOf (S.told shelf.old name.now) cert.outcome cert.optimum cert.lines.items) }
     ensures silent { OnOk result (out.new ≡ out.old) }
     ensures refused { IfErr result (λ s. Wrote (K.written out.old) (K.written out.new) (K.faults out.old) (K.faults out.new) s
         (TurnsCertificateDown name.now (S.told shelf.old name.now) (λ n. RoseBy n (S.given shelf.old) (S.given shelf.new)))) }
@@ -42,14 +41,18 @@ pub fn open_certificate<S: Shelf, K: Sink>(
 }
 
 // The certificate of a text.
-fn certificate_in<K: Sink>(alloc: Global, text: &[u8], out: &mut K) -> Result<Certificate, Status>
+fn certificate_in<K: Sink>(
+    alloc: Global,
+    text: &[u8],
+    out: &mut K,
+) -> Result<CertificateLines, Status>
     requires { length text.now ≤ 33554432 }
-    ensures certificate { IfOk result (λ cert. IsCertificate text.now cert.version cert.outcome cert.optimum (tree_of cert.root)) }
+    ensures certificate { IfOk result (λ cert. IsReadFrom text.now cert.outcome cert.optimum cert.lines.items) }
     ensures silent { OnOk result (out.new ≡ out.old) }
     ensures refused { IfErr result (λ s. Wrote (K.written out.old) (K.written out.new) (K.faults out.old) (K.faults out.new) s (TurnsCertificateTextDown text.now)) }
     ensures rows { IfErr result (λ s. (s ≢ Status.Usage) × (s ≢ Status.ReadFault)) }
 {
-    match read_cert(alloc, text) {
+    match read_lines(alloc, text) {
         Ok(cert) => Ok(cert),
         Err(fault) => Err(turn_down(out, fault)),
     }

@@ -125,8 +125,8 @@ pub fn refuse<K: Sink>(out: &mut K, words: &[u8], at: u64) -> Status
     )
 }
 
-// The line that repeats what a certificate states.
-fn confirm<K: Sink>(out: &mut K, outcome: Outcome, optimum: Option<i64>) -> Status
+/// The line that repeats what a certificate states.
+pub fn confirm<K: Sink>(out: &mut K, outcome: Outcome, optimum: Option<i64>) -> Status
     ensures wrote { Wrote (K.written out.old) (K.written out.new) (K.faults out.old) (K.faults out.new) result
         (λ s t. (s ≡ Status.Done) × (t ≡ codes "yes " ++ outcome_text outcome optimum)) }
     ensures rows { (result ≡ Status.Done) ⊎ (result ≡ Status.WriteFault) }

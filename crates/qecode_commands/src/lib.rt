@@ -27,7 +27,9 @@ mod writing;
 
 // What another program needs that reads such files and writes such answers.
 pub use certificate_file::open_certificate;
-pub use check::{check_problem, confirm_true, refuse as refuse_certificate};
+pub use check::{
+    check_problem, confirm as confirm_outcome, confirm_true, refuse as refuse_certificate,
+};
 pub use file::open_file;
 pub use formula_file::open_formula;
 pub use gap::outcome_line;

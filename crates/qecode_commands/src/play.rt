@@ -1,8 +1,10 @@
 //! `play`: a play of a problem against what a certificate shows.
 ghost use Rattle.std.specs.Prelude.{◌≡◌, ◌≢◌, ◌≤◌, ◌<◌, ◌++◌, ◌⊎◌, [], codes, decimal, length};
 ghost use Rattle.qc_io.specs.Counts.{Rose, RoseBy};
-ghost use Rattle.proof_tree.specs.Shape.{tree_of};
+ghost use Rattle.proof_tree.specs.Lines.{tree_lines};
+ghost use Rattle.proof_tree.specs.Tree.{Tree};
 ghost use Rattle.proof_tree.specs.Text.{place_text};
+ghost use Rattle.qc_play.specs.Roots.{IsListed};
 ghost use Rattle.qc_play.specs.Sides.{kind_of, choices_of};
 ghost use Rattle.qc_play.specs.Ends.{IsSound};
 ghost use Rattle.qecode_commands.specs.Answers.{AnswersProblem};
@@ -17,10 +19,9 @@ use crate::problem_file::open_problem;
 use crate::status::Status;
 use crate::writing::{finish, finish_parts};
 use itoa::Buffer;
-use proof_tree::Certificate;
 use qc_io::{Shelf, Sink};
 use qc_model::{Problem, ScopeId};
-use qc_play::{Evidence, PlayFault, Side, make_evidence, play};
+use qc_play::{CertificateLines, Evidence, PlayFault, Side, make_evidence, play};
 use std::alloc::Global;
 
 /// The most bytes of the text of moves.
@@ -72,13 +73,14 @@ fn play_problem<S: Shelf, K: Sink>(
 fn play_certificate<S: Shelf, K: Sink>(
     alloc: Global,
     problem: &Problem,
-    cert: &Certificate,
+    cert: &CertificateLines,
     moves: &str,
     shelf: &mut S,
     out: &mut K,
 ) -> Status
+    requires { IsListed cert.now.outcome cert.now.lines.items }
     ensures wrote { Wrote (K.written out.old) (K.written out.new) (K.faults out.old) (K.faults out.new) result
-        (PlaysCertificate cert.now.outcome cert.now.optimum (tree_of cert.now.root) moves.now (S.told shelf.old moves.now) (λ n. RoseBy n (S.given shelf.old) (S.given shelf.new)) problem.now) }
+        (λ s text. (root : Tree) → cert.now.lines.items ≡ tree_lines root → PlaysCertificate cert.now.outcome cert.now.optimum root moves.now (S.told shelf.old moves.now) (λ n. RoseBy n (S.given shelf.old) (S.given shelf.new)) problem.now s text) }
     ensures usage { result ≢ Status.Usage }
     ensures read_fault { result ≡ Status.ReadFault → Rose (S.faults shelf.old) (S.faults shelf.new) }
     ensures no_read_fault { result ≢ Status.ReadFault → S.faults shelf.new ≡ S.faults shelf.old }

@@ -1,17 +1,18 @@
 //! `first`: how the strategy, or the counterstrategy, of a certificate begins.
 ghost use Rattle.std.specs.Prelude.{◌≡◌, ◌≢◌};
 ghost use Rattle.qc_io.specs.Counts.{Rose, RoseBy};
-ghost use Rattle.proof_tree.specs.Shape.{tree_of};
+ghost use Rattle.proof_tree.specs.Lines.{tree_lines};
+ghost use Rattle.proof_tree.specs.Tree.{Tree};
+ghost use Rattle.qc_play.specs.Roots.{IsListed};
 ghost use Rattle.qc_play.specs.Sides.{kind_of, choices_of};
 ghost use Rattle.qecode_commands.specs.Answers.{AnswersProblem};
 ghost use Rattle.qecode_commands.specs.Files.{Wrote};
 ghost use Rattle.tell_commands.specs.Opening.{BeginsWith, BeginsCertificate, BeginsFile};
 
 use crate::opening::opening;
-use proof_tree::Certificate;
 use qc_io::{Shelf, Sink};
 use qc_model::Problem;
-use qc_play::{Evidence, Side, make_evidence};
+use qc_play::{CertificateLines, Evidence, Side, make_evidence};
 use qecode_commands::{Status, finish, open_certificate, open_problem, tell_open};
 use std::alloc::{AllocError, Global};
 
@@ -58,11 +59,12 @@ fn begin_file<S: Shelf, K: Sink>(
 fn begin_certificate<K: Sink>(
     alloc: Global,
     problem: &Problem,
-    cert: &Certificate,
+    cert: &CertificateLines,
     out: &mut K,
 ) -> Status
+    requires { IsListed cert.now.outcome cert.now.lines.items }
     ensures wrote { Wrote (K.written out.old) (K.written out.new) (K.faults out.old) (K.faults out.new) result
-        (BeginsCertificate cert.now.outcome cert.now.optimum (tree_of cert.now.root) problem.now) }
+        (λ s text. (root : Tree) → cert.now.lines.items ≡ tree_lines root → BeginsCertificate cert.now.outcome cert.now.optimum root problem.now s text) }
     ensures rows { (result ≢ Status.Usage) × (result ≢ Status.ReadFault) }
 {
     let Ok(evidence) = make_evidence(alloc, problem, cert) else {
@@ -82,7 +84,7 @@ fn begin_certificate<K: Sink>(
 fn begin_side<K: Sink>(
     alloc: Global,
     problem: &Problem,
-    cert: &Certificate,
+    cert: &CertificateLines,
     side: Side<'_>,
     out: &mut K,
 ) -> Status

@@ -1,6 +1,10 @@
+use Rattle.qc_play.proofs.Outcomes.{if_ok}
 use Rattle.qecode_commands.proofs.Written.{Wrote-weaker, wrote_from, if_err}
-use Rattle.qecode_commands.proofs.Played.{certificate_text_down, no_certificate_file}
+use Rattle.qecode_commands.proofs.Played.{certificate_text_down, no_certificate_file, read_lines_of}
 use Rattle.qecode_commands.proofs.certificate_file.open_certificate.Goals as goal
+
+pub returns-in-Ok-clause-certificate : goal.returns-in-Ok-clause-certificate
+returns-in-Ok-clause-certificate g c = if_ok c.certificate_in.result (λ cert read. read_lines_of _ _ cert.outcome cert.optimum cert.lines.items (rw c.deref.ensures.value c.in-Ok.ensures.bytes) read) c.certificate_in.ensures.certificate
 
 pub returns-in-Ok-clause-refused : goal.returns-in-Ok-clause-refused
 returns-in-Ok-clause-refused g c =

@@ -1,16 +1,19 @@
 use Rattle.std.proofs.Common.{◌≡◌, inl, inr, subst}
 use Rattle.qc_io.specs.Counts.{RoseBy}
-use Rattle.proof_tree.specs.Shape.{tree_of}
 use Rattle.qecode_commands.specs.Plays.{PlaysCertificate}
 use Rattle.qecode_commands.proofs.Down.{rose_after}
 use Rattle.qecode_commands.proofs.Played.{plays_certificate_before}
 use Rattle.qecode_commands.proofs.Written.{Wrote-weaker, wrote_from}
 use Rattle.qecode_commands.proofs.play.play_problem.Goals as goal
 
+pub play_certificate-requires : goal.play_certificate-requires
+play_certificate-requires g c = c.in-Ok.ensures.certificate.listed
+
 pub returns-in-Ok-clause-wrote : goal.returns-in-Ok-clause-wrote
 returns-in-Ok-clause-wrote g c =
     let cert = c.in-Ok.cert in
-    let root = tree_of cert.root in
+    let known = c.in-Ok.ensures.certificate in
+    let root = known.root in
     let moves = c.args.moves.now in
     let problem = c.args.problem.now in
     let old = g.S.Shelf.given c.args.shelf.now in
@@ -24,9 +27,9 @@ returns-in-Ok-clause-wrote g c =
       cert.outcome,
       cert.optimum,
       root,
-      c.in-Ok.ensures.certificate,
+      known.of,
       plays_certificate_before (λ n. RoseBy n mid new) (λ n. RoseBy n old new) (λ n k. rose_after 0 n old mid new c.in-Ok.ensures.given k) cert.outcome cert.optimum root moves (told moves) problem s t
-          (subst (λ q. PlaysCertificate cert.outcome cert.optimum root moves (q moves) (λ n. RoseBy n mid new) problem s t) stays h),
+          (subst (λ q. PlaysCertificate cert.outcome cert.optimum root moves (q moves) (λ n. RoseBy n mid new) problem s t) stays (h root known.is)),
     ))
     c.play_certificate.ensures.wrote)
 

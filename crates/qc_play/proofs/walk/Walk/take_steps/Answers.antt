@@ -1,37 +1,47 @@
-use Rattle.std.proofs.Common.{◌≡◌, ◌+◌, subst, arith, true, drop, []}
-use Rattle.std.proofs.lemmas.List.{drop_all}
-use Rattle.qc_play.specs.Walk.{game_of, steps_fit}
-use Rattle.qc_play.proofs.Stepping.{Stepped, none_stepped, one_stepped, all_stepped, first_fits, first_step}
+use Rattle.std.proofs.Common.{arith, ◌∷◌}
+use Rattle.qc_play.specs.Walk.{game_of}
+use Rattle.qc_play.proofs.PartLines.{fewer_left}
+use Rattle.qc_play.proofs.StepLines.{none_left, left_within, left_on, step_fits, more_left, one_left, all_taken}
 use Rattle.qc_play.proofs.walk.Walk.take_steps.Goals as goal
-use Rattle.qc_play.proofs.walk.Walk.take_steps.Goals.{After-loop-step}
 
 pub loop-step-init : goal.loop-step-init
-loop-step-init c = none_stepped (game_of c.args.tables.now) c.args.i.0 c.args.steps.now c.args.self.now c.requires.within c.requires.fits
+loop-step-init c = record {
+  left = none_left (game_of c.args.tables.now) c.args.i.0 (c.args.first ∷ c.args.lines.now) c.args.self.now c.requires.within;
+  shorter = omega arith;
+}
+
+pub take_step-requires-clause-within : goal.take_step-requires-clause-within
+take_step-requires-clause-within c = left_within (game_of c.args.tables.now) c.args.i.0 (c.args.first ∷ c.args.lines.now) c.args.self.now c.requires.tree (c.loop-step.line ∷ c.loop-step.lines) c.loop-step.self c.loop-step.invariant.left
 
 pub take_step-requires-clause-fits : goal.take_step-requires-clause-fits
 take_step-requires-clause-fits c =
-    let g = game_of c.args.tables.now in
-    let box = c.loop-step.self.remains.box in
-    first_fits g c.args.i.0 _ (drop (c.loop-step.step-index + 1) c.args.steps.now) box
-    (subst (λ ss. steps_fit g ss c.args.i.0 box ≡ true) (first_step c.args.steps.now c.loop-step.step-index _ (omega (arith, c.loop-step-test.true))) c.loop-step.invariant.fits)
+    step_fits (game_of c.args.tables.now) c.args.i.0 (c.args.first ∷ c.args.lines.now) c.args.self.now c.requires.tree c.loop-step.line c.loop-step.lines c.in-Some.step c.in-Some.ensures c.loop-step.self c.loop-step.invariant.left
+
+pub take-line-requires : goal.take-line-requires
+take-line-requires c =
+    more_left (game_of c.args.tables.now) c.args.i.0 (c.args.first ∷ c.args.lines.now) c.args.self.now c.requires.tree c.loop-step.line c.loop-step.lines c.in-Some.step c.in-Some.ensures c.loop-step.self c.loop-step.invariant.left
+
+pub loop-step-smaller : goal.loop-step-smaller
+loop-step-smaller c = let t = c.take-line in fewer_left t.result t.new.self c.loop-step.lines t.ensures
 
 pub loop-step-preserved : goal.loop-step-preserved
 loop-step-preserved c =
-    let g = game_of c.args.tables.now in
-    let i = c.args.i.0 in
-    let ss = c.args.steps.now in
-    let k = c.loop-step.step-index in
-    let w = c.args.self.now in
-    one_stepped g i ss _ (drop (k + 1) ss) w c.loop-step.self c.take_step.new.self
-    (subst (λ us. Stepped g i ss us w c.loop-step.self) (first_step ss k _ (omega (arith, c.loop-step-test.true))) c.loop-step.invariant)
-    c.take_step.ensures.content c.take_step.ensures.within c.take_step.ensures.on c.take_step.ensures.stands
+    let t = c.take-line in
+    let a = fewer_left t.result t.new.self c.loop-step.lines t.ensures in
+    let b = c.loop-step.invariant.shorter in
+    record {
+      left =
+          one_left (game_of c.args.tables.now) c.args.i.0 (c.args.first ∷ c.args.lines.now) c.args.self.now c.loop-step.line t.result c.loop-step.lines t.new.self c.in-Some.step c.in-Some.ensures t.ensures c.loop-step.self c.take_step.new.self
+          c.loop-step.invariant.left c.take_step.ensures.content c.take_step.ensures.within c.take_step.ensures.on c.take_step.ensures.stands;
+      shorter = omega (arith, a, b);
+    }
 
-ended : (c : After-loop-step) → Stepped (game_of c.args.tables.now) c.args.i.0 c.args.steps.now [] c.args.self.now c.loop-step.self
-ended c =
-    subst (λ us. Stepped (game_of c.args.tables.now) c.args.i.0 c.args.steps.now us c.args.self.now c.loop-step.self) (drop_all c.loop-step.step-index c.args.steps.now (omega (arith, c.loop-step-test.false))) c.loop-step.invariant
+pub returns-clause-within : goal.returns-clause-within
+returns-clause-within c = left_within (game_of c.args.tables.now) c.args.i.0 (c.args.first ∷ c.args.lines.now) c.args.self.now c.requires.tree (c.loop-step.line ∷ c.loop-step.lines) c.loop-step.self c.loop-step.invariant.left
 
-pub returns-clause-content : goal.returns-clause-content
-returns-clause-content c = (ended c).box
+pub returns-clause-on : goal.returns-clause-on
+returns-clause-on c = left_on (game_of c.args.tables.now) c.args.i.0 (c.args.first ∷ c.args.lines.now) c.args.self.now c.requires.tree (c.loop-step.line ∷ c.loop-step.lines) c.loop-step.self c.loop-step.invariant.left
 
-pub returns-clause-stands : goal.returns-clause-stands
-returns-clause-stands c = all_stepped (game_of c.args.tables.now) c.args.i.0 c.args.steps.now c.args.self.now c.loop-step.self (ended c)
+pub returns-clause-taken : goal.returns-clause-taken
+returns-clause-taken c = λ steps e rest is fits.
+    all_taken (game_of c.args.tables.now) c.args.i.0 (c.args.first ∷ c.args.lines.now) c.args.self.now c.loop-step.line c.loop-step.lines c.in_default.ensures c.loop-step.self c.loop-step.invariant.left steps e rest is fits
