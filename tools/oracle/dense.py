@@ -16,7 +16,7 @@ NODE = (1, 2**30)
 NUMBERS = {"u": (SCOPE,), "a": (NODE,), "h": (SCOPE,), "l": (SCOPE,), "b": (VARIABLE, NUMBER, NUMBER), "v": (VARIABLE,), "r": (NUMBER,)}
 TUPLES = "ufw"  # lines that end with the values of a tuple, as many as there are
 STEPS, ENDS = "cbf", "exynwv"
-SUMS = ("int_lin_eq", "int_lin_ne", "int_lin_le")
+SUMS = ("int_lin_eq", "int_lin_ne", "int_lin_le", "int_plus")
 
 
 class Text(certificates.Text):
@@ -286,7 +286,7 @@ class Proof(certificates.Proof):
             return None
         if constraint.name == "bool_clause":
             return [(x, box[x]) for x in sorted(variables(constraint)) if x < before]
-        factors, items, _ = constraint.args
+        factors, items = ([1, 1, -1], constraint.args) if constraint.name == "int_plus" else constraint.args[:2]
         return sum(f * min(box[item.var]) for f, item in zip(factors, items) if isinstance(item, Var) and item.var < before)
 
     # ---- The lines of a scope's own tree.

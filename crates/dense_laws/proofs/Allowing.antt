@@ -22,7 +22,7 @@ use Rattle.model_laws.proofs.Listed.{all_to}
 use Rattle.lemma_list.specs.Entailment.{entailed_by}
 use Rattle.lemma_boxes.proofs.Entailments.{entailed_holds}
 use Rattle.proof_alike.specs.Alike.{is_among, is_named, is_seen, is_looked_at, constrains, sees}
-use Rattle.proof_alike.specs.Reading.{Reading, as_sum, as_clause, by_value, reading_of, known_sum, known_value, is_known_as, is_satisfied, own_values, seen_as, variables_by_value}
+use Rattle.proof_alike.specs.Reading.{Reading, as_sum, as_plus, as_clause, by_value, reading_of, known_sum, known_plus, known_value, is_known_as, is_satisfied, own_values, seen_as, variables_by_value}
 use Rattle.proof_alike.proofs.Arrays.{items_of, many_filled}
 use Rattle.proof_alike.proofs.Filling.{any_of, get_among}
 use Rattle.proof_alike.proofs.Positions.{early_value}
@@ -35,7 +35,7 @@ use Rattle.dense_meaning.proofs.Targets.{left_at}
 use Rattle.dense_tree.specs.Alike.{each_below, is_from, is_read, reads_one_position, declared_from, views, look_same, same_horizon, tells_of_all, misses_nothing}
 use Rattle.dense_tree.specs.Place.{Setting, Place}
 use Rattle.dense_laws.specs.Stands.{StandsNode}
-use Rattle.dense_laws.proofs.Allow.{OfArg, OfArgs, among_second, items_are, Changes, sum_same, values_hold}
+use Rattle.dense_laws.proofs.Allow.{OfArg, OfArgs, among_second, items_are, Changes, sum_same, plus_same, values_hold}
 use Rattle.dense_laws.proofs.FreeGames.{in_fronts}
 use Rattle.dense_laws.proofs.Looks.{below_is, not_or, or_right, single_value, past_both, front_value, seven, AlikeAllow}
 use Rattle.dense_laws.proofs.Small.{both, either, or_below, same_number, together}
@@ -148,6 +148,10 @@ module _ (c : Rule) (test : ℕ → Bool) (v w s t : List ℤ) (change : (x : �
     where
       first_of : (p q : ℤ) → p ∷ [] ≡ q ∷ [] → p ≡ q
       first_of p q h = cc
+  seen_same as_plus e h = plus_same v w s t c change (first_of (known_plus s c) (known_plus t c) h) e
+    where
+      first_of : (p q : ℤ) → p ∷ [] ≡ q ∷ [] → p ≡ q
+      first_of p q h = cc
   seen_same as_clause e h = by (is_satisfied test s c) (is_satisfied test t c) refl refl h
     where
       by : (p q : Bool) → is_satisfied test s c ≡ p → is_satisfied test t c ≡ q → cond p [] (own_values s c) ≡ cond q [] (own_values t c) → holds_on c v ≡ holds_on c w
@@ -164,6 +168,10 @@ module _ (c : Rule) (test : ℕ → Bool) (v w s t : List ℤ) (change : (x : �
   -- the one holds whatever comes, and of the other nothing is seen
   pub nothing_seen : (r : Reading) → reading_of (meaning_of c.pred) ≡ r → seen_as r test t c ≡ [] → holds_on c v ≡ true → holds_on c w ≡ true
   nothing_seen as_sum e h ok = absurd (none (known_sum t c) h)
+    where
+      none : (p : ℤ) → p ∷ [] ≡ [] → ⊥
+      none p h = cc
+  nothing_seen as_plus e h ok = absurd (none (known_plus t c) h)
     where
       none : (p : ℤ) → p ∷ [] ≡ [] → ⊥
       none p h = cc
@@ -225,6 +233,7 @@ module _ (s : Setting) (valid : IsValid s.game) (p q : Place) (sp : StandsNode s
         dropped [] m = m
         dropped (e ∷ []) m = cc
         dropped (e ∷ f ∷ args) m = among_second (argument_variables e) (variables_of (f ∷ args)) x (among_second (argument_variables f) (variables_of args) x m)
+    alone_in as_plus x m = cc
     alone_in as_clause x m = cc
     alone_in by_value x m = m
 

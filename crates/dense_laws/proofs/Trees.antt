@@ -37,7 +37,7 @@ use Rattle.dense_tree.specs.Free.{is_unrestricted, joint_stop}
 use Rattle.dense_tree.specs.InPlace.{cases_placed, horizon_placed, no_play_placed, empty_placed, is_empty_in, barred_placed, next_placed, place_taken, chosen_placed, branch_placed, target_best, list_best, is_some_value, best_placed}
 use Rattle.dense_tree.specs.Place.{Setting, Place, with_box, place_below, closed_box, is_players, is_opponents, is_free_choice}
 use Rattle.dense_tree.specs.Read.{Known, NodeRead, PartRead, empty_leaves, is_narrower, with_horizon, entered, settled, or_unknown, told_by, read_node, read_body, read_ending, read_branches, read_case}
-use Rattle.dense_tree.specs.Steps.{StepsRead, closing, bound_marks, tracked, last_condition, replying, read_step, read_steps}
+use Rattle.dense_tree.specs.Steps.{StepsRead, closing, bound_marks, tracked, last_condition, replying, unless_empty, read_step, read_steps}
 use Rattle.dense_tree.specs.Tree.{Step, close, bound, reply, Node, node, again, no_play, Body, stuck, goal, cases, Ending, empty, barred, best_left, dead, next, chosen, branch, Branches, no_more, piece, Case, skip, left_open, go}
 use Rattle.dense_tree.specs.Tuples.{all_hold, some_fails, is_tuple_of, box_taken}
 use Rattle.dense_tree.specs.Verdicts.{loosened, stuck_comes_to, goal_comes_to, scope_own}
@@ -121,11 +121,11 @@ module _ (s : Setting) (valid : IsValid s.game) where
 
           here : (it s valid p x later e st u q).variable.0 ≡ y.0
           here = sym (ap (λ (z : Tracked). z.variable) (it s valid p x later e st u q).same) ∙ variable_is u.variable y.0 h
-  player_step (reply t) p x later e st placed = by (last_condition p.later) refl placed
+  player_step (reply t) p x later e st placed = by (last_condition p.later) refl (both (not (has_empty p.box)) (replying s p (last_condition p.later) (box_taken s.game p.number p.box t) t).placed placed).1
     where
-      by : (o : Option Tracked) → last_condition p.later ≡ o → (replying s p o (box_taken s.game p.number p.box t) t).placed ≡ true → StepsDone p (replying s p o (box_taken s.game p.number p.box t) t)
+      by : (o : Option Tracked) → last_condition p.later ≡ o → (replying s p o (box_taken s.game p.number p.box t) t).placed ≡ true → StepsDone p (unless_empty p (replying s p o (box_taken s.game p.number p.box t) t))
       by None q h = cc
-      by (Some w) q h = subst (λ z. StepsDone p (replying s p (Some z) (box_taken s.game p.number p.box t) t)) (sym l.same) done
+      by (Some w) q h = subst (λ z. StepsDone p (unless_empty p (replying s p (Some z) (box_taken s.game p.number p.box t) t))) (sym l.same) done
         where
           l : LastIs p.later w
           l = last_is p.later w q
@@ -139,7 +139,7 @@ module _ (s : Setting) (valid : IsValid s.game) where
           b : (is_tuple_of s.game p.number p.box t ≡ true) × (all_hold (constraints_within s.game p.number (suc (suc p.number))) (box_taken s.game p.number p.box t) ≡ true)
           b = both _ _ a.0
 
-          done : StepsDone p (replying s p (Some (record { sense = l.condition.sense; variable = l.variable.0 })) (box_taken s.game p.number p.box t) t)
+          done : StepsDone p (unless_empty p (replying s p (Some (record { sense = l.condition.sense; variable = l.variable.0 })) (box_taken s.game p.number p.box t) t))
           done = record {
             same_later = refl;
             same_number = refl;
@@ -185,13 +185,13 @@ module _ (s : Setting) (valid : IsValid s.game) where
       let h = (both (removes_some p.box y.0 low high) (is_tracked y.0 (tracked s p)) placed).1 in
       absurd (differ (subst (λ ls. is_tracked y.0 (tracked_variable s.game ls p.number (list_after s.game p.later p.list)) ≡ true) e h))
   opponent_step (reply t) p x later e st full placed =
-      by (last_condition p.later) (subst (λ ls. last_condition ls ≡ None) (sym e) (never later)) placed
+      by (last_condition p.later) (subst (λ ls. last_condition ls ≡ None) (sym e) (never later)) (both (not (has_empty p.box)) (replying s p (last_condition p.later) (box_taken s.game p.number p.box t) t).placed placed).1
     where
       never : (later : List Scope) → last_condition (universal x ∷ later) ≡ None
       never [] = refl
       never (sc ∷ later) = refl
 
-      by : (o : Option Tracked) → o ≡ None → (replying s p o (box_taken s.game p.number p.box t) t).placed ≡ true → RepliesDone p (replying s p o (box_taken s.game p.number p.box t) t)
+      by : (o : Option Tracked) → o ≡ None → (replying s p o (box_taken s.game p.number p.box t) t).placed ≡ true → RepliesDone p (unless_empty p (replying s p o (box_taken s.game p.number p.box t) t))
       by None q h = cc
       by (Some w) q h = cc
 

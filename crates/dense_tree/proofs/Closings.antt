@@ -24,7 +24,7 @@ closed_at_once = alone (plainly (close ∷ []) on_to_goal)
 closing_leaves_one : proves chain True None closed_at_once ≡ true
 closing_leaves_one = refl
 
--- e, where something is left
+-- for e: no box within is closed. Here something is left
 something_left : proves chain False None (alone (plainly no_steps empty)) ≡ false
 something_left = refl
 
@@ -36,18 +36,19 @@ inner_hole = game (optimising Min (of_variable 0) ∷ []) (variable 0 (Range (po
 abbrev with_hole : Certificate
 with_hole = alone (plainly (close ∷ []) (branch (var 0) (case_one no_steps on_to_goal (case_one no_steps barred (case_one no_steps on_to_goal no_more)))))
 
--- the same with the case of 1 left out, as where a step has removed it
+-- the same with the case of 1 left out, as if c had taken it
 abbrev without_hole : Certificate
 without_hole = alone (plainly (close ∷ []) (branch (var 0) (case_one no_steps on_to_goal (case_one no_steps on_to_goal no_more))))
 
 inner_value_stays : proves inner_hole True (Some (pos 0)) with_hole ≡ true
 inner_value_stays = refl
 
+-- for c: it takes ends alone
 inner_value_is_owed : proves inner_hole True (Some (pos 0)) without_hole ≡ false
 inner_value_is_owed = refl
 
 -- exists; var 0..1: x; constraint int_lt(x,N); goal; solve;
-abbrev below_n : ℤ → Game
+abbrev pub below_n : ℤ → Game
 below_n n = game (scope Exists ∷ []) (variable 0 (Range (pos 0) (pos 1)) ∷ []) (rule_two 0 IntLt (at 0) (num n) ∷ [])
 
 -- h 1, t: nobody passes the first scope
@@ -57,7 +58,7 @@ nobody_passes = alone (node false (Some (scope_id 0)) stuck)
 horizon_at_once : proves (below_n (pos 0)) False None nobody_passes ≡ true
 horizon_at_once = refl
 
--- x = 0 passes
+-- for h K: nobody passes the scopes up to K. x = 0 does
 somebody_passes : proves (below_n (pos 1)) False None nobody_passes ≡ false
 somebody_passes = refl
 
@@ -65,6 +66,6 @@ somebody_passes = refl
 none_is_closed : proves (below_n (pos 0)) False None (alone (plainly no_steps empty)) ≡ true
 none_is_closed = refl
 
--- c may not stand where no box within is closed
+-- for c: there is a closed box within
 none_to_close : proves (below_n (pos 0)) False None (alone (plainly (close ∷ []) empty)) ≡ false
 none_to_close = refl

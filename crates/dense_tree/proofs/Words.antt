@@ -1,11 +1,13 @@
 -- Words to write games and dense trees with.
-use Rattle.std.specs.Prelude.{ℕ, List, [], ◌∷◌, Some, None, ℤ, true, false}
+use Rattle.std.specs.Prelude.{ℕ, List, [], ◌∷◌, Some, None, ℤ, pos, true, false}
 use Rattle.qc_model.specs.declared.problem.Arg.{Arg}
 use Rattle.qc_model.specs.declared.problem.Arg.TheVariants.{Var, Num}
 use Rattle.qc_model.specs.declared.problem.Argument.{Argument}
 use Rattle.qc_model.specs.declared.problem.Argument.TheVariants.{One, Many, Numbers}
 use Rattle.qc_model.specs.declared.problem.Target.{Target}
 use Rattle.qc_model.specs.declared.problem.Target.TheVariants.{Var as TVar}
+use Rattle.qc_model.specs.declared.problem.Domain.{Domain}
+use Rattle.qc_model.specs.declared.problem.Domain.TheVariants.{Range}
 use Rattle.qc_model.specs.declared.problem.Pred.{Pred}
 use Rattle.qc_model.specs.declared.problem.Pred.TheVariants.{IntLinLe}
 use Rattle.qc_model.specs.declared.problem.Scope.{Scope}
@@ -13,7 +15,11 @@ use Rattle.qc_model.specs.declared.problem.ScopeId.{ScopeId}
 use Rattle.qc_model.specs.declared.problem.Variable.{Variable}
 use Rattle.qc_model.specs.Content.{Game, Rule}
 use Rattle.proof_tree.proofs.Build.{var, rule}
-use Rattle.dense_tree.specs.Tree.{Step, Node, node, goal, cases, stuck, Ending, next, Branches, piece, skip, go, Certificate}
+use Rattle.dense_tree.specs.Tree.{Step, Node, node, goal, cases, stuck, Ending, next, Branches, piece, skip, go, Given, Certificate}
+
+-- var 0..1
+abbrev pub bit : Domain
+bit = Range (pos 0) (pos 1)
 
 -- a game without aggregates
 abbrev pub game : List Scope → List Variable → List Rule → Game
@@ -72,3 +78,10 @@ skip_one bs = piece None skip bs
 
 abbrev pub alone : Node → Certificate
 alone t = record { given = []; root = t }
+
+-- of a scope of one variable, by its number: u K V
+abbrev pub given_of : ℕ → ℤ → Given
+given_of k v = record { scope = scope_id k; tuple = v ∷ [] }
+
+abbrev pub with_given : List Given → Node → Certificate
+with_given us t = record { given = us; root = t }

@@ -6,7 +6,7 @@ use Rattle.qc_model.specs.declared.problem.Target.TheVariants.{Var, Aggregate as
 use Rattle.qc_model.specs.declared.problem.Condition.{Condition}
 use Rattle.qc_model.specs.declared.problem.Scope.{Scope}
 use Rattle.qc_model.specs.Block.{of_kind, constraints_within}
-use Rattle.qc_model.specs.Domains.{Values, Box, values_left, values_within, box_without, least_value, is_single}
+use Rattle.qc_model.specs.Domains.{Values, Box, values_left, values_within, box_without, least_value, is_single, has_empty}
 use Rattle.qc_model.specs.Optimal.{is_better}
 use Rattle.proof_tree.specs.Place.{Tracked, tracked_variable, list_after}
 use Rattle.proof_tree.specs.Steps.{removes_some, is_tracked, best_value}
@@ -51,6 +51,10 @@ last_condition (s ∷ t ∷ later) = None
 abbrev pub no_worse : Sense → ℤ → Values → Values
 no_worse s v vs = filter (λ w. not (is_better s v w)) vs
 
+-- where each variable has a value
+abbrev pub unless_empty : Place → StepsRead → StepsRead
+unless_empty p w = record { placed = not (has_empty p.box) && w.placed; marks = w.marks; place = w.place }
+
 -- with its tuple taken the scope's restriction and the goal hold throughout the box, and the variable has one value: what is worse goes
 abbrev pub replying : Setting → Place → Option Tracked → Box → List ℤ → StepsRead
 replying s p None taken t = record { placed = false; marks = []; place = p }
@@ -68,7 +72,7 @@ read_step s (bound x low high) p = record {
   marks = bound_marks (tracked s p) (values_within low high (values_left p.box x.0));
   place = record p { box = box_without p.box x.0 low high; bounded = true };
 }
-read_step s (reply t) p = replying s p (last_condition p.later) (box_taken s.game p.number p.box t) t
+read_step s (reply t) p = unless_empty p (replying s p (last_condition p.later) (box_taken s.game p.number p.box t) t)
 
 abbrev pub both_steps : StepsRead → StepsRead → StepsRead
 both_steps w rest = record { placed = w.placed && rest.placed; marks = w.marks ++ rest.marks; place = rest.place }
