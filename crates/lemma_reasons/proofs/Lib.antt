@@ -4,6 +4,6 @@ mod Adding
 mod Shapes
 mod Rows
 mod Answering
-mod Asking
+pub mod Asking
 mod Told
 mod Showing

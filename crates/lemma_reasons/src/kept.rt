@@ -20,7 +20,7 @@ use crate::sums::{Given, Sum};
 use fd_store::Store;
 use model_arguments::arguments;
 use prop_entailed::{entails, greatest, is_fixed, least};
-use qc_model::{Arg, Argument, ConId, Constraint};
+use qc_model::{Arg, Argument, ConId, Constraint, Problem};
 use qc_refuter::refutes;
 
 // The sums of the lemma, asked for a constraint.
@@ -127,16 +127,27 @@ fn are_settled(args: &[Argument], store: &Store) -> bool
 
 // Whether the box alone entails a constraint: by the table, an element by its index, or since it has one value for each argument
 // and doesn't refute the constraint.
-fn is_entailed(aim: &Aim, c: ConId, rule: &Constraint, store: &Store) -> bool
-    requires rule { slice_get aim.now.problem.now.constraints c.0 ≡ Some rule.now }
-    requires asked { IsAsked aim.now.problem.now rule.now store.now.box }
+fn is_rule_entailed(problem: &Problem, c: ConId, rule: &Constraint, store: &Store) -> bool
+    requires rule { slice_get problem.now.constraints c.0 ≡ Some rule.now }
+    requires asked { IsAsked problem.now rule.now store.now.box }
     ensures { result ≡ entailed_by rule.now store.now.box }
 {
-    aim.problem.known();
-    if entails(aim.problem, rule, store) || entailed_by_index(aim.problem, rule, store) {
+    problem.known();
+    if entails(problem, rule, store) || entailed_by_index(problem, rule, store) {
         return true;
     }
-    are_settled(arguments(rule), store) && !refutes(aim.problem, c, store)
+    are_settled(arguments(rule), store) && !refutes(problem, c, store)
+}
+
+/// Whether the box alone entails the constraint c: each of the values satisfies it, as far as the table tells, by the item that
+/// the index of an element picks, or since each argument has one value. It takes no memory.
+pub fn is_entailed(problem: &Problem, c: ConId, store: &Store) -> bool
+    requires c { c.0 < length problem.now.constraints }
+    requires left { IsFullBox problem.now store.now.box }
+    ensures { (rule : Rule) → slice_get problem.now.constraints c.0 ≡ Some rule → result ≡ entailed_by rule store.now.box }
+{
+    problem.known();
+    is_rule_entailed(problem, c, problem.constraint(c), store)
 }
 
 /// Whether the box and the lemma's sums refute the constraint c.
@@ -158,5 +169,5 @@ pub fn is_kept(aim: &Aim, c: ConId, store: &Store) -> bool
 {
     aim.problem.known();
     let rule = aim.problem.constraint(c);
-    is_entailed(aim, c, rule, store) || entailed_by_sums(aim, c, rule, store)
+    is_rule_entailed(aim.problem, c, rule, store) || entailed_by_sums(aim, c, rule, store)
 }

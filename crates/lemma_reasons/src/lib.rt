@@ -22,7 +22,7 @@ mod terms;
 pub use aim::Aim;
 pub use answers::{Answers, answers_to, is_answer, is_winners, may_answer, no_answers};
 pub use checked::{are_linear, is_lemma};
-pub use kept::{is_kept, is_refuted};
+pub use kept::{is_entailed, is_kept, is_refuted};
 pub use literals::{are_in_order, meets, some_meets, some_misses};
 pub use places::{is_chosen_before, is_chosen_from, is_kind, opponent_of, place_of, side_at};
 pub use reasons::{

@@ -7,7 +7,7 @@ use Rattle.std.proofs.lemmas.Bool.{and_parts, eqb-true}
 use Rattle.std.proofs.lemmas.List.{append-nil}
 use Rattle.proof_text.proofs.Digits.{decimal_value}
 use Rattle.lemma_text.specs.declared.parts.Field.{Field}
-use Rattle.lemma_text.specs.declared.parts.Field.TheVariants.{Variable, Constraint, Named, Value, Total}
+use Rattle.lemma_text.specs.declared.parts.Field.TheVariants.{Variable, Constraint, Named, Scope, Node, Turns, Value, Total}
 use Rattle.lemma_text.specs.declared.parts.Numeral.{Numeral}
 use Rattle.lemma_text.specs.declared.parts.Numeral.TheVariants.{Start, Minus, Zero, Digits}
 use Rattle.lemma_text.specs.Numerals.{most, is_signed, is_counted, value_fits, signed_of, Reading, further, ended, bad, finished, first_digit, next_digit, first_sign, continued, reading, numeral_text, IsSigned, FitsNumeral}
@@ -16,6 +16,9 @@ pub most_goes_far : (g : Field) → (9 ≤ most g) × (most g < 2 ^ 63)
 most_goes_far Variable = (omega arith, omega arith)
 most_goes_far Constraint = (omega arith, omega arith)
 most_goes_far Named = (omega arith, omega arith)
+most_goes_far Scope = (omega arith, omega arith)
+most_goes_far Node = (omega arith, omega arith)
+most_goes_far Turns = (omega arith, omega arith)
 most_goes_far Value = (omega arith, omega arith)
 most_goes_far Total = (omega arith, omega arith)
 

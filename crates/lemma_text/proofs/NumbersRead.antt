@@ -8,18 +8,21 @@ use Rattle.proof_text.proofs.Grammar.{AreDigits, value}
 use Rattle.proof_text.proofs.Digits.{parts, value_grows}
 use Rattle.lemma_text.specs.declared.item.Item.{Item}
 use Rattle.lemma_text.specs.declared.parts.Field.{Field}
-use Rattle.lemma_text.specs.declared.parts.Field.TheVariants.{Variable, Constraint, Named, Value, Total}
+use Rattle.lemma_text.specs.declared.parts.Field.TheVariants.{Variable, Constraint, Named, Scope, Node, Turns, Value, Total}
 use Rattle.lemma_text.specs.declared.parts.Form.{Form}
 use Rattle.lemma_text.specs.declared.parts.Numeral.{Numeral}
 use Rattle.lemma_text.specs.declared.parts.Numeral.TheVariants.{Start, Minus, Zero, Digits}
 use Rattle.lemma_text.specs.Numerals.{most, is_signed, value_fits, Reading, further, ended, bad, finished, first_digit, next_digit, first_sign, continued, reading}
 use Rattle.lemma_text.specs.States.{number, valued, read_by}
-use Rattle.lemma_text.specs.Standing.{going, moved, standing_from}
+use Rattle.lemma_text.specs.Standing.{Standing, going, moved, standing_from}
 
 pub most_is_small : (g : Field) → (1 ≤ most g) × (most g < 2 ^ 64)
 most_is_small Variable = (omega arith, omega arith)
 most_is_small Constraint = (omega arith, omega arith)
 most_is_small Named = (omega arith, omega arith)
+most_is_small Scope = (omega arith, omega arith)
+most_is_small Node = (omega arith, omega arith)
+most_is_small Turns = (omega arith, omega arith)
 most_is_small Value = (omega arith, omega arith)
 most_is_small Total = (omega arith, omega arith)
 
@@ -41,70 +44,79 @@ either_first : (s : Bool) (b : ℕ) → 49 ≤ b → cond s (first_sign b) (firs
 either_first true b l = plain_first b l
 either_first false b l = refl
 
--- one byte of a number
-step_by : (told : List Item) (f : Form) (vs : List ℤ) (g : Field) (gs : List Field) (n m : Numeral) (b : ℕ) (w : List ℕ) → reading g n b ≡ further m
-    → standing_from (going told (number f vs (g ∷ gs) n)) (b ∷ w) ≡ standing_from (going told (number f vs (g ∷ gs) m)) w
-step_by told f vs g gs n m b w e = ap (λ (r : Reading). standing_from (moved told (read_by f vs (g ∷ gs) b r)) w) e
+-- what is made of the bytes from some of a number of the field on: `run` of what is read so far, and `done` of the whole number and
+-- the byte that ends it
+pub record Runs (X : Type 0) (g : Field) (run : Numeral → List ℕ → X) (done : ℤ → ℕ → List ℕ → X) : Type 0 where
+  pub more : (n m : Numeral) (b : ℕ) (w : List ℕ) → reading g n b ≡ further m → run n (b ∷ w) ≡ run m w
+  pub ends : (n : Numeral) (z : ℤ) (b : ℕ) (w : List ℕ) → reading g n b ≡ ended z → run n (b ∷ w) ≡ done z b w
 
-digits_read : (told : List Item) (f : Form) (vs : List ℤ) (g : Field) (gs : List Field) (negative : Bool) (v : ℕ) (ds w : List ℕ) → AreDigits ds → value v ds ≤ most g
-    → standing_from (going told (number f vs (g ∷ gs) (Digits negative v))) (ds ++ w) ≡ standing_from (going told (number f vs (g ∷ gs) (Digits negative (value v ds)))) w
-digits_read told f vs g gs negative v [] w a h = refl
-digits_read told f vs g gs negative v (c ∷ cs) w a h =
+digits_run : (X : Type 0) (g : Field) (run : Numeral → List ℕ → X) (done : ℤ → ℕ → List ℕ → X) → Runs X g run done → (negative : Bool) (v : ℕ) (ds w : List ℕ) → AreDigits ds → value v ds ≤ most g
+    → run (Digits negative v) (ds ++ w) ≡ run (Digits negative (value v ds)) w
+digits_run X g run done r negative v [] w a h = refl
+digits_run X g run done r negative v (c ∷ cs) w a h =
     let low = a.0 in let high = a.1 in
     let grows = value_grows (10 * v + (c - 48)) cs in
-    step_by told f vs g gs (Digits negative v) (Digits negative (10 * v + (c - 48))) c (cs ++ w)
-    (goes_on g (Digits negative v) c (omega arith) ∙ next_is g negative v c low high (omega arith))
-    ∙ digits_read told f vs g gs negative (10 * v + (c - 48)) cs w a.2 h
+    r.more (Digits negative v) (Digits negative (10 * v + (c - 48))) c (cs ++ w) (goes_on g (Digits negative v) c (omega arith) ∙ next_is g negative v c low high (omega arith))
+    ∙ digits_run X g run done r negative (10 * v + (c - 48)) cs w a.2 h
 
 -- the digits of a number that isn't 0, after what comes before them
-count_read : (told : List Item) (f : Form) (vs : List ℤ) (g : Field) (gs : List Field) (from : Numeral) (negative : Bool) (k : ℕ) (w : List ℕ) → suc k ≤ most g
-    → ((b : ℕ) → 49 ≤ b → continued g from b ≡ first_digit negative b)
-    → standing_from (going told (number f vs (g ∷ gs) from)) (decimal (suc k) ++ w) ≡ standing_from (going told (number f vs (g ∷ gs) (Digits negative (suc k)))) w
-count_read told f vs g gs from negative k w h begins =
+count_run : (X : Type 0) (g : Field) (run : Numeral → List ℕ → X) (done : ℤ → ℕ → List ℕ → X) → Runs X g run done → (from : Numeral) (negative : Bool) (k : ℕ) (w : List ℕ) → suc k ≤ most g
+    → ((b : ℕ) → 49 ≤ b → continued g from b ≡ first_digit negative b) → run from (decimal (suc k) ++ w) ≡ run (Digits negative (suc k)) w
+count_run X g run done r from negative k w h begins =
     let m = (most_is_small g).1 in
     let p = parts (suc k) (omega arith) (omega arith) in
     let low = p.low in let high = p.high in let sum = p.sum in
     let within : value (p.first - 48) p.ds ≤ most g = subst (λ (x : ℕ). x ≤ most g) (sym p.sum) h in
-    ap (λ (u : List ℕ). standing_from (going told (number f vs (g ∷ gs) from)) (u ++ w)) p.is
-    ∙ step_by told f vs g gs from (Digits negative (p.first - 48)) p.first (p.ds ++ w) (goes_on g from p.first (omega arith) ∙ begins p.first low ∙ first_is negative p.first low high)
-    ∙ digits_read told f vs g gs negative (p.first - 48) p.ds w p.are within
-    ∙ ap (λ (x : ℕ). standing_from (going told (number f vs (g ∷ gs) (Digits negative x))) w) p.sum
+    ap (λ (u : List ℕ). run from (u ++ w)) p.is
+    ∙ r.more from (Digits negative (p.first - 48)) p.first (p.ds ++ w) (goes_on g from p.first (omega arith) ∙ begins p.first low ∙ first_is negative p.first low high)
+    ∙ digits_run X g run done r negative (p.first - 48) p.ds w p.are within
+    ∙ ap (λ (x : ℕ). run (Digits negative x) w) p.sum
 
 -- the byte that ends a number
-ends_by : (told : List Item) (f : Form) (vs : List ℤ) (g : Field) (gs : List Field) (n : Numeral) (z : ℤ) (b : ℕ) (w : List ℕ) → (nat_eq b 32 || nat_eq b 10) ≡ true → finished n ≡ ended z
-    → standing_from (going told (number f vs (g ∷ gs) n)) (b ∷ w) ≡ standing_from (moved told (valued f (vs ++ z ∷ []) gs b)) w
-ends_by told f vs g gs n z b w e is =
-    ap (λ (t : Bool). standing_from (moved told (read_by f vs (g ∷ gs) b (cond t (finished n) (continued g n b)))) w) e
-    ∙ ap (λ (r : Reading). standing_from (moved told (read_by f vs (g ∷ gs) b r)) w) is
+end_read : (g : Field) (n : Numeral) (z : ℤ) (b : ℕ) → (nat_eq b 32 || nat_eq b 10) ≡ true → finished n ≡ ended z → reading g n b ≡ ended z
+end_read g n z b e is = ap (λ (t : Bool). cond t (finished n) (continued g n b)) e ∙ is
 
--- a number and the byte that ends it
-pub number_read : (told : List Item) (f : Form) (vs : List ℤ) (g : Field) (gs : List Field) (z : ℤ) (b : ℕ) (w : List ℕ) → value_fits g z ≡ true → (nat_eq b 32 || nat_eq b 10) ≡ true
-    → standing_from (going told (number f vs (g ∷ gs) Start)) (signed_decimal z ++ b ∷ w) ≡ standing_from (moved told (valued f (vs ++ z ∷ []) gs b)) w
-number_read told f vs g gs z b w h e = by_sign (is_signed g) refl z h
+-- a number and the byte that ends it, whatever is made of them
+pub number_run : (X : Type 0) (g : Field) (run : Numeral → List ℕ → X) (done : ℤ → ℕ → List ℕ → X) → Runs X g run done → (z : ℤ) (b : ℕ) (w : List ℕ) → value_fits g z ≡ true → (nat_eq b 32 || nat_eq b 10) ≡ true
+    → run Start (signed_decimal z ++ b ∷ w) ≡ done z b w
+number_run X g run done r z b w h e = by_sign (is_signed g) refl z h
   where
     start_signed : is_signed g ≡ true → (c : ℕ) → continued g Start c ≡ first_sign c
     start_signed s c = ap (λ (t : Bool). cond t (first_sign c) (first_digit false c)) s
 
-    by_sign : (s : Bool) → is_signed g ≡ s → (z : ℤ) → value_fits g z ≡ true
-        → standing_from (going told (number f vs (g ∷ gs) Start)) (signed_decimal z ++ b ∷ w) ≡ standing_from (moved told (valued f (vs ++ z ∷ []) gs b)) w
+    by_sign : (s : Bool) → is_signed g ≡ s → (z : ℤ) → value_fits g z ≡ true → run Start (signed_decimal z ++ b ∷ w) ≡ done z b w
     by_sign true s (pos zero) h =
-        ap (λ (u : List ℕ). standing_from (going told (number f vs (g ∷ gs) Start)) (u ++ b ∷ w)) (decimal_digit 0 (omega arith))
-        ∙ step_by told f vs g gs Start Zero 48 (b ∷ w) (start_signed s 48)
-        ∙ ends_by told f vs g gs Zero (pos zero) b w e refl
+        ap (λ (u : List ℕ). run Start (u ++ b ∷ w)) (decimal_digit 0 (omega arith))
+        ∙ r.more Start Zero 48 (b ∷ w) (start_signed s 48)
+        ∙ r.ends Zero (pos zero) b w (end_read g Zero (pos zero) b e refl)
     by_sign false s (pos zero) h =
         let no : cond false (nat_le 0 (most g)) false ≡ true = sym (ap (λ (t : Bool). cond t (nat_le 0 (most g)) false) s) ∙ h in
         absurd (cc)
     by_sign true s (pos (suc k)) h =
         let fits : nat_le (suc k) (most g) ≡ true = sym (ap (λ (t : Bool). cond t (nat_le (suc k) (most g)) (nat_le (suc k) (most g))) s) ∙ h in
-        count_read told f vs g gs Start false k (b ∷ w) (leb-true _ _ fits) (λ c l. either_first (is_signed g) c l) ∙ ends_by told f vs g gs (Digits false (suc k)) (pos (suc k)) b w e refl
+        count_run X g run done r Start false k (b ∷ w) (leb-true _ _ fits) (λ c l. either_first (is_signed g) c l)
+        ∙ r.ends (Digits false (suc k)) (pos (suc k)) b w (end_read g (Digits false (suc k)) (pos (suc k)) b e refl)
     by_sign false s (pos (suc k)) h =
         let fits : nat_le (suc k) (most g) ≡ true = sym (ap (λ (t : Bool). cond t (nat_le (suc k) (most g)) (nat_le (suc k) (most g))) s) ∙ h in
-        count_read told f vs g gs Start false k (b ∷ w) (leb-true _ _ fits) (λ c l. either_first (is_signed g) c l) ∙ ends_by told f vs g gs (Digits false (suc k)) (pos (suc k)) b w e refl
+        count_run X g run done r Start false k (b ∷ w) (leb-true _ _ fits) (λ c l. either_first (is_signed g) c l)
+        ∙ r.ends (Digits false (suc k)) (pos (suc k)) b w (end_read g (Digits false (suc k)) (pos (suc k)) b e refl)
     by_sign true s (negsuc k) h =
         let fits : nat_le (suc k) (most g) ≡ true = sym (ap (λ (t : Bool). cond t (nat_le (suc k) (most g)) false) s) ∙ h in
-        step_by told f vs g gs Start Minus 45 (decimal (suc k) ++ b ∷ w) (start_signed s 45)
-        ∙ count_read told f vs g gs Minus true k (b ∷ w) (leb-true _ _ fits) (λ c l. refl)
-        ∙ ends_by told f vs g gs (Digits true (suc k)) (negsuc k) b w e refl
+        r.more Start Minus 45 (decimal (suc k) ++ b ∷ w) (start_signed s 45)
+        ∙ count_run X g run done r Minus true k (b ∷ w) (leb-true _ _ fits) (λ c l. refl)
+        ∙ r.ends (Digits true (suc k)) (negsuc k) b w (end_read g (Digits true (suc k)) (negsuc k) b e refl)
     by_sign false s (negsuc k) h =
         let no : cond false (nat_le (suc k) (most g)) false ≡ true = sym (ap (λ (t : Bool). cond t (nat_le (suc k) (most g)) false) s) ∙ h in
         absurd (cc)
+
+-- in a list's text
+runs : (told : List Item) (f : Form) (vs : List ℤ) (g : Field) (gs : List Field)
+    → Runs Standing g (λ n w. standing_from (going told (number f vs (g ∷ gs) n)) w) (λ z b w. standing_from (moved told (valued f (vs ++ z ∷ []) gs b)) w)
+runs told f vs g gs = record {
+  more = λ n m b w e. ap (λ (r : Reading). standing_from (moved told (read_by f vs (g ∷ gs) b r)) w) e;
+  ends = λ n z b w e. ap (λ (r : Reading). standing_from (moved told (read_by f vs (g ∷ gs) b r)) w) e;
+}
+
+pub number_read : (told : List Item) (f : Form) (vs : List ℤ) (g : Field) (gs : List Field) (z : ℤ) (b : ℕ) (w : List ℕ) → value_fits g z ≡ true → (nat_eq b 32 || nat_eq b 10) ≡ true
+    → standing_from (going told (number f vs (g ∷ gs) Start)) (signed_decimal z ++ b ∷ w) ≡ standing_from (moved told (valued f (vs ++ z ∷ []) gs b)) w
+number_read told f vs g gs z b w h e = number_run Standing g _ _ (runs told f vs g gs) z b w h e

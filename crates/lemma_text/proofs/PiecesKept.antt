@@ -24,33 +24,33 @@ pub record IsPiece (p : Place) (f : Form) (last : Bool) (ws : List ℤ) : Type 0
   pub after : last ≡ true → (d : Due) × (place_after (item_of f ws last) ≡ at d)
 
 -- values of so many fields
-none : (ws : List ℤ) → all_fit [] ws ≡ true → ws ≡ []
+pub none : (ws : List ℤ) → all_fit [] ws ≡ true → ws ≡ []
 none [] h = refl
 none (w ∷ ws) h = absurd (cc)
 
-record One (g : Field) (gs : List Field) (ws : List ℤ) : Type 0 where
-  v : ℤ
-  vs : List ℤ
-  is : ws ≡ v ∷ vs
-  fits : value_fits g v ≡ true
-  later : all_fit gs vs ≡ true
+pub record One (g : Field) (gs : List Field) (ws : List ℤ) : Type 0 where
+  pub v : ℤ
+  pub vs : List ℤ
+  pub is : ws ≡ v ∷ vs
+  pub fits : value_fits g v ≡ true
+  pub later : all_fit gs vs ≡ true
 
-one : (g : Field) (gs : List Field) (ws : List ℤ) → all_fit (g ∷ gs) ws ≡ true → One g gs ws
+pub one : (g : Field) (gs : List Field) (ws : List ℤ) → all_fit (g ∷ gs) ws ≡ true → One g gs ws
 one g gs [] h = absurd (cc)
 one g gs (w ∷ ws) h = let p = and_parts (value_fits g w) (all_fit gs ws) h in record { v = w; vs = ws; is = refl; fits = p.0; later = p.1 }
 
 -- a number from 1
-record Count (g : Field) (v : ℤ) : Type 0 where
-  k : ℕ
-  is : v ≡ pos (suc k)
-  fits : is_place (most g) k ≡ true
+pub record Count (g : Field) (v : ℤ) : Type 0 where
+  pub k : ℕ
+  pub is : v ≡ pos (suc k)
+  pub fits : is_place (most g) k ≡ true
 
 count_by : (n : ℕ) (v : ℤ) → is_counted n v ≡ true → (k : ℕ) × (v ≡ pos (suc k)) × (is_place n k ≡ true)
 count_by n (pos zero) h = absurd (cc)
 count_by n (pos (suc k)) h = (k, refl, ap (λ (x : ℕ). nat_le x n) (add-one k) ∙ h)
 count_by n (negsuc k) h = absurd (cc)
 
-count : (g : Field) (v : ℤ) → is_signed g ≡ false → value_fits g v ≡ true → Count g v
+pub count : (g : Field) (v : ℤ) → is_signed g ≡ false → value_fits g v ≡ true → Count g v
 count g v s h =
     let c = count_by (most g) v (sym (ap (λ (t : Bool). cond t (nat_le (unsigned_abs v) (most g)) (is_counted (most g) v)) s) ∙ h) in
     record { k = c.0; is = c.1; fits = c.2 }
@@ -179,42 +179,42 @@ forgotten_piece p k f = record {
 one_is : (v : ℤ) (vs ws : List ℤ) (k : ℕ) → ws ≡ v ∷ vs → v ≡ pos (suc k) → vs ≡ [] → ws ≡ pos (suc k) ∷ []
 one_is v vs ws k h g e = h ∙ ap (λ (x : ℤ). x ∷ vs) g ∙ ap (λ (t : List ℤ). pos (suc k) ∷ t) e
 
-record Single (g : Field) (ws : List ℤ) : Type 0 where
-  k : ℕ
-  is : ws ≡ pos (suc k) ∷ []
-  fits : is_place (most g) k ≡ true
+pub record Single (g : Field) (ws : List ℤ) : Type 0 where
+  pub k : ℕ
+  pub is : ws ≡ pos (suc k) ∷ []
+  pub fits : is_place (most g) k ≡ true
 
-single : (g : Field) (ws : List ℤ) → is_signed g ≡ false → all_fit (g ∷ []) ws ≡ true → Single g ws
+pub single : (g : Field) (ws : List ℤ) → is_signed g ≡ false → all_fit (g ∷ []) ws ≡ true → Single g ws
 single g ws s h =
     let a = one g [] ws h in
     let c = count g a.v s a.fits in
     record { k = c.k; is = one_is a.v a.vs ws c.k a.is c.is (none a.vs a.later); fits = c.fits }
 
-record Front (g : Field) (gs : List Field) (ws : List ℤ) : Type 0 where
-  k : ℕ
-  vs : List ℤ
-  is : ws ≡ pos (suc k) ∷ vs
-  fits : is_place (most g) k ≡ true
-  later : all_fit gs vs ≡ true
+pub record Front (g : Field) (gs : List Field) (ws : List ℤ) : Type 0 where
+  pub k : ℕ
+  pub vs : List ℤ
+  pub is : ws ≡ pos (suc k) ∷ vs
+  pub fits : is_place (most g) k ≡ true
+  pub later : all_fit gs vs ≡ true
 
-front : (g : Field) (gs : List Field) (ws : List ℤ) → is_signed g ≡ false → all_fit (g ∷ gs) ws ≡ true → Front g gs ws
+pub front : (g : Field) (gs : List Field) (ws : List ℤ) → is_signed g ≡ false → all_fit (g ∷ gs) ws ≡ true → Front g gs ws
 front g gs ws s h =
     let a = one g gs ws h in
     let c = count g a.v s a.fits in
     record { k = c.k; vs = a.vs; is = a.is ∙ ap (λ (x : ℤ). x ∷ a.vs) c.is; fits = c.fits; later = a.later }
 
-record Triple (g h i : Field) (gs : List Field) (ws : List ℤ) : Type 0 where
-  k : ℕ
-  low : ℤ
-  high : ℤ
-  vs : List ℤ
-  is : ws ≡ pos (suc k) ∷ low ∷ high ∷ vs
-  fits : is_place (most g) k ≡ true
-  low_fits : value_fits h low ≡ true
-  high_fits : value_fits i high ≡ true
-  later : all_fit gs vs ≡ true
+pub record Triple (g h i : Field) (gs : List Field) (ws : List ℤ) : Type 0 where
+  pub k : ℕ
+  pub low : ℤ
+  pub high : ℤ
+  pub vs : List ℤ
+  pub is : ws ≡ pos (suc k) ∷ low ∷ high ∷ vs
+  pub fits : is_place (most g) k ≡ true
+  pub low_fits : value_fits h low ≡ true
+  pub high_fits : value_fits i high ≡ true
+  pub later : all_fit gs vs ≡ true
 
-triple : (g h i : Field) (gs : List Field) (ws : List ℤ) → is_signed g ≡ false → all_fit (g ∷ h ∷ i ∷ gs) ws ≡ true → Triple g h i gs ws
+pub triple : (g h i : Field) (gs : List Field) (ws : List ℤ) → is_signed g ≡ false → all_fit (g ∷ h ∷ i ∷ gs) ws ≡ true → Triple g h i gs ws
 triple g h i gs ws s e =
     let a = front g (h ∷ i ∷ gs) ws s e in
     let b = one h (i ∷ gs) a.vs a.later in

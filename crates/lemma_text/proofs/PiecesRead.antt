@@ -28,10 +28,10 @@ use Rattle.lemma_text.specs.Standing.{Standing, going, standing_from}
 use Rattle.lemma_text.proofs.NumbersRead.{number_read}
 
 -- a number from 1, as the text has it
-counted_text : (k : ℕ) → place_text k ≡ signed_decimal (pos (suc k))
+pub counted_text : (k : ℕ) → place_text k ≡ signed_decimal (pos (suc k))
 counted_text k = ap decimal (add-one k)
 
-counted_fits : (most k : ℕ) → is_place most k ≡ true → nat_le (suc k) most ≡ true
+pub counted_fits : (most k : ℕ) → is_place most k ≡ true → nat_le (suc k) most ≡ true
 counted_fits most k h = ap (λ (x : ℕ). nat_le x most) (sym (add-one k)) ∙ h
 
 -- a counted number, and a range

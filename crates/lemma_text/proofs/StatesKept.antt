@@ -125,11 +125,11 @@ reached_kept p b d h m = by_test p reached b (nat_eq b 10) (whole Goal) wrong
     (λ e. record { allowed = ap (λ (q : Place). allows q Goal) h ∙ m; fits = refl; text = ap (λ (u : List ℕ). 103 ∷ u) (letter_is b 10 e) }) (λ e. tt)
 
 -- values, and one more
-spaced_push : (vs : List ℤ) (z : ℤ) → spaced (vs ++ z ∷ []) ≡ spaced vs ++ (signed_decimal z ++ 32 ∷ [])
+pub spaced_push : (vs : List ℤ) (z : ℤ) → spaced (vs ++ z ∷ []) ≡ spaced vs ++ (signed_decimal z ++ 32 ∷ [])
 spaced_push [] z = refl
 spaced_push (v ∷ vs) z = ap (λ (u : List ℕ). signed_decimal v ++ 32 ∷ u) (spaced_push vs z) ∙ sym (append_assoc (signed_decimal v) (32 ∷ spaced vs) (signed_decimal z ++ 32 ∷ []))
 
-tied_more : (vs : List ℤ) (w : ℤ) (ws : List ℤ) (e : ℕ) → tied (vs ++ w ∷ ws) e ≡ spaced vs ++ tied (w ∷ ws) e
+pub tied_more : (vs : List ℤ) (w : ℤ) (ws : List ℤ) (e : ℕ) → tied (vs ++ w ∷ ws) e ≡ spaced vs ++ tied (w ∷ ws) e
 tied_more [] w ws e = refl
 tied_more (v ∷ []) w ws e = sym (append_assoc (signed_decimal v) (32 ∷ []) (tied (w ∷ ws) e))
 tied_more (v ∷ u ∷ vs) w ws e = ap (λ (t : List ℕ). signed_decimal v ++ 32 ∷ t) (tied_more (u ∷ vs) w ws e) ∙ sym (append_assoc (signed_decimal v) (32 ∷ spaced (u ∷ vs)) (tied (w ∷ ws) e))
@@ -234,11 +234,11 @@ word_completed p False read h = record {
 }
 
 -- the fields that are left, each with 1
-abbrev ones : List Field → List ℤ
+abbrev pub ones : List Field → List ℤ
 ones [] = []
 ones (g ∷ gs) = pos (suc zero) ∷ ones gs
 
-ones_fit : (gs : List Field) → all_fit gs (ones gs) ≡ true
+pub ones_fit : (gs : List Field) → all_fit gs (ones gs) ≡ true
 ones_fit [] = refl
 ones_fit (g ∷ gs) = and_from _ _ (one_fits g) (ones_fit gs)
 

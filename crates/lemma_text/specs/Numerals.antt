@@ -2,7 +2,7 @@
 use Rattle.std.specs.Prelude.{ℕ, zero, suc, ◌+◌, ◌-◌, ◌*◌, ◌≤◌, ◌≡◌, nat_le, nat_eq, Bool, true, false, ◌&&◌, ◌||◌, cond, List, [], ◌∷◌, ℤ, pos, negsuc, unsigned_abs}
 use Rattle.std.specs.Fmt.{decimal}
 use Rattle.lemma_text.specs.declared.parts.Field.{Field}
-use Rattle.lemma_text.specs.declared.parts.Field.TheVariants.{Variable, Constraint, Named, Value, Total}
+use Rattle.lemma_text.specs.declared.parts.Field.TheVariants.{Variable, Constraint, Named, Scope, Node, Turns, Value, Total}
 use Rattle.lemma_text.specs.declared.parts.Numeral.{Numeral}
 use Rattle.lemma_text.specs.declared.parts.Numeral.TheVariants.{Start, Minus, Zero, Digits}
 
@@ -11,6 +11,9 @@ abbrev pub most : Field → ℕ
 most Variable = 500
 most Constraint = 20000
 most Named = 4294967296
+most Scope = 65
+most Node = 1073741824
+most Turns = 10000000
 most Value = 1000000000
 most Total = 4611686018427387904
 
@@ -18,6 +21,9 @@ abbrev pub is_signed : Field → Bool
 is_signed Variable = false
 is_signed Constraint = false
 is_signed Named = false
+is_signed Scope = false
+is_signed Node = false
+is_signed Turns = false
 is_signed Value = true
 is_signed Total = true
 

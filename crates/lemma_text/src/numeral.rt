@@ -6,16 +6,19 @@ ghost use Rattle.lemma_text.specs.declared.parts.Numeral.TheVariants.{Start, Dig
 
 use crate::parts::{Field, Numeral};
 
-// How a number goes on with a byte.
-pub(crate) enum NumeralNext {
+/// How a number goes on with a byte.
+pub enum NumeralNext {
+    /// The byte is of the number.
     More(Numeral),
-    // the byte ends it
+    /// The byte, a space or the end of a line, ends the number, which is this.
     Done(i64),
+    /// No number of the field goes on so.
     Wrong,
 }
 
-// The next byte of a number, or the one after it.
-pub(crate) fn read_numeral(field: Field, numeral: Numeral, byte: u8) -> NumeralNext
+/// Reads the next byte of a number, or the one after it, which has to be a space or the end of a line. A number has no
+/// needless zero and no plus sign, and is of its field's range.
+pub fn read_numeral(field: Field, numeral: Numeral, byte: u8) -> NumeralNext
     requires { FitsNumeral field numeral }
     ensures reads { reading_of result ≡ reading field numeral byte }
     ensures fits { FitsReading field result }
@@ -144,6 +147,9 @@ fn most(field: Field) -> u64
         Field::Variable => 500,
         Field::Constraint => 20_000,
         Field::Named => 4_294_967_296,
+        Field::Scope => 65,
+        Field::Node => 1_073_741_824,
+        Field::Turns => 10_000_000,
         Field::Value => 1_000_000_000,
         Field::Total => 4_611_686_018_427_387_904,
     }
@@ -156,6 +162,9 @@ fn is_signed(field: Field) -> bool
         Field::Variable => false,
         Field::Constraint => false,
         Field::Named => false,
+        Field::Scope => false,
+        Field::Node => false,
+        Field::Turns => false,
         Field::Value => true,
         Field::Total => true,
     }
