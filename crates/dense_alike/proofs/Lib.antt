@@ -1,0 +1,9 @@
+pub mod InARow
+pub mod Domains
+pub mod Below
+pub mod Seeing
+pub mod Marking
+pub mod LaidOut
+pub mod Viewing
+pub mod Looking
+pub mod Filled

@@ -1,0 +1,7 @@
+pub mod Ranges
+pub mod Marked
+pub mod Laid
+pub mod Kept
+pub mod Seeing
+pub mod Comparing
+pub mod Starts

@@ -1,0 +1,9 @@
+pub mod Ending
+pub mod Known
+pub mod Replying
+pub mod Rows
+pub mod Scoped
+pub mod Stops
+pub mod Tracking
+pub mod Tupled
+pub mod Worse

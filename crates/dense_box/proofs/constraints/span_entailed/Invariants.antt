@@ -1,0 +1,8 @@
+use Rattle.std.proofs.Common.{◌≡◌, ◌-◌, take, drop}
+use Rattle.dense_tree.specs.Tuples.{all_hold}
+use Rattle.dense_box.proofs.constraints.span_entailed.Given as goal
+
+abbrev pub invariant-loop-k : goal.invariant-loop-k
+invariant-loop-k l =
+    all_hold (take (l.fn.span.end - l.k) (drop l.k l.problem.constraints)) l.store.box
+    ≡ all_hold (take (l.fn.span.end - l.fn.span.first) (drop l.fn.span.first l.problem.constraints)) l.store.box

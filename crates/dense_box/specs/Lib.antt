@@ -1,0 +1,5 @@
+pub mod Ends
+pub mod Here
+pub mod Standing
+pub mod Taking
+pub mod Wished

@@ -1,0 +1,11 @@
+pub mod Gathered
+pub mod Going
+pub mod Stepping
+pub mod Ending
+pub mod Dispatching
+pub mod Placing
+pub mod Noding
+pub mod Casing
+pub mod Small
+pub mod Turning
+pub mod Repeated

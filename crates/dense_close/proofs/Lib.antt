@@ -1,0 +1,9 @@
+pub mod Cuts
+pub mod Found
+pub mod Indexed
+pub mod Looked
+pub mod Narrowed
+pub mod OpenMoves
+pub mod Own
+pub mod Room
+pub mod Sums

@@ -1,0 +1,27 @@
+use Rattle.std.proofs.Common.{◌≡◌, ◌∙◌, rules, false}
+use Rattle.std.proofs.lemmas.Int.{to_z-of_z}
+use mir.Val.{SFits}
+use mir.Syntax.{w64}
+use Rattle.qc_model.specs.Domains.{values_left, values_within, box_within, is_none_left}
+use Rattle.qc_model.specs.Refuted.{refuted_by}
+use Rattle.dense_close.proofs.Cuts.{asked, some_alone, same_alone}
+use Rattle.dense_close.proofs.cutting.refutes_end.Goals as goal
+
+pub refutes_in-requires-clause-asked : goal.refutes_in-requires-clause-asked
+refutes_in-requires-clause-asked c = λ r e. asked c.args.problem.now c.known.ensures c.args.store.now.box c.requires.declared c.requires.full c.args.c.0 r e
+
+pub refutes_in-requires-clause-left : goal.refutes_in-requires-clause-left
+refutes_in-requires-clause-left c =
+    let v = c.end_of-value.result in
+    let fits : SFits w64 v = search rules in
+    let left : is_none_left (values_within v v (values_left c.args.store.now.box c.args.x.0)) ≡ false =
+    some_alone c.args.end c.args.problem.now c.args.store.now.box c.args.x.0 v c.requires.declared c.requires.full c.requires.x c.end_of-value.ensures in
+    simp to_z-of_z left
+
+pub returns : goal.returns
+returns c = λ r e.
+    let v = c.end_of-value.result in
+    let fits : SFits w64 v = search rules in
+    let box = c.args.store.now.box in
+    let told : c.refutes_in.result ≡ refuted_by r (box_within box c.args.x.0 v v) = simp to_z-of_z at (c.refutes_in.ensures r e) in
+    told ∙ same_alone c.args.end c.args.problem.now box c.args.x.0 v r c.requires.declared c.requires.full c.requires.x c.end_of-value.ensures

@@ -1,0 +1,9 @@
+use Rattle.std.proofs.Common.{◌≡◌, ◌<◌, ℕ, ℤ}
+use Rattle.std.specs.Prelude.{slice_get, Some}
+use Rattle.qc_model.specs.declared.problem.Arg.{Arg}
+use Rattle.qc_model.specs.Refuted.{left_to}
+use Rattle.dense_close.specs.Slack.{IsNear}
+use Rattle.dense_close.proofs.slack.are_near.Given as goal
+
+abbrev pub invariant-loop-k : goal.invariant-loop-k
+invariant-loop-k l = (i : ℕ) (n : ℤ) (a : Arg) → i < l.k → slice_get l.factors i ≡ Some n → slice_get l.items i ≡ Some a → IsNear l.fn.s n (left_to l.store.box a)

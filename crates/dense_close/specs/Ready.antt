@@ -1,0 +1,16 @@
+-- What a closer keeps between its calls.
+use Rattle.std.specs.Prelude.{◌≡◌, [], length}
+use Rattle.qc_model.specs.Content.{Game}
+use Rattle.dense_close.specs.Index.{Index, IsIndexOf}
+use Rattle.dense_close.specs.Waiting.{Waiting, MarkedWait}
+
+-- a queue for the game's constraints in which none waits
+pub record IsIdle (g : Game) (w : Waiting) : Type 0 where
+  pub count : length w.marks ≡ length g.constraints
+  pub waiting : MarkedWait w
+  pub empty : w.queue ≡ []
+
+-- the game's index, and such a queue
+pub record IsReady (g : Game) (i : Index) (w : Waiting) : Type 0 where
+  pub index : IsIndexOf g i
+  pub idle : IsIdle g w

@@ -1,0 +1,28 @@
+//! Closing on a store: the greatest closed box within a box, in place, without memory.
+//!
+//! A closing takes ends that constraints refute, in whatever order, and comes to the one greatest closed box, or shows that there
+//! is none (`dense_closing`). So a checker of dense certificates needs no steps. `Closer` keeps the constraints that are to be
+//! looked at in a queue. One that is taken out is held against each of its variables that it may take and that have several values
+//! left: what it refutes at their ends goes, and each constraint of the span that has such a variable waits again, itself among
+//! them. Where it took nothing it keeps the box; where it refutes the box as it is, no box within is closed. So once none waits, all
+//! keep the box, and it is closed.
+//!
+//! Whether a linear constraint refutes any end is first asked by one reading of its sum (`slack`), since to ask of each end takes the
+//! square of that. Values go by stretches: where a constraint refutes an end, it is asked of twice as many numbers from there on, as long as it
+//! refutes them together.
+#![tactic(auto)]
+
+mod answerless;
+mod closer;
+mod cutting;
+mod having;
+mod index;
+mod revising;
+mod slack;
+mod taking;
+mod task;
+mod waiting;
+mod waking;
+
+pub use closer::Closer;
+pub use taking::Taking;

@@ -1,0 +1,174 @@
+//! Sums that have so much room that no end of a variable breaks them.
+//!
+//! Whether a sum refutes an end takes as long as to read the sum, so to hold one against all its ends takes the square of that.
+//! Where the ends of each term are nearer to each other than the sum is to its bound, it refutes none, which one reading tells.
+ghost use Rattle.std.specs.Prelude.{◌≡◌, ◌≤◌, ◌^◌, IsTrue, cond, length, pos, ◌*ℤ◌, ◌+ℤ◌, ◌≤ℤ◌, unsigned_abs};
+ghost use Rattle.std.specs.List.{list_all};
+ghost use Rattle.qc_model.specs.declared.problem.Arg.TheVariants.{Num};
+ghost use Rattle.qc_model.specs.declared.problem.Pred.TheVariants.{IntLinEq, IntLinLe};
+ghost use Rattle.qc_model.specs.Refuted.{left_to};
+ghost use Rattle.qc_model.specs.Valid.{is_number};
+ghost use Rattle.model_arguments.specs.Asked.{IsAsked};
+ghost use Rattle.model_arguments.specs.Written.{arg_at, args_at, ints_at};
+ghost use Rattle.qc_refuter.specs.Met.{is_open, are_met};
+ghost use Rattle.dense_close.specs.Slack.{IsNear, AreNear, SparesAll};
+
+use fd_store::Store;
+use model_arguments::{arguments, is_repeated, one_at};
+use qc_model::{Arg, Argument, Constraint, Pred, Problem};
+use qc_refuter::{Extent, sum_extent};
+
+// The product of two numbers within the limit.
+fn product(a: i64, b: i64) -> i64
+    requires a { IsTrue (is_number a) }
+    requires b { IsTrue (is_number b) }
+    ensures value { result ≡ (a *ℤ b) }
+    ensures small { unsigned_abs result ≤ 10 ^ 18 }
+{
+    a * b
+}
+
+// The items of a sum.
+fn items_met<'a>(args: &'a [Argument], store: &Store) -> &'a [Arg]
+    requires { IsTrue (are_met store.now.box args.now) }
+    ensures is { result.now ≡ args_at args.now 1 }
+    ensures few { length result.now ≤ 1000 }
+    ensures open { IsTrue (list_all (is_open store.now.box) result.now) }
+{
+    match args.get(1) {
+        Some(Argument::Many(items)) => items.items(),
+        _ => &[],
+    }
+}
+
+// Its factors.
+fn factors_met<'a>(args: &'a [Argument], store: &Store) -> &'a [i64]
+    requires { IsTrue (are_met store.now.box args.now) }
+    ensures is { result.now ≡ ints_at args.now 0 }
+    ensures small { IsTrue (list_all is_number result.now) }
+{
+    match args.get(0) {
+        Some(Argument::Numbers(items)) => items.items(),
+        _ => &[],
+    }
+}
+
+// Whether the ends of a term are at most s apart.
+fn is_near(factor: i64, item: Arg, s: i64, store: &Store) -> bool
+    requires factor { IsTrue (is_number factor) }
+    requires open { IsTrue (is_open store.now.box item) }
+    requires room { pos 0 ≤ℤ s }
+    ensures { IsTrue result → IsNear s factor (left_to store.now.box item) }
+{
+    match item {
+        Arg::Num(_) => true,
+        Arg::Var(x) => {
+            let low = product(factor, store.min(x));
+            let high = product(factor, store.max(x));
+            are_close(low, high, s)
+        }
+    }
+}
+
+// Whether two products are at most s apart.
+fn are_close(a: i64, b: i64, s: i64) -> bool
+    requires a { unsigned_abs a ≤ 10 ^ 18 }
+    requires b { unsigned_abs b ≤ 10 ^ 18 }
+    ensures up { IsTrue result → b ≤ℤ (a +ℤ s) }
+    ensures down { IsTrue result → a ≤ℤ (b +ℤ s) }
+{
+    b - a <= s && a - b <= s
+}
+
+// Whether the ends of each term are.
+fn are_near(factors: &[i64], items: &[Arg], s: i64, store: &Store) -> bool
+    requires factors { IsTrue (list_all is_number factors.now) }
+    requires open { IsTrue (list_all (is_open store.now.box) items.now) }
+    requires room { pos 0 ≤ℤ s }
+    ensures { IsTrue result → AreNear s factors.now items.now store.now.box }
+{
+    for k in 0..factors.len().min(items.len()) {
+        if !is_near(factors[k], items[k], s, store) {
+            return false;
+        }
+    }
+    true
+}
+
+// How far a sum is from its bound, or less: from below, and where they are to be equal from above too.
+fn room_of(is_equal: bool, bound: i64, extent: Extent) -> i64
+    requires from { unsigned_abs extent.from ≤ 10 ^ 21 }
+    requires to { unsigned_abs extent.to ≤ 10 ^ 21 }
+    ensures under { pos 0 ≤ℤ result → (extent.from +ℤ result) ≤ℤ bound }
+    ensures over { pos 0 ≤ℤ result → IsTrue is_equal → (bound +ℤ result) ≤ℤ extent.to }
+{
+    let under = clamped(bound as i128 - extent.from);
+    if is_equal {
+        let over = clamped(extent.to - bound as i128);
+        if over < under { over } else { under }
+    } else {
+        under
+    }
+}
+
+// The number, or a lesser one within 64 bits; a negative one may become any negative one.
+fn clamped(n: i128) -> i64
+    ensures { pos 0 ≤ℤ result → result ≤ℤ n }
+{
+    if n < 0 {
+        return -1;
+    }
+    if n > 4_000_000_000_000_000_000 {
+        return 4_000_000_000_000_000_000;
+    }
+    n as i64
+}
+
+// Whether a sum that a number bounds has such room.
+fn has_room(problem: &Problem, rule: &Constraint, is_equal: bool, bound: i64, store: &Store) -> bool
+    requires asked { IsAsked problem.now rule.now store.now.box }
+    requires pred { rule.now.pred ≡ cond is_equal IntLinEq IntLinLe }
+    requires bound { arg_at rule.now.args 2 ≡ Num bound }
+    ensures { IsTrue result → SparesAll rule.now store.now.box }
+{
+    problem.known();
+    let args = arguments(rule);
+    let factors = factors_met(args, store);
+    let items = items_met(args, store);
+    let s = room_of(
+        is_equal,
+        bound,
+        sum_extent(problem, rule, factors, items, store),
+    );
+    if s < 0 {
+        return false;
+    }
+    if !are_near(factors, items, s, store) {
+        return false;
+    }
+    !is_repeated(items)
+}
+
+fn sum_has_room(problem: &Problem, rule: &Constraint, is_equal: bool, store: &Store) -> bool
+    requires asked { IsAsked problem.now rule.now store.now.box }
+    requires pred { rule.now.pred ≡ cond is_equal IntLinEq IntLinLe }
+    ensures { IsTrue result → SparesAll rule.now store.now.box }
+{
+    match one_at(arguments(rule), 2) {
+        Arg::Var(_) => false,
+        Arg::Num(bound) => has_room(problem, rule, is_equal, bound, store),
+    }
+}
+
+/// Whether the constraint is such a sum, bounded by a number. Then it refutes neither end of any of its variables. It takes time in
+/// the order of the sum's length.
+pub(crate) fn is_roomy(problem: &Problem, rule: &Constraint, store: &Store) -> bool
+    requires { IsAsked problem.now rule.now store.now.box }
+    ensures { IsTrue result → SparesAll rule.now store.now.box }
+{
+    match rule.pred {
+        Pred::IntLinLe => sum_has_room(problem, rule, false, store),
+        Pred::IntLinEq => sum_has_room(problem, rule, true, store),
+        _ => false,
+    }
+}

@@ -1,0 +1,80 @@
+//! The constraints that wait to be looked at, each once.
+ghost use Rattle.std.specs.Prelude.{◌≡◌, ◌≢◌, ◌≤◌, ◌<◌, ℕ, Bool, length, [], ◌∷◌, IsTrue, IfOk, IfNone, IfSome, nat_lt};
+ghost use Rattle.dense_close.specs.Waiting.{is_marked, MarkedWait, all_waiting};
+
+use qc_model::ConId;
+use std::alloc::{AllocError, Global};
+use std::collections::VecDeque;
+use std::marker::Model;
+
+/// A queue of constraints, with a mark for each that stands in it. It has a place for each constraint, so it asks for no memory
+/// once it is made.
+#[derive(Drop)]
+pub(crate) struct WorkList {
+    marks: Vec<bool>,
+    queue: VecDeque<ConId>,
+}
+
+impl Model for WorkList {
+    ghost use Rattle.std.specs.VecDeque.{deque_capacity, deque_len};
+    ghost use Rattle.dense_close.specs.Waiting.{HasRoom, Waiting};
+
+    ghost Value = { Waiting };
+
+    ghost view = { λ a. record { marks = a.marks.items; queue = a.queue.items } };
+
+    ghost invariant = { λ a. HasRoom (deque_len a.queue) (deque_capacity a.queue) a.marks.items };
+}
+
+impl WorkList {
+    /// An empty queue, with room for so many constraints.
+    pub(crate) fn new(alloc: Global, count: usize) -> Result<WorkList, AllocError>
+        ensures count { IfOk result (λ w. length w.marks ≡ count) }
+        ensures empty { IfOk result (λ w. w.queue ≡ []) }
+        ensures waiting { IfOk result (λ w. MarkedWait w) }
+    {
+        Ok(WorkList {
+            marks: vec![in alloc; false; count]?,
+            queue: VecDeque::with_capacity(alloc, count)?,
+        })
+    }
+
+    /// No more wait than there are constraints.
+    pub(crate) fn known(&self)
+        ensures { length self.now.queue ≤ length self.now.marks }
+    {
+        let _ = &self.marks;
+    }
+
+    /// Lets c wait behind the others, unless it waits already.
+    pub(crate) fn add(&mut self, c: ConId)
+        requires c { c.0 < length self.old.marks }
+        requires waiting { MarkedWait self.old }
+        ensures waiting { MarkedWait self.new }
+        ensures allowed { (ok : ℕ → Bool) → IsTrue (ok c.0) → IsTrue (all_waiting ok self.old) → IsTrue (all_waiting ok self.new) }
+        ensures count { length self.new.marks ≡ length self.old.marks }
+        ensures kept { (k : ℕ) → IsTrue (is_marked self.old k) → IsTrue (is_marked self.new k) }
+        ensures marked { IsTrue (is_marked self.new c.0) }
+    {
+        if self.marks[c.0 as usize] {
+            return;
+        }
+        self.queue.push_back_reserved(c);
+        self.marks[c.0 as usize] = true;
+    }
+
+    /// Takes the first that waits out.
+    pub(crate) fn pop(&mut self) -> Option<ConId>
+        requires waiting { MarkedWait self.old }
+        requires exist { IsTrue (all_waiting (λ k. nat_lt k (length self.old.marks)) self.old) }
+        ensures waiting { MarkedWait self.new }
+        ensures count { length self.new.marks ≡ length self.old.marks }
+        ensures none { IfNone result ((self.old.queue ≡ []) × (self.new ≡ self.old)) }
+        ensures some { IfSome result (λ c. self.old.queue ≡ c ∷ self.new.queue) }
+        ensures others { IfSome result (λ c. (k : ℕ) → k ≢ c.0 → is_marked self.new k ≡ is_marked self.old k) }
+    {
+        let c = self.queue.pop_front()?;
+        self.marks[c.0 as usize] = false;
+        Some(c)
+    }
+}

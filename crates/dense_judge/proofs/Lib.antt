@@ -1,0 +1,4 @@
+mod Gathers
+mod Added
+mod Steps
+mod Ends

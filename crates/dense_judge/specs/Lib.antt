@@ -1,0 +1,5 @@
+pub mod Stated
+pub mod Gathered
+pub mod Gathering
+pub mod Shown
+pub mod Checking

@@ -1,0 +1,106 @@
+-- From the pieces that a reader keeps and tells to the bytes that it was given.
+use Rattle.std.proofs.Common.{◌≡◌, inl, inr, refl, sym, ap, ◌∙◌, subst, ℕ, ◌+◌, ◌<◌, ◌^◌, List, [], ◌∷◌, ◌++◌, length, true, false, Option, Some, None, arith}
+use Rattle.std.specs.Prelude.{flat_map}
+use Rattle.std.specs.List.{list_all}
+use Rattle.std.proofs.lemmas.Bool.{and_parts, cases_lt}
+use Rattle.std.proofs.lemmas.List.{append-nil, take_at, take_all, length_push}
+use Rattle.std.proofs.lemmas.List.Folds.{list_all-append}
+use Rattle.dense_text.specs.declared.piece.Piece.{Piece}
+use Rattle.dense_text.specs.declared.reader.Fed.{Fed}
+use Rattle.dense_text.specs.declared.reader.Fed.TheVariants.{More, Whole, Bad}
+use Rattle.dense_text.specs.declared.reader.End.TheVariants.{Whole as WholeEnd, CutShort, Bad as BadEnd}
+use Rattle.dense_text.specs.Kept.{Held, held}
+use Rattle.dense_text.specs.Pieces.{piece_text, piece_fits}
+use Rattle.dense_text.specs.Grammar.{at_start, place_after}
+use Rattle.dense_text.specs.States.{state_at}
+use Rattle.dense_text.specs.Standing.{Standing, no_text, next_standing, standing}
+use Rattle.dense_text.specs.Places.{BeginsText, IsFault}
+use Rattle.dense_text.specs.Telling.{is_ended, Tells}
+use Rattle.dense_text.specs.Reader.{tell, standing_of, StandsFor, HasRoom, HasStopped, Says, IsTold, Ends, Goes}
+use Rattle.dense_text.proofs.OneText.{told_of, text_stands}
+use Rattle.dense_text.proofs.Faults.{standing_next, nothing_pending, no_earlier}
+use Rattle.dense_text.proofs.Telling.{all_told}
+
+-- what stands so says what is so of the bytes
+stood : (kept : Option Held) (bytes : List ℕ) (told : List Piece) → standing bytes ≡ standing_of told kept → StandsFor kept bytes told
+stood kept bytes told h = (h, subst (λ (x : Standing). Tells x bytes) h (all_told bytes))
+
+pub stands_first : StandsFor (Some (held 0 (state_at at_start))) [] []
+stands_first = stood (Some (held 0 (state_at at_start))) [] [] refl
+
+-- within so many bytes no more branches are open than can be counted
+room : (kept : Option Held) (bytes : List ℕ) (told : List Piece) → length bytes + 1 < 2 ^ 64 → StandsFor kept bytes told → HasRoom kept
+room None bytes told l h = tt
+room (Some k) bytes told l h = let few = h.1.few in omega arith
+
+stands : (old new : Option Held) (bytes : List ℕ) (told : List Piece) (b : ℕ) (fed : Fed) → length bytes + 1 < 2 ^ 64 → Goes old b new fed → StandsFor old bytes told → StandsFor new (bytes ++ b ∷ []) (tell told fed)
+stands old new bytes told b fed l g h =
+    stood new (bytes ++ b ∷ []) (tell told fed) (standing_next bytes b ∙ ap (λ (x : Standing). next_standing x b) h.0 ∙ (g (room old bytes told l h)).0 told)
+
+-- a fault that is reached with this byte
+stopped_here : (bytes : List ℕ) (b : ℕ) → Tells no_text (bytes ++ b ∷ []) → HasStopped bytes b
+stopped_here bytes b t =
+    let many : length (bytes ++ b ∷ []) ≡ length bytes + 1 = length_push bytes b in
+    let lt = t.1 in
+    record {
+      place = t.0;
+      within = omega arith;
+      is = t.2;
+      here = λ begins.
+          elim (cases_lt t.0 (length bytes)) [
+            | inl early ↦ absurd (no_earlier (bytes ++ b ∷ []) t.0 (length bytes) t.2 (omega arith) (subst BeginsText (sym (take_at bytes (b ∷ []) (length bytes) refl)) begins) early)
+            | inr late ↦ omega arith
+          ];
+    }
+
+last_fits : (told : List Piece) (piece : Piece) → list_all piece_fits (told ++ piece ∷ []) ≡ true → piece_fits piece ≡ true
+last_fits told piece h =
+    let both = and_parts (list_all piece_fits told) (list_all piece_fits (piece ∷ [])) (sym (list_all-append piece_fits told (piece ∷ [])) ∙ h) in
+    (and_parts (piece_fits piece) true both.1).0
+
+says : (old new : Option Held) (bytes : List ℕ) (told : List Piece) (b : ℕ) (fed : Fed) → length bytes + 1 < 2 ^ 64 → Goes old b new fed → StandsFor old bytes told → Says bytes told b fed
+says old new bytes told b More l g h =
+    let t = (g (room old bytes told l h)).1 in
+    (subst (λ (k : Option Held). StandsFor k (bytes ++ b ∷ []) told) t.1 (stands old new bytes told b More l g h)).1.begins
+says old new bytes told b (Whole piece) l g h =
+    let t = (g (room old bytes told l h)).1 in
+    let r = (subst (λ (k : Option Held). StandsFor k (bytes ++ b ∷ []) (told ++ piece ∷ [])) t.1 (stands old new bytes told b (Whole piece) l g h)).1 in
+    let text = r.text ∙ ap (λ (u : List ℕ). flat_map piece_text (told ++ piece ∷ []) ++ u) (nothing_pending (place_after t.0 piece)) ∙ append-nil (flat_map piece_text (told ++ piece ∷ [])) in
+    (r.begins, text, last_fits told piece r.fits, r.accepted)
+says old new bytes told b Bad l g h =
+    stopped_here bytes b (subst (λ (k : Option Held). StandsFor k (bytes ++ b ∷ []) told) (g (room old bytes told l h)).1 (stands old new bytes told b Bad l g h)).1
+
+-- where no more bytes come
+ended_whole : (k : Held) (bytes : List ℕ) (told : List Piece) → is_ended k.state ≡ true → StandsFor (Some k) bytes told → IsTold bytes told
+ended_whole k bytes told e h =
+    let t = h.1.ended e in
+    let r = text_stands t.0 t.1 t.2 t.3 in
+    (t.0, t.1, t.2, t.3, t.4, ap told_of (sym h.0 ∙ ap standing t.4 ∙ r.1))
+
+ended_short : (k : Held) (bytes : List ℕ) (told : List Piece) → is_ended k.state ≡ false → StandsFor (Some k) bytes told → BeginsText bytes × IsFault (length bytes) bytes
+ended_short k bytes told e h = (
+  h.1.begins,
+  record {
+    within = omega arith;
+    before = subst BeginsText (sym (take_all (length bytes) bytes (omega arith))) h.1.begins;
+    here = λ lt b. omega arith;
+    unfinished = λ all t. let clash : false ≡ true = sym e ∙ h.1.unended t in absurd (cc);
+  },
+)
+
+-- the same of a reader, whose view is what it keeps
+pub stands_for : (old given new : Option Held) (b : ℕ) (fed : Fed) → given ≡ old → Goes given b new fed → (bytes : List ℕ) (told : List Piece) → length bytes + 1 < 2 ^ 64 → StandsFor old bytes told
+    → StandsFor new (bytes ++ b ∷ []) (tell told fed)
+stands_for old given new b fed e g bytes told l h = stands given new bytes told b fed l g (subst (λ (k : Option Held). StandsFor k bytes told) (sym e) h)
+
+pub says_for : (old given new : Option Held) (b : ℕ) (fed : Fed) → given ≡ old → Goes given b new fed → (bytes : List ℕ) (told : List Piece) → length bytes + 1 < 2 ^ 64 → StandsFor old bytes told → Says bytes told b fed
+says_for old given new b fed e g bytes told l h = says given new bytes told b fed l g (subst (λ (k : Option Held). StandsFor k bytes told) (sym e) h)
+
+pub whole_for : (old : Option Held) (k : Held) → Some k ≡ old → is_ended k.state ≡ true → (bytes : List ℕ) (told : List Piece) → StandsFor old bytes told → Ends bytes told WholeEnd
+whole_for old k e w bytes told h = ended_whole k bytes told w (subst (λ (x : Option Held). StandsFor x bytes told) (sym e) h)
+
+pub short_for : (old : Option Held) (k : Held) → Some k ≡ old → is_ended k.state ≡ false → (bytes : List ℕ) (told : List Piece) → StandsFor old bytes told → Ends bytes told CutShort
+short_for old k e w bytes told h = ended_short k bytes told w (subst (λ (x : Option Held). StandsFor x bytes told) (sym e) h)
+
+pub bad_for : (old : Option Held) → None ≡ old → (bytes : List ℕ) (told : List Piece) → StandsFor old bytes told → Ends bytes told BadEnd
+bad_for old e bytes told h = (subst (λ (k : Option Held). StandsFor k bytes told) (sym e) h).1

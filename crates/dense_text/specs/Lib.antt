@@ -1,0 +1,11 @@
+pub mod Pieces
+pub mod Places
+pub mod Forms
+pub mod Grammar
+pub mod States
+pub mod Standing
+pub mod Unfinished
+pub mod Telling
+pub mod Asked
+pub mod Kept
+pub mod Reader
