@@ -151,7 +151,8 @@ QDENSE = Program(
                 "game has wishes, the certificate that ./qecode solve writes",
                 "solve examples/counters.qc > counters.cert", ((1, TEXT),)),
         Command("check", "check PROBLEM CERTIFICATE",
-                "says whether a certificate, a list or one of ./qecode, proves what it states: yes and the answer, or no",
+                "says whether a certificate, a list, a dense one or one of ./qecode, proves what it states: yes and the answer,\n"
+                "or no",
                 "check crates/dense_program/data/sum.qc crates/dense_program/data/sum.cert", ((1, TEXT), (2, CERTIFICATE))),
         Command("qbf", "qbf FILE [--turns N]",
                 "solves a quantified Boolean formula in the QDIMACS format",

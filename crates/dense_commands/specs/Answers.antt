@@ -8,7 +8,10 @@ use Rattle.qdimacs.specs.Formula.{Formula, is_true}
 use Rattle.qdimacs.specs.Content.{game_of}
 use Rattle.lemma_text.specs.Places.{IsFault}
 use Rattle.lemma_judge.specs.Checking.{IsProof, IsNoProof}
+use Rattle.dense_text.specs.Places.{IsFault as IsFaultOfDense}
+use Rattle.dense_judge.specs.Checking.{IsProof as IsDenseProof, IsNoProof as IsNoDenseProof}
 use Rattle.best_judge.specs.Proof.{IsBestProof, IsNoProof as IsNoBestProof, IsFaultOfBest}
+use Rattle.proof_tree.specs.declared.tree.Outcome.{Outcome}
 use Rattle.proof_tree.specs.declared.tree.Outcome.TheVariants.{True}
 use Rattle.proof_tree.specs.Text.{outcome_text}
 use Rattle.qecode_commands.specs.declared.status.Status.{Status}
@@ -17,7 +20,7 @@ use Rattle.qecode_commands.specs.Answers.{AnswersProblem, SolvesProblem, ChecksF
 use Rattle.qecode_commands.specs.Formulas.{AnswersFormula, DecidesFormula}
 use Rattle.qecode_commands.specs.Files.{IsFile, TurnsFileDown}
 use Rattle.dense_commands.specs.declared.head.Heading.{Heading}
-use Rattle.dense_commands.specs.declared.head.Heading.TheVariants.{Lemmas, Optimum, Tree}
+use Rattle.dense_commands.specs.declared.head.Heading.TheVariants.{Lemmas, Optimum, Dense, Tree}
 use Rattle.dense_commands.specs.Words.{Asked, solves, decides, checks}
 
 -- the text is that of a list that proves who loses, which is so; it is no longer than `check` reads
@@ -109,6 +112,31 @@ ChecksBestBytes g bytes NotProved text = DeniesBest g bytes text
 ChecksBestBytes g bytes BadCertificate text = IsNoBest bytes text
 ChecksBestBytes g bytes status text = ⊥
 
+-- the bytes are a dense certificate that proves what it states, which is so, and is repeated
+pub record ConfirmsDense (g : Game) (bytes text : List ℕ) : Type 0 where
+  pub outcome : Outcome
+  pub optimum : Option ℤ
+  pub proof : IsDenseProof g bytes outcome optimum
+  pub line : text ≡ codes "yes " ++ outcome_text outcome optimum
+
+-- they are one that doesn't
+pub record DeniesDense (g : Game) (bytes text : List ℕ) : Type 0 where
+  pub no_proof : IsNoDenseProof g bytes
+  pub line : text ≡ codes "no\n"
+
+-- they are no dense certificate's text, and the line tells the first place at which that shows
+pub record IsNoDense (bytes text : List ℕ) : Type 0 where
+  pub place : ℕ
+  pub fault : IsFaultOfDense place bytes
+  pub line : text ≡ codes "bad certificate at " ++ decimal place ++ codes "\n"
+
+-- what `check` answers for the bytes of a dense certificate
+abbrev pub ChecksDenseBytes : Game → List ℕ → Status → List ℕ → Type 0
+ChecksDenseBytes g bytes Done text = ConfirmsDense g bytes text
+ChecksDenseBytes g bytes NotProved text = DeniesDense g bytes text
+ChecksDenseBytes g bytes BadCertificate text = IsNoDense bytes text
+ChecksDenseBytes g bytes status text = ⊥
+
 -- what it answers for the file of a list
 abbrev pub ChecksListFile : List ℕ → Option (List ℕ) → (ℕ → Type 0) → Game → Status → List ℕ → Type 0
 ChecksListFile name told gave g status text =
@@ -119,12 +147,18 @@ abbrev pub ChecksBestFile : List ℕ → Option (List ℕ) → (ℕ → Type 0) 
 ChecksBestFile name told gave g status text =
     TurnsFileDown 1073741824 name told gave status text ⊎ ((bytes : List ℕ) × IsFile 1073741824 told bytes × ChecksBestBytes g bytes status text)
 
+-- and for that of a dense certificate
+abbrev pub ChecksDenseFile : List ℕ → Option (List ℕ) → (ℕ → Type 0) → Game → Status → List ℕ → Type 0
+ChecksDenseFile name told gave g status text =
+    TurnsFileDown 1073741824 name told gave status text ⊎ ((bytes : List ℕ) × IsFile 1073741824 told bytes × ChecksDenseBytes g bytes status text)
+
 -- What the first bytes tell. A text of the third version is that of a value and two lists where `b` stands behind its first line:
 -- no list's text goes on so, and no other text of a value does.
 abbrev pub heading_in : List ℕ → Heading
 heading_in bytes =
     if bytes_eq (take 9 bytes) (codes "qcert 3\nb") then Optimum
-    else if bytes_eq (take 7 bytes) (codes "qcert 3") then Lemmas else Tree
+    else if bytes_eq (take 7 bytes) (codes "qcert 3") then Lemmas
+    else if bytes_eq (take 7 bytes) (codes "qcert 4") then Dense else Tree
 
 -- the file, where it is told, begins so
 abbrev pub HasHead : Heading → Option (List ℕ) → Type 0
@@ -134,6 +168,7 @@ HasHead heading told = IfSome told (λ bytes. heading ≡ heading_in bytes)
 abbrev pub ChecksAs : Heading → List ℕ → Option (List ℕ) → (ℕ → Type 0) → Game → Status → List ℕ → Type 0
 ChecksAs Lemmas name told gave g status text = ChecksListFile name told gave g status text
 ChecksAs Optimum name told gave g status text = ChecksBestFile name told gave g status text
+ChecksAs Dense name told gave g status text = ChecksDenseFile name told gave g status text
 ChecksAs Tree name told gave g status text = ChecksTreeFile name told gave g status text
 
 -- what it answers for a certificate's file

@@ -10,6 +10,10 @@ use Rattle.lemma_list.specs.Lemmas.{Entry}
 use Rattle.lemma_list.specs.InPlace.{proves}
 use Rattle.lemma_judge.specs.Checking.{IsListText}
 use Rattle.best_judge.specs.Proof.{IsBestProof}
+use Rattle.proof_tree.specs.declared.tree.Outcome.{Outcome}
+use Rattle.dense_tree.specs.Tree.{Certificate}
+use Rattle.dense_tree.specs.Proves.{proves as proves_densely}
+use Rattle.dense_judge.specs.Checking.{IsCertificateText}
 use Rattle.qecode_commands.specs.declared.status.Status.{Status}
 use Rattle.qecode_commands.specs.declared.status.Status.TheVariants.{Done, Usage}
 use Rattle.qecode_commands.specs.Complete.{TellsProblem, TellsFormula, TellsProof as TellsTreeProof}
@@ -33,9 +37,20 @@ pub record TellsBest (told : Option (List ℕ)) (g : Game) : Type 0 where
   pub value : ℤ
   pub proof : IsBestProof g bytes value
 
--- the file is told, and has a certificate that proves what it states: a list, a value with two, or a tree
+-- the file is told, and has the text of a dense certificate that proves what it states
+pub record TellsDense (told : Option (List ℕ)) (g : Game) : Type 0 where
+  pub bytes : List ℕ
+  pub told_is : told ≡ Some bytes
+  pub within : length bytes ≤ 1073741824
+  pub outcome : Outcome
+  pub optimum : Option ℤ
+  pub certificate : Certificate
+  pub read : IsCertificateText bytes outcome optimum certificate
+  pub proved : IsTrue (proves_densely g outcome optimum certificate)
+
+-- the file is told, and has a certificate that proves what it states: a list, a value with two, a dense one, or a tree
 abbrev pub TellsAny : Option (List ℕ) → Game → Type 0
-TellsAny told g = TellsProof told g ⊎ (TellsBest told g ⊎ TellsTreeProof told g)
+TellsAny told g = TellsProof told g ⊎ (TellsBest told g ⊎ (TellsDense told g ⊎ TellsTreeProof told g))
 
 -- A problem is solved, and a formula decided, where the turns are as many as the game can take. A certificate that proves what it
 -- states is confirmed, of whatever version it is.

@@ -6,6 +6,7 @@ ghost use Rattle.qecode_commands.specs.Files.{Wrote};
 ghost use Rattle.dense_commands.specs.Answers.{ChecksFile, HasHead};
 
 use crate::best::check_best;
+use crate::dense::check_dense;
 use crate::head::{Heading, heading_of};
 use crate::list::check_list;
 use qc_io::{Failed, Shelf, Sink};
@@ -73,6 +74,7 @@ fn check_as<S: Shelf, K: Sink>(
     match heading {
         Heading::Lemmas => check_list(alloc, problem, name, shelf, out),
         Heading::Optimum => check_best(alloc, problem, name, shelf, out),
+        Heading::Dense => check_dense(alloc, problem, name, shelf, out),
         Heading::Tree => check_problem(alloc, problem, name, shelf, out),
     }
 }

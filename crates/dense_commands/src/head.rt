@@ -13,6 +13,8 @@ pub(crate) enum Heading {
     Lemmas,
     /// An optimum, with two lists.
     Optimum,
+    /// A dense certificate.
+    Dense,
     /// Anything else.
     Tree,
 }
@@ -20,7 +22,7 @@ pub(crate) enum Heading {
 /// How many bytes tell an optimum from other certificates.
 const HEAD: usize = 9;
 
-/// How many tell the third version of the text from the others.
+/// How many tell the third and the fourth version of the text from the others.
 const VERSION: usize = 7;
 
 /// How the bytes of the name begin.
@@ -46,6 +48,9 @@ fn told_by(front: &[u8]) -> Heading
     let version = &front[..VERSION.min(front.len())];
     if version == b"qcert 3".as_slice() {
         return Heading::Lemmas;
+    }
+    if version == b"qcert 4".as_slice() {
+        return Heading::Dense;
     }
     Heading::Tree
 }

@@ -11,6 +11,7 @@ use crate::formula::decide_file;
 use crate::solve::solve_file;
 use crate::words::{Command, command_of};
 use best_judge::texts_have_no_fault;
+use dense_text::bytes_are_one_certificate_or_have_one_fault;
 use lemma_text::bytes_are_one_list_or_have_one_fault;
 use proof_text::bytes_are_one_text_or_have_one_fault;
 use qc_io::{Shelf, Sink};
@@ -42,6 +43,7 @@ pub fn run<S: Shelf, K: Sink>(alloc: Global, words: &[&str], shelf: &mut S, out:
     bytes_are_one_text_or_have_one_fault();
     bytes_are_one_list_or_have_one_fault();
     texts_have_no_fault();
+    bytes_are_one_certificate_or_have_one_fault();
     texts_get_one_answer();
     answer(alloc, words, shelf, out)
 }

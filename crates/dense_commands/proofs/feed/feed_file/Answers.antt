@@ -12,6 +12,6 @@ returns-then-count-eq0-clause-fed g c =
     let e = c.in_ok-count.ensures in
     let below : c.loop-at.at ≤ 1073741824 = omega (arith, c.loop-at-test.true, c.loop-at.invariant.same_end) in
     let same : c.loop-at.at + c.in_ok-count.count ≡ c.loop-at.at = omega (arith, count) in
-    fed_whole told c.loop-at.at c.feed_piece.new.checker below
+    fed_whole told c.loop-at.at (g.C.ByteChecker.is_checking c.feed_piece.new.checker) below
     (subst (λ f. EndsBy (f c.args.name.now) c.loop-at.at) stays (e.end count))
-    (subst (λ n. FedTo told n c.feed_piece.new.checker) same (subst (λ f. FedTo (f c.args.name.now) (c.loop-at.at + c.in_ok-count.count) c.feed_piece.new.checker) stays (e.fed (subst (λ f. FedTo (f c.args.name.now) c.loop-at.at c.loop-at.checker) (sym stays) c.loop-at.invariant.fed))))
+    (subst (λ n. FedTo told n (g.C.ByteChecker.is_checking c.feed_piece.new.checker)) same (subst (λ f. FedTo (f c.args.name.now) (c.loop-at.at + c.in_ok-count.count) (g.C.ByteChecker.is_checking c.feed_piece.new.checker)) stays (e.fed (subst (λ f. FedTo (f c.args.name.now) c.loop-at.at (g.C.ByteChecker.is_checking c.loop-at.checker)) (sym stays) c.loop-at.invariant.fed))))

@@ -1,15 +1,14 @@
 use Rattle.std.proofs.Common.{◌≡◌, ◌<◌, ◌≤◌, ◌-◌, length}
-use Rattle.lemma_check.specs.Machine.{game_of, IsReady}
 use Rattle.qc_io.specs.Counts.{RoseBy}
 use Rattle.dense_commands.specs.Fed.{FedTo}
 use Rattle.dense_commands.proofs.feed.feed_file.Given as goal
 
 abbrev pub invariant-loop-at : goal.invariant-loop-at
 invariant-loop-at g l = record {
-  fed : FedTo (g.S.Shelf.told l.fn.shelf l.name) l.at l.checker;
-  ready : IsReady l.checker.machine;
-  same : game_of l.checker.machine ≡ game_of l.fn.checker.machine;
-  read : l.checker.read ≤ l.at;
+  fed : FedTo (g.S.Shelf.told l.fn.shelf l.name) l.at (g.C.ByteChecker.is_checking l.checker);
+  ready : g.C.ByteChecker.is_ready l.checker;
+  same : g.C.ByteChecker.game l.checker ≡ g.C.ByteChecker.game l.fn.checker;
+  read : g.C.ByteChecker.read l.checker ≤ l.at;
   piece : 0 < length l.piece;
   faults : g.S.Shelf.faults l.shelf ≡ g.S.Shelf.faults l.fn.shelf;
   given : RoseBy l.at (g.S.Shelf.given l.fn.shelf) (g.S.Shelf.given l.shelf);

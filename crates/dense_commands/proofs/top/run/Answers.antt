@@ -9,5 +9,7 @@ returns-clause-complete g c =
       never = c.bytes_are_one_list_or_have_one_fault.ensures.not_both;
       one = c.bytes_are_one_list_or_have_one_fault.ensures.list;
       best = c.texts_have_no_fault.ensures;
+      dense_never = c.bytes_are_one_certificate_or_have_one_fault.ensures.not_both;
+      dense_one = c.bytes_are_one_certificate_or_have_one_fault.ensures.certificate;
     })
     _ _ _ _ _ _ _ _ _ c.answer.result c.answer.ensures.wrote c.answer.ensures.read_fault files output memory
