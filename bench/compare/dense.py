@@ -1,6 +1,6 @@
 """Dense certificates made at random, as the oracle's reader judges them, against a player that goes over all moves.
 
-    bench/run dense [--games N] [--seed S] [--trees N] [--mutants M] [--program PATH | --alone]
+    bench/run dense [--games N] [--seed S] [--trees N] [--mutants M] [--program PATH | --alone] [--qdense PATH] [--writer PROGRAM]
 
 It makes small games at random, and of each some trees of dense certificates (docs/dense.md), line by line of what the reader
 (tools/oracle/dense.py) has in place: closings, loose parts, references, bounds, replies, horizons. What such a tree shows is
@@ -8,12 +8,18 @@ stated, and has to be what the oracle finds by going over all moves. So has what
 of other games, and of what the program's certificates of version 2 become where `c` stands for their removals; of these some
 aren't believed, since in a free game closing takes more than the removals did.
 
+With `--qdense` that program judges each of these certificates as well, and has to say what the oracle's reader says, place of a
+fault and all. With `--writer` dense certificates of each game are written by that program too, called as `PROGRAM WORDS -q -o
+CERTIFICATE PROBLEM`, once with each choice of its words (`WRITERS`): the solver in C++ (`measure/models/dense.cpp`, which g++
+compiles) is one. Some of its aren't believed: it tells nodes again by rules of its own.
+
 At the end it is told what was met: which lines stood in what was believed, and how much was believed of each making.
 """
 import argparse
 import os
 import random
 import re
+import subprocess
 import sys
 import tempfile
 from collections import Counter
@@ -26,6 +32,8 @@ from oracle.dense import Proof, closed, entails, judged
 from oracle.games import Var, better, refutes
 from program import Program, add_option
 
+# The words of the solver in C++ for closing alone, references, `l`, joint closing, loose parts, and replies.
+WRITERS = ["--v3c", "--v3c --v3b", "--v3l --v3b", "--v3j --v3b", "--v3f --v3b", "--v3f --v3b --rd"]
 SOME_LINES = "c,e,y,x,m,n,w,w 0,w 1,f 0,a 1,a 2,l 2,l 3,h 2,u 1 0,u 2 0,b 1 0 0,g,t,s,o,.".split(",")
 
 
@@ -260,19 +268,25 @@ class Trials:
     def __init__(self, options, folder):
         self.options, self.met, self.wrong, self.kept = options, Counter(), [], []
         self.program = None if options.alone else Program(options.program)
-        self.problem = os.path.join(folder, "problem")
+        self.problem, self.certificate = os.path.join(folder, "problem"), os.path.join(folder, "certificate")
+        self.qdense = Program(options.qdense, "qdense") if options.qdense else None
 
     def play(self, number):
         chance = random.Random(f"{self.options.seed} {number}")
         maker = chance.choice([Maker, Tall, Linear, Linear, Rivals])
         game = maker(chance, maker is Rivals or chance.random() < 0.3).game()
         outcome = game.outcome()
+        with open(self.problem, "wb") as file:
+            file.write(game.text)
         made = [data for _ in range(self.options.trees) if (data := self.woven(chance, game))]
         for data in made:
             self.judge(number, game, outcome, "made at random", data)
         if self.program:
             made.append(self.solved(game))
             self.judge(number, game, outcome, "from version 2", made[-1])
+        for data in self.written():
+            self.judge(number, game, outcome, "from the writer", data)
+            made.append(data)
         if not made:
             return
         self.kept = (self.kept + made)[-30:]
@@ -292,13 +306,21 @@ class Trials:
             return None
         return certificate.text()
 
+    def written(self):
+        """What the writer writes for the problem, in the fourth version of the text; the outcome is its own."""
+        for words in WRITERS if self.options.writer else ():
+            command = [self.options.writer, *words.split(), "-q", "-o", self.certificate, self.problem]
+            if subprocess.run(command, check=False, stdout=subprocess.DEVNULL, stderr=subprocess.DEVNULL).returncode == 0:
+                with open(self.certificate, "rb") as file:
+                    yield b"qcert 4\n" + file.read().partition(b"\n")[2]
+
     def solved(self, game):
-        with open(self.problem, "wb") as file:
-            file.write(game.text)
         return densely(self.program.run("solve", self.problem)[1])
 
     def judge(self, number, game, outcome, what, data):
         answer = judged(game, data)
+        if self.qdense and data.startswith(b"qcert 4"):
+            self.compare(number, game, what, answer, data)
         kind = answer.partition(":")[0].partition(" ")[0] + " with an optimum" * answer.startswith("true ")
         self.met[f"{what}: {kind}"] += 1
         if answer.startswith("no: "):
@@ -309,6 +331,16 @@ class Trials:
         self.met.update(f"believed, with a line {letter}" for letter in letters)
         if not answer.startswith("open") and answer != outcome:
             self.tell(number, game, f"{what}: {outcome} by going over all moves, judged {answer}", data)
+
+    def compare(self, number, game, what, answer, data):
+        """What the program says has to be what the oracle's reader does."""
+        with open(self.certificate, "wb") as file:
+            file.write(data)
+        wanted = f"yes {answer}" if not answer.startswith("no: ") else answer[4:] if answer.startswith("no: bad certificate") else "no"
+        said = self.qdense.run("check", self.problem, self.certificate)[1].decode().strip()
+        self.met[f"qdense: {said.partition(' at')[0].partition(' ')[0]}"] += 1
+        if said != wanted:
+            self.tell(number, game, f"{what}: the reader says {answer!r}, qdense {said!r}", data)
 
     def tell(self, number, game, what, data):
         self.wrong.append("\n".join([f"-- game {number}, {what}", game.text.decode(), data.decode(errors="replace")]))
@@ -321,6 +353,8 @@ def main(words):
     options.add_argument("--trees", type=int, default=8)
     options.add_argument("--mutants", type=int, default=8)
     options.add_argument("--alone", action="store_true", help="without the program")
+    options.add_argument("--qdense", metavar="PATH", help="what judges each certificate as well")
+    options.add_argument("--writer", metavar="PROGRAM", help="what writes dense certificates of each game")
     add_option(options)
     options = options.parse_args(words)
     sys.setrecursionlimit(50_000)
