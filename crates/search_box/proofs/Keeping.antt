@@ -12,6 +12,7 @@ use Rattle.qc_model.specs.Domains.{Values, Box, values_left, values_within, valu
 use Rattle.qc_model.specs.Valid.{is_number}
 use Rattle.qc_model.proofs.Readable.{first, second, together}
 use Rattle.model_arguments.proofs.Boxes.{sub_within, set_full, sub_ascending}
+use Rattle.model_arguments.proofs.Kept.{keeps}
 use Rattle.model_arguments.proofs.Values.{value_passes, has_first}
 use Rattle.prop_base.proofs.Keeps.{within_one}
 use Rattle.proof_tree.specs.Cover.{box_to}
@@ -26,6 +27,16 @@ one_kept box one two x v h n a l e f =
     ∙ (ap (λ bx. box_without bx x (v +ℤ pos 1) (pos 1000000000)) e
     ∙ (ap (λ ws. set (set box x us) x (values_outside (v +ℤ pos 1) (pos 1000000000) ws)) (get_or-set_same box x us [] h)
     ∙ (set_twice box x us (values_outside (v +ℤ pos 1) (pos 1000000000) us) ∙ (ap (set box x) (both_sides v v (values_left box x) n) ∙ within_one box x v a l))))
+
+-- one of the values is left once those below it are gone
+above_itself : (v : ℤ) → not (is_within (negsuc 999999999) (v -ℤ pos 1) v) ≡ true
+above_itself v = grind (arith, ints)
+
+pub left_above : (box one : Box) (x : ℕ) (v : ℤ) → x < length box → one ≡ box_without box x (negsuc 999999999) (v -ℤ pos 1) → has_value (values_left box x) v ≡ true → has_value (values_left one x) v ≡ true
+left_above box one x v h e l =
+    let us = values_outside (negsuc 999999999) (v -ℤ pos 1) (values_left box x) in
+    ap (λ b. has_value (values_left b x) v) e
+    ∙ (ap (λ ws. has_value ws v) (get_or-set_same box x us [] h) ∙ keeps (λ w. not (is_within (negsuc 999999999) (v -ℤ pos 1) w)) (values_left box x) v (above_itself v) l)
 
 -- a box that lies within another lies within itself
 or_right : (a b : Bool) → b ≡ true → (a || b) ≡ true

@@ -1,5 +1,5 @@
 //! Values taken out of a store.
-ghost use Rattle.std.specs.Prelude.{◌≡◌, ◌<◌, ◌∷◌, [], length, IsTrue, OnOk, OnErr};
+ghost use Rattle.std.specs.Prelude.{◌≡◌, ◌<◌, ◌∷◌, [], length, ◌+ℤ◌, ◌-ℤ◌, pos, negsuc, IsTrue, OnOk, OnErr};
 ghost use Rattle.qc_model.specs.Domains.{box_without, has_value, values_left};
 ghost use Rattle.proof_tree.specs.Cover.{box_to};
 ghost use Rattle.fd_store.specs.Held.{Follows};
@@ -20,6 +20,36 @@ fn cut(store: &mut Store, x: VarId, lo: i64, hi: i64) -> Result<(), AllocError>
     Ok(())
 }
 
+// Takes the values below v out of x.
+fn cut_below(store: &mut Store, x: VarId, v: i64) -> Result<(), AllocError>
+    requires var { x.0 < length store.old.box }
+    requires left { IsTrue (has_value (values_left store.old.box x.0) v) }
+    ensures content { OnOk result (store.new.box ≡ box_without store.old.box x.0 (negsuc 999999999) (v -ℤ pos 1)) }
+    ensures past { Follows store.old store.new }
+{
+    store.known(x);
+    if v <= store.min(x) {
+        return Ok(());
+    }
+    cut(store, x, -1_000_000_000, v - 1)?;
+    Ok(())
+}
+
+// Takes the values above v out of x.
+fn cut_above(store: &mut Store, x: VarId, v: i64) -> Result<(), AllocError>
+    requires var { x.0 < length store.old.box }
+    requires left { IsTrue (has_value (values_left store.old.box x.0) v) }
+    ensures content { OnOk result (store.new.box ≡ box_without store.old.box x.0 (v +ℤ pos 1) (pos 1000000000)) }
+    ensures past { Follows store.old store.new }
+{
+    store.known(x);
+    if store.max(x) <= v {
+        return Ok(());
+    }
+    cut(store, x, v + 1, 1_000_000_000)?;
+    Ok(())
+}
+
 // Takes the values below v and those above it out of x.
 fn cut_others(store: &mut Store, x: VarId, v: i64) -> Result<(), AllocError>
     requires var { x.0 < length store.old.box }
@@ -28,8 +58,8 @@ fn cut_others(store: &mut Store, x: VarId, v: i64) -> Result<(), AllocError>
     ensures past { Follows store.old store.new }
 {
     store.known(x);
-    cut(store, x, -1_000_000_000, v - 1)?;
-    cut(store, x, v + 1, 1_000_000_000)?;
+    cut_below(store, x, v)?;
+    cut_above(store, x, v)?;
     Ok(())
 }
 

@@ -101,16 +101,22 @@ below_greatest [] v h = cc
 below_greatest (w ∷ vs) v h =
     value_passes (λ u. int_le u (greatest_from w vs)) (w ∷ vs) v (together (int_le w (greatest_from w vs)) (list_all (λ u. int_le u (greatest_from w vs)) vs) (first_greatest w vs) (each_greatest w vs)) h
 
--- values between two numbers, where the ends are
-pub between_ends : (vs : Values) (lo hi v : ℤ) → int_le lo (least_value vs) ≡ true → int_le (greatest_value vs) hi ≡ true → has_value vs v ≡ true → is_within lo hi v ≡ true
-between_ends vs lo hi v p q h = by (least_value vs) (greatest_value vs) p q (above_least vs v h) (below_greatest vs v h)
+-- values from a number on, where the least one is, and where what lies below is gone
+pub from_least : (vs : Values) (lo v : ℤ) → int_le lo (least_value vs) ≡ true → has_value vs v ≡ true → int_le lo v ≡ true
+from_least vs lo v p h = by (least_value vs) p (above_least vs v h)
   where
-    by : (a b : ℤ) → int_le lo a ≡ true → int_le b hi ≡ true → int_le a v ≡ true → int_le v b ≡ true → is_within lo hi v ≡ true
-    by a b p q r s = grind (arith, ints)
+    by : (a : ℤ) → int_le lo a ≡ true → int_le a v ≡ true → int_le lo v ≡ true
+    by a p q = grind (arith, ints)
 
--- and where what lies below and above is gone
-pub between_cut : (lo hi v : ℤ) → is_number v ≡ true → is_within (negsuc 999999999) (lo -ℤ pos 1) v ≡ false → is_within (hi +ℤ pos 1) (pos 1000000000) v ≡ false → is_within lo hi v ≡ true
-between_cut lo hi v n p q = grind (arith, nat_tests, ints)
+pub from_cut : (lo v : ℤ) → is_number v ≡ true → is_within (negsuc 999999999) (lo -ℤ pos 1) v ≡ false → int_le lo v ≡ true
+from_cut lo v n p = grind (arith, nat_tests, ints)
+
+-- values up to a number, where some number that is at most as large bounds them, and where what lies above is gone
+pub up_to_most : (most hi v : ℤ) → int_le most hi ≡ true → int_le v most ≡ true → int_le v hi ≡ true
+up_to_most most hi v p q = grind (arith, ints)
+
+pub up_to_cut : (hi v : ℤ) → is_number v ≡ true → is_within (hi +ℤ pos 1) (pos 1000000000) v ≡ false → int_le v hi ≡ true
+up_to_cut hi v n p = grind (arith, nat_tests, ints)
 
 -- ascending values that are as many as lie between their ends
 reaches : (v : ℤ) (vs : Values) → is_ascending (v ∷ vs) ≡ true → int_le (v +ℤ pos (length vs)) (greatest_from v vs) ≡ true

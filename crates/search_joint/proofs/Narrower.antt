@@ -1,6 +1,6 @@
 -- Stores that lose values of one variable.
 use Rattle.std.proofs.Common.{◌≡◌, ◌<◌, ℕ, Bool, true, false, [], length, sym, ap, ◌∙◌, subst, arith, length-set}
-use Rattle.std.specs.Prelude.{◌==◌, ℤ, pos, negsuc, ◌+ℤ◌, ◌-ℤ◌}
+use Rattle.std.specs.Prelude.{◌==◌, ℤ, int_le, pos, negsuc, ◌+ℤ◌, ◌-ℤ◌}
 use Rattle.std.specs.List.{list_all}
 use Rattle.std.proofs.lemmas.Int.{ints}
 use Rattle.std.proofs.lemmas.Bool.Decides.{nat_tests}
@@ -11,8 +11,8 @@ use Rattle.model_arguments.proofs.Boxes.{sub_without}
 use Rattle.model_arguments.proofs.Values.{value_passes}
 use Rattle.fd_store.specs.Held.{Held, Follows}
 use Rattle.prop_base.proofs.Steps.{follows_same, follows_more}
-use Rattle.search_joint.specs.Narrowed.{AreAmong, IsNarrowed}
-use Rattle.search_joint.proofs.Among.{among_same, among_more, among_outside, outside_is, between_cut}
+use Rattle.search_joint.specs.Narrowed.{IsNarrowed}
+use Rattle.search_joint.proofs.Among.{among_same, among_more, among_outside, outside_is, from_cut, up_to_cut}
 
 apart : (j k : ℕ) → (j == k) ≡ false → k ≡ j → ⊥
 apart j k h e = grind (arith, nat_tests)
@@ -51,11 +51,16 @@ narrowed_more x s t u p q = record {
   within = λ large h. q.within large (p.within large h);
 }
 
+-- a value that is left where some were taken out
+still_left : (box new : Box) (x : ℕ) (lo hi v : ℤ) → x < length box → new ≡ box_without box x lo hi → has_value (values_left new x) v ≡ true → (has_value (values_left box x) v ≡ true) × (is_within lo hi v ≡ false)
+still_left box new x lo hi v l e h =
+    let here : values_left new x ≡ values_outside lo hi (values_left box x) = ap (λ b. values_left b x) e ∙ get_or-set_same box x (values_outside lo hi (values_left box x)) [] l in
+    outside_is lo hi (values_left box x) v (sym (ap (λ vs. has_value vs v) here) ∙ h)
+
 -- a value that is taken out is gone
 pub one_gone : (box new : Box) (x : ℕ) (v : ℤ) → x < length box → new ≡ box_without box x v v → has_value (values_left new x) v ≡ true → ⊥
 one_gone box new x v l e h =
-    let here : values_left new x ≡ values_outside v v (values_left box x) = ap (λ b. values_left b x) e ∙ get_or-set_same box x (values_outside v v (values_left box x)) [] l in
-    both (is_within v v v) (itself v) (outside_is v v (values_left box x) v (sym (ap (λ vs. has_value vs v) here) ∙ h)).1
+    both (is_within v v v) (itself v) (still_left box new x v v v l e h).1
   where
     itself : (v : ℤ) → is_within v v v ≡ true
     itself v = grind (arith, ints)
@@ -64,14 +69,15 @@ one_gone box new x v l e h =
     both true p q = cc
     both false p q = cc
 
--- what is left once the values below and above are gone
-pub between_both : (box one two : Box) (x : ℕ) (lo hi : ℤ) → x < length box → length one ≡ length box → list_all is_number (values_left box x) ≡ true → AreAmong (values_left one x) (values_left box x) →
-    one ≡ box_without box x (negsuc 999999999) (lo -ℤ pos 1) → two ≡ box_without one x (hi +ℤ pos 1) (pos 1000000000) → (v : ℤ) → has_value (values_left two x) v ≡ true → is_within lo hi v ≡ true
-between_both box one two x lo hi l n s among e f v h =
-    let low : values_left one x ≡ values_outside (negsuc 999999999) (lo -ℤ pos 1) (values_left box x) =
-    ap (λ b. values_left b x) e ∙ get_or-set_same box x (values_outside (negsuc 999999999) (lo -ℤ pos 1) (values_left box x)) [] l in
-    let high : values_left two x ≡ values_outside (hi +ℤ pos 1) (pos 1000000000) (values_left one x) =
-    ap (λ b. values_left b x) f ∙ get_or-set_same one x (values_outside (hi +ℤ pos 1) (pos 1000000000) (values_left one x)) [] (subst (λ k. x < k) (sym n) l) in
-    let p = outside_is (hi +ℤ pos 1) (pos 1000000000) (values_left one x) v (sym (ap (λ vs. has_value vs v) high) ∙ h) in
-    let q = outside_is (negsuc 999999999) (lo -ℤ pos 1) (values_left box x) v (sym (ap (λ vs. has_value vs v) low) ∙ p.0) in
-    between_cut lo hi v (value_passes is_number (values_left box x) v s q.0) q.1 p.1
+-- what is left once the values below are gone, and once those above are
+pub above_cut : (box new : Box) (x : ℕ) (lo : ℤ) → x < length box → list_all is_number (values_left box x) ≡ true → new ≡ box_without box x (negsuc 999999999) (lo -ℤ pos 1) →
+    (v : ℤ) → has_value (values_left new x) v ≡ true → int_le lo v ≡ true
+above_cut box new x lo l s e v h =
+    let p = still_left box new x (negsuc 999999999) (lo -ℤ pos 1) v l e h in
+    from_cut lo v (value_passes is_number (values_left box x) v s p.0) p.1
+
+pub below_cut : (box new : Box) (x : ℕ) (hi : ℤ) → x < length box → list_all is_number (values_left box x) ≡ true → new ≡ box_without box x (hi +ℤ pos 1) (pos 1000000000) →
+    (v : ℤ) → has_value (values_left new x) v ≡ true → int_le v hi ≡ true
+below_cut box new x hi l s e v h =
+    let p = still_left box new x (hi +ℤ pos 1) (pos 1000000000) v l e h in
+    up_to_cut hi v (value_passes is_number (values_left box x) v s p.0) p.1

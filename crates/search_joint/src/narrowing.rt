@@ -1,5 +1,5 @@
 //! Taking out of a store what another one doesn't have.
-ghost use Rattle.std.specs.Prelude.{◌≡◌, ◌<◌, ℤ, length, IfOk, OnOk, IsTrue, IsFalse};
+ghost use Rattle.std.specs.Prelude.{◌≡◌, ◌<◌, ℤ, int_le, length, IfOk, OnOk, IsTrue, IsFalse};
 ghost use Rattle.qc_model.specs.Domains.{box_without, greatest_value, has_value, is_none_left, is_within, least_value, values_left};
 ghost use Rattle.qc_model.specs.Valid.{is_number};
 ghost use Rattle.search_joint.specs.Narrowed.{AreAmong, IsNarrowed};
@@ -20,6 +20,38 @@ fn cut(store: &mut Store, x: VarId, lo: i64, hi: i64) -> Result<(), AllocError>
     Ok(())
 }
 
+// Takes the values below lo out of x.
+fn cut_below(store: &mut Store, x: VarId, lo: i64) -> Result<(), AllocError>
+    requires var { x.0 < length store.old.box }
+    requires some { IsFalse (is_none_left (values_left store.old.box x.0)) }
+    requires lo { IsTrue (is_number lo) }
+    ensures narrowed { IsNarrowed x.0 store.old store.new }
+    ensures above { OnOk result ((v : ℤ) → IsTrue (has_value (values_left store.new.box x.0) v) → IsTrue (int_le lo v)) }
+{
+    store.known(x);
+    if lo <= store.min(x) {
+        return Ok(());
+    }
+    cut(store, x, -1_000_000_000, lo - 1)?;
+    Ok(())
+}
+
+// Takes the values above hi out of x, which has none above `most` and may have none at all.
+fn cut_above(store: &mut Store, x: VarId, most: i64, hi: i64) -> Result<(), AllocError>
+    requires var { x.0 < length store.old.box }
+    requires most { (v : ℤ) → IsTrue (has_value (values_left store.old.box x.0) v) → IsTrue (int_le v most) }
+    requires hi { IsTrue (is_number hi) }
+    ensures narrowed { IsNarrowed x.0 store.old store.new }
+    ensures below { OnOk result ((v : ℤ) → IsTrue (has_value (values_left store.new.box x.0) v) → IsTrue (int_le v hi)) }
+{
+    store.known(x);
+    if most <= hi {
+        return Ok(());
+    }
+    cut(store, x, hi + 1, 1_000_000_000)?;
+    Ok(())
+}
+
 // Takes the values below lo and those above hi out of x, and says whether there are some.
 fn keep_between(store: &mut Store, x: VarId, lo: i64, hi: i64) -> Result<bool, AllocError>
     requires var { x.0 < length store.old.box }
@@ -30,12 +62,12 @@ fn keep_between(store: &mut Store, x: VarId, lo: i64, hi: i64) -> Result<bool, A
     ensures between { IfOk result (λ cut. (v : ℤ) → IsTrue (has_value (values_left store.new.box x.0) v) → IsTrue (is_within lo hi v)) }
     ensures same { IfOk result (λ cut. IsFalse cut → store.new.box ≡ store.old.box) }
 {
-    store.known(x);
-    if lo <= store.min(x) && store.max(x) <= hi {
+    let most = store.max(x);
+    if lo <= store.min(x) && most <= hi {
         return Ok(false);
     }
-    cut(store, x, -1_000_000_000, lo - 1)?;
-    cut(store, x, hi + 1, 1_000_000_000)?;
+    cut_below(store, x, lo)?;
+    cut_above(store, x, most, hi)?;
     Ok(true)
 }
 
