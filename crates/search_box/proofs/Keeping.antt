@@ -1,14 +1,12 @@
 -- Values that stay.
 pub use Rattle.box_laws.proofs.Numbers.{passed_number}
-use Rattle.std.proofs.Common.{◌≡◌, ℕ, zero, suc, ◌<◌, ◌≤◌, Bool, true, false, not, ◌&&◌, ◌||◌, cond, List, [], ◌∷◌, length, set, get_or, refl, sym, ap, ◌∙◌, subst, arith, ℤ, to_z, of_z, w64}
-use Rattle.std.specs.Prelude.{filter, pos, negsuc, ◌+ℤ◌, ◌-ℤ◌, unsigned_abs}
+use Rattle.std.proofs.Common.{◌≡◌, ℕ, ◌<◌, Bool, true, false, not, ◌&&◌, ◌||◌, [], ◌∷◌, length, set, refl, ap, ◌∙◌, subst, arith, ℤ}
+use Rattle.std.specs.Prelude.{pos, negsuc, ◌+ℤ◌, ◌-ℤ◌}
 use Rattle.std.specs.List.{list_all}
 use Rattle.std.specs.Ordering.{int_eq}
 use Rattle.std.proofs.lemmas.Int.{ints}
-use Rattle.std.proofs.lemmas.Bool.Decides.{nat_tests}
-use Rattle.std.proofs.lemmas.List.{get_or-set_same, ext_get_or}
-use mir.Val.{SFits}
-use Rattle.qc_model.specs.Domains.{Values, Box, values_left, values_within, values_outside, is_within, has_value, is_ascending, is_sub_box, has_empty, box_without}
+use Rattle.std.proofs.lemmas.List.{get_or-set_same}
+use Rattle.qc_model.specs.Domains.{Values, Box, values_left, values_outside, is_within, has_value, is_ascending, is_sub_box, has_empty, box_without}
 use Rattle.qc_model.specs.Valid.{is_number}
 use Rattle.qc_model.proofs.Readable.{first, second, together}
 use Rattle.model_arguments.proofs.Boxes.{sub_within, set_full, sub_ascending}

@@ -8,7 +8,8 @@ use fd_store::Store;
 use qc_model::VarId;
 use std::alloc::AllocError;
 
-// Takes the values from lo to hi out of x.
+// Takes the values from lo to hi out of x. A search does this at each node for each variable of the way, so it is inlined.
+#[inline(always)]
 fn cut(store: &mut Store, x: VarId, lo: i64, hi: i64) -> Result<(), AllocError>
     requires { x.0 < length store.old.box }
     ensures content { OnOk result (store.new.box ≡ box_without store.old.box x.0 lo hi) }
