@@ -173,7 +173,7 @@ pub(crate) fn revise(task: &Task, c: ConId, list: &mut WorkList, remains: &mut R
     if own.is_empty() {
         return Revised::Stable;
     }
-    if is_roomy(task.problem, rule, remains.store()) {
+    if is_roomy(task, rule, remains.store()) {
         return Revised::Stable;
     }
     let mut look = Look {

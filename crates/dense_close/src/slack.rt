@@ -2,6 +2,7 @@
 //!
 //! Whether a sum refutes an end takes as long as to read the sum, so to hold one against all its ends takes the square of that.
 //! Where the ends of each term are nearer to each other than the sum is to its bound, it refutes none, which one reading tells.
+//! Terms whose variables the sum may not take don't count.
 ghost use Rattle.std.specs.Prelude.{◌≡◌, ◌≤◌, ◌^◌, IsTrue, cond, length, pos, ◌*ℤ◌, ◌+ℤ◌, ◌≤ℤ◌, unsigned_abs};
 ghost use Rattle.std.specs.List.{list_all};
 ghost use Rattle.qc_model.specs.declared.problem.Arg.TheVariants.{Num};
@@ -11,11 +12,14 @@ ghost use Rattle.qc_model.specs.Valid.{is_number};
 ghost use Rattle.model_arguments.specs.Asked.{IsAsked};
 ghost use Rattle.model_arguments.specs.Written.{arg_at, args_at, ints_at};
 ghost use Rattle.qc_refuter.specs.Met.{is_open, are_met};
-ghost use Rattle.dense_close.specs.Slack.{IsNear, AreNear, SparesAll};
+ghost use Rattle.dense_close.specs.Slack.{IsNear, is_taken, AreNear, SparesTaken};
+ghost use Rattle.dense_close.specs.Taking.{takes_of};
 
+use crate::taking::may_take;
+use crate::task::Task;
 use fd_store::Store;
 use model_arguments::{arguments, is_repeated, one_at};
-use qc_model::{Arg, Argument, Constraint, Pred, Problem};
+use qc_model::{Arg, Argument, Constraint, Pred};
 use qc_refuter::{Extent, sum_extent};
 
 // The product of two numbers within the limit.
@@ -80,15 +84,45 @@ fn are_close(a: i64, b: i64, s: i64) -> bool
     b - a <= s && a - b <= s
 }
 
+// Whether the constraint may take the item: it is a variable that it may take values of.
+fn may_take_item(task: &Task, rule: &Constraint, item: Arg) -> bool
+    ensures { result ≡ is_taken (takes_of task.now.taking task.now.problem.now rule.now) item }
+{
+    match item {
+        Arg::Num(_) => false,
+        Arg::Var(x) => may_take(task.problem, task.taking, rule, x),
+    }
+}
+
+// Whether the ends of a term are, where the constraint may take the item.
+fn is_quiet(task: &Task, rule: &Constraint, factor: i64, item: Arg, s: i64, store: &Store) -> bool
+    requires factor { IsTrue (is_number factor) }
+    requires open { IsTrue (is_open store.now.box item) }
+    requires room { pos 0 ≤ℤ s }
+    ensures { IsTrue result → IsTrue (is_taken (takes_of task.now.taking task.now.problem.now rule.now) item) → IsNear s factor (left_to store.now.box item) }
+{
+    if is_near(factor, item, s, store) {
+        return true;
+    }
+    !may_take_item(task, rule, item)
+}
+
 // Whether the ends of each term are.
-fn are_near(factors: &[i64], items: &[Arg], s: i64, store: &Store) -> bool
+fn are_near(
+    task: &Task,
+    rule: &Constraint,
+    factors: &[i64],
+    items: &[Arg],
+    s: i64,
+    store: &Store,
+) -> bool
     requires factors { IsTrue (list_all is_number factors.now) }
     requires open { IsTrue (list_all (is_open store.now.box) items.now) }
     requires room { pos 0 ≤ℤ s }
-    ensures { IsTrue result → AreNear s factors.now items.now store.now.box }
+    ensures { IsTrue result → AreNear (takes_of task.now.taking task.now.problem.now rule.now) s factors.now items.now store.now.box }
 {
     for k in 0..factors.len().min(items.len()) {
-        if !is_near(factors[k], items[k], s, store) {
+        if !is_quiet(task, rule, factors[k], items[k], s, store) {
             return false;
         }
     }
@@ -125,50 +159,50 @@ fn clamped(n: i128) -> i64
 }
 
 // Whether a sum that a number bounds has such room.
-fn has_room(problem: &Problem, rule: &Constraint, is_equal: bool, bound: i64, store: &Store) -> bool
-    requires asked { IsAsked problem.now rule.now store.now.box }
+fn has_room(task: &Task, rule: &Constraint, is_equal: bool, bound: i64, store: &Store) -> bool
+    requires asked { IsAsked task.now.problem.now rule.now store.now.box }
     requires pred { rule.now.pred ≡ cond is_equal IntLinEq IntLinLe }
     requires bound { arg_at rule.now.args 2 ≡ Num bound }
-    ensures { IsTrue result → SparesAll rule.now store.now.box }
+    ensures { IsTrue result → SparesTaken (takes_of task.now.taking task.now.problem.now) rule.now store.now.box }
 {
-    problem.known();
+    task.problem.known();
     let args = arguments(rule);
     let factors = factors_met(args, store);
     let items = items_met(args, store);
     let s = room_of(
         is_equal,
         bound,
-        sum_extent(problem, rule, factors, items, store),
+        sum_extent(task.problem, rule, factors, items, store),
     );
     if s < 0 {
         return false;
     }
-    if !are_near(factors, items, s, store) {
+    if !are_near(task, rule, factors, items, s, store) {
         return false;
     }
     !is_repeated(items)
 }
 
-fn sum_has_room(problem: &Problem, rule: &Constraint, is_equal: bool, store: &Store) -> bool
-    requires asked { IsAsked problem.now rule.now store.now.box }
+fn sum_has_room(task: &Task, rule: &Constraint, is_equal: bool, store: &Store) -> bool
+    requires asked { IsAsked task.now.problem.now rule.now store.now.box }
     requires pred { rule.now.pred ≡ cond is_equal IntLinEq IntLinLe }
-    ensures { IsTrue result → SparesAll rule.now store.now.box }
+    ensures { IsTrue result → SparesTaken (takes_of task.now.taking task.now.problem.now) rule.now store.now.box }
 {
     match one_at(arguments(rule), 2) {
         Arg::Var(_) => false,
-        Arg::Num(bound) => has_room(problem, rule, is_equal, bound, store),
+        Arg::Num(bound) => has_room(task, rule, is_equal, bound, store),
     }
 }
 
-/// Whether the constraint is such a sum, bounded by a number. Then it refutes neither end of any of its variables. It takes time in
-/// the order of the sum's length.
-pub(crate) fn is_roomy(problem: &Problem, rule: &Constraint, store: &Store) -> bool
-    requires { IsAsked problem.now rule.now store.now.box }
-    ensures { IsTrue result → SparesAll rule.now store.now.box }
+/// Whether the constraint is such a sum, bounded by a number. Then it refutes neither end of any of its variables that it may take,
+/// nor the box. It takes time in the order of the sum's length.
+pub(crate) fn is_roomy(task: &Task, rule: &Constraint, store: &Store) -> bool
+    requires { IsAsked task.now.problem.now rule.now store.now.box }
+    ensures { IsTrue result → SparesTaken (takes_of task.now.taking task.now.problem.now) rule.now store.now.box }
 {
     match rule.pred {
-        Pred::IntLinLe => sum_has_room(problem, rule, false, store),
-        Pred::IntLinEq => sum_has_room(problem, rule, true, store),
+        Pred::IntLinLe => sum_has_room(task, rule, false, store),
+        Pred::IntLinEq => sum_has_room(task, rule, true, store),
         _ => false,
     }
 }

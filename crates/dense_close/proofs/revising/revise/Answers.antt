@@ -6,7 +6,8 @@ use Rattle.model_arguments.specs.Written.{variable_numbers}
 use Rattle.qc_model.specs.Arguments.{variables_of}
 use Rattle.dense_close.specs.Narrowing.{HasLooked, IsRevised}
 use Rattle.model_arguments.specs.Asked.{IsAsked}
-use Rattle.dense_close.specs.Slack.{SparesAll}
+use Rattle.dense_close.specs.Slack.{SparesTaken}
+use Rattle.dense_close.specs.Taking.{takes_of}
 use Rattle.dense_close.proofs.Cuts.{asked}
 use Rattle.dense_close.proofs.Found.{between_below, own_at, settled_bare, bare_of, clad_of, gone_through, lost_empty}
 use Rattle.dense_close.proofs.Looked.{settled_all, settled_roomy, looked_more}
@@ -83,9 +84,9 @@ pub returns-then-is_roomy-clause-answer : goal.returns-then-is_roomy-clause-answ
 returns-then-is_roomy-clause-answer c =
     let t = c.args.task.now in
     let r = c.constraint-rule.result.now in
-    let spares = subst (λ (h : Held). SparesAll r h.box) c.store.ensures (c.is_roomy.ensures c.if-is_roomy.true) in (
+    let spares = subst (λ (h : Held). SparesTaken (takes_of t.taking t.problem.now) r h.box) c.store.ensures (c.is_roomy.ensures c.if-is_roomy.true) in (
       refl,
       refl,
       settled_all t.taking t.problem.now t.span.first t.span.end c.args.c.0 c.args.list.now c.args.remains.now.box c.requires.others
-          (settled_roomy t.taking t.problem.now c.known.ensures c.args.c.0 r c.args.list.now c.args.remains.now.box c.constraint-rule.ensures c.requires.declared c.requires.full spares),
+          (settled_roomy t.taking t.problem.now c.args.c.0 r c.args.list.now c.args.remains.now.box c.constraint-rule.ensures spares),
     )
