@@ -35,7 +35,7 @@ use Rattle.dense_close.specs.Index.{Index, has_it, IsIndexOf}
 use Rattle.dense_close.specs.Narrowing.{IsLost, IsSettled, AreSettled, OthersSettled, spares, HasLooked}
 use Rattle.dense_close.specs.Slack.{SparesTaken}
 use Rattle.dense_close.specs.Taking.{takes_of}
-use Rattle.dense_close.proofs.Own.{all_if, own_within}
+use Rattle.dense_close.proofs.Own.{all_if}
 use Rattle.dense_close.specs.Waiting.{Waiting, is_marked}
 use Rattle.dense_close.proofs.Indexed.{all_more}
 use Rattle.dense_close.proofs.Narrowed.{stands_by, keeps_all, owned_by}

@@ -204,5 +204,5 @@ near_of s n p q u v d a b e f up down =
 pub room_left : (low high u r : ℤ) → (pos 0 ≤ℤ u → u ≤ℤ (high -ℤ low)) → r ≤ℤ u → pos 0 ≤ℤ r → (low +ℤ r) ≤ℤ high
 room_left low high u r h l z = let k = h (let m = l in omega (arith, ints)) in omega (arith, ints)
 
-pub at_most : (a b : ℤ) → int_lt a b ≡ true → a ≤ℤ b
-at_most a b h = grind (arith, ints)
+pub room_less : (low high u s : ℤ) → (pos 0 ≤ℤ u → (low +ℤ u) ≤ℤ high) → s ≤ℤ u → pos 0 ≤ℤ s → (low +ℤ s) ≤ℤ high
+room_less low high u s h l z = let k = h (let m = l in omega (arith, ints)) in omega (arith, ints)

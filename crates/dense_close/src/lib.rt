@@ -21,6 +21,7 @@ mod revising;
 mod slack;
 mod taking;
 mod task;
+mod trimming;
 mod waiting;
 mod waking;
 

@@ -3,13 +3,14 @@
 //! Whether a sum refutes an end takes as long as to read the sum, so to hold one against all its ends takes the square of that.
 //! Where the ends of each term are nearer to each other than the sum is to its bound, it refutes none, which one reading tells.
 //! Terms whose variables the sum may not take don't count.
-ghost use Rattle.std.specs.Prelude.{◌≡◌, ◌≤◌, ◌^◌, IsTrue, cond, length, pos, ◌*ℤ◌, ◌+ℤ◌, ◌≤ℤ◌, unsigned_abs};
+ghost use Rattle.std.specs.Prelude.{◌≡◌, ◌≤◌, ◌^◌, IsTrue, IsFalse, false, cond, length, pos, ◌*ℤ◌, ◌+ℤ◌, ◌≤ℤ◌, unsigned_abs};
 ghost use Rattle.std.specs.List.{list_all};
 ghost use Rattle.qc_model.specs.declared.problem.Arg.TheVariants.{Num};
 ghost use Rattle.qc_model.specs.declared.problem.Pred.TheVariants.{IntLinEq, IntLinLe};
 ghost use Rattle.qc_model.specs.Refuted.{left_to};
 ghost use Rattle.qc_model.specs.Valid.{is_number};
 ghost use Rattle.model_arguments.specs.Asked.{IsAsked};
+ghost use Rattle.model_arguments.specs.Repeats.{has_repeat};
 ghost use Rattle.model_arguments.specs.Written.{arg_at, args_at, ints_at};
 ghost use Rattle.qc_refuter.specs.Met.{is_open, are_met};
 ghost use Rattle.dense_close.specs.Slack.{IsNear, is_taken, AreNear, SparesTaken};
@@ -21,6 +22,9 @@ use fd_store::Store;
 use model_arguments::{arguments, is_repeated, one_at};
 use qc_model::{Arg, Argument, Constraint, Pred};
 use qc_refuter::{Extent, sum_extent};
+
+/// As much room as is told at most.
+const MOST: i64 = 4_000_000_000_000_000_000;
 
 // The product of two numbers within the limit.
 fn product(a: i64, b: i64) -> i64
@@ -129,20 +133,68 @@ fn are_near(
     true
 }
 
-// How far a sum is from its bound, or less: from below, and where they are to be equal from above too.
-fn room_of(is_equal: bool, bound: i64, extent: Extent) -> i64
+/// How far a sum is from its bound, or less: from below, and where they are to be equal from above too. Negative numbers tell
+/// nothing but that they are.
+#[derive(Clone, Copy)]
+pub(crate) struct Room {
+    pub(crate) under: i64,
+    pub(crate) over: i64,
+}
+
+/// What one reading tells of a constraint: whether it is a sum that a number bounds, whether that has room for all that it may take,
+/// and how much room there is.
+#[derive(Clone, Copy)]
+pub(crate) struct Slack {
+    pub(crate) sum: bool,
+    pub(crate) roomy: bool,
+    pub(crate) room: Room,
+}
+
+// Nothing is told.
+fn unknown() -> Slack
+    ensures { result.roomy ≡ false }
+{
+    Slack {
+        sum: false,
+        roomy: false,
+        room: Room {
+            under: -1,
+            over: -1,
+        },
+    }
+}
+
+// The room of a sum.
+fn room_of(is_equal: bool, bound: i64, extent: Extent) -> Room
     requires from { unsigned_abs extent.from ≤ 10 ^ 21 }
     requires to { unsigned_abs extent.to ≤ 10 ^ 21 }
-    ensures under { pos 0 ≤ℤ result → (extent.from +ℤ result) ≤ℤ bound }
-    ensures over { pos 0 ≤ℤ result → IsTrue is_equal → (bound +ℤ result) ≤ℤ extent.to }
+    ensures under { pos 0 ≤ℤ result.under → (extent.from +ℤ result.under) ≤ℤ bound }
+    ensures over { pos 0 ≤ℤ result.over → IsTrue is_equal → (bound +ℤ result.over) ≤ℤ extent.to }
 {
     let under = clamped(bound as i128 - extent.from);
     if is_equal {
         let over = clamped(extent.to - bound as i128);
-        if over < under { over } else { under }
+        Room { under, over }
     } else {
-        under
+        Room { under, over: MOST }
     }
+}
+
+// The lesser of both.
+fn least_room(room: Room) -> i64
+    ensures under { result ≤ℤ room.under }
+    ensures over { result ≤ℤ room.over }
+{
+    if room.over < room.under {
+        room.over
+    } else {
+        room.under
+    }
+}
+
+/// Whether there is none.
+pub(crate) fn is_short(room: Room) -> bool {
+    room.under < 0 || room.over < 0
 }
 
 // The number, or a lesser one within 64 bits; a negative one may become any negative one.
@@ -152,28 +204,27 @@ fn clamped(n: i128) -> i64
     if n < 0 {
         return -1;
     }
-    if n > 4_000_000_000_000_000_000 {
-        return 4_000_000_000_000_000_000;
+    if n > MOST as i128 {
+        return MOST;
     }
     n as i64
 }
 
-// Whether a sum that a number bounds has such room.
-fn has_room(task: &Task, rule: &Constraint, is_equal: bool, bound: i64, store: &Store) -> bool
-    requires asked { IsAsked task.now.problem.now rule.now store.now.box }
-    requires pred { rule.now.pred ≡ cond is_equal IntLinEq IntLinLe }
-    requires bound { arg_at rule.now.args 2 ≡ Num bound }
-    ensures { IsTrue result → SparesTaken (takes_of task.now.taking task.now.problem.now) rule.now store.now.box }
+// Whether the terms have such room.
+fn has_room(
+    task: &Task,
+    rule: &Constraint,
+    factors: &[i64],
+    items: &[Arg],
+    s: i64,
+    store: &Store,
+) -> bool
+    requires factors { IsTrue (list_all is_number factors.now) }
+    requires open { IsTrue (list_all (is_open store.now.box) items.now) }
+    ensures room { IsTrue result → pos 0 ≤ℤ s }
+    ensures near { IsTrue result → AreNear (takes_of task.now.taking task.now.problem.now rule.now) s factors.now items.now store.now.box }
+    ensures apart { IsTrue result → IsFalse (has_repeat items.now) }
 {
-    task.problem.known();
-    let args = arguments(rule);
-    let factors = factors_met(args, store);
-    let items = items_met(args, store);
-    let s = room_of(
-        is_equal,
-        bound,
-        sum_extent(task.problem, rule, factors, items, store),
-    );
     if s < 0 {
         return false;
     }
@@ -183,26 +234,49 @@ fn has_room(task: &Task, rule: &Constraint, is_equal: bool, bound: i64, store: &
     !is_repeated(items)
 }
 
-fn sum_has_room(task: &Task, rule: &Constraint, is_equal: bool, store: &Store) -> bool
+// What a reading tells of a sum that a number bounds.
+fn slack_below(task: &Task, rule: &Constraint, is_equal: bool, bound: i64, store: &Store) -> Slack
     requires asked { IsAsked task.now.problem.now rule.now store.now.box }
     requires pred { rule.now.pred ≡ cond is_equal IntLinEq IntLinLe }
-    ensures { IsTrue result → SparesTaken (takes_of task.now.taking task.now.problem.now) rule.now store.now.box }
+    requires bound { arg_at rule.now.args 2 ≡ Num bound }
+    ensures { IsTrue result.roomy → SparesTaken (takes_of task.now.taking task.now.problem.now) rule.now store.now.box }
 {
-    match one_at(arguments(rule), 2) {
-        Arg::Var(_) => false,
-        Arg::Num(bound) => has_room(task, rule, is_equal, bound, store),
+    task.problem.known();
+    let args = arguments(rule);
+    let factors = factors_met(args, store);
+    let items = items_met(args, store);
+    let room = room_of(
+        is_equal,
+        bound,
+        sum_extent(task.problem, rule, factors, items, store),
+    );
+    Slack {
+        sum: true,
+        roomy: has_room(task, rule, factors, items, least_room(room), store),
+        room,
     }
 }
 
-/// Whether the constraint is such a sum, bounded by a number. Then it refutes neither end of any of its variables that it may take,
-/// nor the box. It takes time in the order of the sum's length.
-pub(crate) fn is_roomy(task: &Task, rule: &Constraint, store: &Store) -> bool
+fn slack_of_sum(task: &Task, rule: &Constraint, is_equal: bool, store: &Store) -> Slack
+    requires asked { IsAsked task.now.problem.now rule.now store.now.box }
+    requires pred { rule.now.pred ≡ cond is_equal IntLinEq IntLinLe }
+    ensures { IsTrue result.roomy → SparesTaken (takes_of task.now.taking task.now.problem.now) rule.now store.now.box }
+{
+    match one_at(arguments(rule), 2) {
+        Arg::Var(_) => unknown(),
+        Arg::Num(bound) => slack_below(task, rule, is_equal, bound, store),
+    }
+}
+
+/// What one reading tells of a constraint: where it is a sum that a number bounds and has room, it refutes neither end of any of its
+/// variables that it may take, nor the box. It takes time in the order of the sum's length.
+pub(crate) fn slack_of(task: &Task, rule: &Constraint, store: &Store) -> Slack
     requires { IsAsked task.now.problem.now rule.now store.now.box }
-    ensures { IsTrue result → SparesTaken (takes_of task.now.taking task.now.problem.now) rule.now store.now.box }
+    ensures { IsTrue result.roomy → SparesTaken (takes_of task.now.taking task.now.problem.now) rule.now store.now.box }
 {
     match rule.pred {
-        Pred::IntLinLe => sum_has_room(task, rule, false, store),
-        Pred::IntLinEq => sum_has_room(task, rule, true, store),
-        _ => false,
+        Pred::IntLinLe => slack_of_sum(task, rule, false, store),
+        Pred::IntLinEq => slack_of_sum(task, rule, true, store),
+        _ => unknown(),
     }
 }
