@@ -164,7 +164,7 @@ fn trim_at(
     x: VarId,
     factor: i64,
     room: Room,
-    list: &mut WorkList,
+    queue: &mut WorkList,
     remains: &mut Remains,
 ) -> Look
     requires c { c.0 < length task.now.problem.now.constraints }
@@ -172,19 +172,19 @@ fn trim_at(
     requires inside { IsTrue (is_between task.now.span.first task.now.span.end c.0) }
     requires declared { IsTrue (is_box_of task.now.problem.now remains.old.box) }
     requires full { IsFalse (has_empty remains.old.box) }
-    requires list { IsListOf task.now.problem.now task.now.span.first task.now.span.end list.old }
-    requires others { OthersSettled c.0 task.now.taking task.now.problem.now task.now.span.first task.now.span.end list.old remains.old.box }
+    requires list { IsListOf task.now.problem.now task.now.span.first task.now.span.end queue.old }
+    requires others { OthersSettled c.0 task.now.taking task.now.problem.now task.now.span.first task.now.span.end queue.old remains.old.box }
     requires taken { (rule : Rule) → slice_get task.now.problem.now.constraints c.0 ≡ Some rule → IsTrue (takes_of task.now.taking task.now.problem.now rule x.0) }
     ensures narrowed { IsNarrowed task.now.taking task.now.problem.now task.now.from task.now.stop remains.old.box remains.new.box }
     ensures past { Follows remains.old remains.new }
-    ensures list { IsListOf task.now.problem.now task.now.span.first task.now.span.end list.new }
-    ensures others { OthersSettled c.0 task.now.taking task.now.problem.now task.now.span.first task.now.span.end list.new remains.new.box }
-    ensures looked { HasLooked result task.now.taking task.now.problem.now c.0 [] list.old list.new remains.old.box remains.new.box }
+    ensures list { IsListOf task.now.problem.now task.now.span.first task.now.span.end queue.new }
+    ensures others { OthersSettled c.0 task.now.taking task.now.problem.now task.now.span.first task.now.span.end queue.new remains.new.box }
+    ensures looked { HasLooked result task.now.taking task.now.problem.now c.0 [] queue.old queue.new remains.old.box remains.new.box }
 {
     task.problem.known();
     let _ = task.problem.constraint(c);
     if cut_by_room(task.problem, c, x, factor, room, remains) {
-        wake(task, x, list);
+        wake(task, x, queue);
         return Look {
             changed: true,
             seen: false,

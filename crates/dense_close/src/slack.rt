@@ -19,12 +19,15 @@ ghost use Rattle.dense_close.specs.Taking.{takes_of};
 use crate::taking::may_take;
 use crate::task::Task;
 use fd_store::Store;
-use model_arguments::{arguments, is_repeated, one_at};
+use model_arguments::{arguments, is_among, is_repeated, one_at};
 use qc_model::{Arg, Argument, Constraint, Pred};
 use qc_refuter::{Extent, sum_extent};
 
 /// As much room as is told at most.
 const MOST: i64 = 4_000_000_000_000_000_000;
+
+/// Up to so many items are held beside each other, which takes less time than to mark them.
+const FEW_ITEMS: usize = 12;
 
 // The product of two numbers within the limit.
 fn product(a: i64, b: i64) -> i64
@@ -210,6 +213,31 @@ fn clamped(n: i128) -> i64
     n as i64
 }
 
+// Whether a variable stands twice, each item held beside those after it.
+fn stands_twice(items: &[Arg]) -> bool
+    ensures { result ≡ has_repeat items.now }
+{
+    let mut rest = items;
+    while let [first, others @ ..] = rest {
+        if is_among(*first, others) {
+            return true;
+        }
+        rest = others;
+    }
+    false
+}
+
+// Whether a variable stands twice.
+fn has_twice(items: &[Arg]) -> bool
+    ensures { result ≡ has_repeat items.now }
+{
+    if items.len() <= FEW_ITEMS {
+        stands_twice(items)
+    } else {
+        is_repeated(items)
+    }
+}
+
 // Whether the terms have such room.
 fn has_room(
     task: &Task,
@@ -231,7 +259,7 @@ fn has_room(
     if !are_near(task, rule, factors, items, s, store) {
         return false;
     }
-    !is_repeated(items)
+    !has_twice(items)
 }
 
 // What a reading tells of a sum that a number bounds.

@@ -22,4 +22,4 @@ returns-clause-near c = λ h.
     near
 
 pub returns-clause-apart : goal.returns-clause-apart
-returns-clause-apart c = λ h. sym c.is_repeated.ensures ∙ not_false c.is_repeated.result h
+returns-clause-apart c = λ h. sym c.has_twice.ensures ∙ not_false c.has_twice.result h
