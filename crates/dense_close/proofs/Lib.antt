@@ -7,3 +7,4 @@ pub mod OpenMoves
 pub mod Own
 pub mod Room
 pub mod Sums
+pub mod Trimmed

@@ -33,9 +33,9 @@ use Rattle.dense_close.specs.declared.taking.Taking.{Taking}
 use Rattle.dense_close.specs.Cutting.{SparesEnd}
 use Rattle.dense_close.specs.Index.{Index, has_it, IsIndexOf}
 use Rattle.dense_close.specs.Narrowing.{IsLost, IsSettled, AreSettled, OthersSettled, spares, HasLooked}
-use Rattle.dense_close.specs.Slack.{SparesAll}
+use Rattle.dense_close.specs.Slack.{SparesTaken}
 use Rattle.dense_close.specs.Taking.{takes_of}
-use Rattle.dense_close.proofs.Own.{all_if, own_within}
+use Rattle.dense_close.proofs.Own.{all_if}
 use Rattle.dense_close.specs.Waiting.{Waiting, is_marked}
 use Rattle.dense_close.proofs.Indexed.{all_more}
 use Rattle.dense_close.proofs.Narrowed.{stands_by, keeps_all, owned_by}
@@ -138,23 +138,16 @@ lost_by t g v i stop first end k c box s b e d some r small within =
     rules : List Rule
     rules = constraints_within g i stop
 
--- one that refutes no end keeps the box, whatever it may take
-pub settled_roomy : (t : Taking) (g : Game) → IsValid g → (k : ℕ) (r : Rule) (w : Waiting) (box : Box) → slice_get g.constraints k ≡ Some r → is_box_of g box ≡ true → has_empty box ≡ false → SparesAll r box → IsSettled t g w box k
-settled_roomy t g v k r w box e d f s u =
-    one_rule g k r e (λ c. keeps_box (takes_of t g) box c ≡ true) (all_if (keeps_at (takes_of t g) box r) (variables_of r.args) (λ x m. at x m (s x m) (takes_of t g r x) refl))
+-- one that spares what it may take keeps the box
+pub settled_roomy : (t : Taking) (g : Game) (k : ℕ) (r : Rule) (w : Waiting) (box : Box) → slice_get g.constraints k ≡ Some r → SparesTaken (takes_of t g) r box → IsSettled t g w box k
+settled_roomy t g k r w box e s u = one_rule g k r e (λ c. keeps_box (takes_of t g) box c ≡ true) (all_if (keeps_at (takes_of t g) box r) (variables_of r.args) (λ x m. at x m (takes_of t g r x) refl))
   where
-    Ends : ℕ → Type 0
-    Ends x = (refutes_at r box x (least_value (values_left box x)) ≡ false) × (refutes_at r box x (greatest_value (values_left box x)) ≡ false)
-
     test : ℕ → Bool → Bool
     test x b = cond b (not (refutes_at r box x (least_value (values_left box x))) && not (refutes_at r box x (greatest_value (values_left box x)))) (not (refuted_by r box))
 
-    at : (x : ℕ) → Among x (variables_of r.args) → Ends x → (b : Bool) → takes_of t g r x ≡ b → keeps_at (takes_of t g) box r x ≡ true
-    at x m h true q =
+    at : (x : ℕ) → Among x (variables_of r.args) → (b : Bool) → takes_of t g r x ≡ b → keeps_at (takes_of t g) box r x ≡ true
+    at x m true q =
         subst (λ b. test x b ≡ true) (sym q)
         (together (not (refutes_at r box x (least_value (values_left box x)))) (not (refutes_at r box x (greatest_value (values_left box x))))
-        (not_true (refutes_at r box x (least_value (values_left box x))) h.0) (not_true (refutes_at r box x (greatest_value (values_left box x))) h.1))
-    at x m h false q =
-        subst (λ b. test x b ≡ true) (sym q)
-        (not_true (refuted_by r box)
-        (stands_by g v k r box x (least_value (values_left box x)) e d f (has_least (values_left box x) (some_left box x f (own_within g v k r box e d x m))) h.0))
+        (not_true (refutes_at r box x (least_value (values_left box x))) (s.least x m q)) (not_true (refutes_at r box x (greatest_value (values_left box x))) (s.greatest x m q)))
+    at x m false q = subst (λ b. test x b ≡ true) (sym q) (not_true (refuted_by r box) s.whole)

@@ -16,12 +16,13 @@ use Rattle.qc_model.specs.Domains.{Values, Box, values_left, box_at, least_value
 use Rattle.qc_model.specs.Left.{span, sum_range, sum_at, lefts_at}
 use Rattle.qc_model.specs.Meaning.{meaning_of}
 use Rattle.qc_model.specs.Ranges.{Range, point, product, range_of, ranges_miss}
-use Rattle.qc_model.specs.Refuted.{left_to, refuted_as}
+use Rattle.qc_model.specs.Refuted.{left_to, refuted_as, refuted_by}
 use Rattle.model_arguments.specs.Repeats.{is_variable, same_variable, has_repeat}
 use Rattle.model_arguments.specs.Written.{arg_at, args_at, ints_at}
 use Rattle.model_arguments.proofs.Bools.{neither, or_none}
 use Rattle.model_arguments.proofs.Written.{left_written, lefts_written, numbers_written}
-use Rattle.dense_close.specs.Slack.{IsNear, AreNear, SparesAll}
+use Rattle.dense_closing.specs.Takes.{Takes}
+use Rattle.dense_close.specs.Slack.{IsNear, is_taken, AreNear, SparesTaken}
 use Rattle.dense_close.proofs.Indexed.{last_or_before}
 use Rattle.std.proofs.lemmas.Option.{same_Some}
 
@@ -71,7 +72,7 @@ set_cases [] x us = inr refl
 set_cases (d ∷ box) zero us = inl refl
 set_cases (d ∷ box) (suc x) us = set_cases box x us
 
-module _ (s : ℤ) (z : pos 0 ≤ℤ s) (box : Box) (x : ℕ) (v : ℤ) (e : (v ≡ least_value (values_left box x)) ⊎ (v ≡ greatest_value (values_left box x))) where
+module _ (ok : ℕ → Bool) (s : ℤ) (z : pos 0 ≤ℤ s) (box : Box) (x : ℕ) (taken : ok x ≡ true) (v : ℤ) (e : (v ≡ least_value (values_left box x)) ⊎ (v ≡ greatest_value (values_left box x))) where
   -- other items have what they had
   other_left : (y : ℕ) → y ≢ x → values_left (box_at box x v) y ≡ values_left box y
   other_left y n = get_or-set_other box x y (v ∷ []) [] n
@@ -90,15 +91,15 @@ module _ (s : ℤ) (z : pos 0 ≤ℤ s) (box : Box) (x : ℕ) (v : ℤ) (e : (v 
         | inr q ↦ subst (λ d. IsClose s (product (point n) (span d)) (product (point n) (span (values_left box x)))) (sym q) (close_same s z (product (point n) (span (values_left box x))))
       ]
 
-  sum_close : (ns : List ℤ) (xs : List Arg) → has_repeat xs ≡ false → AreNear s ns xs box → IsClose s (sum_range ns (map (left_to (box_at box x v)) xs)) (sum_range ns (map (left_to box) xs))
+  sum_close : (ns : List ℤ) (xs : List Arg) → has_repeat xs ≡ false → AreNear ok s ns xs box → IsClose s (sum_range ns (map (left_to (box_at box x v)) xs)) (sum_range ns (map (left_to box) xs))
   sum_close [] xs r f = close_same s z (point (pos 0))
   sum_close (n ∷ ns) [] r f = close_same s z (point (pos 0))
   sum_close (n ∷ ns) (Num m ∷ xs) r f =
       let t = product (point n) (span (m ∷ [])) in
-      let rest = sum_close ns xs (neither (list_any (same_variable (Num m)) xs) (has_repeat xs) r).1 (λ i k a p q. f (suc i) k a p q) in
+      let rest = sum_close ns xs (neither (list_any (same_variable (Num m)) xs) (has_repeat xs) r).1 (λ i k a p q w. f (suc i) k a p q w) in
       record { from = rest_close s t.from t.from _ _ refl rest.from; to = rest_close s t.to t.to _ _ refl rest.to }
   sum_close (n ∷ ns) (Var y ∷ xs) r f =
-      by (y.0 == x) refl (neither (list_any (same_variable (Var y)) xs) (has_repeat xs) r) (sum_close ns xs (neither (list_any (same_variable (Var y)) xs) (has_repeat xs) r).1 (λ i k a p q. f (suc i) k a p q))
+      by (y.0 == x) refl (neither (list_any (same_variable (Var y)) xs) (has_repeat xs) r) (sum_close ns xs (neither (list_any (same_variable (Var y)) xs) (has_repeat xs) r).1 (λ i k a p q w. f (suc i) k a p q w))
     where
       old : Range
       old = product (point n) (span (values_left box y.0))
@@ -111,7 +112,7 @@ module _ (s : ℤ) (z : pos 0 ≤ℤ s) (box : Box) (x : ℕ) (v : ℤ) (e : (v 
       by true q h c =
           let same = equal_numbers y.0 x q in
           let items = same_items xs (subst (λ k. list_any (λ b. is_variable b k) xs ≡ false) same h.0) in
-          let here : IsClose s new old = subst (λ k. IsClose s (product (point n) (span (values_left (box_at box x v) k))) (product (point n) (span (values_left box k)))) (sym same) (own_close n (subst (λ k. IsNear s n (values_left box k)) same (f 0 n (Var y) refl refl))) in
+          let here : IsClose s new old = subst (λ k. IsClose s (product (point n) (span (values_left (box_at box x v) k))) (product (point n) (span (values_left box k)))) (sym same) (own_close n (subst (λ k. IsNear s n (values_left box k)) same (f 0 n (Var y) refl refl (subst (λ k. ok k ≡ true) (sym same) taken)))) in
           record {
             from = part_close s new.from old.from _ _ here.from (ap (λ ds. (sum_range ns ds).from) items);
             to = part_close s old.to new.to _ _ here.to (ap (λ ds. (sum_range ns ds).to) (sym items));
@@ -124,18 +125,16 @@ module _ (s : ℤ) (z : pos 0 ≤ℤ s) (box : Box) (x : ℕ) (v : ℤ) (e : (v 
           }
 
 -- what a sum refutes that a number bounds
-at_most_is : (c : Rule) (m : ℤ) (box : Box) → c.pred ≡ IntLinLe → arg_at c.args 2 ≡ Num m → (x : ℕ) (v : ℤ) → refutes_at c box x v ≡ int_lt m (sum_range (ints_at c.args 0) (map (left_to (box_at box x v)) (args_at c.args 1))).from
-at_most_is c m box e n x v =
-    let at = box_at box x v in
+at_most_is : (c : Rule) (m : ℤ) (at : Box) → c.pred ≡ IntLinLe → arg_at c.args 2 ≡ Num m → refuted_by c at ≡ int_lt m (sum_range (ints_at c.args 0) (map (left_to at) (args_at c.args 1))).from
+at_most_is c m at e n =
     let args = map (fill (left_to at)) c.args in
     ap (λ p. refuted_as (meaning_of p) args) e
     ∙ (ap (λ d. int_lt (greatest_value d) (sum_at args).from) (left_written at c.args 2 ∙ ap (left_to at) n)
     ∙ (ap (λ ns. int_lt m (sum_range ns (lefts_at args 1)).from) (numbers_written at c.args 0)
     ∙ ap (λ ds. int_lt m (sum_range (ints_at c.args 0) ds).from) (lefts_written at c.args 1)))
 
-equal_is : (c : Rule) (m : ℤ) (box : Box) → c.pred ≡ IntLinEq → arg_at c.args 2 ≡ Num m → (x : ℕ) (v : ℤ) → refutes_at c box x v ≡ ranges_miss (sum_range (ints_at c.args 0) (map (left_to (box_at box x v)) (args_at c.args 1))) (range_of m m)
-equal_is c m box e n x v =
-    let at = box_at box x v in
+equal_is : (c : Rule) (m : ℤ) (at : Box) → c.pred ≡ IntLinEq → arg_at c.args 2 ≡ Num m → refuted_by c at ≡ ranges_miss (sum_range (ints_at c.args 0) (map (left_to at) (args_at c.args 1))) (range_of m m)
+equal_is c m at e n =
     let args = map (fill (left_to at)) c.args in
     ap (λ p. refuted_as (meaning_of p) args) e
     ∙ (ap (λ d. ranges_miss (sum_at args) (span d)) (left_written at c.args 2 ∙ ap (left_to at) n)
@@ -149,23 +148,26 @@ not_over m f t s h k = grind (arith, ints)
 not_under : (m f t s : ℤ) → f ≤ℤ (t +ℤ s) → (m +ℤ s) ≤ℤ f → int_lt t m ≡ false
 not_under m f t s h k = grind (arith, ints)
 
-pub roomy : (c : Rule) (b : Bool) (m s : ℤ) (box : Box) → c.pred ≡ cond b IntLinEq IntLinLe → arg_at c.args 2 ≡ Num m → pos 0 ≤ℤ s → has_repeat (args_at c.args 1) ≡ false → AreNear s (ints_at c.args 0) (args_at c.args 1) box →
-    ((sum_range (ints_at c.args 0) (map (left_to box) (args_at c.args 1))).from +ℤ s) ≤ℤ m → (b ≡ true → (m +ℤ s) ≤ℤ (sum_range (ints_at c.args 0) (map (left_to box) (args_at c.args 1))).to) → SparesAll c box
-roomy c b m s box e n z r f under over x own = (at (least_value (values_left box x)) (inl refl), at (greatest_value (values_left box x)) (inr refl))
+pub roomy : (takes : Takes) (c : Rule) (b : Bool) (m s : ℤ) (box : Box) → c.pred ≡ cond b IntLinEq IntLinLe → arg_at c.args 2 ≡ Num m → pos 0 ≤ℤ s → has_repeat (args_at c.args 1) ≡ false → AreNear (takes c) s (ints_at c.args 0) (args_at c.args 1) box →
+    ((sum_range (ints_at c.args 0) (map (left_to box) (args_at c.args 1))).from +ℤ s) ≤ℤ m → (b ≡ true → (m +ℤ s) ≤ℤ (sum_range (ints_at c.args 0) (map (left_to box) (args_at c.args 1))).to) → SparesTaken takes c box
+roomy takes c b m s box e n z r f under over = record {
+  whole = by b e over box (close_same s z whole);
+  least = λ x own taken. at x taken (least_value (values_left box x)) (inl refl);
+  greatest = λ x own taken. at x taken (greatest_value (values_left box x)) (inr refl);
+}
   where
+    sums : Box → Range
+    sums d = sum_range (ints_at c.args 0) (map (left_to d) (args_at c.args 1))
+
     whole : Range
-    whole = sum_range (ints_at c.args 0) (map (left_to box) (args_at c.args 1))
+    whole = sums box
 
-    by : (b : Bool) → c.pred ≡ cond b IntLinEq IntLinLe → (b ≡ true → (m +ℤ s) ≤ℤ whole.to) → (v : ℤ) → IsClose s (sum_range (ints_at c.args 0) (map (left_to (box_at box x v)) (args_at c.args 1))) whole → refutes_at c box x v ≡ false
-    by true e o v h =
-        let new = sum_range (ints_at c.args 0) (map (left_to (box_at box x v)) (args_at c.args 1)) in
-        equal_is c m box e n x v ∙ or_none (int_lt new.to m) (int_lt m new.from) (not_under m whole.to new.to s h.to (o refl)) (not_over m whole.from new.from s h.from under)
-    by false e o v h =
-        let new = sum_range (ints_at c.args 0) (map (left_to (box_at box x v)) (args_at c.args 1)) in
-        at_most_is c m box e n x v ∙ not_over m whole.from new.from s h.from under
+    by : (b : Bool) → c.pred ≡ cond b IntLinEq IntLinLe → (b ≡ true → (m +ℤ s) ≤ℤ whole.to) → (d : Box) → IsClose s (sums d) whole → refuted_by c d ≡ false
+    by true e o d h = equal_is c m d e n ∙ or_none (int_lt (sums d).to m) (int_lt m (sums d).from) (not_under m whole.to (sums d).to s h.to (o refl)) (not_over m whole.from (sums d).from s h.from under)
+    by false e o d h = at_most_is c m d e n ∙ not_over m whole.from (sums d).from s h.from under
 
-    at : (v : ℤ) → (v ≡ least_value (values_left box x)) ⊎ (v ≡ greatest_value (values_left box x)) → refutes_at c box x v ≡ false
-    at v w = by b e over v (sum_close s z box x v w (ints_at c.args 0) (args_at c.args 1) r f)
+    at : (x : ℕ) → takes c x ≡ true → (v : ℤ) → (v ≡ least_value (values_left box x)) ⊎ (v ≡ greatest_value (values_left box x)) → refutes_at c box x v ≡ false
+    at x taken v w = by b e over (box_at box x v) (sum_close (takes c) s z box x taken v w (ints_at c.args 0) (args_at c.args 1) r f)
 
 -- one term more
 got : {X : Type 0} (xs : List X) (k : ℕ) (d x : X) → slice_get xs k ≡ Some x → get_or xs k d ≡ x
@@ -178,14 +180,15 @@ below [] k x h = cc
 below (y ∷ xs) zero x h = omega arith
 below (y ∷ xs) (suc k) x h = let l = below xs k x h in omega arith
 
-pub near_more : (s : ℤ) (k : ℕ) (ns : List ℤ) (xs : List Arg) (box : Box) (m : ℤ) (d : Arg) → ((i : ℕ) (n : ℤ) (a : Arg) → i < k → slice_get ns i ≡ Some n → slice_get xs i ≡ Some a → IsNear s n (left_to box a)) → IsNear s (get_or ns k m) (left_to box (get_or xs k d)) →
-    (i : ℕ) (n : ℤ) (a : Arg) → i < k + 1 → slice_get ns i ≡ Some n → slice_get xs i ≡ Some a → IsNear s n (left_to box a)
-near_more s k ns xs box m d f h i n a l p q =
+pub near_more : (ok : ℕ → Bool) (s : ℤ) (k : ℕ) (ns : List ℤ) (xs : List Arg) (box : Box) (m : ℤ) (d : Arg) → ((i : ℕ) (n : ℤ) (a : Arg) → i < k → slice_get ns i ≡ Some n → slice_get xs i ≡ Some a → is_taken ok a ≡ true → IsNear s n (left_to box a)) →
+    (is_taken ok (get_or xs k d) ≡ true → IsNear s (get_or ns k m) (left_to box (get_or xs k d))) →
+    (i : ℕ) (n : ℤ) (a : Arg) → i < k + 1 → slice_get ns i ≡ Some n → slice_get xs i ≡ Some a → is_taken ok a ≡ true → IsNear s n (left_to box a)
+near_more ok s k ns xs box m d f h i n a l p q =
     elim (last_or_before i k l) [
       | inl b ↦ f i n a b p q
       | inr e ↦
-          subst (λ z. IsNear s z (left_to box a)) (got ns k m n (subst (λ j. slice_get ns j ≡ Some n) e p))
-          (subst (λ z. IsNear s (get_or ns k m) (left_to box z)) (got xs k d a (subst (λ j. slice_get xs j ≡ Some a) e q)) h)
+          subst (λ z. is_taken ok a ≡ true → IsNear s z (left_to box a)) (got ns k m n (subst (λ j. slice_get ns j ≡ Some n) e p))
+          (subst (λ z. is_taken ok z ≡ true → IsNear s (get_or ns k m) (left_to box z)) (got xs k d a (subst (λ j. slice_get xs j ≡ Some a) e q)) h)
     ]
 
 pub near_of : (s n p q u v : ℤ) (d : Values) → p ≡ n *ℤ u → q ≡ n *ℤ v → u ≡ least_value d → v ≡ greatest_value d → q ≤ℤ (p +ℤ s) → p ≤ℤ (q +ℤ s) → IsNear s n d
@@ -201,5 +204,5 @@ near_of s n p q u v d a b e f up down =
 pub room_left : (low high u r : ℤ) → (pos 0 ≤ℤ u → u ≤ℤ (high -ℤ low)) → r ≤ℤ u → pos 0 ≤ℤ r → (low +ℤ r) ≤ℤ high
 room_left low high u r h l z = let k = h (let m = l in omega (arith, ints)) in omega (arith, ints)
 
-pub at_most : (a b : ℤ) → int_lt a b ≡ true → a ≤ℤ b
-at_most a b h = grind (arith, ints)
+pub room_less : (low high u s : ℤ) → (pos 0 ≤ℤ u → (low +ℤ u) ≤ℤ high) → s ≤ℤ u → pos 0 ≤ℤ s → (low +ℤ s) ≤ℤ high
+room_less low high u s h l z = let k = h (let m = l in omega (arith, ints)) in omega (arith, ints)

@@ -7,9 +7,10 @@
 //! them. Where it took nothing it keeps the box; where it refutes the box as it is, no box within is closed. So once none waits, all
 //! keep the box, and it is closed.
 //!
-//! Whether a linear constraint refutes any end is first asked by one reading of its sum (`slack`), since to ask of each end takes the
-//! square of that. Values go by stretches: where a constraint refutes an end, it is asked of twice as many numbers from there on, as long as it
-//! refutes them together.
+//! Whether a linear constraint refutes any end that it may take is first asked by one reading of its sum (`slack`), since to ask of
+//! each end takes the square of that. Where it may, that reading tells by a division how far each variable can go (`trimming`): what
+//! lies past it goes where the constraint refutes it, which is asked once. Other values go by stretches: where a constraint refutes an
+//! end, it is asked of twice as many numbers from there on, as long as it refutes them together.
 #![tactic(auto)]
 
 mod answerless;
@@ -21,6 +22,7 @@ mod revising;
 mod slack;
 mod taking;
 mod task;
+mod trimming;
 mod waiting;
 mod waking;
 

@@ -4,6 +4,7 @@ ghost use Rattle.qc_model.specs.Arguments.{variables_of};
 ghost use Rattle.qc_model.specs.Content.{Rule};
 ghost use Rattle.qc_model.specs.Domains.{Box, has_empty};
 ghost use Rattle.qc_model.specs.Lists.{Among};
+ghost use Rattle.qc_model.specs.Refuted.{refuted_by};
 ghost use Rattle.qc_model.specs.Verdict.{is_none_of};
 ghost use Rattle.model_arguments.specs.Asked.{is_box_of};
 ghost use Rattle.model_levels.specs.Spans.{is_between};
@@ -15,9 +16,10 @@ ghost use Rattle.dense_close.specs.Narrowing.{IsNarrowed, IsListOf, OthersSettle
 ghost use Rattle.dense_close.specs.declared.cutting.End.TheVariants.{Least, Greatest};
 
 use crate::cutting::{End, cut_end};
-use crate::slack::is_roomy;
+use crate::slack::{Room, is_short, slack_of};
 use crate::taking::may_take;
 use crate::task::Task;
+use crate::trimming::{cut_by_room, factor_at};
 use crate::waiting::WorkList;
 use crate::waking::wake;
 use check_box::Remains;
@@ -154,6 +156,199 @@ fn outcome(task: &Task, c: ConId, look: Look, list: &WorkList, store: &Store) ->
     }
 }
 
+// Takes an end of x, which the constraint c may take, as far as the room of a sum tells, and lets the constraints that have x wait
+// where values went.
+fn trim_at(
+    task: &Task,
+    c: ConId,
+    x: VarId,
+    factor: i64,
+    room: Room,
+    queue: &mut WorkList,
+    remains: &mut Remains,
+) -> Look
+    requires c { c.0 < length task.now.problem.now.constraints }
+    requires own { (rule : Rule) → slice_get task.now.problem.now.constraints c.0 ≡ Some rule → Among x.0 (variables_of rule.args) }
+    requires inside { IsTrue (is_between task.now.span.first task.now.span.end c.0) }
+    requires declared { IsTrue (is_box_of task.now.problem.now remains.old.box) }
+    requires full { IsFalse (has_empty remains.old.box) }
+    requires list { IsListOf task.now.problem.now task.now.span.first task.now.span.end queue.old }
+    requires others { OthersSettled c.0 task.now.taking task.now.problem.now task.now.span.first task.now.span.end queue.old remains.old.box }
+    requires taken { (rule : Rule) → slice_get task.now.problem.now.constraints c.0 ≡ Some rule → IsTrue (takes_of task.now.taking task.now.problem.now rule x.0) }
+    ensures narrowed { IsNarrowed task.now.taking task.now.problem.now task.now.from task.now.stop remains.old.box remains.new.box }
+    ensures past { Follows remains.old remains.new }
+    ensures list { IsListOf task.now.problem.now task.now.span.first task.now.span.end queue.new }
+    ensures others { OthersSettled c.0 task.now.taking task.now.problem.now task.now.span.first task.now.span.end queue.new remains.new.box }
+    ensures looked { HasLooked result task.now.taking task.now.problem.now c.0 [] queue.old queue.new remains.old.box remains.new.box }
+{
+    task.problem.known();
+    let _ = task.problem.constraint(c);
+    if cut_by_room(task.problem, c, x, factor, room, remains) {
+        wake(task, x, queue);
+        return Look {
+            changed: true,
+            seen: false,
+        };
+    }
+    Look {
+        changed: false,
+        seen: false,
+    }
+}
+
+// The same for any variable of the constraint, which is the one at this place.
+fn trim_own(
+    task: &Task,
+    c: ConId,
+    place: usize,
+    x: VarId,
+    room: Room,
+    list: &mut WorkList,
+    remains: &mut Remains,
+) -> Look
+    requires c { c.0 < length task.now.problem.now.constraints }
+    requires own { (rule : Rule) → slice_get task.now.problem.now.constraints c.0 ≡ Some rule → Among x.0 (variables_of rule.args) }
+    requires inside { IsTrue (is_between task.now.span.first task.now.span.end c.0) }
+    requires declared { IsTrue (is_box_of task.now.problem.now remains.old.box) }
+    requires full { IsFalse (has_empty remains.old.box) }
+    requires list { IsListOf task.now.problem.now task.now.span.first task.now.span.end list.old }
+    requires others { OthersSettled c.0 task.now.taking task.now.problem.now task.now.span.first task.now.span.end list.old remains.old.box }
+    ensures narrowed { IsNarrowed task.now.taking task.now.problem.now task.now.from task.now.stop remains.old.box remains.new.box }
+    ensures past { Follows remains.old remains.new }
+    ensures list { IsListOf task.now.problem.now task.now.span.first task.now.span.end list.new }
+    ensures others { OthersSettled c.0 task.now.taking task.now.problem.now task.now.span.first task.now.span.end list.new remains.new.box }
+    ensures looked { HasLooked result task.now.taking task.now.problem.now c.0 [] list.old list.new remains.old.box remains.new.box }
+{
+    task.problem.known();
+    let nothing = Look {
+        changed: false,
+        seen: false,
+    };
+    let rule = task.problem.constraint(c);
+    if remains.store().is_fixed(x) {
+        return nothing;
+    }
+    if !may_take(task.problem, task.taking, rule, x) {
+        return nothing;
+    }
+    let factor = factor_at(rule, place, x);
+    if factor == 0 {
+        return nothing;
+    }
+    trim_at(task, c, x, factor, room, list, remains)
+}
+
+// The same for all variables of the constraint, until one has no value left.
+fn trim(task: &Task, c: ConId, room: Room, list: &mut WorkList, remains: &mut Remains) -> Look
+    requires c { c.0 < length task.now.problem.now.constraints }
+    requires inside { IsTrue (is_between task.now.span.first task.now.span.end c.0) }
+    requires declared { IsTrue (is_box_of task.now.problem.now remains.old.box) }
+    requires full { IsFalse (has_empty remains.old.box) }
+    requires list { IsListOf task.now.problem.now task.now.span.first task.now.span.end list.old }
+    requires others { OthersSettled c.0 task.now.taking task.now.problem.now task.now.span.first task.now.span.end list.old remains.old.box }
+    ensures narrowed { IsNarrowed task.now.taking task.now.problem.now task.now.from task.now.stop remains.old.box remains.new.box }
+    ensures past { Follows remains.old remains.new }
+    ensures list { IsListOf task.now.problem.now task.now.span.first task.now.span.end list.new }
+    ensures others { OthersSettled c.0 task.now.taking task.now.problem.now task.now.span.first task.now.span.end list.new remains.new.box }
+    ensures looked { HasLooked result task.now.taking task.now.problem.now c.0 [] list.old list.new remains.old.box remains.new.box }
+{
+    task.problem.known();
+    let own = task.index.own(c);
+    let mut look = Look {
+        changed: false,
+        seen: false,
+    };
+    for place in 0..own.len() {
+        look = both(
+            look,
+            trim_own(task, c, place, own[place], room, list, remains),
+        );
+        if remains.is_empty() {
+            return look;
+        }
+    }
+    look
+}
+
+// Takes the ends that the constraint c refutes and may take, each of its variables once.
+fn revise_each(task: &Task, c: ConId, list: &mut WorkList, remains: &mut Remains) -> Revised
+    requires c { c.0 < length task.now.problem.now.constraints }
+    requires some { (rule : Rule) → slice_get task.now.problem.now.constraints c.0 ≡ Some rule → IsFalse (is_none_of (variables_of rule.args)) }
+    requires inside { IsTrue (is_between task.now.span.first task.now.span.end c.0) }
+    requires declared { IsTrue (is_box_of task.now.problem.now remains.old.box) }
+    requires full { IsFalse (has_empty remains.old.box) }
+    requires list { IsListOf task.now.problem.now task.now.span.first task.now.span.end list.old }
+    requires others { OthersSettled c.0 task.now.taking task.now.problem.now task.now.span.first task.now.span.end list.old remains.old.box }
+    ensures narrowed { IsNarrowed task.now.taking task.now.problem.now task.now.from task.now.stop remains.old.box remains.new.box }
+    ensures past { Follows remains.old remains.new }
+    ensures list { IsListOf task.now.problem.now task.now.span.first task.now.span.end list.new }
+    ensures answer { IsRevised result task.now.taking task.now.problem.now task.now.from task.now.stop task.now.span.first task.now.span.end list.old list.new remains.old.box remains.new.box }
+{
+    task.problem.known();
+    let _ = task.problem.constraint(c);
+    let own = task.index.own(c);
+    let mut look = Look {
+        changed: false,
+        seen: false,
+    };
+    for x in own {
+        look = both(look, look_at(task, c, *x, list, remains));
+        if remains.is_empty() {
+            return Revised::Lost;
+        }
+    }
+    outcome(task, c, look, list, remains.store())
+}
+
+// Whether the constraint c, a sum without room, refutes the box.
+fn is_broken(problem: &Problem, c: ConId, room: Room, store: &Store) -> bool
+    requires c { c.0 < length problem.now.constraints }
+    requires declared { IsTrue (is_box_of problem.now store.now.box) }
+    requires full { IsFalse (has_empty store.now.box) }
+    ensures { IsTrue result → (rule : Rule) → slice_get problem.now.constraints c.0 ≡ Some rule → IsTrue (refuted_by rule store.now.box) }
+{
+    problem.known();
+    if !is_short(room) {
+        return false;
+    }
+    refutes(problem, c, store)
+}
+
+// The same for a sum with this room: most goes at once.
+fn revise_sum(
+    task: &Task,
+    c: ConId,
+    room: Room,
+    list: &mut WorkList,
+    remains: &mut Remains,
+) -> Revised
+    requires c { c.0 < length task.now.problem.now.constraints }
+    requires some { (rule : Rule) → slice_get task.now.problem.now.constraints c.0 ≡ Some rule → IsFalse (is_none_of (variables_of rule.args)) }
+    requires inside { IsTrue (is_between task.now.span.first task.now.span.end c.0) }
+    requires declared { IsTrue (is_box_of task.now.problem.now remains.old.box) }
+    requires full { IsFalse (has_empty remains.old.box) }
+    requires list { IsListOf task.now.problem.now task.now.span.first task.now.span.end list.old }
+    requires others { OthersSettled c.0 task.now.taking task.now.problem.now task.now.span.first task.now.span.end list.old remains.old.box }
+    ensures narrowed { IsNarrowed task.now.taking task.now.problem.now task.now.from task.now.stop remains.old.box remains.new.box }
+    ensures past { Follows remains.old remains.new }
+    ensures list { IsListOf task.now.problem.now task.now.span.first task.now.span.end list.new }
+    ensures answer { IsRevised result task.now.taking task.now.problem.now task.now.from task.now.stop task.now.span.first task.now.span.end list.old list.new remains.old.box remains.new.box }
+{
+    task.problem.known();
+    let _ = task.problem.constraint(c);
+    if is_broken(task.problem, c, room, remains.store()) {
+        return Revised::Lost;
+    }
+    let look = trim(task, c, room, list, remains);
+    if remains.is_empty() {
+        return Revised::Lost;
+    }
+    if look.changed {
+        return Revised::Changed;
+    }
+    revise_each(task, c, list, remains)
+}
+
 /// Takes the ends that the constraint c of the span refutes and may take, each of its variables once. Where values went, all
 /// constraints that have the variable wait, c itself among them.
 pub(crate) fn revise(task: &Task, c: ConId, list: &mut WorkList, remains: &mut Remains) -> Revised
@@ -173,18 +368,12 @@ pub(crate) fn revise(task: &Task, c: ConId, list: &mut WorkList, remains: &mut R
     if own.is_empty() {
         return Revised::Stable;
     }
-    if is_roomy(task.problem, rule, remains.store()) {
+    let slack = slack_of(task, rule, remains.store());
+    if slack.roomy {
         return Revised::Stable;
     }
-    let mut look = Look {
-        changed: false,
-        seen: false,
-    };
-    for x in own {
-        look = both(look, look_at(task, c, *x, list, remains));
-        if remains.is_empty() {
-            return Revised::Lost;
-        }
+    if slack.sum {
+        return revise_sum(task, c, slack.room, list, remains);
     }
-    outcome(task, c, look, list, remains.store())
+    revise_each(task, c, list, remains)
 }

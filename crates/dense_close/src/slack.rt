@@ -2,21 +2,32 @@
 //!
 //! Whether a sum refutes an end takes as long as to read the sum, so to hold one against all its ends takes the square of that.
 //! Where the ends of each term are nearer to each other than the sum is to its bound, it refutes none, which one reading tells.
-ghost use Rattle.std.specs.Prelude.{◌≡◌, ◌≤◌, ◌^◌, IsTrue, cond, length, pos, ◌*ℤ◌, ◌+ℤ◌, ◌≤ℤ◌, unsigned_abs};
+//! Terms whose variables the sum may not take don't count.
+ghost use Rattle.std.specs.Prelude.{◌≡◌, ◌≤◌, ◌^◌, IsTrue, IsFalse, false, cond, length, pos, ◌*ℤ◌, ◌+ℤ◌, ◌≤ℤ◌, unsigned_abs};
 ghost use Rattle.std.specs.List.{list_all};
 ghost use Rattle.qc_model.specs.declared.problem.Arg.TheVariants.{Num};
 ghost use Rattle.qc_model.specs.declared.problem.Pred.TheVariants.{IntLinEq, IntLinLe};
 ghost use Rattle.qc_model.specs.Refuted.{left_to};
 ghost use Rattle.qc_model.specs.Valid.{is_number};
 ghost use Rattle.model_arguments.specs.Asked.{IsAsked};
+ghost use Rattle.model_arguments.specs.Repeats.{has_repeat};
 ghost use Rattle.model_arguments.specs.Written.{arg_at, args_at, ints_at};
 ghost use Rattle.qc_refuter.specs.Met.{is_open, are_met};
-ghost use Rattle.dense_close.specs.Slack.{IsNear, AreNear, SparesAll};
+ghost use Rattle.dense_close.specs.Slack.{IsNear, is_taken, AreNear, SparesTaken};
+ghost use Rattle.dense_close.specs.Taking.{takes_of};
 
+use crate::taking::may_take;
+use crate::task::Task;
 use fd_store::Store;
-use model_arguments::{arguments, is_repeated, one_at};
-use qc_model::{Arg, Argument, Constraint, Pred, Problem};
+use model_arguments::{arguments, is_among, is_repeated, one_at};
+use qc_model::{Arg, Argument, Constraint, Pred};
 use qc_refuter::{Extent, sum_extent};
+
+/// As much room as is told at most.
+const MOST: i64 = 4_000_000_000_000_000_000;
+
+/// Up to so many items are held beside each other, which takes less time than to mark them.
+const FEW_ITEMS: usize = 12;
 
 // The product of two numbers within the limit.
 fn product(a: i64, b: i64) -> i64
@@ -80,35 +91,113 @@ fn are_close(a: i64, b: i64, s: i64) -> bool
     b - a <= s && a - b <= s
 }
 
+// Whether the constraint may take the item: it is a variable that it may take values of.
+fn may_take_item(task: &Task, rule: &Constraint, item: Arg) -> bool
+    ensures { result ≡ is_taken (takes_of task.now.taking task.now.problem.now rule.now) item }
+{
+    match item {
+        Arg::Num(_) => false,
+        Arg::Var(x) => may_take(task.problem, task.taking, rule, x),
+    }
+}
+
+// Whether the ends of a term are, where the constraint may take the item.
+fn is_quiet(task: &Task, rule: &Constraint, factor: i64, item: Arg, s: i64, store: &Store) -> bool
+    requires factor { IsTrue (is_number factor) }
+    requires open { IsTrue (is_open store.now.box item) }
+    requires room { pos 0 ≤ℤ s }
+    ensures { IsTrue result → IsTrue (is_taken (takes_of task.now.taking task.now.problem.now rule.now) item) → IsNear s factor (left_to store.now.box item) }
+{
+    if is_near(factor, item, s, store) {
+        return true;
+    }
+    !may_take_item(task, rule, item)
+}
+
 // Whether the ends of each term are.
-fn are_near(factors: &[i64], items: &[Arg], s: i64, store: &Store) -> bool
+fn are_near(
+    task: &Task,
+    rule: &Constraint,
+    factors: &[i64],
+    items: &[Arg],
+    s: i64,
+    store: &Store,
+) -> bool
     requires factors { IsTrue (list_all is_number factors.now) }
     requires open { IsTrue (list_all (is_open store.now.box) items.now) }
     requires room { pos 0 ≤ℤ s }
-    ensures { IsTrue result → AreNear s factors.now items.now store.now.box }
+    ensures { IsTrue result → AreNear (takes_of task.now.taking task.now.problem.now rule.now) s factors.now items.now store.now.box }
 {
     for k in 0..factors.len().min(items.len()) {
-        if !is_near(factors[k], items[k], s, store) {
+        if !is_quiet(task, rule, factors[k], items[k], s, store) {
             return false;
         }
     }
     true
 }
 
-// How far a sum is from its bound, or less: from below, and where they are to be equal from above too.
-fn room_of(is_equal: bool, bound: i64, extent: Extent) -> i64
+/// How far a sum is from its bound, or less: from below, and where they are to be equal from above too. Negative numbers tell
+/// nothing but that they are.
+#[derive(Clone, Copy)]
+pub(crate) struct Room {
+    pub(crate) under: i64,
+    pub(crate) over: i64,
+}
+
+/// What one reading tells of a constraint: whether it is a sum that a number bounds, whether that has room for all that it may take,
+/// and how much room there is.
+#[derive(Clone, Copy)]
+pub(crate) struct Slack {
+    pub(crate) sum: bool,
+    pub(crate) roomy: bool,
+    pub(crate) room: Room,
+}
+
+// Nothing is told.
+fn unknown() -> Slack
+    ensures { result.roomy ≡ false }
+{
+    Slack {
+        sum: false,
+        roomy: false,
+        room: Room {
+            under: -1,
+            over: -1,
+        },
+    }
+}
+
+// The room of a sum.
+fn room_of(is_equal: bool, bound: i64, extent: Extent) -> Room
     requires from { unsigned_abs extent.from ≤ 10 ^ 21 }
     requires to { unsigned_abs extent.to ≤ 10 ^ 21 }
-    ensures under { pos 0 ≤ℤ result → (extent.from +ℤ result) ≤ℤ bound }
-    ensures over { pos 0 ≤ℤ result → IsTrue is_equal → (bound +ℤ result) ≤ℤ extent.to }
+    ensures under { pos 0 ≤ℤ result.under → (extent.from +ℤ result.under) ≤ℤ bound }
+    ensures over { pos 0 ≤ℤ result.over → IsTrue is_equal → (bound +ℤ result.over) ≤ℤ extent.to }
 {
     let under = clamped(bound as i128 - extent.from);
     if is_equal {
         let over = clamped(extent.to - bound as i128);
-        if over < under { over } else { under }
+        Room { under, over }
     } else {
-        under
+        Room { under, over: MOST }
     }
+}
+
+// The lesser of both.
+fn least_room(room: Room) -> i64
+    ensures under { result ≤ℤ room.under }
+    ensures over { result ≤ℤ room.over }
+{
+    if room.over < room.under {
+        room.over
+    } else {
+        room.under
+    }
+}
+
+/// Whether there is none.
+pub(crate) fn is_short(room: Room) -> bool {
+    room.under < 0 || room.over < 0
 }
 
 // The number, or a lesser one within 64 bits; a negative one may become any negative one.
@@ -118,57 +207,104 @@ fn clamped(n: i128) -> i64
     if n < 0 {
         return -1;
     }
-    if n > 4_000_000_000_000_000_000 {
-        return 4_000_000_000_000_000_000;
+    if n > MOST as i128 {
+        return MOST;
     }
     n as i64
 }
 
-// Whether a sum that a number bounds has such room.
-fn has_room(problem: &Problem, rule: &Constraint, is_equal: bool, bound: i64, store: &Store) -> bool
-    requires asked { IsAsked problem.now rule.now store.now.box }
-    requires pred { rule.now.pred ≡ cond is_equal IntLinEq IntLinLe }
-    requires bound { arg_at rule.now.args 2 ≡ Num bound }
-    ensures { IsTrue result → SparesAll rule.now store.now.box }
+// Whether a variable stands twice, each item held beside those after it.
+fn stands_twice(items: &[Arg]) -> bool
+    ensures { result ≡ has_repeat items.now }
 {
-    problem.known();
-    let args = arguments(rule);
-    let factors = factors_met(args, store);
-    let items = items_met(args, store);
-    let s = room_of(
-        is_equal,
-        bound,
-        sum_extent(problem, rule, factors, items, store),
-    );
+    let mut rest = items;
+    while let [first, others @ ..] = rest {
+        if is_among(*first, others) {
+            return true;
+        }
+        rest = others;
+    }
+    false
+}
+
+// Whether a variable stands twice.
+fn has_twice(items: &[Arg]) -> bool
+    ensures { result ≡ has_repeat items.now }
+{
+    if items.len() <= FEW_ITEMS {
+        stands_twice(items)
+    } else {
+        is_repeated(items)
+    }
+}
+
+// Whether the terms have such room.
+fn has_room(
+    task: &Task,
+    rule: &Constraint,
+    factors: &[i64],
+    items: &[Arg],
+    s: i64,
+    store: &Store,
+) -> bool
+    requires factors { IsTrue (list_all is_number factors.now) }
+    requires open { IsTrue (list_all (is_open store.now.box) items.now) }
+    ensures room { IsTrue result → pos 0 ≤ℤ s }
+    ensures near { IsTrue result → AreNear (takes_of task.now.taking task.now.problem.now rule.now) s factors.now items.now store.now.box }
+    ensures apart { IsTrue result → IsFalse (has_repeat items.now) }
+{
     if s < 0 {
         return false;
     }
-    if !are_near(factors, items, s, store) {
+    if !are_near(task, rule, factors, items, s, store) {
         return false;
     }
-    !is_repeated(items)
+    !has_twice(items)
 }
 
-fn sum_has_room(problem: &Problem, rule: &Constraint, is_equal: bool, store: &Store) -> bool
-    requires asked { IsAsked problem.now rule.now store.now.box }
+// What a reading tells of a sum that a number bounds.
+fn slack_below(task: &Task, rule: &Constraint, is_equal: bool, bound: i64, store: &Store) -> Slack
+    requires asked { IsAsked task.now.problem.now rule.now store.now.box }
     requires pred { rule.now.pred ≡ cond is_equal IntLinEq IntLinLe }
-    ensures { IsTrue result → SparesAll rule.now store.now.box }
+    requires bound { arg_at rule.now.args 2 ≡ Num bound }
+    ensures { IsTrue result.roomy → SparesTaken (takes_of task.now.taking task.now.problem.now) rule.now store.now.box }
 {
-    match one_at(arguments(rule), 2) {
-        Arg::Var(_) => false,
-        Arg::Num(bound) => has_room(problem, rule, is_equal, bound, store),
+    task.problem.known();
+    let args = arguments(rule);
+    let factors = factors_met(args, store);
+    let items = items_met(args, store);
+    let room = room_of(
+        is_equal,
+        bound,
+        sum_extent(task.problem, rule, factors, items, store),
+    );
+    Slack {
+        sum: true,
+        roomy: has_room(task, rule, factors, items, least_room(room), store),
+        room,
     }
 }
 
-/// Whether the constraint is such a sum, bounded by a number. Then it refutes neither end of any of its variables. It takes time in
-/// the order of the sum's length.
-pub(crate) fn is_roomy(problem: &Problem, rule: &Constraint, store: &Store) -> bool
-    requires { IsAsked problem.now rule.now store.now.box }
-    ensures { IsTrue result → SparesAll rule.now store.now.box }
+fn slack_of_sum(task: &Task, rule: &Constraint, is_equal: bool, store: &Store) -> Slack
+    requires asked { IsAsked task.now.problem.now rule.now store.now.box }
+    requires pred { rule.now.pred ≡ cond is_equal IntLinEq IntLinLe }
+    ensures { IsTrue result.roomy → SparesTaken (takes_of task.now.taking task.now.problem.now) rule.now store.now.box }
+{
+    match one_at(arguments(rule), 2) {
+        Arg::Var(_) => unknown(),
+        Arg::Num(bound) => slack_below(task, rule, is_equal, bound, store),
+    }
+}
+
+/// What one reading tells of a constraint: where it is a sum that a number bounds and has room, it refutes neither end of any of its
+/// variables that it may take, nor the box. It takes time in the order of the sum's length.
+pub(crate) fn slack_of(task: &Task, rule: &Constraint, store: &Store) -> Slack
+    requires { IsAsked task.now.problem.now rule.now store.now.box }
+    ensures { IsTrue result.roomy → SparesTaken (takes_of task.now.taking task.now.problem.now) rule.now store.now.box }
 {
     match rule.pred {
-        Pred::IntLinLe => sum_has_room(problem, rule, false, store),
-        Pred::IntLinEq => sum_has_room(problem, rule, true, store),
-        _ => false,
+        Pred::IntLinLe => slack_of_sum(task, rule, false, store),
+        Pred::IntLinEq => slack_of_sum(task, rule, true, store),
+        _ => unknown(),
     }
 }

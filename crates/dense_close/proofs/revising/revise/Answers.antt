@@ -1,16 +1,13 @@
-use Rattle.std.proofs.Common.{rules, ◌≡◌, ◌∙◌, sym, ap, subst, refl, false}
-use Rattle.qc_model.specs.Domains.{declared_box, has_empty}
-use Rattle.qc_model.specs.Lists.{Among}
+use Rattle.std.proofs.Common.{◌∙◌, ap, refl, subst, sym}
 use Rattle.fd_store.specs.Held.{Held}
+use Rattle.model_arguments.specs.Asked.{IsAsked}
 use Rattle.model_arguments.specs.Written.{variable_numbers}
 use Rattle.qc_model.specs.Arguments.{variables_of}
-use Rattle.dense_close.specs.Narrowing.{HasLooked, IsRevised}
-use Rattle.model_arguments.specs.Asked.{IsAsked}
-use Rattle.dense_close.specs.Slack.{SparesAll}
+use Rattle.dense_close.specs.Slack.{SparesTaken}
+use Rattle.dense_close.specs.Taking.{takes_of}
 use Rattle.dense_close.proofs.Cuts.{asked}
-use Rattle.dense_close.proofs.Found.{between_below, own_at, settled_bare, bare_of, clad_of, gone_through, lost_empty}
-use Rattle.dense_close.proofs.Looked.{settled_all, settled_roomy, looked_more}
-use Rattle.dense_close.proofs.Narrowed.{narrowed_more}
+use Rattle.dense_close.proofs.Found.{between_below, settled_bare, bare_of, clad_of}
+use Rattle.dense_close.proofs.Looked.{settled_all, settled_roomy}
 use Rattle.dense_close.proofs.revising.revise.Goals as goal
 
 pub constraint-rule-requires : goal.constraint-rule-requires
@@ -27,65 +24,30 @@ returns-then-is_empty-clause-answer c =
           (settled_bare t.taking t.problem.now c.args.c.0 r c.args.list.now c.args.remains.now.box c.constraint-rule.ensures (bare_of c.own-own.result.now (variables_of r.args) c.is_empty.result own_is c.is_empty.ensures c.if-is_empty.true)),
     )
 
-pub look_at-requires-clause-own : goal.look_at-requires-clause-own
-look_at-requires-clause-own c = λ r e.
+pub slack_of-slack-requires : goal.slack_of-slack-requires
+slack_of-slack-requires c =
     let t = c.args.task.now in
-    let own_is = ap variable_numbers c.own-own.ensures ∙ t.index_is.own_are c.args.c.0 r e in
-    subst (Among _) own_is (own_at c.own-own.result.now c.loop-x.x-index _ c.loop-x-test.true)
+    subst (λ (h : Held). IsAsked t.problem.now c.constraint-rule.result.now h.box) (sym c.store.ensures) (asked t.problem.now c.known.ensures c.args.remains.now.box c.requires.declared c.requires.full c.args.c.0 c.constraint-rule.result.now c.constraint-rule.ensures)
 
-pub returns-then-is_empty-2-clause-answer : goal.returns-then-is_empty-2-clause-answer
-returns-then-is_empty-2-clause-answer c =
+pub returns-then-slack-clause-answer : goal.returns-then-slack-clause-answer
+returns-then-slack-clause-answer c =
     let t = c.args.task.now in
-    lost_empty t.taking t.problem.now t.from t.stop c.look_at.new.remains.box (sym c.is_empty-in-loop-x.ensures ∙ c.if-is_empty-2.true)
+    let r = c.constraint-rule.result.now in
+    let spares = subst (λ (h : Held). SparesTaken (takes_of t.taking t.problem.now) r h.box) c.store.ensures (c.slack_of-slack.ensures c.if-slack.true) in (
+      refl,
+      refl,
+      settled_all t.taking t.problem.now t.span.first t.span.end c.args.c.0 c.args.list.now c.args.remains.now.box c.requires.others
+          (settled_roomy t.taking t.problem.now c.args.c.0 r c.args.list.now c.args.remains.now.box c.constraint-rule.ensures spares),
+    )
 
-pub loop-x-preserved : goal.loop-x-preserved
-loop-x-preserved c =
-    let t = c.args.task.now in
-    let i = c.loop-x.invariant in
-    let e = c.look_at.ensures in
-    let full : has_empty c.look_at.new.remains.box ≡ false = sym c.is_empty-in-loop-x.ensures ∙ c.if-is_empty-2.false in
-    let narrowed = narrowed_more t.taking t.problem.now t.from t.stop c.args.remains.now.box c.loop-x.remains.box c.look_at.new.remains.box i.narrowed e.narrowed in
-    record {
-      narrowed = narrowed;
-      past = search rules;
-      declared = narrowed.fewer (declared_box t.problem.now) c.requires.declared;
-      full = full;
-      listed = e.list;
-      others = e.others;
-      looked = looked_more t.taking t.problem.now c.args.c.0 c.own-own.result.now c.loop-x.x-index _ c.loop-x.look c.look_at.result c.both-look.result c.args.list.now c.loop-x.list c.look_at.new.list c.args.remains.now.box c.loop-x.remains.box c.look_at.new.remains.box
-          c.loop-x-test.true c.both-look.ensures.changed c.both-look.ensures.seen i.looked (e.looked full);
-    }
-
-pub outcome-requires-clause-some : goal.outcome-requires-clause-some
-outcome-requires-clause-some c = λ r e.
+pub revise_sum-requires-clause-some : goal.revise_sum-requires-clause-some
+revise_sum-requires-clause-some c = λ r e.
     let t = c.args.task.now in
     let own_is = ap variable_numbers c.own-own.ensures ∙ t.index_is.own_are c.args.c.0 r e in
     clad_of c.own-own.result.now (variables_of r.args) c.is_empty.result own_is c.is_empty.ensures c.if-is_empty.false
 
-pub returns-clause-answer : goal.returns-clause-answer
-returns-clause-answer c =
+pub revise_each-requires-clause-some : goal.revise_each-requires-clause-some
+revise_each-requires-clause-some c = λ r e.
     let t = c.args.task.now in
-    let r = c.constraint-rule.result.now in
-    let own_is = ap variable_numbers c.own-own.ensures ∙ t.index_is.own_are c.args.c.0 r c.constraint-rule.ensures in
-    let looked : HasLooked c.loop-x.look t.taking t.problem.now c.args.c.0 (variables_of r.args) c.args.list.now c.loop-x.list c.args.remains.now.box c.loop-x.remains.box =
-    subst (λ xs. HasLooked c.loop-x.look t.taking t.problem.now c.args.c.0 xs c.args.list.now c.loop-x.list c.args.remains.now.box c.loop-x.remains.box)
-    (gone_through c.own-own.result.now c.loop-x.x-index (variables_of r.args) c.loop-x-test.false own_is) c.loop-x.invariant.looked in
-    subst (λ (h : Held). IsRevised c.outcome.result t.taking t.problem.now t.from t.stop t.span.first t.span.end c.args.list.now c.loop-x.list c.args.remains.now.box h.box) c.store-2.ensures
-    (c.outcome.ensures r c.args.list.now c.args.remains.now.box c.constraint-rule.ensures
-    (subst (λ (h : Held). HasLooked c.loop-x.look t.taking t.problem.now c.args.c.0 (variables_of r.args) c.args.list.now c.loop-x.list c.args.remains.now.box h.box) (sym c.store-2.ensures) looked))
-
-pub is_roomy-requires : goal.is_roomy-requires
-is_roomy-requires c =
-    let t = c.args.task.now in
-    subst (λ (h : Held). IsAsked t.problem.now c.constraint-rule.result.now h.box) (sym c.store.ensures) (asked t.problem.now c.known.ensures c.args.remains.now.box c.requires.declared c.requires.full c.args.c.0 c.constraint-rule.result.now c.constraint-rule.ensures)
-
-pub returns-then-is_roomy-clause-answer : goal.returns-then-is_roomy-clause-answer
-returns-then-is_roomy-clause-answer c =
-    let t = c.args.task.now in
-    let r = c.constraint-rule.result.now in
-    let spares = subst (λ (h : Held). SparesAll r h.box) c.store.ensures (c.is_roomy.ensures c.if-is_roomy.true) in (
-      refl,
-      refl,
-      settled_all t.taking t.problem.now t.span.first t.span.end c.args.c.0 c.args.list.now c.args.remains.now.box c.requires.others
-          (settled_roomy t.taking t.problem.now c.known.ensures c.args.c.0 r c.args.list.now c.args.remains.now.box c.constraint-rule.ensures c.requires.declared c.requires.full spares),
-    )
+    let own_is = ap variable_numbers c.own-own.ensures ∙ t.index_is.own_are c.args.c.0 r e in
+    clad_of c.own-own.result.now (variables_of r.args) c.is_empty.result own_is c.is_empty.ensures c.if-is_empty.false

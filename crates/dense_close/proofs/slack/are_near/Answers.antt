@@ -1,4 +1,4 @@
-use Rattle.std.proofs.Common.{rules, ◌≡◌, ◌<◌, ◌+◌, ℕ, ℤ, get_or, arith}
+use Rattle.std.proofs.Common.{rules, ◌≡◌, ◌<◌, ◌+◌, ℕ, ℤ, get_or, arith, true}
 use Rattle.std.specs.Prelude.{pos, slice_get, Some}
 use Rattle.std.proofs.lemmas.Int.{to_z-of_z}
 use mir.Val.{SFits}
@@ -6,7 +6,8 @@ use mir.Syntax.{w64}
 use Rattle.qc_model.specs.declared.problem.Arg.{Arg}
 use Rattle.qc_model.specs.declared.problem.Arg.TheVariants.{Var}
 use Rattle.qc_model.specs.Refuted.{left_to}
-use Rattle.dense_close.specs.Slack.{IsNear}
+use Rattle.dense_close.specs.Slack.{IsNear, is_taken}
+use Rattle.dense_close.specs.Taking.{takes_of}
 use Rattle.dense_close.proofs.Sums.{near_more, below}
 use Rattle.dense_close.proofs.slack.are_near.Goals as goal
 
@@ -18,17 +19,19 @@ loop-k-preserved c =
     let box = c.args.store.now.box in
     let n_fits : SFits w64 (get_or ns k (pos 0)) = search rules in
     let s_fits : SFits w64 c.args.s = search rules in
-    let one : IsNear c.args.s (get_or ns k (pos 0)) (left_to box (get_or xs k (Var (record { 0 = 0 })))) = simp to_z-of_z at (c.is_near.ensures c.if-not-is_near.false) in
-    let before : (i : ℕ) (n : ℤ) (a : Arg) → i < k → slice_get ns i ≡ Some n → slice_get xs i ≡ Some a → IsNear c.args.s n (left_to box a) = simp to_z-of_z at c.loop-k.invariant in
-    let more : (i : ℕ) (n : ℤ) (a : Arg) → i < k + 1 → slice_get ns i ≡ Some n → slice_get xs i ≡ Some a → IsNear c.args.s n (left_to box a) =
-    near_more c.args.s k ns xs box (pos 0) (Var (record { 0 = 0 })) before one in
+    let t = c.args.task.now in
+    let ok = takes_of t.taking t.problem.now c.args.rule.now in
+    let one : is_taken ok (get_or xs k (Var (record { 0 = 0 }))) ≡ true → IsNear c.args.s (get_or ns k (pos 0)) (left_to box (get_or xs k (Var (record { 0 = 0 })))) = simp to_z-of_z at (c.is_quiet.ensures c.if-not-is_quiet.false) in
+    let before : (i : ℕ) (n : ℤ) (a : Arg) → i < k → slice_get ns i ≡ Some n → slice_get xs i ≡ Some a → is_taken ok a ≡ true → IsNear c.args.s n (left_to box a) = simp to_z-of_z at c.loop-k.invariant in
+    let more : (i : ℕ) (n : ℤ) (a : Arg) → i < k + 1 → slice_get ns i ≡ Some n → slice_get xs i ≡ Some a → is_taken ok a ≡ true → IsNear c.args.s n (left_to box a) =
+    near_more ok c.args.s k ns xs box (pos 0) (Var (record { 0 = 0 })) before one in
     simp to_z-of_z more
 
 pub returns : goal.returns
-returns c = λ t i n a p q.
+returns c = λ t i n a p q w.
     let ns = c.args.factors.now in
     let xs = c.args.items.now in
     let s_fits : SFits w64 c.args.s = search rules in
     let l : i < c.loop-k.k = omega (arith, below ns i n p, below xs i a q, c.min-k-end.ensures, c.loop-k-test.false) in
-    let near : IsNear c.args.s n (left_to c.args.store.now.box a) = simp to_z-of_z at (c.loop-k.invariant i n a l p q) in
+    let near : IsNear c.args.s n (left_to c.args.store.now.box a) = simp to_z-of_z at (c.loop-k.invariant i n a l p q w) in
     near

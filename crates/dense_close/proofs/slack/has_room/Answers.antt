@@ -1,44 +1,25 @@
-use Rattle.std.proofs.Common.{rules, ◌≡◌, ◌∙◌, sym, ap, subst, map, true, false}
-use Rattle.std.specs.Prelude.{pos, ◌+ℤ◌, ◌≤ℤ◌}
+use Rattle.std.proofs.Common.{rules, ◌∙◌, sym}
+use Rattle.std.specs.Prelude.{pos}
 use Rattle.std.proofs.lemmas.Int.{to_z-of_z}
 use mir.Val.{SFits}
 use mir.Syntax.{w64}
-use Rattle.qc_model.specs.Left.{sum_range}
-use Rattle.qc_model.specs.Ranges.{Range, range_of}
-use Rattle.qc_model.specs.Refuted.{left_to}
-use Rattle.model_arguments.specs.Repeats.{has_repeat}
-use Rattle.model_arguments.specs.Written.{args_at, ints_at}
 use Rattle.model_arguments.proofs.Bools.{not_false}
 use Rattle.model_arguments.proofs.Kept.{reaches}
-use Rattle.qc_refuter.proofs.Ready.{rule_met}
 use Rattle.dense_close.specs.Slack.{AreNear}
-use Rattle.dense_close.proofs.Sums.{roomy}
+use Rattle.dense_close.specs.Taking.{takes_of}
 use Rattle.dense_close.proofs.slack.has_room.Goals as goal
 
-pub factors_met-factors-requires : goal.factors_met-factors-requires
-factors_met-factors-requires c =
-    rw c.arguments-args.ensures (rule_met c.args.problem.now c.args.store.now.box c.known.ensures.domains c.requires.asked.declared c.requires.asked.full c.args.rule.now c.requires.asked.rule)
+pub returns-clause-room : goal.returns-clause-room
+returns-clause-room c = λ h.
+    let s_fits : SFits w64 c.args.s = search rules in
+    reaches c.args.s (pos 0) (simp to_z-of_z at c.if-s-lt0.false)
 
-pub items_met-items-requires : goal.items_met-items-requires
-items_met-items-requires c =
-    rw c.arguments-args.ensures (rule_met c.args.problem.now c.args.store.now.box c.known.ensures.domains c.requires.asked.declared c.requires.asked.full c.args.rule.now c.requires.asked.rule)
+pub returns-clause-near : goal.returns-clause-near
+returns-clause-near c = λ h.
+    let t = c.args.task.now in
+    let s_fits : SFits w64 c.args.s = search rules in
+    let near : AreNear (takes_of t.taking t.problem.now c.args.rule.now) c.args.s c.args.factors.now c.args.items.now c.args.store.now.box = simp to_z-of_z at (c.are_near.ensures c.if-not-are_near.false) in
+    near
 
-pub returns : goal.returns
-returns c = λ h.
-    let r = c.args.rule.now in
-    let box = c.args.store.now.box in
-    let s = c.room_of-s.result in
-    let s_fits : SFits w64 s = search rules in
-    let b_fits : SFits w64 c.args.bound = search rules in
-    let factors : c.factors_met-factors.result.now ≡ ints_at r.args 0 = c.factors_met-factors.ensures.is ∙ ap (λ a. ints_at a 0) c.arguments-args.ensures in
-    let items : c.items_met-items.result.now ≡ args_at r.args 1 = c.items_met-items.ensures.is ∙ ap (λ a. args_at a 1) c.arguments-args.ensures in
-    let whole : range_of c.sum_extent.result.from c.sum_extent.result.to ≡ sum_range (ints_at r.args 0) (map (left_to box) (args_at r.args 1)) =
-    c.sum_extent.ensures.value ∙ (ap (λ ns. sum_range ns (map (left_to box) c.items_met-items.result.now)) factors ∙ ap (λ xs. sum_range (ints_at r.args 0) (map (left_to box) xs)) items) in
-    let room : pos 0 ≤ℤ s = reaches s (pos 0) (simp to_z-of_z at c.if-s-lt0.false) in
-    let apart : has_repeat (args_at r.args 1) ≡ false = ap has_repeat (sym items) ∙ (sym c.is_repeated.ensures ∙ not_false c.is_repeated.result h) in
-    let near : AreNear s c.factors_met-factors.result.now c.items_met-items.result.now box = simp to_z-of_z at (c.are_near.ensures c.if-not-are_near.false) in
-    let under : (c.sum_extent.result.from +ℤ s) ≤ℤ c.args.bound = simp to_z-of_z at (c.room_of-s.ensures.under room) in
-    let over : c.args.is_equal ≡ true → (c.args.bound +ℤ s) ≤ℤ c.sum_extent.result.to = simp to_z-of_z at (c.room_of-s.ensures.over room) in
-    roomy r c.args.is_equal c.args.bound s box c.requires.pred c.requires.bound room apart
-    (subst (λ ns. AreNear s ns (args_at r.args 1) box) factors (subst (λ xs. AreNear s c.factors_met-factors.result.now xs box) items near))
-    (subst (λ (z : Range). (z.from +ℤ s) ≤ℤ c.args.bound) whole under) (λ e. subst (λ (z : Range). (c.args.bound +ℤ s) ≤ℤ z.to) whole (over e))
+pub returns-clause-apart : goal.returns-clause-apart
+returns-clause-apart c = λ h. sym c.has_twice.ensures ∙ not_false c.has_twice.result h

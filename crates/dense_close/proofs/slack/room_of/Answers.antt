@@ -1,44 +1,15 @@
-use Rattle.std.proofs.Common.{rules, ◌≡◌, true, false}
-use Rattle.std.specs.Prelude.{pos, ◌-ℤ◌, ◌+ℤ◌, ◌≤ℤ◌, int_lt}
+use Rattle.std.proofs.Common.{rules, ◌≡◌, true}
+use Rattle.std.specs.Prelude.{pos, ◌-ℤ◌, ◌+ℤ◌, ◌≤ℤ◌}
 use Rattle.std.proofs.lemmas.Int.{to_z-of_z}
 use mir.Val.{SFits}
 use mir.Syntax.{w64, w128}
-use Rattle.model_arguments.proofs.Kept.{reaches}
+use Rattle.model_arguments.proofs.Bools.{clash}
 use Rattle.qc_refuter.proofs.Listed.{same_most}
-use Rattle.dense_close.proofs.Sums.{room_left, at_most}
+use Rattle.dense_close.proofs.Sums.{room_left}
 use Rattle.dense_close.proofs.slack.room_of.Goals as goal
 
-pub returns-then-over-under-clause-under : goal.returns-then-over-under-clause-under
-returns-then-over-under-clause-under c =
-    let u = c.clamped-under.result in
-    let o = c.clamped-over.result in
-    let u_fits : SFits w64 u = search rules in
-    let o_fits : SFits w64 o = search rules in
-    let bound : SFits w64 c.args.bound = search rules in
-    let from : SFits w128 c.args.extent.from = search rules in
-    let to : SFits w128 c.args.extent.to = search rules in
-    let b_wide : SFits w128 c.args.bound = search rules in
-    let f_wide : SFits w128 (c.args.bound -ℤ c.args.extent.from) = search rules in
-    let under : pos 0 ≤ℤ u → u ≤ℤ (c.args.bound -ℤ c.args.extent.from) = simp to_z-of_z at c.clamped-under.ensures in
-    let less : int_lt o u ≡ true = simp to_z-of_z at c.if-over-under.true in
-    let all : pos 0 ≤ℤ o → (c.args.extent.from +ℤ o) ≤ℤ c.args.bound = room_left c.args.extent.from c.args.bound u o under (at_most o u less) in
-    simp to_z-of_z all
-
-pub returns-then-over-under-clause-over : goal.returns-then-over-under-clause-over
-returns-then-over-under-clause-over c =
-    let o = c.clamped-over.result in
-    let o_fits : SFits w64 o = search rules in
-    let bound : SFits w64 c.args.bound = search rules in
-    let from : SFits w128 c.args.extent.from = search rules in
-    let to : SFits w128 c.args.extent.to = search rules in
-    let b_wide : SFits w128 c.args.bound = search rules in
-    let t_wide : SFits w128 (c.args.extent.to -ℤ c.args.bound) = search rules in
-    let over : pos 0 ≤ℤ o → o ≤ℤ (c.args.extent.to -ℤ c.args.bound) = simp to_z-of_z at c.clamped-over.ensures in
-    let all : pos 0 ≤ℤ o → c.args.is_equal ≡ true → (c.args.bound +ℤ o) ≤ℤ c.args.extent.to = λ z e. room_left c.args.bound c.args.extent.to o o over (same_most o) z in
-    simp to_z-of_z all
-
-pub returns-else-over-under-clause-under : goal.returns-else-over-under-clause-under
-returns-else-over-under-clause-under c =
+pub returns-then-is_equal-clause-under : goal.returns-then-is_equal-clause-under
+returns-then-is_equal-clause-under c =
     let u = c.clamped-under.result in
     let u_fits : SFits w64 u = search rules in
     let bound : SFits w64 c.args.bound = search rules in
@@ -50,11 +21,9 @@ returns-else-over-under-clause-under c =
     let all : pos 0 ≤ℤ u → (c.args.extent.from +ℤ u) ≤ℤ c.args.bound = room_left c.args.extent.from c.args.bound u u under (same_most u) in
     simp to_z-of_z all
 
-pub returns-else-over-under-clause-over : goal.returns-else-over-under-clause-over
-returns-else-over-under-clause-over c =
-    let u = c.clamped-under.result in
+pub returns-then-is_equal-clause-over : goal.returns-then-is_equal-clause-over
+returns-then-is_equal-clause-over c =
     let o = c.clamped-over.result in
-    let u_fits : SFits w64 u = search rules in
     let o_fits : SFits w64 o = search rules in
     let bound : SFits w64 c.args.bound = search rules in
     let from : SFits w128 c.args.extent.from = search rules in
@@ -62,6 +31,21 @@ returns-else-over-under-clause-over c =
     let b_wide : SFits w128 c.args.bound = search rules in
     let t_wide : SFits w128 (c.args.extent.to -ℤ c.args.bound) = search rules in
     let over : pos 0 ≤ℤ o → o ≤ℤ (c.args.extent.to -ℤ c.args.bound) = simp to_z-of_z at c.clamped-over.ensures in
-    let less : int_lt o u ≡ false = simp to_z-of_z at c.if-over-under.false in
-    let all : pos 0 ≤ℤ u → c.args.is_equal ≡ true → (c.args.bound +ℤ u) ≤ℤ c.args.extent.to = λ z e. room_left c.args.bound c.args.extent.to o u over (reaches o u less) z in
+    let all : pos 0 ≤ℤ o → c.args.is_equal ≡ true → (c.args.bound +ℤ o) ≤ℤ c.args.extent.to = λ z e. room_left c.args.bound c.args.extent.to o o over (same_most o) z in
     simp to_z-of_z all
+
+pub returns-else-is_equal-clause-under : goal.returns-else-is_equal-clause-under
+returns-else-is_equal-clause-under c =
+    let u = c.clamped-under.result in
+    let u_fits : SFits w64 u = search rules in
+    let bound : SFits w64 c.args.bound = search rules in
+    let from : SFits w128 c.args.extent.from = search rules in
+    let to : SFits w128 c.args.extent.to = search rules in
+    let b_wide : SFits w128 c.args.bound = search rules in
+    let f_wide : SFits w128 (c.args.bound -ℤ c.args.extent.from) = search rules in
+    let under : pos 0 ≤ℤ u → u ≤ℤ (c.args.bound -ℤ c.args.extent.from) = simp to_z-of_z at c.clamped-under.ensures in
+    let all : pos 0 ≤ℤ u → (c.args.extent.from +ℤ u) ≤ℤ c.args.bound = room_left c.args.extent.from c.args.bound u u under (same_most u) in
+    simp to_z-of_z all
+
+pub returns-else-is_equal-clause-over : goal.returns-else-is_equal-clause-over
+returns-else-is_equal-clause-over c = λ z e. absurd (clash c.args.is_equal e c.if-is_equal.false)
