@@ -14,11 +14,11 @@ const ROUNDS: u32 = 4;
 /// A clause that mentions a variable, which makes it true by this value.
 #[derive(Clone, Copy)]
 pub(crate) struct Mention {
-    c: ConId,
-    value: i64,
+    pub(crate) c: ConId,
+    pub(crate) value: i64,
 }
 
-/// The clauses of the goal that mention each variable, where values may be turned over.
+/// The clauses that mention each variable, and whether values may be turned over.
 #[derive(Drop)]
 pub(crate) struct Slope {
     mentions: Vec<Vec<Mention>>,
@@ -42,11 +42,11 @@ pub(crate) fn slope_of(engine: &Engine, last_forall: usize) -> Result<Slope, All
     for _ in 0..engine.facts.variables() {
         mentions.push(Vec::new(engine.alloc))?;
     }
-    let (first, end) = engine.facts.rules_at(engine.facts.goal());
+    let (first, _) = engine.facts.rules_at(engine.facts.goal());
     let mut is_open = true;
-    for k in first..end {
+    for k in 0..engine.facts.rules() {
         let c = rule_at(k);
-        if !engine.facts.is_clause(c) {
+        if k >= first && !engine.facts.is_clause(c) {
             is_open = is_open
                 && engine
                     .facts
@@ -139,7 +139,8 @@ impl<'p> Analyst<'p> {
         Ok(counts)
     }
 
-    fn mentions_of(&self, x: VarId) -> &[Mention] {
+    /// The clauses that mention a variable.
+    pub(crate) fn mentions_of(&self, x: VarId) -> &[Mention] {
         match self.slope.mentions.get(x.0 as usize) {
             Some(list) => list.as_slice(),
             None => &[],

@@ -1,7 +1,7 @@
 //! What makes constraints hold: one true item of each clause, as few as are found, and as little as is seen of the others.
 use crate::study::Analyst;
 use lemma_engine::Engine;
-use lemma_ground::TruthOf;
+use lemma_ground::{TruthOf, rule_at};
 use lemma_needs::{Question, changes_of, needed};
 use qc_model::{ConId, Kind, VarId};
 use std::alloc::AllocError;
@@ -28,21 +28,91 @@ impl<'p> Analyst<'p> {
         below: usize,
         loser: Kind,
     ) -> Result<(), AllocError> {
-        let mut open: Vec<ConId> = Vec::new(engine.alloc);
         for k in first..end {
-            let c = ConId(u16::try_from(k).unwrap_or(u16::MAX));
+            if !engine.facts.is_clause(rule_at(k)) {
+                self.mark_rule(engine, rule_at(k), below)?;
+            }
+        }
+        let mut of_loser: Vec<ConId> = Vec::new(engine.alloc);
+        let mut of_winner: Vec<ConId> = Vec::new(engine.alloc);
+        let mut is_open = vec![in engine.alloc; false; engine.facts.rules()]?;
+        for k in first..end {
+            let c = rule_at(k);
             if !engine.facts.is_clause(c) {
-                self.mark_rule(engine, c, below)?;
                 continue;
             }
             self.go_over(engine.facts.items_of(c).len());
-            match self.best_item(engine, c, below, loser) {
-                Some((Rank::Free, _)) => {}
-                Some((Rank::Losers, _)) | None => open.push(c)?,
-                Some((_, x)) => self.mark_variable(engine, x)?,
+            match self.best_rank(engine, c, below, loser) {
+                Some(Rank::Free) => continue,
+                Some(Rank::Losers) | None => of_loser.push(c)?,
+                Some(_) => of_winner.push(c)?,
+            }
+            set_open(&mut is_open, c, true);
+        }
+        // what is marked for the loser's clauses serves the others too
+        self.mark_cover(engine, of_loser, &mut is_open)?;
+        for c in of_winner.as_slice() {
+            if has_open(&is_open, *c)
+                && let Some(x) = self.widest_item(engine, *c, &is_open, below, loser)
+            {
+                self.mark_closing(engine, x, &mut is_open)?;
             }
         }
-        self.mark_cover(engine, open, below, loser)
+        Ok(())
+    }
+
+    // Marks a variable. Clauses that it makes true aren't open any more.
+    fn mark_closing(
+        &mut self,
+        engine: &Engine,
+        x: VarId,
+        is_open: &mut [bool],
+    ) -> Result<(), AllocError> {
+        self.mark_variable(engine, x)?;
+        let value = self.value(engine, x);
+        for mention in self.mentions_of(x) {
+            if mention.value == value {
+                set_open(is_open, mention.c, false);
+            }
+        }
+        Ok(())
+    }
+
+    // Of the variables that make a clause true and are taken most gladly, that which makes most open clauses true.
+    fn widest_item(
+        &self,
+        engine: &Engine,
+        c: ConId,
+        is_open: &[bool],
+        below: usize,
+        loser: Kind,
+    ) -> Option<VarId> {
+        let mut best: Option<(Rank, usize, VarId)> = None;
+        for item in engine.facts.items_of(c) {
+            if let Some(rank) = self.rank_of(engine, item, below, loser) {
+                let count = self.count_open(item, is_open);
+                let is_better = match best {
+                    Some((before, most, _)) => rank < before || rank == before && count > most,
+                    None => true,
+                };
+                if is_better {
+                    best = Some((rank, count, item.x));
+                }
+            }
+        }
+        let (_, _, x) = best?;
+        Some(x)
+    }
+
+    // How many open clauses an item makes true.
+    fn count_open(&self, item: &TruthOf, is_open: &[bool]) -> usize {
+        let mut count = 0usize;
+        for mention in self.mentions_of(item.x) {
+            if mention.value == item.value && has_open(is_open, mention.c) {
+                count = count.saturating_add(1);
+            }
+        }
+        count
     }
 
     fn mark_variable(&mut self, engine: &Engine, x: VarId) -> Result<(), AllocError> {
@@ -103,35 +173,21 @@ impl<'p> Analyst<'p> {
         }
     }
 
-    fn best_item(
-        &self,
-        engine: &Engine,
-        c: ConId,
-        below: usize,
-        loser: Kind,
-    ) -> Option<(Rank, VarId)> {
-        let mut best: Option<(Rank, VarId)> = None;
+    // The best rank of a clause's true items.
+    fn best_rank(&self, engine: &Engine, c: ConId, below: usize, loser: Kind) -> Option<Rank> {
+        let mut best: Option<Rank> = None;
         for item in engine.facts.items_of(c) {
-            if matches!(best, Some((Rank::Free, _))) {
+            if best == Some(Rank::Free) {
                 break;
             }
             if let Some(rank) = self.rank_of(engine, item, below, loser) {
-                let is_better = match best {
-                    Some((before, _)) => rank < before,
-                    None => true,
+                best = match best {
+                    Some(before) if before <= rank => Some(before),
+                    _ => Some(rank),
                 };
-                if is_better {
-                    best = Some((rank, item.x));
-                }
             }
         }
         best
-    }
-
-    // Whether a clause is true by a value of which nothing more has to be said.
-    fn has_free_item(&self, engine: &Engine, c: ConId, below: usize, loser: Kind) -> bool {
-        engine.facts.items_of(c).iter().any(|item| self.rank_of(engine, item, below, loser)
-            == Some(Rank::Free))
     }
 
     // Marks variables by which all these clauses are true, each time the one that makes most of them so.
@@ -139,8 +195,7 @@ impl<'p> Analyst<'p> {
         &mut self,
         engine: &Engine,
         clauses: Vec<ConId>,
-        below: usize,
-        loser: Kind,
+        is_open: &mut [bool],
     ) -> Result<(), AllocError> {
         let mut open = clauses;
         let mut counts = vec![in engine.alloc; 0usize; engine.facts.variables()]?;
@@ -148,7 +203,7 @@ impl<'p> Analyst<'p> {
             self.go_over(engine.facts.variables());
             let mut left = Vec::new(engine.alloc);
             for c in open.as_slice() {
-                if !self.has_free_item(engine, *c, below, loser) {
+                if has_open(is_open, *c) {
                     left.push(*c)?;
                 }
             }
@@ -173,7 +228,7 @@ impl<'p> Analyst<'p> {
             let Some(x) = self.most_of(&counts) else {
                 return Ok(());
             };
-            self.mark_variable(engine, x)?;
+            self.mark_closing(engine, x, is_open)?;
         }
         Ok(())
     }
@@ -213,5 +268,15 @@ impl<'p> Analyst<'p> {
     ) -> Result<(), AllocError> {
         let (first, end) = engine.facts.rules_at(scope);
         self.mark_holding(engine, first, end, scope, loser)
+    }
+}
+
+fn has_open(is_open: &[bool], c: ConId) -> bool {
+    is_open.get(c.0 as usize).copied().unwrap_or(false)
+}
+
+fn set_open(is_open: &mut [bool], c: ConId, value: bool) {
+    if let Some(slot) = is_open.get_mut(c.0 as usize) {
+        *slot = value;
     }
 }

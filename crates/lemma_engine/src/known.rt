@@ -67,7 +67,39 @@ pub struct Known {
     pub second: usize,
 }
 
+/// Of the values left to a condition's variable all meet it, some do, or none.
+#[derive(Clone, Copy, PartialEq, Eq)]
+pub enum Outlook {
+    Met,
+    Open,
+    Void,
+}
+
 impl Condition {
+    /// Whether all values left meet it, some, or none. The ends alone tell it mostly.
+    #[inline]
+    pub fn outlook(&self, boxes: &Boxes) -> Outlook {
+        let (least, greatest) = (boxes.least(self.x), boxes.greatest(self.x));
+        if greatest < self.lo || self.hi < least {
+            return Outlook::Void;
+        }
+        if self.ranges.is_empty() {
+            let (is_above, is_below) = (self.lo <= least, greatest <= self.hi);
+            if is_above && is_below {
+                return Outlook::Met;
+            }
+            if is_above || is_below {
+                return Outlook::Open;
+            }
+        } else if self.is_met(boxes) {
+            return Outlook::Met;
+        }
+        match self.value_of(boxes) {
+            Some(_) => Outlook::Open,
+            None => Outlook::Void,
+        }
+    }
+
     /// Whether each value left meets it.
     pub fn is_met(&self, boxes: &Boxes) -> bool {
         if boxes.least(self.x) < self.lo || boxes.greatest(self.x) > self.hi {

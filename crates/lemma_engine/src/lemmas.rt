@@ -1,6 +1,6 @@
 //! Lemmas that are looked at once a watched condition comes to hold.
 use crate::engine::{Cause, Choice, Conflict, Engine, Watch};
-use crate::known::{Condition, Known};
+use crate::known::{Condition, Known, Outlook};
 use lemma_ground::Why;
 use qc_model::{Kind, VarId};
 use std::alloc::AllocError;
@@ -54,11 +54,10 @@ impl<'p> Engine<'p> {
         let mut open: Option<(usize, VarId)> = None;
         let mut wait: Option<(usize, usize)> = None;
         for (k, condition) in lemma.conditions.iter().enumerate() {
-            if condition.is_met(&self.boxes) {
-                continue;
-            }
-            if condition.value_of(&self.boxes).is_none() {
-                return Sight::Void(k);
+            match condition.outlook(&self.boxes) {
+                Outlook::Met => continue,
+                Outlook::Void => return Sight::Void(k),
+                Outlook::Open => {}
             }
             if self.facts.side_of(condition.x) == lemma.loser {
                 if let Some((other, _)) = open {
@@ -350,10 +349,11 @@ impl<'p> Engine<'p> {
 
     // How many watches of a list there are before the first whose lemma may have something to say.
     fn quiet_watches(&self, list: usize, x: VarId) -> usize {
+        let (least, greatest) = (self.boxes.least(x), self.boxes.greatest(x));
         let mut quiet = 0usize;
         if let Some(watches) = self.watches.get(list) {
             for watch in watches.as_slice() {
-                if !self.is_quiet(watch, x) {
+                if !self.is_quiet_within(watch, x, least, greatest) {
                     break;
                 }
                 quiet = quiet.saturating_add(1);
@@ -362,10 +362,15 @@ impl<'p> Engine<'p> {
         quiet
     }
 
-    // Whether the watched condition of x may not be met yet, or the other one can't be any more, by their ends.
     fn is_quiet(&self, watch: &Watch, x: VarId) -> bool {
-        self.boxes.least(x) < watch.lo
-            || self.boxes.greatest(x) > watch.hi
+        self.is_quiet_within(watch, x, self.boxes.least(x), self.boxes.greatest(x))
+    }
+
+    // Whether the watched condition of x, which has these ends, may not be met yet, or the other one can't be any more, by the
+    // ends of its variable.
+    fn is_quiet_within(&self, watch: &Watch, x: VarId, least: i64, greatest: i64) -> bool {
+        least < watch.lo
+            || greatest > watch.hi
             || watch.other.0 != x.0
                 && (self.boxes.greatest(watch.other) < watch.other_lo
                     || self.boxes.least(watch.other) > watch.other_hi)
@@ -382,13 +387,13 @@ impl<'p> Engine<'p> {
         let Some(condition) = lemma.conditions.get(watch.place) else {
             return Ok((None, None));
         };
-        if !condition.is_met(&self.boxes) {
+        if condition.outlook(&self.boxes) != Outlook::Met {
             return Ok((Some(watch), None));
         }
         let other = beside(lemma, watch.place);
         if other != watch.place
             && let Some(condition) = lemma.conditions.get(other)
-            && condition.value_of(&self.boxes).is_none()
+            && condition.outlook(&self.boxes) == Outlook::Void
         {
             return Ok((Some(seen_beside(watch, condition)), None));
         }

@@ -18,4 +18,4 @@ mod rules;
 mod waiting;
 
 pub use engine::{AS_A_LOOK, Cause, Choice, Conflict, Engine};
-pub use known::{Condition, Finish, Known, Range, SumCondition, Taken};
+pub use known::{Condition, Finish, Known, Outlook, Range, SumCondition, Taken};

@@ -2,6 +2,7 @@
 use crate::bench::Bench;
 use crate::marks::{Needs, SumUse};
 use lemma_engine::{Choice, Engine};
+use lemma_ground::{Linear, Total};
 use qc_model::{Arg, ConId, VarId};
 use std::alloc::AllocError;
 
@@ -53,7 +54,10 @@ pub fn needed(
 ) -> Result<(), AllocError> {
     let mut candidates = candidates_of(engine, question)?;
     *tests = tests.saturating_add((candidates.len() / AS_A_TEST) as u64);
-    if candidates.len() <= MOST_TRIED && shows(engine, bench, question, &candidates, tests)? {
+    if candidates.len() <= MOST_TRIED
+        && shows(engine, bench, question, &candidates, tests)?
+        && !is_reduced_by_sum(engine, bench, question, &mut candidates, tests)?
+    {
         reduce(engine, bench, question, &mut candidates, tests)?;
     }
     let sum = sum_asked(engine, question);
@@ -79,6 +83,116 @@ fn sum_asked(engine: &Engine, question: &Question) -> Option<SumUse> {
         }),
         Arg::Var(_) => None,
     }
+}
+
+// Leaves out what a linear constraint doesn't need, by what each variable adds to its sum, where each has one change at most. Says
+// whether that was done, and what is left was seen to show what is asked.
+fn is_reduced_by_sum(
+    engine: &Engine,
+    bench: &mut Bench,
+    question: &Question,
+    candidates: &mut Vec<Candidate>,
+    tests: &mut u64,
+) -> Result<bool, AllocError> {
+    let Some(linear) = engine.facts.linear_of(question.c) else {
+        return Ok(false);
+    };
+    if matches!(linear.bound, Arg::Var(_)) || has_two_of_one(candidates) {
+        return Ok(false);
+    }
+    bench.open()?;
+    let _ = lay_given(engine, bench, question)?;
+    let before = ends_of(engine, bench, candidates)?;
+    let _ = lay(engine, bench, candidates, Part::All)?;
+    leave_out_by_sum(engine, bench, linear, question.holds, candidates, &before)?;
+    bench.close();
+    if shows(engine, bench, question, candidates, tests)? {
+        return Ok(true);
+    }
+    for candidate in candidates.iter_mut() {
+        candidate.is_used = true;
+    }
+    Ok(false)
+}
+
+// The candidates of one variable stand one after the other.
+fn has_two_of_one(candidates: &[Candidate]) -> bool {
+    let mut last: Option<usize> = None;
+    for candidate in candidates {
+        if last == Some(candidate.group) {
+            return true;
+        }
+        last = Some(candidate.group);
+    }
+    false
+}
+
+// The ends that the candidates' variables have on the bench.
+fn ends_of(
+    engine: &Engine,
+    bench: &Bench,
+    candidates: &[Candidate],
+) -> Result<Vec<(i64, i64)>, AllocError> {
+    let mut ends = Vec::new(engine.alloc);
+    for candidate in candidates {
+        ends.push(bench.ends(variable_of(engine, candidate)))?;
+    }
+    Ok(ends)
+}
+
+fn variable_of(engine: &Engine, candidate: &Candidate) -> VarId {
+    engine
+        .trail
+        .at(candidate.place)
+        .map_or(VarId(u16::MAX), |it| it.x)
+}
+
+// What a variable with these ends adds to a sum.
+fn added(factor: i64, ends: (i64, i64)) -> Total {
+    let (least, greatest) = ends;
+    let (a, b) = (
+        factor.saturating_mul(least),
+        factor.saturating_mul(greatest),
+    );
+    Total {
+        lo: a.min(b),
+        hi: a.max(b),
+    }
+}
+
+// Leaves out one candidate after the other, the latest first, as long as the sum keeps the constraint without it, or refutes it. All
+// are laid; without one, its variable has the ends from before.
+fn leave_out_by_sum(
+    engine: &Engine,
+    bench: &Bench,
+    linear: &Linear,
+    holds: bool,
+    candidates: &mut Vec<Candidate>,
+    before: &[(i64, i64)],
+) -> Result<(), AllocError> {
+    let mut order: Vec<(usize, usize)> = Vec::new(engine.alloc);
+    for (k, candidate) in candidates.iter().enumerate() {
+        order.push((candidate.place, k))?;
+    }
+    order.sort_unstable();
+    let mut sum = bench.total(linear);
+    for (_, k) in order.iter().rev() {
+        let (Some(candidate), Some(ends)) = (candidates.get_mut(*k), before.get(*k)) else {
+            continue;
+        };
+        let x = variable_of(engine, candidate);
+        let factor = linear.factor_of(x);
+        let (with, without) = (added(factor, bench.ends(x)), added(factor, *ends));
+        let rest = Total {
+            lo: sum.lo.saturating_sub(with.lo).saturating_add(without.lo),
+            hi: sum.hi.saturating_sub(with.hi).saturating_add(without.hi),
+        };
+        if bench.is_told(linear, rest, holds) {
+            candidate.is_used = false;
+            sum = rest;
+        }
+    }
+    Ok(())
 }
 
 fn candidates_of(engine: &Engine, question: &Question) -> Result<Vec<Candidate>, AllocError> {

@@ -1,6 +1,6 @@
 //! Boxes that are made of some changes, to ask what these alone show.
 use lemma_engine::{Choice, Engine};
-use lemma_ground::{Boxes, Change, Cut};
+use lemma_ground::{Boxes, Change, Cut, Linear, Total};
 use model_arguments::{arguments, items_at, one_at};
 use qc_model::{Arg, Argument, ConId, Meaning, Problem, VarId, meaning_of};
 use std::alloc::{AllocError, Global};
@@ -62,6 +62,25 @@ impl<'p> Bench<'p> {
 
     pub fn refutes(&self, c: ConId) -> bool {
         self.boxes.refutes(c)
+    }
+
+    /// The least and the greatest value left.
+    pub(crate) fn ends(&self, x: VarId) -> (i64, i64) {
+        (self.boxes.least(x), self.boxes.greatest(x))
+    }
+
+    /// Where a sum lies.
+    pub(crate) fn total(&self, linear: &Linear) -> Total {
+        linear.total(&self.boxes)
+    }
+
+    /// Whether a sum that lies there keeps its constraint, or where that isn't asked, refutes it.
+    pub(crate) fn is_told(&self, linear: &Linear, sum: Total, holds: bool) -> bool {
+        if holds {
+            linear.is_kept_by(sum, &self.boxes)
+        } else {
+            linear.is_refuted_by(sum, &self.boxes)
+        }
     }
 
     /// Whether the constraint holds on all that is left, as far as is seen at once.

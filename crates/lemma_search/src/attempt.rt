@@ -2,6 +2,7 @@
 use crate::deciding::first_values;
 use crate::listing::{List, listed};
 use crate::search::is_decided;
+use crate::walking::walk_from;
 use lemma_analysis::Analyst;
 use lemma_engine::Engine;
 use qc_model::Problem;
@@ -27,15 +28,21 @@ pub(crate) struct Attempt<'p> {
 }
 
 impl<'p> Attempt<'p> {
-    /// A search that begins with what clauses say of values, and gives up after so many looks.
+    /// A search that begins with what clauses say of values, or with values that make all of them true, where a walk finds some.
+    /// It gives up after so many looks.
     pub(crate) fn first(
         alloc: Global,
         problem: &'p Problem,
         budget: u64,
     ) -> Result<Attempt<'p>, AllocError> {
         let mut engine = Engine::new(alloc, problem)?;
-        let analyst = Analyst::new(alloc, problem, &engine, budget)?;
-        engine.saved = first_values(alloc, &engine)?;
+        let mut analyst = Analyst::new(alloc, problem, &engine, budget)?;
+        let walk = walk_from(alloc, &engine, first_values(alloc, &engine)?)?;
+        analyst.go_over(walk.gone_over);
+        engine.saved = match walk.values {
+            Some(values) => values,
+            None => first_values(alloc, &engine)?,
+        };
         Ok(Attempt {
             problem,
             alloc,

@@ -11,6 +11,7 @@ mod pacing;
 mod replay;
 mod search;
 mod shortening;
+mod walking;
 
 pub use listing::{List, Shown};
 pub use search::learn;

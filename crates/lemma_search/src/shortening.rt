@@ -23,7 +23,10 @@ const TIMES: [Keeps; 9] = [
 /// Which part of the looks that are left it takes in all.
 const PART: u64 = 500;
 
-/// The shortest of this list and those that are found by searching again, within a small part of so many looks.
+/// So many looks, those of the first search among them, are few, and may be taken where as many are left.
+const FEW: u64 = 80_000;
+
+/// The shortest of this list and those that are found by searching again, within a small part of so many looks, or few.
 pub(crate) fn shortest(
     attempt: &mut Attempt,
     first: List,
@@ -31,7 +34,8 @@ pub(crate) fn shortest(
 ) -> Result<List, AllocError> {
     let mut found = first;
     let mut size = size_of(&found);
-    let mut left = budget / PART;
+    let more = FEW.saturating_sub(attempt.looks());
+    let mut left = (budget / PART).max(more.min(budget));
     for keeps in TIMES {
         // what needs one lemma alone is short
         if found.shown.len() < 2 {
