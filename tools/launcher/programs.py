@@ -144,11 +144,11 @@ Where to read: docs/tell.md (words, lines and statuses), docs/command.md (the ot
 QDENSE = Program(
     name="qdense",
     crate="dense_program",
-    what="solves games by lists of lemmas: certificates that say who wins, each part shown once.",
+    what="solves games by lists of lemmas and by dense certificates, which say much in few lines.",
     commands=(
         Command("solve", "solve PROBLEM [--turns N]",
-                "solves the game of a file and writes a list of lemmas that proves who wins; where none is found, or the\n"
-                "game has wishes, the certificate that ./qecode solve writes",
+                "solves the game of a file and writes a list of lemmas that proves who wins or, where something is optimised, a\n"
+                "dense certificate; where neither is found, the certificate that ./qecode solve writes",
                 "solve examples/counters.qc > counters.cert", ((1, TEXT),)),
         Command("check", "check PROBLEM CERTIFICATE",
                 "says whether a certificate, a list, a dense one or one of ./qecode, proves what it states: yes and the answer,\n"
@@ -159,7 +159,8 @@ QDENSE = Program(
                 "qbf examples/formulas/copycat.qdimacs", ((1, TEXT),)),
     ),
     notes=EVERYWHERE + """
-What the lines of a list mean stands in docs/lemmas.md, what the statuses mean in docs/command.md.
+What the lines of a list mean stands in docs/lemmas.md, those of a dense certificate in docs/dense.md, what the statuses mean in
+docs/command.md.
 """,
 )
 

@@ -183,7 +183,7 @@ game_done : (turns : ℕ) (g : Game) (s : Status) (t : List ℕ) → SolvesGame 
 game_done turns g s t h m f = elim h [ inl list ↦ list.done | inr k ↦ solves_done turns g s t k m f ]
 
 solved_done : (turns : ℕ) (g : Game) (s : Status) (t : List ℕ) → Solves turns g s t → ¬ (s ≡ Memory) → full_turns_of g ≤ turns → s ≡ Done
-solved_done turns g s t h m f = elim h [ inl best ↦ best.done | inr k ↦ game_done turns g s t k m f ]
+solved_done turns g s t h m f = elim h [ inl shown ↦ shown.done | inr (inl best) ↦ best.done | inr (inr k) ↦ game_done turns g s t k m f ]
 
 formula_done : (turns : ℕ) (φ : Formula) (s : Status) (t : List ℕ) → DecidesGame turns φ s t → ¬ (s ≡ Memory) → full_turns_of (game_of φ) ≤ turns → s ≡ Done
 formula_done turns φ s t h m f = elim h [ inl d ↦ d.list.done | inr k ↦ decides_done turns φ s t k m f ]

@@ -10,6 +10,7 @@ use Rattle.lemma_text.specs.Places.{IsFault}
 use Rattle.lemma_judge.specs.Checking.{IsProof, IsNoProof}
 use Rattle.dense_text.specs.Places.{IsFault as IsFaultOfDense}
 use Rattle.dense_judge.specs.Checking.{IsProof as IsDenseProof, IsNoProof as IsNoDenseProof}
+use Rattle.dense_solver.specs.Shown.{IsSettled}
 use Rattle.best_judge.specs.Proof.{IsBestProof, IsNoProof as IsNoBestProof, IsFaultOfBest}
 use Rattle.proof_tree.specs.declared.tree.Outcome.{Outcome}
 use Rattle.proof_tree.specs.declared.tree.Outcome.TheVariants.{True}
@@ -37,13 +38,26 @@ pub record SolvesByBest (g : Game) (status : Status) (text : List ℕ) : Type 0 
   pub proof : IsBestProof g text value
   pub within : length text ≤ 1073741824
 
+-- the text is that of a dense certificate that proves who wins, and what it states is so; it is no longer than `check` reads
+pub record SolvesDensely (g : Game) (status : Status) (text : List ℕ) : Type 0 where
+  pub done : status ≡ Done
+  pub outcome : Outcome
+  pub optimum : Option ℤ
+  pub settled : IsSettled outcome
+  pub proof : IsDenseProof g text outcome optimum
+  pub within : length text ≤ 1073741824
+
 -- what is answered for a problem, and so many turns, where no optimum is looked for by lists: a list, or what `qecode solve` answers
 abbrev pub SolvesGame : ℕ → Game → Status → List ℕ → Type 0
 SolvesGame turns g status text = SolvesByList g status text ⊎ SolvesProblem turns g status text
 
+-- the same where an optimum is looked for by lists
+abbrev pub SolvesByLists : ℕ → Game → Status → List ℕ → Type 0
+SolvesByLists turns g status text = SolvesByBest g status text ⊎ SolvesGame turns g status text
+
 -- what `solve` answers for a problem, and so many turns
 abbrev pub Solves : ℕ → Game → Status → List ℕ → Type 0
-Solves turns g status text = SolvesByBest g status text ⊎ SolvesGame turns g status text
+Solves turns g status text = SolvesDensely g status text ⊎ SolvesByLists turns g status text
 
 -- what is so of a formula where the side of this kind loses its game
 abbrev pub TellsLoser : Kind → Formula → Type 0

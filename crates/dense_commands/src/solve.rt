@@ -5,10 +5,13 @@ ghost use Rattle.best_solver.specs.Best.{IsBest};
 ghost use Rattle.lemma_solver.specs.Believed.{IsBelieved};
 ghost use Rattle.qecode_commands.specs.Answers.{AnswersProblem};
 ghost use Rattle.qecode_commands.specs.Files.{Wrote};
-ghost use Rattle.dense_commands.specs.Answers.{Solves, SolvesGame};
+ghost use Rattle.dense_commands.specs.Answers.{Solves, SolvesByLists, SolvesGame};
+ghost use Rattle.dense_solver.specs.Shown.{IsShown};
 
 use best_solver::{Best, best_by_lemmas};
+use dense_solver::{Shown, solve_densely};
 use lemma_solver::{Believed, solve_by_lemmas};
+use likeness::asks_nothing;
 use qc_io::{Shelf, Sink};
 use qc_model::Problem;
 use qecode_commands::{Status, finish, open_problem, solve_problem};
@@ -42,10 +45,54 @@ pub(crate) fn solve_file<S: Shelf, K: Sink>(
     }
 }
 
-// Solves a game: its optimum by two lists, where both sides care for one quantity and the lists are found, and else as any game.
+// Solves a game: by a dense certificate, where something is optimised and one is found, and else by lists, or as `qecode` does.
 fn solve_best<K: Sink>(alloc: Global, problem: &Problem, turns: u64, out: &mut K) -> Status
     requires turns { (1 ≤ turns) × (turns ≤ 10000000) }
     ensures wrote { Wrote (K.written out.old) (K.written out.new) (K.faults out.old) (K.faults out.new) result (Solves turns problem.now) }
+    ensures rows { (result ≢ Status.Usage) × (result ≢ Status.ReadFault) }
+{
+    write_shown_or_search(
+        alloc,
+        problem,
+        turns,
+        shown_densely(alloc, problem, turns),
+        out,
+    )
+}
+
+// A dense certificate, where the game has a condition. In plain games lists of lemmas are shorter.
+fn shown_densely(alloc: Global, problem: &Problem, turns: u64) -> Option<Shown>
+    ensures { IfSome result (λ it. IsShown problem.now it) }
+{
+    if asks_nothing(problem) {
+        return None;
+    }
+    solve_densely(alloc, problem, turns)
+}
+
+// Writes the certificate that was found. Where there is none, the game is solved by lists, or as `qecode` does.
+fn write_shown_or_search<K: Sink>(
+    alloc: Global,
+    problem: &Problem,
+    turns: u64,
+    found: Option<Shown>,
+    out: &mut K,
+) -> Status
+    requires turns { (1 ≤ turns) × (turns ≤ 10000000) }
+    requires shown { IfSome found (λ it. IsShown problem.now it) }
+    ensures wrote { Wrote (K.written out.old) (K.written out.new) (K.faults out.old) (K.faults out.new) result (Solves turns problem.now) }
+    ensures rows { (result ≢ Status.Usage) × (result ≢ Status.ReadFault) }
+{
+    match found {
+        Some(shown) => finish(out, shown.text.as_slice(), Status::Done),
+        None => solve_by_lists(alloc, problem, turns, out),
+    }
+}
+
+// Solves a game: its optimum by two lists, where both sides care for one quantity and the lists are found, and else as any game.
+fn solve_by_lists<K: Sink>(alloc: Global, problem: &Problem, turns: u64, out: &mut K) -> Status
+    requires turns { (1 ≤ turns) × (turns ≤ 10000000) }
+    ensures wrote { Wrote (K.written out.old) (K.written out.new) (K.faults out.old) (K.faults out.new) result (SolvesByLists turns problem.now) }
     ensures rows { (result ≢ Status.Usage) × (result ≢ Status.ReadFault) }
 {
     match best_by_lemmas(alloc, problem, turns.saturating_mul(LOOKS_A_VALUE)) {
@@ -64,7 +111,7 @@ fn write_best_or_search<K: Sink>(
 ) -> Status
     requires turns { (1 ≤ turns) × (turns ≤ 10000000) }
     requires best { IfSome found (λ it. IsBest problem.now it) }
-    ensures wrote { Wrote (K.written out.old) (K.written out.new) (K.faults out.old) (K.faults out.new) result (Solves turns problem.now) }
+    ensures wrote { Wrote (K.written out.old) (K.written out.new) (K.faults out.old) (K.faults out.new) result (SolvesByLists turns problem.now) }
     ensures rows { (result ≢ Status.Usage) × (result ≢ Status.ReadFault) }
 {
     match found {

@@ -1,0 +1,8 @@
+use Rattle.dense_board.proofs.Marks.{saved_on}
+use Rattle.dense_board.proofs.board.Board.bound.Goals as goal
+
+pub invariant_of-self-clause-declared : goal.invariant_of-self-clause-declared
+invariant_of-self-clause-declared c = c.bound.ensures.fewer _ c.args.self.now.declared
+
+pub invariant_of-self-clause-saves : goal.invariant_of-self-clause-saves
+invariant_of-self-clause-saves c = saved_on _ _ _ _ c.args.self.now.saves c.bound.ensures.past

@@ -1,0 +1,58 @@
+//! Where the search stands.
+ghost use Rattle.std.specs.Prelude.{◌<◌, IfOk};
+
+use crate::stop::Stop;
+use qc_model::{ScopeId, Sense};
+
+/// How deep the search goes at most: in each scope it goes through two calls, and three for each of its variables.
+pub(crate) const DEPTH: u32 = 4_096;
+
+/// What the scope above has reached, so that nothing that is no better counts: a first value, and whether an equal one is no
+/// better, since nothing else is asked for.
+#[derive(Clone, Copy)]
+pub(crate) struct Rival {
+    pub(crate) sense: Sense,
+    pub(crate) value: i64,
+    pub(crate) ties: bool,
+}
+
+/// A scope, what the one above has reached, and whether a bound of the block stands above.
+#[derive(Clone, Copy)]
+pub(crate) struct Place {
+    pub(crate) scope: ScopeId,
+    pub(crate) rival: Option<Rival>,
+    pub(crate) bounded: bool,
+}
+
+impl Rival {
+    /// Whether a first value is no use beside it.
+    pub(crate) fn beats(self, value: i64) -> bool {
+        if value == self.value {
+            return self.ties;
+        }
+        !is_better(self.sense, value, self.value)
+    }
+}
+
+/// Whether one value is better than another.
+pub(crate) fn is_better(sense: Sense, one: i64, other: i64) -> bool {
+    match sense {
+        Sense::Min => one < other,
+        Sense::Max => one > other,
+    }
+}
+
+/// The scope after this one, or the goal.
+pub(crate) fn after(scope: ScopeId) -> ScopeId {
+    ScopeId(scope.0.saturating_add(1))
+}
+
+/// One level less of those that may still be gone down.
+pub(crate) fn one_less(depth: u32) -> Result<u32, Stop>
+    ensures { IfOk result (λ less. less < depth) }
+{
+    if depth == 0 {
+        return Err(Stop::Spent);
+    }
+    Ok(depth - 1)
+}

@@ -1,0 +1,21 @@
+//! Why a search gives up.
+use std::alloc::{AllocError, AllocFailed};
+
+/// No memory was left; or no turn, or the search met what it has no lines for.
+#[derive(Clone, Copy, PartialEq, Eq)]
+pub(crate) enum Stop {
+    Memory,
+    Spent,
+}
+
+impl From<AllocError> for Stop {
+    fn from(_error: AllocError) -> Stop {
+        Stop::Memory
+    }
+}
+
+impl<T: Drop> From<AllocFailed<T>> for Stop {
+    fn from(_error: AllocFailed<T>) -> Stop {
+        Stop::Memory
+    }
+}
