@@ -1,9 +1,9 @@
 -- What holds at saved places, as the store goes on and back.
-use Rattle.std.proofs.Common.{◌≡◌, ◌<◌, ◌≤◌, ◌⊎◌, ℕ, zero, suc, true, false, List, [], ◌∷◌, ◌++◌, length, get_or, refl, sym, ap, subst, arith, inl, inr, Some}
+use Rattle.std.proofs.Common.{◌≡◌, ◌≤◌, ◌⊎◌, ℕ, zero, suc, true, false, List, [], ◌∷◌, ◌++◌, length, refl, sym, ap, subst, arith, inl, inr, Some}
 use Rattle.std.specs.Prelude.{slice_get}
 use Rattle.std.proofs.lemmas.Option.{slice_get_within}
 use Rattle.qc_model.specs.Content.{Game}
-use Rattle.qc_model.specs.Domains.{Box, has_empty}
+use Rattle.qc_model.specs.Domains.{has_empty}
 use Rattle.model_arguments.specs.Asked.{is_box_of}
 use Rattle.fd_store.specs.Held.{Held, Follows, IsUndone, trail_len, past_box}
 use Rattle.fd_store.specs.declared.store.Mark.{Mark}

@@ -1,5 +1,5 @@
 //! What a board tells.
-ghost use Rattle.std.specs.Prelude.{◌≡◌, ◌<◌, ◌≤◌, length, false, IsTrue, IsFalse};
+ghost use Rattle.std.specs.Prelude.{◌≡◌, ◌<◌, ◌≤◌, length, false, IsTrue};
 ghost use Rattle.qc_model.specs.Domains.{has_empty};
 
 use crate::board::Board;

@@ -1,4 +1,4 @@
-use Rattle.std.proofs.Common.{◌≡◌, ◌<◌, ◌∙◌, ◌++◌, ◌∷◌, [], sym, subst, refl}
+use Rattle.std.proofs.Common.{◌<◌, ◌∙◌, ◌++◌, ◌∷◌, [], sym, subst, refl}
 use Rattle.dense_tree.specs.Tree.{Given}
 use Rattle.dense_board.proofs.starting.give_one.Goals as goal
 

@@ -1,4 +1,4 @@
-use Rattle.std.proofs.Common.{◌≡◌, true, sym, subst, List, []}
+use Rattle.std.proofs.Common.{◌≡◌, true, sym, subst, List}
 use Rattle.fd_store.specs.declared.store.Mark.{Mark}
 use Rattle.qc_model.specs.Content.{Game}
 use Rattle.std.specs.List.{list_all}

@@ -1,4 +1,4 @@
-use Rattle.std.proofs.Common.{◌≡◌, true, sym, subst, List, ◌++◌, ◌∷◌, []}
+use Rattle.std.proofs.Common.{◌≡◌, true, sym, subst, List}
 use Rattle.fd_store.specs.declared.store.Mark.{Mark}
 use Rattle.model_arguments.specs.Asked.{is_box_of}
 use Rattle.dense_board.specs.Saved.{AreSaved}
