@@ -12,7 +12,8 @@ with all its ways but learning. A line tells:
     outcome     what the program's certificate states; `limit` where the time was up, `status K` where it ended with K
     solve       processor seconds to solve, of the program and of the model, and the one by the other
     bytes       of the certificate, the same three
-    check       processor seconds of `check` on the program's certificate, and its greatest memory in megabytes
+    check       processor seconds of `check` on the program's certificate, and its greatest memory in megabytes; less than this
+                script's own, some 20, can't be told
 
 A line ends with what is to be looked at:
 
@@ -34,13 +35,13 @@ The script's status is 1 where something is WRONG or UNCHECKED.
 --runs     the least time of so many runs of less than a second each; three else
 """
 import argparse
+import multiprocessing
 import os
-import random
 import re
 import subprocess
 import tempfile
 
-from measure.ladder import least
+from measure.ladder import least, problems_of
 from measure.rungs import FAMILIES
 from program import Program, add_option
 
@@ -61,11 +62,13 @@ def compiled(folder):
 
 
 def games(options):
-    """The ladder's games that have a condition, each seed's."""
+    """The ladder's games that have a condition, each seed's. They are made in a process of its own, so that this one stays small."""
     for seed in range(options.first, options.first + options.seeds):
-        for family, make in FAMILIES.items():
+        for family in FAMILIES:
             if options.only in (None, family):
-                for name, text, known, *_ in make(random.Random(f"{seed} {family}")):
+                with multiprocessing.Pool(1) as pool:
+                    problems = pool.apply(problems_of, (family, seed))
+                for name, text, known, *_ in problems:
                     if re.search(r"\b(minimize|maximize)\b", text):
                         yield f"{name} s{seed}", text, known
 
