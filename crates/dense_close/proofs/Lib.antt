@@ -1,4 +1,6 @@
+pub mod Barred
 pub mod Cuts
+pub mod Distances
 pub mod Found
 pub mod Indexed
 pub mod Looked

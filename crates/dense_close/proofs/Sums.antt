@@ -125,7 +125,7 @@ module _ (ok : ℕ → Bool) (s : ℤ) (z : pos 0 ≤ℤ s) (box : Box) (x : ℕ
           }
 
 -- what a sum refutes that a number bounds
-at_most_is : (c : Rule) (m : ℤ) (at : Box) → c.pred ≡ IntLinLe → arg_at c.args 2 ≡ Num m → refuted_by c at ≡ int_lt m (sum_range (ints_at c.args 0) (map (left_to at) (args_at c.args 1))).from
+pub at_most_is : (c : Rule) (m : ℤ) (at : Box) → c.pred ≡ IntLinLe → arg_at c.args 2 ≡ Num m → refuted_by c at ≡ int_lt m (sum_range (ints_at c.args 0) (map (left_to at) (args_at c.args 1))).from
 at_most_is c m at e n =
     let args = map (fill (left_to at)) c.args in
     ap (λ p. refuted_as (meaning_of p) args) e
@@ -133,7 +133,7 @@ at_most_is c m at e n =
     ∙ (ap (λ ns. int_lt m (sum_range ns (lefts_at args 1)).from) (numbers_written at c.args 0)
     ∙ ap (λ ds. int_lt m (sum_range (ints_at c.args 0) ds).from) (lefts_written at c.args 1)))
 
-equal_is : (c : Rule) (m : ℤ) (at : Box) → c.pred ≡ IntLinEq → arg_at c.args 2 ≡ Num m → refuted_by c at ≡ ranges_miss (sum_range (ints_at c.args 0) (map (left_to at) (args_at c.args 1))) (range_of m m)
+pub equal_is : (c : Rule) (m : ℤ) (at : Box) → c.pred ≡ IntLinEq → arg_at c.args 2 ≡ Num m → refuted_by c at ≡ ranges_miss (sum_range (ints_at c.args 0) (map (left_to at) (args_at c.args 1))) (range_of m m)
 equal_is c m at e n =
     let args = map (fill (left_to at)) c.args in
     ap (λ p. refuted_as (meaning_of p) args) e
@@ -203,6 +203,9 @@ near_of s n p q u v d a b e f up down =
 -- the room that is left
 pub room_left : (low high u r : ℤ) → (pos 0 ≤ℤ u → u ≤ℤ (high -ℤ low)) → r ≤ℤ u → pos 0 ≤ℤ r → (low +ℤ r) ≤ℤ high
 room_left low high u r h l z = let k = h (let m = l in omega (arith, ints)) in omega (arith, ints)
+
+pub room_tight : (low high u : ℤ) → (high -ℤ low) ≤ℤ u → high ≤ℤ (low +ℤ u)
+room_tight low high u h = omega (arith, ints)
 
 pub room_less : (low high u s : ℤ) → (pos 0 ≤ℤ u → (low +ℤ u) ≤ℤ high) → s ≤ℤ u → pos 0 ≤ℤ s → (low +ℤ s) ≤ℤ high
 room_less low high u s h l z = let k = h (let m = l in omega (arith, ints)) in omega (arith, ints)

@@ -7,7 +7,7 @@ ghost use Rattle.qc_model.specs.Refuted.{refuted_by};
 ghost use Rattle.qc_model.specs.Valid.{is_number};
 ghost use Rattle.model_arguments.specs.Asked.{is_box_of};
 ghost use Rattle.fd_store.specs.Held.{Follows};
-ghost use Rattle.dense_close.specs.Cutting.{IsInside, IsStretch, IsCut, HasCut, SparesEnd, end_of as end_in};
+ghost use Rattle.dense_close.specs.Cutting.{IsInside, IsStretch, IsBarred, IsCut, HasCut, SparesEnd, end_of as end_in};
 
 use check_box::Remains;
 use fd_store::Store;
@@ -184,7 +184,7 @@ pub(crate) fn cut_end(
     cut
 }
 
-/// Takes the values of a stretch at the end of x, where the constraint c refutes them together. Whether some went.
+/// Takes the values of a stretch at the end of x, which the constraint c refutes together. Whether some went.
 pub(crate) fn cut_stretch(
     problem: &Problem,
     c: ConId,
@@ -197,6 +197,7 @@ pub(crate) fn cut_stretch(
     requires declared { IsTrue (is_box_of problem.now remains.old.box) }
     requires full { IsFalse (has_empty remains.old.box) }
     requires x { x.0 < length remains.old.box }
+    requires barred { IsBarred problem.now c.0 x.0 remains.old.box s.low s.high }
     ensures cut { IsCut problem.now c.0 x.0 remains.old.box remains.new.box }
     ensures past { Follows remains.old remains.new }
     ensures gone { HasCut result remains.old.box remains.new.box }
@@ -209,9 +210,6 @@ pub(crate) fn cut_stretch(
         return false;
     }
     if high < value {
-        return false;
-    }
-    if !refutes_stretch(problem, c, x, s, remains.store()) {
         return false;
     }
     remains.cut(x, low, high);

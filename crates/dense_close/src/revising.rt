@@ -1,15 +1,15 @@
 //! One constraint held against the box.
-ghost use Rattle.std.specs.Prelude.{◌≡◌, ◌<◌, ◌∷◌, [], ◌||◌, true, false, length, IsTrue, IsFalse, slice_get, Some};
+ghost use Rattle.std.specs.Prelude.{◌≡◌, ◌≢◌, pos, ◌<◌, ◌∷◌, [], ◌||◌, true, false, length, IsTrue, IsFalse, slice_get, Some};
 ghost use Rattle.qc_model.specs.Arguments.{variables_of};
 ghost use Rattle.qc_model.specs.Content.{Rule};
 ghost use Rattle.qc_model.specs.Domains.{Box, has_empty};
-ghost use Rattle.qc_model.specs.Lists.{Among};
-ghost use Rattle.qc_model.specs.Refuted.{refuted_by};
+ghost use Rattle.qc_model.specs.Lists.{Among, Distinct};
 ghost use Rattle.qc_model.specs.Verdict.{is_none_of};
 ghost use Rattle.model_arguments.specs.Asked.{is_box_of};
 ghost use Rattle.model_levels.specs.Spans.{is_between};
 ghost use Rattle.fd_store.specs.Held.{Follows};
 ghost use Rattle.dense_close.specs.Cutting.{IsCut, HasCut, SparesEnd};
+ghost use Rattle.dense_close.specs.Slack.{RoomTells, IsTermOf, IsLong};
 ghost use Rattle.dense_close.specs.Taking.{takes_of};
 ghost use Rattle.dense_close.specs.Waiting.{Waiting};
 ghost use Rattle.dense_close.specs.Narrowing.{IsNarrowed, IsListOf, OthersSettled, HasLooked, IsRevised};
@@ -175,6 +175,10 @@ fn trim_at(
     requires list { IsListOf task.now.problem.now task.now.span.first task.now.span.end queue.old }
     requires others { OthersSettled c.0 task.now.taking task.now.problem.now task.now.span.first task.now.span.end queue.old remains.old.box }
     requires taken { (rule : Rule) → slice_get task.now.problem.now.constraints c.0 ≡ Some rule → IsTrue (takes_of task.now.taking task.now.problem.now rule x.0) }
+    requires room { IsLong room }
+    requires tells { (rule : Rule) → slice_get task.now.problem.now.constraints c.0 ≡ Some rule → RoomTells rule room remains.old.box }
+    requires some { factor ≢ pos 0 }
+    requires term { (rule : Rule) → slice_get task.now.problem.now.constraints c.0 ≡ Some rule → IsTermOf rule factor x }
     ensures narrowed { IsNarrowed task.now.taking task.now.problem.now task.now.from task.now.stop remains.old.box remains.new.box }
     ensures past { Follows remains.old remains.new }
     ensures list { IsListOf task.now.problem.now task.now.span.first task.now.span.end queue.new }
@@ -213,6 +217,8 @@ fn trim_own(
     requires full { IsFalse (has_empty remains.old.box) }
     requires list { IsListOf task.now.problem.now task.now.span.first task.now.span.end list.old }
     requires others { OthersSettled c.0 task.now.taking task.now.problem.now task.now.span.first task.now.span.end list.old remains.old.box }
+    requires room { IsLong room }
+    requires tells { (rule : Rule) → slice_get task.now.problem.now.constraints c.0 ≡ Some rule → RoomTells rule room remains.old.box }
     ensures narrowed { IsNarrowed task.now.taking task.now.problem.now task.now.from task.now.stop remains.old.box remains.new.box }
     ensures past { Follows remains.old remains.new }
     ensures list { IsListOf task.now.problem.now task.now.span.first task.now.span.end list.new }
@@ -246,6 +252,8 @@ fn trim(task: &Task, c: ConId, room: Room, list: &mut WorkList, remains: &mut Re
     requires full { IsFalse (has_empty remains.old.box) }
     requires list { IsListOf task.now.problem.now task.now.span.first task.now.span.end list.old }
     requires others { OthersSettled c.0 task.now.taking task.now.problem.now task.now.span.first task.now.span.end list.old remains.old.box }
+    requires room { IsLong room }
+    requires tells { (rule : Rule) → slice_get task.now.problem.now.constraints c.0 ≡ Some rule → RoomTells rule room remains.old.box }
     ensures narrowed { IsNarrowed task.now.taking task.now.problem.now task.now.from task.now.stop remains.old.box remains.new.box }
     ensures past { Follows remains.old remains.new }
     ensures list { IsListOf task.now.problem.now task.now.span.first task.now.span.end list.new }
@@ -300,20 +308,6 @@ fn revise_each(task: &Task, c: ConId, list: &mut WorkList, remains: &mut Remains
     outcome(task, c, look, list, remains.store())
 }
 
-// Whether the constraint c, a sum without room, refutes the box.
-fn is_broken(problem: &Problem, c: ConId, room: Room, store: &Store) -> bool
-    requires c { c.0 < length problem.now.constraints }
-    requires declared { IsTrue (is_box_of problem.now store.now.box) }
-    requires full { IsFalse (has_empty store.now.box) }
-    ensures { IsTrue result → (rule : Rule) → slice_get problem.now.constraints c.0 ≡ Some rule → IsTrue (refuted_by rule store.now.box) }
-{
-    problem.known();
-    if !is_short(room) {
-        return false;
-    }
-    refutes(problem, c, store)
-}
-
 // The same for a sum with this room: most goes at once.
 fn revise_sum(
     task: &Task,
@@ -329,6 +323,7 @@ fn revise_sum(
     requires full { IsFalse (has_empty remains.old.box) }
     requires list { IsListOf task.now.problem.now task.now.span.first task.now.span.end list.old }
     requires others { OthersSettled c.0 task.now.taking task.now.problem.now task.now.span.first task.now.span.end list.old remains.old.box }
+    requires tells { (rule : Rule) → slice_get task.now.problem.now.constraints c.0 ≡ Some rule → RoomTells rule room remains.old.box }
     ensures narrowed { IsNarrowed task.now.taking task.now.problem.now task.now.from task.now.stop remains.old.box remains.new.box }
     ensures past { Follows remains.old remains.new }
     ensures list { IsListOf task.now.problem.now task.now.span.first task.now.span.end list.new }
@@ -336,7 +331,7 @@ fn revise_sum(
 {
     task.problem.known();
     let _ = task.problem.constraint(c);
-    if is_broken(task.problem, c, room, remains.store()) {
+    if is_short(room) {
         return Revised::Lost;
     }
     let look = trim(task, c, room, list, remains);
@@ -345,6 +340,33 @@ fn revise_sum(
     }
     if look.changed {
         return Revised::Changed;
+    }
+    revise_each(task, c, list, remains)
+}
+
+// The same for a constraint in which no variable stands twice.
+fn revise_apart(task: &Task, c: ConId, list: &mut WorkList, remains: &mut Remains) -> Revised
+    requires c { c.0 < length task.now.problem.now.constraints }
+    requires some { (rule : Rule) → slice_get task.now.problem.now.constraints c.0 ≡ Some rule → IsFalse (is_none_of (variables_of rule.args)) }
+    requires apart { (rule : Rule) → slice_get task.now.problem.now.constraints c.0 ≡ Some rule → Distinct (variables_of rule.args) }
+    requires inside { IsTrue (is_between task.now.span.first task.now.span.end c.0) }
+    requires declared { IsTrue (is_box_of task.now.problem.now remains.old.box) }
+    requires full { IsFalse (has_empty remains.old.box) }
+    requires list { IsListOf task.now.problem.now task.now.span.first task.now.span.end list.old }
+    requires others { OthersSettled c.0 task.now.taking task.now.problem.now task.now.span.first task.now.span.end list.old remains.old.box }
+    ensures narrowed { IsNarrowed task.now.taking task.now.problem.now task.now.from task.now.stop remains.old.box remains.new.box }
+    ensures past { Follows remains.old remains.new }
+    ensures list { IsListOf task.now.problem.now task.now.span.first task.now.span.end list.new }
+    ensures answer { IsRevised result task.now.taking task.now.problem.now task.now.from task.now.stop task.now.span.first task.now.span.end list.old list.new remains.old.box remains.new.box }
+{
+    task.problem.known();
+    let rule = task.problem.constraint(c);
+    let slack = slack_of(task, rule, remains.store());
+    if slack.roomy {
+        return Revised::Stable;
+    }
+    if slack.sum {
+        return revise_sum(task, c, slack.room, list, remains);
     }
     revise_each(task, c, list, remains)
 }
@@ -363,17 +385,13 @@ pub(crate) fn revise(task: &Task, c: ConId, list: &mut WorkList, remains: &mut R
     ensures answer { IsRevised result task.now.taking task.now.problem.now task.now.from task.now.stop task.now.span.first task.now.span.end list.old list.new remains.old.box remains.new.box }
 {
     task.problem.known();
-    let rule = task.problem.constraint(c);
+    let _ = task.problem.constraint(c);
     let own = task.index.own(c);
     if own.is_empty() {
         return Revised::Stable;
     }
-    let slack = slack_of(task, rule, remains.store());
-    if slack.roomy {
-        return Revised::Stable;
-    }
-    if slack.sum {
-        return revise_sum(task, c, slack.room, list, remains);
+    if task.index.is_apart(c) {
+        return revise_apart(task, c, list, remains);
     }
     revise_each(task, c, list, remains)
 }

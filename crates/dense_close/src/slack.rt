@@ -3,31 +3,29 @@
 //! Whether a sum refutes an end takes as long as to read the sum, so to hold one against all its ends takes the square of that.
 //! Where the ends of each term are nearer to each other than the sum is to its bound, it refutes none, which one reading tells.
 //! Terms whose variables the sum may not take don't count.
-ghost use Rattle.std.specs.Prelude.{◌≡◌, ◌≤◌, ◌^◌, IsTrue, IsFalse, false, cond, length, pos, ◌*ℤ◌, ◌+ℤ◌, ◌≤ℤ◌, unsigned_abs};
+ghost use Rattle.std.specs.Prelude.{◌≡◌, ◌⊎◌, ◌≤◌, ◌^◌, IsTrue, IsFalse, false, cond, length, pos, ◌*ℤ◌, ◌+ℤ◌, ◌≤ℤ◌, ◌<ℤ◌, unsigned_abs};
 ghost use Rattle.std.specs.List.{list_all};
 ghost use Rattle.qc_model.specs.declared.problem.Arg.TheVariants.{Num};
 ghost use Rattle.qc_model.specs.declared.problem.Pred.TheVariants.{IntLinEq, IntLinLe};
+ghost use Rattle.qc_model.specs.Arguments.{variables_of};
+ghost use Rattle.qc_model.specs.Lists.{Distinct};
 ghost use Rattle.qc_model.specs.Refuted.{left_to};
 ghost use Rattle.qc_model.specs.Valid.{is_number};
 ghost use Rattle.model_arguments.specs.Asked.{IsAsked};
-ghost use Rattle.model_arguments.specs.Repeats.{has_repeat};
 ghost use Rattle.model_arguments.specs.Written.{arg_at, args_at, ints_at};
 ghost use Rattle.qc_refuter.specs.Met.{is_open, are_met};
-ghost use Rattle.dense_close.specs.Slack.{IsNear, is_taken, AreNear, SparesTaken};
+ghost use Rattle.dense_close.specs.Slack.{IsNear, is_taken, AreNear, SparesTaken, most_room, RoomTells, IsLong};
 ghost use Rattle.dense_close.specs.Taking.{takes_of};
 
 use crate::taking::may_take;
 use crate::task::Task;
 use fd_store::Store;
-use model_arguments::{arguments, is_among, is_repeated, one_at};
+use model_arguments::{arguments, one_at};
 use qc_model::{Arg, Argument, Constraint, Pred};
 use qc_refuter::{Extent, sum_extent};
 
 /// As much room as is told at most.
 const MOST: i64 = 4_000_000_000_000_000_000;
-
-/// Up to so many items are held beside each other, which takes less time than to mark them.
-const FEW_ITEMS: usize = 12;
 
 // The product of two numbers within the limit.
 fn product(a: i64, b: i64) -> i64
@@ -155,7 +153,8 @@ pub(crate) struct Slack {
 
 // Nothing is told.
 fn unknown() -> Slack
-    ensures { result.roomy ≡ false }
+    ensures roomy { result.roomy ≡ false }
+    ensures sum { result.sum ≡ false }
 {
     Slack {
         sum: false,
@@ -173,6 +172,8 @@ fn room_of(is_equal: bool, bound: i64, extent: Extent) -> Room
     requires to { unsigned_abs extent.to ≤ 10 ^ 21 }
     ensures under { pos 0 ≤ℤ result.under → (extent.from +ℤ result.under) ≤ℤ bound }
     ensures over { pos 0 ≤ℤ result.over → IsTrue is_equal → (bound +ℤ result.over) ≤ℤ extent.to }
+    ensures tight_under { result.under <ℤ most_room → bound ≤ℤ (extent.from +ℤ result.under) }
+    ensures tight_over { result.over <ℤ most_room → IsTrue is_equal × (extent.to ≤ℤ (bound +ℤ result.over)) }
 {
     let under = clamped(bound as i128 - extent.from);
     if is_equal {
@@ -196,13 +197,17 @@ fn least_room(room: Room) -> i64
 }
 
 /// Whether there is none.
-pub(crate) fn is_short(room: Room) -> bool {
+pub(crate) fn is_short(room: Room) -> bool
+    ensures short { IsTrue result → (room.under <ℤ pos 0) ⊎ (room.over <ℤ pos 0) }
+    ensures long { IsFalse result → IsLong room }
+{
     room.under < 0 || room.over < 0
 }
 
-// The number, or a lesser one within 64 bits; a negative one may become any negative one.
+// The number, or a lesser one within 64 bits; a negative one may become a greater one that is negative too.
 fn clamped(n: i128) -> i64
-    ensures { pos 0 ≤ℤ result → result ≤ℤ n }
+    ensures less { pos 0 ≤ℤ result → result ≤ℤ n }
+    ensures tight { result <ℤ most_room → n ≤ℤ result }
 {
     if n < 0 {
         return -1;
@@ -211,31 +216,6 @@ fn clamped(n: i128) -> i64
         return MOST;
     }
     n as i64
-}
-
-// Whether a variable stands twice, each item held beside those after it.
-fn stands_twice(items: &[Arg]) -> bool
-    ensures { result ≡ has_repeat items.now }
-{
-    let mut rest = items;
-    while let [first, others @ ..] = rest {
-        if is_among(*first, others) {
-            return true;
-        }
-        rest = others;
-    }
-    false
-}
-
-// Whether a variable stands twice.
-fn has_twice(items: &[Arg]) -> bool
-    ensures { result ≡ has_repeat items.now }
-{
-    if items.len() <= FEW_ITEMS {
-        stands_twice(items)
-    } else {
-        is_repeated(items)
-    }
 }
 
 // Whether the terms have such room.
@@ -251,15 +231,11 @@ fn has_room(
     requires open { IsTrue (list_all (is_open store.now.box) items.now) }
     ensures room { IsTrue result → pos 0 ≤ℤ s }
     ensures near { IsTrue result → AreNear (takes_of task.now.taking task.now.problem.now rule.now) s factors.now items.now store.now.box }
-    ensures apart { IsTrue result → IsFalse (has_repeat items.now) }
 {
     if s < 0 {
         return false;
     }
-    if !are_near(task, rule, factors, items, s, store) {
-        return false;
-    }
-    !has_twice(items)
+    are_near(task, rule, factors, items, s, store)
 }
 
 // What a reading tells of a sum that a number bounds.
@@ -267,7 +243,9 @@ fn slack_below(task: &Task, rule: &Constraint, is_equal: bool, bound: i64, store
     requires asked { IsAsked task.now.problem.now rule.now store.now.box }
     requires pred { rule.now.pred ≡ cond is_equal IntLinEq IntLinLe }
     requires bound { arg_at rule.now.args 2 ≡ Num bound }
-    ensures { IsTrue result.roomy → SparesTaken (takes_of task.now.taking task.now.problem.now) rule.now store.now.box }
+    requires apart { Distinct (variables_of rule.now.args) }
+    ensures roomy { IsTrue result.roomy → SparesTaken (takes_of task.now.taking task.now.problem.now) rule.now store.now.box }
+    ensures tells { IsTrue result.sum → RoomTells rule.now result.room store.now.box }
 {
     task.problem.known();
     let args = arguments(rule);
@@ -288,7 +266,9 @@ fn slack_below(task: &Task, rule: &Constraint, is_equal: bool, bound: i64, store
 fn slack_of_sum(task: &Task, rule: &Constraint, is_equal: bool, store: &Store) -> Slack
     requires asked { IsAsked task.now.problem.now rule.now store.now.box }
     requires pred { rule.now.pred ≡ cond is_equal IntLinEq IntLinLe }
-    ensures { IsTrue result.roomy → SparesTaken (takes_of task.now.taking task.now.problem.now) rule.now store.now.box }
+    requires apart { Distinct (variables_of rule.now.args) }
+    ensures roomy { IsTrue result.roomy → SparesTaken (takes_of task.now.taking task.now.problem.now) rule.now store.now.box }
+    ensures tells { IsTrue result.sum → RoomTells rule.now result.room store.now.box }
 {
     match one_at(arguments(rule), 2) {
         Arg::Var(_) => unknown(),
@@ -299,8 +279,10 @@ fn slack_of_sum(task: &Task, rule: &Constraint, is_equal: bool, store: &Store) -
 /// What one reading tells of a constraint: where it is a sum that a number bounds and has room, it refutes neither end of any of its
 /// variables that it may take, nor the box. It takes time in the order of the sum's length.
 pub(crate) fn slack_of(task: &Task, rule: &Constraint, store: &Store) -> Slack
-    requires { IsAsked task.now.problem.now rule.now store.now.box }
-    ensures { IsTrue result.roomy → SparesTaken (takes_of task.now.taking task.now.problem.now) rule.now store.now.box }
+    requires asked { IsAsked task.now.problem.now rule.now store.now.box }
+    requires apart { Distinct (variables_of rule.now.args) }
+    ensures roomy { IsTrue result.roomy → SparesTaken (takes_of task.now.taking task.now.problem.now) rule.now store.now.box }
+    ensures tells { IsTrue result.sum → RoomTells rule.now result.room store.now.box }
 {
     match rule.pred {
         Pred::IntLinLe => slack_of_sum(task, rule, false, store),

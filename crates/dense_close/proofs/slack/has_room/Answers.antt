@@ -1,9 +1,8 @@
-use Rattle.std.proofs.Common.{rules, ◌∙◌, sym}
+use Rattle.std.proofs.Common.{rules}
 use Rattle.std.specs.Prelude.{pos}
 use Rattle.std.proofs.lemmas.Int.{to_z-of_z}
 use mir.Val.{SFits}
 use mir.Syntax.{w64}
-use Rattle.model_arguments.proofs.Bools.{not_false}
 use Rattle.model_arguments.proofs.Kept.{reaches}
 use Rattle.dense_close.specs.Slack.{AreNear}
 use Rattle.dense_close.specs.Taking.{takes_of}
@@ -18,8 +17,5 @@ pub returns-clause-near : goal.returns-clause-near
 returns-clause-near c = λ h.
     let t = c.args.task.now in
     let s_fits : SFits w64 c.args.s = search rules in
-    let near : AreNear (takes_of t.taking t.problem.now c.args.rule.now) c.args.s c.args.factors.now c.args.items.now c.args.store.now.box = simp to_z-of_z at (c.are_near.ensures c.if-not-are_near.false) in
+    let near : AreNear (takes_of t.taking t.problem.now c.args.rule.now) c.args.s c.args.factors.now c.args.items.now c.args.store.now.box = simp to_z-of_z at (c.are_near.ensures h) in
     near
-
-pub returns-clause-apart : goal.returns-clause-apart
-returns-clause-apart c = λ h. sym c.has_twice.ensures ∙ not_false c.has_twice.result h
