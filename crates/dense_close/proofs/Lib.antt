@@ -5,6 +5,7 @@ pub mod Looked
 pub mod Narrowed
 pub mod OpenMoves
 pub mod Own
+pub mod Remembered
 pub mod Room
 pub mod Sums
 pub mod Trimmed
