@@ -1,6 +1,7 @@
 pub mod Cuts
 pub mod Found
 pub mod Indexed
+pub mod Kept
 pub mod Looked
 pub mod Narrowed
 pub mod OpenMoves

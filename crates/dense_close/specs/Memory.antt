@@ -1,5 +1,5 @@
 -- What a closer remembers: what was seen of each variable, and which constraints were settled then.
-use Rattle.std.specs.Prelude.{◌≡◌, ◌≢◌, ◌<◌, ℕ, Bool, true, List, length, slice_get, slice_index_or, Some, IsTrue, IsFalse, pos}
+use Rattle.std.specs.Prelude.{◌≡◌, ◌≢◌, ◌<◌, ℕ, Bool, true, List, ◌∷◌, length, slice_get, slice_index_or, Some, IsTrue, IsFalse, pos}
 use Rattle.qc_model.specs.Arguments.{variables_of}
 use Rattle.qc_model.specs.Content.{Game, Rule}
 use Rattle.qc_model.specs.Domains.{Values, Box, values_left}
@@ -10,9 +10,11 @@ use Rattle.dense_close.specs.declared.taking.Taking.{Taking}
 use Rattle.dense_close.specs.Index.{Having, has_it}
 use Rattle.dense_close.specs.Taking.{takes_of}
 
+-- with the trail's length when it was settled
 pub record Memory : Type 0 where
   pub seen : List Sight
   pub pending : List Bool
+  pub at : ℕ
 
 -- nothing is known of the values
 abbrev pub nothing : Sight
@@ -60,3 +62,24 @@ pub record IsAsSeen (n : ℕ) (t : Taking) (g : Game) (m : Memory) (box : Box) :
   pub memory : IsMemory t g m
   pub tells : (x : ℕ) → x < n → TellsOf (seen_of m x) (values_left box x)
   pub some : (k : ℕ) (c : Rule) (x : ℕ) → slice_get g.constraints k ≡ Some c → IsFalse (is_pending m k) → x < n → Among x (variables_of c.args) → IsSeen (seen_of m x) (values_left box x)
+
+-- one that closings work in, and those that are kept
+pub record Memories : Type 0 where
+  pub present : Memory
+  pub kept : List Memory
+
+-- it is one of them
+abbrev pub IsOneOf : Memory → Memories → Type 0
+IsOneOf m ms = Among m (ms.present ∷ ms.kept)
+
+abbrev pub AreMemories : Taking → Game → Memories → Type 0
+AreMemories t g ms = (m : Memory) → IsOneOf m ms → IsMemory t g m
+
+-- each of these was one of those
+abbrev pub ComeFrom : Memories → Memories → Type 0
+ComeFrom was then = (m : Memory) → IsOneOf m then → IsOneOf m was
+
+-- so much was seen, and is pending, in both
+pub record IsAlike (one other : Memory) : Type 0 where
+  pub variables : length one.seen ≡ length other.seen
+  pub constraints : length one.pending ≡ length other.pending

@@ -8,7 +8,7 @@ ghost use Rattle.model_levels.specs.Spans.{IsSpanOf};
 ghost use Rattle.fd_store.specs.Held.{Follows};
 ghost use Rattle.dense_closing.specs.ClosingSteps.{greatest_closed};
 ghost use Rattle.dense_close.specs.Answerless.{is_answerless};
-ghost use Rattle.dense_close.specs.Memory.{IsMemory};
+ghost use Rattle.dense_close.specs.Memory.{AreMemories};
 ghost use Rattle.dense_close.specs.Narrowing.{IsNarrowed, IsListOf, IsLost, AreSettled};
 ghost use Rattle.dense_close.specs.Ready.{IsIdle};
 ghost use Rattle.dense_close.specs.Taking.{takes_of};
@@ -16,7 +16,7 @@ ghost use Rattle.dense_close.specs.Waiting.{MarkedWait, all_waiting};
 
 use crate::answerless::some_answerless;
 use crate::index::Index;
-use crate::memory::Memory;
+use crate::memories::Memories;
 use crate::revising::{Revised, revise};
 use crate::taking::Taking;
 use crate::task::Task;
@@ -80,12 +80,17 @@ fn clear(list: &mut WorkList)
 }
 
 // Leaves the greatest closed box within, where there is one, and nothing waits.
-fn close_all(task: &Task, memory: &mut Memory, list: &mut WorkList, remains: &mut Remains) -> bool
+fn close_all(
+    task: &Task,
+    memories: &mut Memories,
+    list: &mut WorkList,
+    remains: &mut Remains,
+) -> bool
     requires declared { IsTrue (is_box_of task.now.problem.now remains.old.box) }
     requires full { IsFalse (has_empty remains.old.box) }
-    requires memory { IsMemory task.now.taking task.now.problem.now memory.old }
+    requires memories { AreMemories task.now.taking task.now.problem.now memories.old }
     requires list { IsIdle task.now.problem.now list.old }
-    ensures memory { IsMemory task.now.taking task.now.problem.now memory.new }
+    ensures memories { AreMemories task.now.taking task.now.problem.now memories.new }
     ensures narrowed { IsNarrowed task.now.taking task.now.problem.now task.now.from task.now.stop remains.old.box remains.new.box }
     ensures past { Follows remains.old remains.new }
     ensures full { IsTrue result → IsFalse (has_empty remains.new.box) }
@@ -93,13 +98,12 @@ fn close_all(task: &Task, memory: &mut Memory, list: &mut WorkList, remains: &mu
     ensures answer { MatchBool result (greatest_closed (takes_of task.now.taking task.now.problem.now) task.now.problem.now task.now.from task.now.stop remains.old.box ≡ Some remains.new.box) (greatest_closed (takes_of task.now.taking task.now.problem.now) task.now.problem.now task.now.from task.now.stop remains.old.box ≡ None) }
 {
     task.problem.known();
-    memory.look(task, remains.store());
-    wake_pending(task, memory, list);
+    memories.begin(task, remains);
+    wake_pending(task, memories.present(), list);
     let closed = settle(task, list, remains);
     clear(list);
     if closed {
-        memory.look(task, remains.store());
-        memory.settle(task);
+        memories.end(task, remains);
     }
     closed
 }
@@ -114,8 +118,8 @@ pub struct Closer<'p> {
     problem: &'p Problem,
     index: Index,
     list: WorkList,
-    all: Memory,
-    owners: Memory,
+    all: Memories,
+    owners: Memories,
 }
 
 impl<'p> Model for Closer<'p> {
@@ -141,8 +145,8 @@ impl<'p> Closer<'p> {
             problem,
             index,
             list,
-            all: Memory::new(alloc, problem)?,
-            owners: Memory::new(alloc, problem)?,
+            all: Memories::new(alloc, problem)?,
+            owners: Memories::new(alloc, problem)?,
         })
     }
 

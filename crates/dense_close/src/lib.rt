@@ -23,6 +23,7 @@ mod closer;
 mod cutting;
 mod having;
 mod index;
+mod memories;
 mod memory;
 mod revising;
 mod slack;

@@ -1,12 +1,12 @@
 //! Which constraints are settled, and with which values of their variables.
 ghost use Rattle.std.specs.Prelude.{◌≡◌, ◌≢◌, ◌<◌, ◌+◌, ℕ, length, slice_get, Some, IsTrue, IfOk};
 ghost use Rattle.qc_model.specs.Content.{Rule};
-ghost use Rattle.qc_model.specs.Domains.{Box, values_left};
+ghost use Rattle.qc_model.specs.Domains.{Box, values_left, least_value};
 ghost use Rattle.model_arguments.specs.Asked.{is_box_of};
 ghost use Rattle.model_levels.specs.Spans.{is_between};
 ghost use Rattle.dense_closing.specs.Takes.{keeps_box};
 ghost use Rattle.dense_close.specs.declared.taking.Taking.{Taking};
-ghost use Rattle.dense_close.specs.Memory.{TellsOf, IsMemory, HasSeen, IsAsSeen, seen_of, is_pending as is_pending_in};
+ghost use Rattle.dense_close.specs.Memory.{TellsOf, IsSeen, IsMemory, HasSeen, IsAsSeen, IsAlike, seen_of, is_pending as is_pending_in};
 ghost use Rattle.dense_close.specs.Taking.{takes_of};
 ghost use Rattle.dense_close.specs.Waiting.{stands_in};
 
@@ -31,41 +31,48 @@ fn nothing() -> Sight
     Sight { least: 0, count: 0 }
 }
 
+// Whether what is left to x is numbers in a row, where it is so many from the least one on.
+#[inline(always)]
+fn has_no_gap(store: &Store, x: VarId, sight: Sight) -> bool
+    requires x { x.0 < length store.now.box }
+    requires some { sight.count ≢ 0 }
+    requires count { sight.count ≡ length (values_left store.now.box x.0) }
+    requires least { sight.least ≡ least_value (values_left store.now.box x.0) }
+    ensures { IsTrue result → IsSeen sight (values_left store.now.box x.0) }
+{
+    store.known(x);
+    // ascending values have at least as many numbers from the least to the greatest
+    store.max(x) - sight.least < sight.count as i64
+}
+
 // What is left to x, where it is numbers in a row.
 #[inline(always)]
 fn sight_of(store: &Store, x: VarId) -> Sight
     requires x { x.0 < length store.now.box }
     ensures { TellsOf result (values_left store.now.box x.0) }
 {
-    store.known(x);
     let count = store.size(x);
     if count == 0 {
         return nothing();
     }
-    let least = store.min(x);
-    // ascending values have at least as many numbers from the least to the greatest
-    if store.max(x) - least < count as i64 {
-        Sight { least, count }
+    let sight = Sight {
+        least: store.min(x),
+        count,
+    };
+    if has_no_gap(store, x, sight) {
+        sight
     } else {
         nothing()
     }
 }
 
-// Whether both tell the same values.
-#[inline(always)]
-fn tell_same(one: Sight, other: Sight) -> bool
-    ensures some { IsTrue result → one.count ≢ 0 }
-    ensures same { IsTrue result → other ≡ one }
-{
-    one.count != 0 && one.count == other.count && one.least == other.least
-}
-
 /// What was left to each variable when it was last looked at, and whether each constraint is pending: one that isn't is settled
-/// wherever its variables have the values that they had then.
+/// wherever its variables have the values that they had then. With it stands the trail's length when it was settled.
 #[derive(Drop)]
 pub(crate) struct Memory {
     seen: Vec<Sight>,
     pending: Vec<bool>,
+    at: usize,
 }
 
 impl Model for Memory {
@@ -73,7 +80,7 @@ impl Model for Memory {
 
     ghost Value = { Memory };
 
-    ghost view = { λ a. record { seen = a.seen.items; pending = a.pending.items } };
+    ghost view = { λ a. record { seen = a.seen.items; pending = a.pending.items; at = a.at } };
 }
 
 impl Memory {
@@ -84,7 +91,30 @@ impl Memory {
         Ok(Memory {
             seen: vec![in alloc; nothing(); problem.variables()]?,
             pending: vec![in alloc; true; problem.constraints()]?,
+            at: 0,
         })
+    }
+
+    /// The trail's length when it was settled.
+    #[inline(always)]
+    pub(crate) fn at(&self) -> usize
+        ensures { result ≡ self.now.at }
+    {
+        self.at
+    }
+
+    /// Becomes the same as another one.
+    pub(crate) fn copy(&mut self, other: &Memory)
+        requires alike { IsAlike self.old other.now }
+        ensures { self.new ≡ other.now }
+    {
+        self.seen
+            .as_mut_slice()
+            .copy_from_slice(other.seen.as_slice());
+        self.pending
+            .as_mut_slice()
+            .copy_from_slice(other.pending.as_slice());
+        self.at = other.at;
     }
 
     /// Whether c may be unsettled.
@@ -131,13 +161,24 @@ impl Memory {
         self.mark_all(index.having(x));
     }
 
-    // What was seen of x.
+    // Whether what is left to x was seen of it.
     #[inline(always)]
-    fn seen_of(&self, x: VarId) -> Sight
-        requires { x.0 < length self.now.seen }
-        ensures { result ≡ seen_of self.now x.0 }
+    fn is_as_seen(&self, store: &Store, x: VarId) -> bool
+        requires store { x.0 < length store.now.box }
+        requires x { x.0 < length self.now.seen }
+        ensures { IsTrue result → IsSeen (seen_of self.now x.0) (values_left store.now.box x.0) }
     {
-        self.seen[x.0 as usize]
+        let seen = self.seen[x.0 as usize];
+        if seen.count == 0 {
+            return false;
+        }
+        if store.size(x) != seen.count {
+            return false;
+        }
+        if store.min(x) != seen.least {
+            return false;
+        }
+        has_no_gap(store, x, seen)
     }
 
     // Looks at x, once those before it were looked at.
@@ -148,11 +189,10 @@ impl Memory {
         requires before { IsAsSeen x.0 task.now.taking task.now.problem.now self.old store.now.box }
         ensures { IsAsSeen (x.0 + 1) task.now.taking task.now.problem.now self.new store.now.box }
     {
-        let now = sight_of(store, x);
-        if tell_same(now, self.seen_of(x)) {
+        if self.is_as_seen(store, x) {
             return;
         }
-        self.see(task.index, x, now);
+        self.see(task.index, x, sight_of(store, x));
     }
 
     /// Looks at all variables. The constraints that have one of which something else is left than was seen of it are pending.
@@ -178,8 +218,8 @@ impl Memory {
         self.pending[c.0 as usize] = false;
     }
 
-    /// The constraints of the span are settled.
-    pub(crate) fn settle(&mut self, task: &Task)
+    // The constraints of the span are settled.
+    fn pass_all(&mut self, task: &Task)
         requires memory { IsMemory task.now.taking task.now.problem.now self.old }
         ensures { (box : Box) → IsTrue (is_box_of task.now.problem.now box) → IsAsSeen (length task.now.problem.now.variables) task.now.taking task.now.problem.now self.old box →
             ((k : ℕ) (c : Rule) → IsTrue (is_between task.now.span.first task.now.span.end k) → slice_get task.now.problem.now.constraints k ≡ Some c → IsTrue (keeps_box (takes_of task.now.taking task.now.problem.now) box c)) →
@@ -189,5 +229,16 @@ impl Memory {
         for k in task.span.first..task.span.end {
             self.pass(ConId(k as u16));
         }
+    }
+
+    /// The constraints of the span are settled, at this length of the trail.
+    pub(crate) fn settle(&mut self, task: &Task, at: usize)
+        requires memory { IsMemory task.now.taking task.now.problem.now self.old }
+        ensures { (box : Box) → IsTrue (is_box_of task.now.problem.now box) → IsAsSeen (length task.now.problem.now.variables) task.now.taking task.now.problem.now self.old box →
+            ((k : ℕ) (c : Rule) → IsTrue (is_between task.now.span.first task.now.span.end k) → slice_get task.now.problem.now.constraints k ≡ Some c → IsTrue (keeps_box (takes_of task.now.taking task.now.problem.now) box c)) →
+            IsMemory task.now.taking task.now.problem.now self.new }
+    {
+        self.pass_all(task);
+        self.at = at;
     }
 }

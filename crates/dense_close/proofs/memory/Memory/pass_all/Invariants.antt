@@ -1,7 +1,7 @@
 use Rattle.std.proofs.Common.{◌≡◌, ◌⊎◌, ℕ, length, false, true}
 use Rattle.model_levels.specs.Spans.{is_between}
 use Rattle.dense_close.specs.Memory.{is_pending}
-use Rattle.dense_close.proofs.memory.Memory.settle.Given as goal
+use Rattle.dense_close.proofs.memory.Memory.pass_all.Given as goal
 
 abbrev pub invariant-loop-k : goal.invariant-loop-k
 invariant-loop-k l = record {
