@@ -3,10 +3,12 @@ pub mod Cuts
 pub mod Distances
 pub mod Found
 pub mod Indexed
+pub mod Kept
 pub mod Looked
 pub mod Narrowed
 pub mod OpenMoves
 pub mod Own
+pub mod Remembered
 pub mod Room
 pub mod Sums
 pub mod Trimmed

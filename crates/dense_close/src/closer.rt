@@ -8,6 +8,7 @@ ghost use Rattle.model_levels.specs.Spans.{IsSpanOf};
 ghost use Rattle.fd_store.specs.Held.{Follows};
 ghost use Rattle.dense_closing.specs.ClosingSteps.{greatest_closed};
 ghost use Rattle.dense_close.specs.Answerless.{is_answerless};
+ghost use Rattle.dense_close.specs.Memory.{AreMemories};
 ghost use Rattle.dense_close.specs.Narrowing.{IsNarrowed, IsListOf, IsLost, AreSettled};
 ghost use Rattle.dense_close.specs.Ready.{IsIdle};
 ghost use Rattle.dense_close.specs.Taking.{takes_of};
@@ -15,11 +16,12 @@ ghost use Rattle.dense_close.specs.Waiting.{MarkedWait, all_waiting};
 
 use crate::answerless::some_answerless;
 use crate::index::Index;
+use crate::memories::Memories;
 use crate::revising::{Revised, revise};
 use crate::taking::Taking;
 use crate::task::Task;
 use crate::waiting::WorkList;
-use crate::waking::wake_all;
+use crate::waking::wake_pending;
 use check_box::Remains;
 use fd_store::Store;
 use model_arguments::Span;
@@ -78,10 +80,17 @@ fn clear(list: &mut WorkList)
 }
 
 // Leaves the greatest closed box within, where there is one, and nothing waits.
-fn close_all(task: &Task, list: &mut WorkList, remains: &mut Remains) -> bool
+fn close_all(
+    task: &Task,
+    memories: &mut Memories,
+    list: &mut WorkList,
+    remains: &mut Remains,
+) -> bool
     requires declared { IsTrue (is_box_of task.now.problem.now remains.old.box) }
     requires full { IsFalse (has_empty remains.old.box) }
+    requires memories { AreMemories task.now.taking task.now.problem.now memories.old }
     requires list { IsIdle task.now.problem.now list.old }
+    ensures memories { AreMemories task.now.taking task.now.problem.now memories.new }
     ensures narrowed { IsNarrowed task.now.taking task.now.problem.now task.now.from task.now.stop remains.old.box remains.new.box }
     ensures past { Follows remains.old remains.new }
     ensures full { IsTrue result → IsFalse (has_empty remains.new.box) }
@@ -89,14 +98,19 @@ fn close_all(task: &Task, list: &mut WorkList, remains: &mut Remains) -> bool
     ensures answer { MatchBool result (greatest_closed (takes_of task.now.taking task.now.problem.now) task.now.problem.now task.now.from task.now.stop remains.old.box ≡ Some remains.new.box) (greatest_closed (takes_of task.now.taking task.now.problem.now) task.now.problem.now task.now.from task.now.stop remains.old.box ≡ None) }
 {
     task.problem.known();
-    wake_all(task, list);
+    memories.begin(task, remains);
+    wake_pending(task, memories.present(), list);
     let closed = settle(task, list, remains);
     clear(list);
+    if closed {
+        memories.end(task, remains);
+    }
     closed
 }
 
 /// What closings of a problem's boxes need besides a box, made once: which variables each constraint has, which constraints have
-/// each variable, and a queue with room for all of them, so that nothing but `new` takes memory.
+/// each variable, a queue with room for all of them, and what is remembered of those that were settled, for each choice of what
+/// constraints may take. So nothing but `new` takes memory.
 ///
 /// Clauses see the game.
 #[derive(Drop)]
@@ -104,6 +118,8 @@ pub struct Closer<'p> {
     problem: &'p Problem,
     index: Index,
     list: WorkList,
+    all: Memories,
+    owners: Memories,
 }
 
 impl<'p> Model for Closer<'p> {
@@ -114,7 +130,7 @@ impl<'p> Model for Closer<'p> {
 
     ghost view = { λ c. c.problem.now };
 
-    ghost invariant = { λ c. IsReady c.problem.now c.index c.list };
+    ghost invariant = { λ c. IsReady c.problem.now c.index c.list c.all c.owners };
 }
 
 impl<'p> Closer<'p> {
@@ -129,6 +145,8 @@ impl<'p> Closer<'p> {
             problem,
             index,
             list,
+            all: Memories::new(alloc, problem)?,
+            owners: Memories::new(alloc, problem)?,
         })
     }
 
@@ -166,7 +184,10 @@ impl<'p> Closer<'p> {
             stop,
             span: span_of(levels, from, stop),
         };
-        close_all(&task, &mut self.list, remains)
+        match taking {
+            Taking::All => close_all(&task, &mut self.all, &mut self.list, remains),
+            Taking::Owners => close_all(&task, &mut self.owners, &mut self.list, remains),
+        }
     }
 
     /// Whether one of the constraints of the scopes from `number` to the one before `stop` refutes the box with the least or the

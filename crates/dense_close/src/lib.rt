@@ -7,6 +7,11 @@
 //! them. Where it took nothing it keeps the box; where it refutes the box as it is, no box within is closed. So once none waits, all
 //! keep the box, and it is closed.
 //!
+//! Nor does a closing begin with all constraints of the span. What was left to each variable when it was last looked at is kept, and
+//! which constraints weren't found settled since then (`memory`): where a constraint's variables all have the values that they had,
+//! and it kept the box then, it keeps this one, whatever was done to the box in between. Each choice of what constraints may take has
+//! a memory of its own.
+//!
 //! Whether a linear constraint refutes any end that it may take is first asked by one reading of its sum (`slack`), since to ask of
 //! each end takes the square of that. Where it may, that reading tells by a division how far each variable can go (`trimming`): what
 //! lies past it goes where the constraint refutes it, which is asked once. Other values go by stretches: where a constraint refutes an
@@ -18,6 +23,8 @@ mod closer;
 mod cutting;
 mod having;
 mod index;
+mod memories;
+mod memory;
 mod revising;
 mod slack;
 mod taking;
