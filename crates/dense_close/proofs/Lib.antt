@@ -3,8 +3,11 @@ pub mod Found
 pub mod Indexed
 pub mod Looked
 pub mod Narrowed
+pub mod OneEnd
 pub mod OpenMoves
 pub mod Own
+pub mod Related
 pub mod Room
+pub mod Shared
 pub mod Sums
 pub mod Trimmed

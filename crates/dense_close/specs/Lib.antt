@@ -6,3 +6,4 @@ pub mod Cutting
 pub mod Narrowing
 pub mod Slack
 pub mod Answerless
+pub mod Quiet

@@ -16,8 +16,13 @@
 mod answerless;
 mod closer;
 mod cutting;
+mod ends;
+mod equality;
 mod having;
 mod index;
+mod quiet;
+mod reading;
+mod relating;
 mod revising;
 mod slack;
 mod taking;

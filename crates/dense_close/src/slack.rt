@@ -16,7 +16,7 @@ ghost use Rattle.qc_refuter.specs.Met.{is_open, are_met};
 ghost use Rattle.dense_close.specs.Slack.{IsNear, is_taken, AreNear, SparesTaken};
 ghost use Rattle.dense_close.specs.Taking.{takes_of};
 
-use crate::taking::may_take;
+use crate::reading::may_take_item;
 use crate::task::Task;
 use fd_store::Store;
 use model_arguments::{arguments, is_among, is_repeated, one_at};
@@ -29,8 +29,9 @@ const MOST: i64 = 4_000_000_000_000_000_000;
 /// Up to so many items are held beside each other, which takes less time than to mark them.
 const FEW_ITEMS: usize = 12;
 
-// The product of two numbers within the limit.
-fn product(a: i64, b: i64) -> i64
+/// The product of two numbers within the limit.
+#[inline(always)]
+pub(crate) fn product(a: i64, b: i64) -> i64
     requires a { IsTrue (is_number a) }
     requires b { IsTrue (is_number b) }
     ensures value { result ≡ (a *ℤ b) }
@@ -89,16 +90,6 @@ fn are_close(a: i64, b: i64, s: i64) -> bool
     ensures down { IsTrue result → a ≤ℤ (b +ℤ s) }
 {
     b - a <= s && a - b <= s
-}
-
-// Whether the constraint may take the item: it is a variable that it may take values of.
-fn may_take_item(task: &Task, rule: &Constraint, item: Arg) -> bool
-    ensures { result ≡ is_taken (takes_of task.now.taking task.now.problem.now rule.now) item }
-{
-    match item {
-        Arg::Num(_) => false,
-        Arg::Var(x) => may_take(task.problem, task.taking, rule, x),
-    }
 }
 
 // Whether the ends of a term are, where the constraint may take the item.
