@@ -6,9 +6,12 @@ pub mod Indexed
 pub mod Kept
 pub mod Looked
 pub mod Narrowed
+pub mod OneEnd
 pub mod OpenMoves
 pub mod Own
 pub mod Remembered
+pub mod Related
 pub mod Room
+pub mod Shared
 pub mod Sums
 pub mod Trimmed

@@ -61,13 +61,13 @@ part_close s a b c d h k = omega (arith, ints)
 rest_close : (s a b c d : ℤ) → a ≡ b → c ≤ℤ (d +ℤ s) → (a +ℤ c) ≤ℤ ((b +ℤ d) +ℤ s)
 rest_close s a b c d k h = omega (arith, ints)
 
-equal_numbers : (j k : ℕ) → (j == k) ≡ true → j ≡ k
+pub equal_numbers : (j k : ℕ) → (j == k) ≡ true → j ≡ k
 equal_numbers j k h = grind (arith, nat_tests)
 
-apart_numbers : (j k : ℕ) → (j == k) ≡ false → j ≢ k
+pub apart_numbers : (j k : ℕ) → (j == k) ≡ false → j ≢ k
 apart_numbers j k h e = grind (arith, nat_tests)
 
-set_cases : (box : Box) (x : ℕ) (us : Values) → (values_left (set box x us) x ≡ us) ⊎ (values_left (set box x us) x ≡ values_left box x)
+pub set_cases : (box : Box) (x : ℕ) (us : Values) → (values_left (set box x us) x ≡ us) ⊎ (values_left (set box x us) x ≡ values_left box x)
 set_cases [] x us = inr refl
 set_cases (d ∷ box) zero us = inl refl
 set_cases (d ∷ box) (suc x) us = set_cases box x us

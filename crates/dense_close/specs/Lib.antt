@@ -7,3 +7,4 @@ pub mod Narrowing
 pub mod Slack
 pub mod Answerless
 pub mod Memory
+pub mod Quiet

@@ -21,10 +21,15 @@
 mod answerless;
 mod closer;
 mod cutting;
+mod ends;
+mod equality;
 mod having;
 mod index;
 mod memories;
 mod memory;
+mod quiet;
+mod reading;
+mod relating;
 mod revising;
 mod slack;
 mod taking;

@@ -17,7 +17,7 @@ ghost use Rattle.qc_refuter.specs.Met.{is_open, are_met};
 ghost use Rattle.dense_close.specs.Slack.{IsNear, is_taken, AreNear, SparesTaken, most_room, RoomTells, IsLong};
 ghost use Rattle.dense_close.specs.Taking.{takes_of};
 
-use crate::taking::may_take;
+use crate::reading::may_take_item;
 use crate::task::Task;
 use fd_store::Store;
 use model_arguments::{arguments, one_at};
@@ -27,8 +27,9 @@ use qc_refuter::{Extent, sum_extent};
 /// As much room as is told at most.
 const MOST: i64 = 4_000_000_000_000_000_000;
 
-// The product of two numbers within the limit.
-fn product(a: i64, b: i64) -> i64
+/// The product of two numbers within the limit.
+#[inline(always)]
+pub(crate) fn product(a: i64, b: i64) -> i64
     requires a { IsTrue (is_number a) }
     requires b { IsTrue (is_number b) }
     ensures value { result ≡ (a *ℤ b) }
@@ -87,16 +88,6 @@ fn are_close(a: i64, b: i64, s: i64) -> bool
     ensures down { IsTrue result → a ≤ℤ (b +ℤ s) }
 {
     b - a <= s && a - b <= s
-}
-
-// Whether the constraint may take the item: it is a variable that it may take values of.
-fn may_take_item(task: &Task, rule: &Constraint, item: Arg) -> bool
-    ensures { result ≡ is_taken (takes_of task.now.taking task.now.problem.now rule.now) item }
-{
-    match item {
-        Arg::Num(_) => false,
-        Arg::Var(x) => may_take(task.problem, task.taking, rule, x),
-    }
 }
 
 // Whether the ends of a term are, where the constraint may take the item.
