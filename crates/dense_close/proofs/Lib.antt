@@ -1,10 +1,14 @@
 pub mod Cuts
+pub mod EndsCounted
 pub mod Found
+pub mod FullRanges
 pub mod Indexed
+pub mod LeftAlone
 pub mod Looked
 pub mod Narrowed
 pub mod OpenMoves
 pub mod Own
+pub mod Replaced
 pub mod Room
 pub mod Sums
 pub mod Trimmed

@@ -5,4 +5,5 @@ pub mod Taking
 pub mod Cutting
 pub mod Narrowing
 pub mod Slack
+pub mod Differing
 pub mod Answerless

@@ -1,26 +1,48 @@
 //! Which variables each constraint has, and which constraints have each variable, looked up once.
-ghost use Rattle.std.specs.Prelude.{◌≡◌, ◌<◌, ◌+◌, length, IfOk, OnOk};
+ghost use Rattle.std.specs.Prelude.{◌≡◌, ◌<◌, ◌+◌, length, IsTrue, IfOk, OnOk};
+ghost use Rattle.qc_model.specs.Lists.{Distinct};
+ghost use Rattle.model_arguments.specs.Written.{variable_numbers};
 ghost use Rattle.dense_close.specs.Index.{IsIndexTo, IsIndexOf, own, having};
 
 use crate::having::Having;
-use model_arguments::{arguments, own_variables};
+use model_arguments::{are_distinct, arguments, own_variables};
 use qc_model::{ConId, Problem, VarId};
 use std::alloc::{AllocError, Global};
 use std::marker::Model;
 
-/// The variables of one constraint, in the order in which they stand, each as often as it stands.
+/// The variables of one constraint, in the order in which they stand, each as often as it stands, and whether none stands twice.
 #[derive(Drop)]
 struct OwnList {
     items: Vec<VarId>,
+    apart: bool,
 }
 
 impl Model for OwnList {
-    ghost use Rattle.std.specs.Prelude.{List};
+    ghost use Rattle.std.specs.Prelude.{List, IsTrue};
     ghost use Rattle.qc_model.specs.declared.problem.VarId.{VarId};
+    ghost use Rattle.qc_model.specs.Lists.{Distinct};
+    ghost use Rattle.model_arguments.specs.Written.{variable_numbers};
 
     ghost Value = { List VarId };
 
     ghost view = { λ a. a.items.items };
+
+    ghost invariant = { λ a. IsTrue a.apart → Distinct (variable_numbers a.items.items) };
+}
+
+impl OwnList {
+    fn new(items: Vec<VarId>) -> OwnList
+        ensures { result ≡ items.items }
+    {
+        let apart = are_distinct(items.as_slice());
+        OwnList { items, apart }
+    }
+
+    fn is_apart(&self) -> bool
+        ensures { IsTrue result → Distinct (variable_numbers self.now) }
+    {
+        self.apart
+    }
 }
 
 /// The variables of each constraint, and the constraints that have each variable.
@@ -48,7 +70,7 @@ impl Index {
         problem.known();
         let items = own_variables(alloc, arguments(problem.constraint(c)))?;
         self.having.add_rule(c, items.as_slice())?;
-        self.own.push(OwnList { items })?;
+        self.own.push(OwnList::new(items))?;
         Ok(())
     }
 
@@ -81,6 +103,16 @@ impl Index {
         match self.own.get(c.0 as usize) {
             Some(list) => list.items.as_slice(),
             None => &[],
+        }
+    }
+
+    /// Whether no variable stands twice in constraint c, if there is one of this number.
+    pub(crate) fn is_apart(&self, c: ConId) -> bool
+        ensures { IsTrue result → Distinct (variable_numbers (own self.now.own c.0)) }
+    {
+        match self.own.get(c.0 as usize) {
+            Some(list) => list.is_apart(),
+            None => false,
         }
     }
 

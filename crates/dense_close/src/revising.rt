@@ -3,7 +3,7 @@ ghost use Rattle.std.specs.Prelude.{◌≡◌, ◌<◌, ◌∷◌, [], ◌||◌,
 ghost use Rattle.qc_model.specs.Arguments.{variables_of};
 ghost use Rattle.qc_model.specs.Content.{Rule};
 ghost use Rattle.qc_model.specs.Domains.{Box, has_empty};
-ghost use Rattle.qc_model.specs.Lists.{Among};
+ghost use Rattle.qc_model.specs.Lists.{Among, Distinct};
 ghost use Rattle.qc_model.specs.Refuted.{refuted_by};
 ghost use Rattle.qc_model.specs.Verdict.{is_none_of};
 ghost use Rattle.model_arguments.specs.Asked.{is_box_of};
@@ -15,11 +15,12 @@ ghost use Rattle.dense_close.specs.Waiting.{Waiting};
 ghost use Rattle.dense_close.specs.Narrowing.{IsNarrowed, IsListOf, OthersSettled, HasLooked, IsRevised};
 ghost use Rattle.dense_close.specs.declared.cutting.End.TheVariants.{Least, Greatest};
 
-use crate::cutting::{End, cut_end};
+use crate::cutting::{End, Stretch, cut_end};
+use crate::differing::{Sight, look};
 use crate::slack::{Room, is_short, slack_of};
 use crate::taking::may_take;
 use crate::task::Task;
-use crate::trimming::{cut_by_room, factor_at};
+use crate::trimming::{Advice, cut_outside, kept};
 use crate::waiting::WorkList;
 use crate::waking::wake;
 use check_box::Remains;
@@ -156,14 +157,13 @@ fn outcome(task: &Task, c: ConId, look: Look, list: &WorkList, store: &Store) ->
     }
 }
 
-// Takes an end of x, which the constraint c may take, as far as the room of a sum tells, and lets the constraints that have x wait
-// where values went.
+// Takes the values of x, which the constraint c may take, below the stretch or above it, and lets the constraints that have x wait
+// where some went.
 fn trim_at(
     task: &Task,
     c: ConId,
     x: VarId,
-    factor: i64,
-    room: Room,
+    s: Stretch,
     queue: &mut WorkList,
     remains: &mut Remains,
 ) -> Look
@@ -183,7 +183,7 @@ fn trim_at(
 {
     task.problem.known();
     let _ = task.problem.constraint(c);
-    if cut_by_room(task.problem, c, x, factor, room, remains) {
+    if cut_outside(task.problem, c, x, s, remains) {
         wake(task, x, queue);
         return Look {
             changed: true,
@@ -196,13 +196,13 @@ fn trim_at(
     }
 }
 
-// The same for any variable of the constraint, which is the one at this place.
+// The same for any variable of the constraint, which is the one at this place, by what was seen of it.
 fn trim_own(
     task: &Task,
     c: ConId,
     place: usize,
     x: VarId,
-    room: Room,
+    advice: Advice,
     list: &mut WorkList,
     remains: &mut Remains,
 ) -> Look
@@ -231,15 +231,12 @@ fn trim_own(
     if !may_take(task.problem, task.taking, rule, x) {
         return nothing;
     }
-    let factor = factor_at(rule, place, x);
-    if factor == 0 {
-        return nothing;
-    }
-    trim_at(task, c, x, factor, room, list, remains)
+    let s = kept(rule, place, x, advice, remains.store());
+    trim_at(task, c, x, s, list, remains)
 }
 
 // The same for all variables of the constraint, until one has no value left.
-fn trim(task: &Task, c: ConId, room: Room, list: &mut WorkList, remains: &mut Remains) -> Look
+fn trim(task: &Task, c: ConId, advice: Advice, list: &mut WorkList, remains: &mut Remains) -> Look
     requires c { c.0 < length task.now.problem.now.constraints }
     requires inside { IsTrue (is_between task.now.span.first task.now.span.end c.0) }
     requires declared { IsTrue (is_box_of task.now.problem.now remains.old.box) }
@@ -261,7 +258,7 @@ fn trim(task: &Task, c: ConId, room: Room, list: &mut WorkList, remains: &mut Re
     for place in 0..own.len() {
         look = both(
             look,
-            trim_own(task, c, place, own[place], room, list, remains),
+            trim_own(task, c, place, own[place], advice, list, remains),
         );
         if remains.is_empty() {
             return look;
@@ -314,7 +311,39 @@ fn is_broken(problem: &Problem, c: ConId, room: Room, store: &Store) -> bool
     refutes(problem, c, store)
 }
 
-// The same for a sum with this room: most goes at once.
+// The same by what was seen of the constraint: most goes at once.
+fn revise_advised(
+    task: &Task,
+    c: ConId,
+    advice: Advice,
+    list: &mut WorkList,
+    remains: &mut Remains,
+) -> Revised
+    requires c { c.0 < length task.now.problem.now.constraints }
+    requires some { (rule : Rule) → slice_get task.now.problem.now.constraints c.0 ≡ Some rule → IsFalse (is_none_of (variables_of rule.args)) }
+    requires inside { IsTrue (is_between task.now.span.first task.now.span.end c.0) }
+    requires declared { IsTrue (is_box_of task.now.problem.now remains.old.box) }
+    requires full { IsFalse (has_empty remains.old.box) }
+    requires list { IsListOf task.now.problem.now task.now.span.first task.now.span.end list.old }
+    requires others { OthersSettled c.0 task.now.taking task.now.problem.now task.now.span.first task.now.span.end list.old remains.old.box }
+    ensures narrowed { IsNarrowed task.now.taking task.now.problem.now task.now.from task.now.stop remains.old.box remains.new.box }
+    ensures past { Follows remains.old remains.new }
+    ensures list { IsListOf task.now.problem.now task.now.span.first task.now.span.end list.new }
+    ensures answer { IsRevised result task.now.taking task.now.problem.now task.now.from task.now.stop task.now.span.first task.now.span.end list.old list.new remains.old.box remains.new.box }
+{
+    task.problem.known();
+    let _ = task.problem.constraint(c);
+    let look = trim(task, c, advice, list, remains);
+    if remains.is_empty() {
+        return Revised::Lost;
+    }
+    if look.changed {
+        return Revised::Changed;
+    }
+    revise_each(task, c, list, remains)
+}
+
+// The same for a sum with this room.
 fn revise_sum(
     task: &Task,
     c: ConId,
@@ -339,14 +368,31 @@ fn revise_sum(
     if is_broken(task.problem, c, room, remains.store()) {
         return Revised::Lost;
     }
-    let look = trim(task, c, room, list, remains);
-    if remains.is_empty() {
-        return Revised::Lost;
+    revise_advised(task, c, Advice::Room(room), list, remains)
+}
+
+// The same for a constraint in which no variable stands twice, and which is no sum.
+fn revise_apart(task: &Task, c: ConId, list: &mut WorkList, remains: &mut Remains) -> Revised
+    requires c { c.0 < length task.now.problem.now.constraints }
+    requires some { (rule : Rule) → slice_get task.now.problem.now.constraints c.0 ≡ Some rule → IsFalse (is_none_of (variables_of rule.args)) }
+    requires apart { (rule : Rule) → slice_get task.now.problem.now.constraints c.0 ≡ Some rule → Distinct (variables_of rule.args) }
+    requires inside { IsTrue (is_between task.now.span.first task.now.span.end c.0) }
+    requires declared { IsTrue (is_box_of task.now.problem.now remains.old.box) }
+    requires full { IsFalse (has_empty remains.old.box) }
+    requires list { IsListOf task.now.problem.now task.now.span.first task.now.span.end list.old }
+    requires others { OthersSettled c.0 task.now.taking task.now.problem.now task.now.span.first task.now.span.end list.old remains.old.box }
+    ensures narrowed { IsNarrowed task.now.taking task.now.problem.now task.now.from task.now.stop remains.old.box remains.new.box }
+    ensures past { Follows remains.old remains.new }
+    ensures list { IsListOf task.now.problem.now task.now.span.first task.now.span.end list.new }
+    ensures answer { IsRevised result task.now.taking task.now.problem.now task.now.from task.now.stop task.now.span.first task.now.span.end list.old list.new remains.old.box remains.new.box }
+{
+    task.problem.known();
+    let rule = task.problem.constraint(c);
+    match look(task.problem, rule, remains.store()) {
+        Sight::Quiet => Revised::Stable,
+        Sight::Filled(s) => revise_advised(task, c, Advice::Filled(s), list, remains),
+        Sight::Unknown => revise_each(task, c, list, remains),
     }
-    if look.changed {
-        return Revised::Changed;
-    }
-    revise_each(task, c, list, remains)
 }
 
 /// Takes the ends that the constraint c of the span refutes and may take, each of its variables once. Where values went, all
@@ -374,6 +420,9 @@ pub(crate) fn revise(task: &Task, c: ConId, list: &mut WorkList, remains: &mut R
     }
     if slack.sum {
         return revise_sum(task, c, slack.room, list, remains);
+    }
+    if task.index.is_apart(c) {
+        return revise_apart(task, c, list, remains);
     }
     revise_each(task, c, list, remains)
 }

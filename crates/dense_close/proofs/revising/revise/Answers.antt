@@ -3,6 +3,7 @@ use Rattle.fd_store.specs.Held.{Held}
 use Rattle.model_arguments.specs.Asked.{IsAsked}
 use Rattle.model_arguments.specs.Written.{variable_numbers}
 use Rattle.qc_model.specs.Arguments.{variables_of}
+use Rattle.qc_model.specs.Lists.{Distinct}
 use Rattle.dense_close.specs.Slack.{SparesTaken}
 use Rattle.dense_close.specs.Taking.{takes_of}
 use Rattle.dense_close.proofs.Cuts.{asked}
@@ -45,6 +46,15 @@ revise_sum-requires-clause-some c = λ r e.
     let t = c.args.task.now in
     let own_is = ap variable_numbers c.own-own.ensures ∙ t.index_is.own_are c.args.c.0 r e in
     clad_of c.own-own.result.now (variables_of r.args) c.is_empty.result own_is c.is_empty.ensures c.if-is_empty.false
+
+pub revise_apart-requires-clause-some : goal.revise_apart-requires-clause-some
+revise_apart-requires-clause-some c = λ r e.
+    let t = c.args.task.now in
+    let own_is = ap variable_numbers c.own-own.ensures ∙ t.index_is.own_are c.args.c.0 r e in
+    clad_of c.own-own.result.now (variables_of r.args) c.is_empty.result own_is c.is_empty.ensures c.if-is_empty.false
+
+pub revise_apart-requires-clause-apart : goal.revise_apart-requires-clause-apart
+revise_apart-requires-clause-apart c = λ r e. subst Distinct (c.args.task.now.index_is.own_are c.args.c.0 r e) (c.is_apart.ensures c.if-is_apart.true)
 
 pub revise_each-requires-clause-some : goal.revise_each-requires-clause-some
 revise_each-requires-clause-some c = λ r e.
