@@ -215,3 +215,37 @@ pub(crate) fn cut_stretch(
     remains.cut(x, low, high);
     true
 }
+
+/// Takes the values of a stretch at the end of x, where the constraint c refutes them together. Whether some went.
+pub(crate) fn cut_refuted(
+    problem: &Problem,
+    c: ConId,
+    x: VarId,
+    end: End,
+    s: Stretch,
+    remains: &mut Remains,
+) -> bool
+    requires c { c.0 < length problem.now.constraints }
+    requires declared { IsTrue (is_box_of problem.now remains.old.box) }
+    requires full { IsFalse (has_empty remains.old.box) }
+    requires x { x.0 < length remains.old.box }
+    ensures cut { IsCut problem.now c.0 x.0 remains.old.box remains.new.box }
+    ensures past { Follows remains.old remains.new }
+    ensures gone { HasCut result remains.old.box remains.new.box }
+{
+    problem.known();
+    let value = end_of(x, end, remains.store());
+    let low = s.low;
+    let high = s.high;
+    if value < low {
+        return false;
+    }
+    if high < value {
+        return false;
+    }
+    if !refutes_stretch(problem, c, x, s, remains.store()) {
+        return false;
+    }
+    remains.cut(x, low, high);
+    true
+}

@@ -14,15 +14,20 @@
 //!
 //! Whether a linear constraint refutes any end that it may take is first asked by one reading of its sum (`slack`), since to ask of
 //! each end takes the square of that. Where it may, that reading tells by a division how far each variable can go (`trimming`): what
-//! lies past it goes where the constraint refutes it, which is asked once. Other values go by stretches: where a constraint refutes an
-//! end, it is asked of twice as many numbers from there on, as long as it refutes them together.
+//! lies past it goes where the constraint refutes it, which is asked once. Items that are to differ are asked together too
+//! (`differing`): the constraint refutes no end of any unless some of them fill numbers among which an end of another lies, and then
+//! these numbers are what is taken. Other values go by stretches: where a constraint refutes an end, it is asked of twice as many
+//! numbers from there on, as long as it refutes them together.
 #![tactic(auto)]
 
+mod advising;
 mod answerless;
 mod closer;
 mod cutting;
+mod differing;
 mod ends;
 mod equality;
+mod guessing;
 mod having;
 mod index;
 mod memories;

@@ -38,8 +38,8 @@ pub(crate) fn product(a: i64, b: i64) -> i64
     a * b
 }
 
-// The items of a sum.
-fn items_met<'a>(args: &'a [Argument], store: &Store) -> &'a [Arg]
+/// The items of a sum, or of an array of variables.
+pub(crate) fn items_met<'a>(args: &'a [Argument], store: &Store) -> &'a [Arg]
     requires { IsTrue (are_met store.now.box args.now) }
     ensures is { result.now ≡ args_at args.now 1 }
     ensures few { length result.now ≤ 1000 }

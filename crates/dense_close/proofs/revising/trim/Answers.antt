@@ -3,7 +3,7 @@ use Rattle.qc_model.specs.Domains.{declared_box, has_empty}
 use Rattle.qc_model.specs.Lists.{Among}
 use Rattle.model_arguments.specs.Written.{variable_numbers}
 use Rattle.dense_closing.proofs.Within.{sub_self}
-use Rattle.dense_close.proofs.Barred.{tells_smaller}
+use Rattle.dense_close.proofs.Advised.{advice_smaller}
 use Rattle.dense_close.proofs.Found.{own_at}
 use Rattle.dense_close.proofs.Trimmed.{trimmed_more}
 use Rattle.dense_close.proofs.Narrowed.{narrowed_more}
@@ -28,7 +28,7 @@ loop-place-preserved c =
       declared = narrowed.fewer (declared_box t.problem.now) c.requires.declared;
       full = full;
       tells = λ r q.
-          tells_smaller t.problem.now c.known.ensures c.args.c.0 r c.args.room c.trim_own.new.remains.box c.loop-place.remains.box q (narrowed.fewer (declared_box t.problem.now) c.requires.declared)
+          advice_smaller t.problem.now c.known.ensures c.args.c.0 r c.args.advice c.trim_own.new.remains.box c.loop-place.remains.box q (narrowed.fewer (declared_box t.problem.now) c.requires.declared)
           (e.narrowed.fewer c.loop-place.remains.box (sub_self c.loop-place.remains.box (declared_box t.problem.now) i.declared)) full (i.tells r q);
       listed = e.list;
       others = e.others;
