@@ -8,9 +8,3 @@ is_fixed-requires c =
     let r = c.constraint-rule.result.now in
     subst (λ (h : Held). c.args.x.0 < length h.box) (sym c.store.ensures)
     (own_within c.args.task.now.problem.now c.known.ensures c.args.c.0 r c.args.remains.now.box c.constraint-rule.ensures c.requires.declared c.args.x.0 (c.requires.own r c.constraint-rule.ensures))
-
-pub kept-s-requires-clause-x : goal.kept-s-requires-clause-x
-kept-s-requires-clause-x c =
-    let r = c.constraint-rule.result.now in
-    subst (λ (h : Held). c.args.x.0 < length h.box) (sym c.store-2.ensures)
-    (own_within c.args.task.now.problem.now c.known.ensures c.args.c.0 r c.args.remains.now.box c.constraint-rule.ensures c.requires.declared c.args.x.0 (c.requires.own r c.constraint-rule.ensures))
