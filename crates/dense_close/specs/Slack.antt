@@ -1,5 +1,5 @@
 -- Sums that have so much room that no end of a variable breaks them.
-use Rattle.std.specs.Prelude.{◌≡◌, ◌⊎◌, ℕ, Bool, false, cond, List, map, slice_get, Some, IsTrue, IsFalse, ℤ, pos, ◌*ℤ◌, ◌+ℤ◌, ◌≤ℤ◌, ◌<ℤ◌}
+use Rattle.std.specs.Prelude.{◌≡◌, ◌⊎◌, ℕ, Bool, true, false, cond, List, map, slice_get, Some, IsTrue, IsFalse, ℤ, pos, ◌*ℤ◌, ◌+ℤ◌, ◌≤ℤ◌, ◌<ℤ◌}
 use Rattle.qc_model.specs.declared.problem.Arg.{Arg}
 use Rattle.qc_model.specs.declared.problem.Arg.TheVariants.{Var, Num}
 use Rattle.qc_model.specs.declared.problem.Pred.TheVariants.{IntLinEq, IntLinLe}
@@ -30,6 +30,10 @@ is_taken ok (Num n) = false
 -- so are those of each term of such a variable
 abbrev pub AreNear : (ℕ → Bool) → ℤ → List ℤ → List Arg → Box → Type 0
 AreNear ok s ns xs box = (i : ℕ) (n : ℤ) (a : Arg) → slice_get ns i ≡ Some n → slice_get xs i ≡ Some a → IsTrue (is_taken ok a) → IsNear s n (left_to box a)
+
+-- so are those of each term of any variable
+abbrev pub AllNear : ℤ → List ℤ → List Arg → Box → Type 0
+AllNear s ns xs box = AreNear (λ x. true) s ns xs box
 
 -- the constraint refutes neither the box nor an end of a variable that it may take
 pub record SparesTaken (takes : Takes) (c : Rule) (box : Box) : Type 0 where

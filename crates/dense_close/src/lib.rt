@@ -18,6 +18,7 @@ mod closer;
 mod cutting;
 mod having;
 mod index;
+mod reading;
 mod revising;
 mod slack;
 mod taking;
