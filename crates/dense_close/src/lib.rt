@@ -8,9 +8,9 @@
 //! keep the box, and it is closed.
 //!
 //! Whether a linear constraint refutes any end that it may take is first asked by one reading of its sum (`slack`), since to ask of
-//! each end takes the square of that. Where it may, that reading tells by a division how far each variable can go (`trimming`): what
-//! lies past it goes where the constraint refutes it, which is asked once. Other values go by stretches: where a constraint refutes an
-//! end, it is asked of twice as many numbers from there on, as long as it refutes them together.
+//! each end takes the square of that. Where it may, that reading tells by a division how far each variable can go (`trimming`), and
+//! what lies past it goes. Other values go by stretches: where a constraint refutes an end, it is asked of twice as many numbers from
+//! there on, as long as it refutes them together.
 #![tactic(auto)]
 
 mod answerless;

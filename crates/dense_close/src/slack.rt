@@ -2,7 +2,8 @@
 //!
 //! Whether a sum refutes an end takes as long as to read the sum, so to hold one against all its ends takes the square of that.
 //! Where the ends of each term are nearer to each other than the sum is to its bound, it refutes none, which one reading tells.
-//! Terms whose variables the sum may not take don't count.
+//! Terms whose variables the sum may not take don't count. Where there isn't such room, the same reading tells how far each variable
+//! can go (`trimming`). It speaks of sums in which no variable stands twice.
 ghost use Rattle.std.specs.Prelude.{◌≡◌, ◌⊎◌, ◌≤◌, ◌^◌, IsTrue, IsFalse, false, cond, length, pos, ◌*ℤ◌, ◌+ℤ◌, ◌≤ℤ◌, ◌<ℤ◌, unsigned_abs};
 ghost use Rattle.std.specs.List.{list_all};
 ghost use Rattle.qc_model.specs.declared.problem.Arg.TheVariants.{Num};
@@ -70,8 +71,8 @@ fn is_near(factor: i64, item: Arg, s: i64, store: &Store) -> bool
     }
 }
 
-// Whether two products are at most s apart.
-fn are_close(a: i64, b: i64, s: i64) -> bool
+/// Whether two products are at most s apart.
+pub(crate) fn are_close(a: i64, b: i64, s: i64) -> bool
     requires a { unsigned_abs a ≤ 10 ^ 18 }
     requires b { unsigned_abs b ≤ 10 ^ 18 }
     ensures up { IsTrue result → b ≤ℤ (a +ℤ s) }
@@ -175,8 +176,8 @@ fn room_of(is_equal: bool, bound: i64, extent: Extent) -> Room
     }
 }
 
-// The lesser of both.
-fn least_room(room: Room) -> i64
+/// The lesser of both.
+pub(crate) fn least_room(room: Room) -> i64
     ensures under { result ≤ℤ room.under }
     ensures over { result ≤ℤ room.over }
 {
@@ -271,7 +272,15 @@ fn slack_below(task: &Task, rule: &Constraint, is_equal: bool, bound: i64, store
     let room = room_of(is_equal, bound, reading.extent);
     Slack {
         sum: true,
-        roomy: has_room(task, rule, factors, items, reading.widest, least_room(room), store),
+        roomy: has_room(
+            task,
+            rule,
+            factors,
+            items,
+            reading.widest,
+            least_room(room),
+            store,
+        ),
         room,
     }
 }
