@@ -25,12 +25,15 @@ use Rattle.model_arguments.specs.Asked.{is_box_of}
 use Rattle.model_arguments.specs.Repeats.{is_variable, same_variable, has_repeat}
 use Rattle.model_arguments.specs.Written.{args_at, ints_at}
 use Rattle.model_arguments.proofs.Bools.{neither, or_none, or_left, or_right, never}
+use Rattle.model_arguments.proofs.Boxes.{some_left, left_small}
 use Rattle.model_arguments.proofs.Items.{other_left, others_left}
-use Rattle.model_arguments.proofs.Kept.{at_least, at_most, is_lower, through}
+use Rattle.model_arguments.proofs.Kept.{at_least, at_most, is_lower, ordered, through}
 use Rattle.model_arguments.proofs.Values.{value_passes, has_least, has_greatest}
 use Rattle.model_arguments.proofs.Written.{lefts_written, numbers_written}
 use Rattle.model_table.proofs.Fits.{or_cases}
 use Rattle.model_table.proofs.Inside.{Inside, given_sums_inside}
+use Rattle.model_table.proofs.Ordered.{constraint_at}
+use Rattle.qc_refuter.proofs.Ready.{rule_met}
 use Rattle.model_table.proofs.Parts.{lefts_parts}
 use Rattle.model_table.proofs.Typed.{lefts_of}
 use Rattle.dense_closing.proofs.Own.{rule_below}
@@ -38,7 +41,9 @@ use Rattle.qc_refuter.specs.Met.{is_met, are_met}
 use Rattle.qc_model.proofs.Readable.{first, second}
 use Rattle.dense_close.specs.declared.slack.Room.{Room}
 use Rattle.dense_close.specs.Cutting.{IsBarred}
-use Rattle.dense_close.specs.Slack.{sum_left, most_room, RoomTells, IsTermOf, IsPast}
+use Rattle.dense_close.specs.Slack.{sum_left, most_room, RoomTells, IsTermOf, IsMeasured, IsPast}
+use Rattle.dense_close.proofs.Cuts.{least_small, greatest_small}
+use Rattle.dense_close.proofs.Indexed.{some_at}
 use Rattle.dense_close.proofs.Sums.{at_most_is, equal_is}
 
 -- where no variable stands twice in a constraint, none does in one of its arrays
@@ -99,8 +104,22 @@ numbers_small box (Numbers ns ∷ args) zero h = first (list_all is_number ns) (
 numbers_small box (Members s ∷ args) zero h = refl
 numbers_small box (a ∷ args) (suc k) h = numbers_small box args k (second (is_met box a) (are_met box args) h)
 
-pub factor_small : (box : Box) (c : Rule) (n : ℤ) (x : VarId) → are_met box c.args ≡ true → IsTermOf c n x → is_number n ≡ true
+factor_small : (box : Box) (c : Rule) (n : ℤ) (x : VarId) → are_met box c.args ≡ true → IsTermOf c n x → is_number n ≡ true
 factor_small box c n x h t = number_passes (ints_at c.args 0) t.place n (numbers_small box c.args 0 h) t.factor
+
+pub measured : (g : Game) → IsValid g → (k : ℕ) (box : Box) (x : VarId) (n u v : ℤ) → is_box_of g box ≡ true → has_empty box ≡ false → k < length g.constraints → x.0 < length box → n ≢ pos 0 →
+    ((c : Rule) → slice_get g.constraints k ≡ Some c → IsTermOf c n x) → u ≡ least_value (values_left box x.0) → v ≡ greatest_value (values_left box x.0) → IsMeasured n u v
+measured g valid k box x n u v d f there l some at low high =
+    let r = some_at g.constraints k there in
+    let small = left_small g box x.0 valid.domains d in
+    let met = rule_met g box valid.domains d f r.0 (constraint_at g valid k r.0 r.1) in
+    record {
+      small = factor_small box r.0 n x met (at r.0 r.1);
+      some = some;
+      low = subst (λ z. is_number z ≡ true) (sym low) (least_small box x.0 l f small);
+      high = subst (λ z. is_number z ≡ true) (sym high) (greatest_small box x.0 l f small);
+      order = subst (λ z. z ≤ℤ v) (sym low) (subst (λ z. least_value (values_left box x.0) ≤ℤ z) (sym high) (ordered (values_left box x.0) (some_left box x.0 f l)));
+    }
 
 -- in a smaller box a sum can be less, so there is no more room
 sum_is : (c : Rule) (box : Box) → sum_at (lefts_of box c.args) ≡ sum_left c box

@@ -1,5 +1,5 @@
 -- Sums that have so much room that no end of a variable breaks them.
-use Rattle.std.specs.Prelude.{◌≡◌, ◌⊎◌, ℕ, Bool, false, cond, List, map, slice_get, Some, IsTrue, IsFalse, ℤ, pos, ◌*ℤ◌, ◌+ℤ◌, ◌≤ℤ◌, ◌<ℤ◌}
+use Rattle.std.specs.Prelude.{◌≡◌, ◌≢◌, ◌⊎◌, ℕ, Bool, true, false, cond, List, map, slice_get, Some, IsTrue, IsFalse, ℤ, pos, ◌*ℤ◌, ◌+ℤ◌, ◌≤ℤ◌, ◌<ℤ◌}
 use Rattle.qc_model.specs.declared.problem.Arg.{Arg}
 use Rattle.qc_model.specs.declared.problem.Arg.TheVariants.{Var, Num}
 use Rattle.qc_model.specs.declared.problem.Pred.TheVariants.{IntLinEq, IntLinLe}
@@ -12,6 +12,7 @@ use Rattle.qc_model.specs.Left.{sum_range}
 use Rattle.qc_model.specs.Lists.{Among}
 use Rattle.qc_model.specs.Ranges.{Range}
 use Rattle.qc_model.specs.Refuted.{left_to, refuted_by}
+use Rattle.qc_model.specs.Valid.{is_number}
 use Rattle.model_arguments.specs.Repeats.{has_repeat}
 use Rattle.model_arguments.specs.Written.{arg_at, args_at, ints_at}
 use Rattle.dense_closing.specs.Takes.{Takes}
@@ -30,6 +31,10 @@ is_taken ok (Num n) = false
 -- so are those of each term of such a variable
 abbrev pub AreNear : (ℕ → Bool) → ℤ → List ℤ → List Arg → Box → Type 0
 AreNear ok s ns xs box = (i : ℕ) (n : ℤ) (a : Arg) → slice_get ns i ≡ Some n → slice_get xs i ≡ Some a → IsTrue (is_taken ok a) → IsNear s n (left_to box a)
+
+-- so are those of each term of any variable
+abbrev pub AllNear : ℤ → List ℤ → List Arg → Box → Type 0
+AllNear s ns xs box = AreNear (λ x. true) s ns xs box
 
 -- the constraint refutes neither the box nor an end of a variable that it may take
 pub record SparesTaken (takes : Takes) (c : Rule) (box : Box) : Type 0 where
@@ -61,6 +66,14 @@ pub record IsTermOf (c : Rule) (n : ℤ) (x : VarId) : Type 0 where
   pub place : ℕ
   pub factor : slice_get (ints_at c.args 0) place ≡ Some n
   pub item : slice_get (args_at c.args 1) place ≡ Some (Var x)
+
+-- a factor other than 0, and the values from least to greatest, all within the limit
+pub record IsMeasured (n least greatest : ℤ) : Type 0 where
+  pub small : IsTrue (is_number n)
+  pub some : n ≢ pos 0
+  pub low : IsTrue (is_number least)
+  pub high : IsTrue (is_number greatest)
+  pub order : least ≤ℤ greatest
 
 -- there is some
 pub record IsLong (r : Room) : Type 0 where

@@ -13,8 +13,8 @@
 //! a memory of its own.
 //!
 //! Whether a linear constraint refutes any end that it may take is first asked by one reading of its sum (`slack`), since to ask of
-//! each end takes the square of that. Where it may, that reading tells by a division how far each variable can go (`trimming`): what
-//! lies past it goes where the constraint refutes it, which is asked once. Items that are to differ are asked together too
+//! each end takes the square of that. Where it may, that reading tells by a division how far each variable can go (`trimming`), and what
+//! lies past it goes. Items that are to differ are asked together too
 //! (`differing`): the constraint refutes no end of any unless some of them fill numbers among which an end of another lies, and then
 //! these numbers are what is taken. Other values go by stretches: where a constraint refutes an end, it is asked of twice as many
 //! numbers from there on, as long as it refutes them together.
@@ -37,6 +37,7 @@ mod reading;
 mod relating;
 mod revising;
 mod slack;
+mod summing;
 mod taking;
 mod task;
 mod trimming;

@@ -9,7 +9,7 @@ ghost use Rattle.dense_close.specs.Taking.{takes_of};
 
 use crate::ends::Ends;
 use crate::reading::{arg_met, at_greatest, at_least, ends_of, is_spared};
-use crate::slack::product;
+use crate::summing::product;
 use crate::task::Task;
 use fd_store::Store;
 use qc_model::{Argument, Constraint};

@@ -2,7 +2,8 @@
 //!
 //! Whether a sum refutes an end takes as long as to read the sum, so to hold one against all its ends takes the square of that.
 //! Where the ends of each term are nearer to each other than the sum is to its bound, it refutes none, which one reading tells.
-//! Terms whose variables the sum may not take don't count.
+//! Terms whose variables the sum may not take don't count. Where there isn't such room, the same reading tells how far each variable
+//! can go (`trimming`). It speaks of sums in which no variable stands twice.
 ghost use Rattle.std.specs.Prelude.{◌≡◌, ◌⊎◌, ◌≤◌, ◌^◌, IsTrue, IsFalse, false, cond, length, pos, ◌*ℤ◌, ◌+ℤ◌, ◌≤ℤ◌, ◌<ℤ◌, unsigned_abs};
 ghost use Rattle.std.specs.List.{list_all};
 ghost use Rattle.qc_model.specs.declared.problem.Arg.TheVariants.{Num};
@@ -14,29 +15,20 @@ ghost use Rattle.qc_model.specs.Valid.{is_number};
 ghost use Rattle.model_arguments.specs.Asked.{IsAsked};
 ghost use Rattle.model_arguments.specs.Written.{arg_at, args_at, ints_at};
 ghost use Rattle.qc_refuter.specs.Met.{is_open, are_met};
-ghost use Rattle.dense_close.specs.Slack.{IsNear, is_taken, AreNear, SparesTaken, most_room, RoomTells, IsLong};
+ghost use Rattle.dense_close.specs.Slack.{IsNear, is_taken, AreNear, AllNear, SparesTaken, most_room, RoomTells, IsLong};
 ghost use Rattle.dense_close.specs.Taking.{takes_of};
 
 use crate::reading::may_take_item;
+use crate::summing::{product, read_sum};
+use crate::taking::Taking;
 use crate::task::Task;
 use fd_store::Store;
 use model_arguments::{arguments, one_at};
 use qc_model::{Arg, Argument, Constraint, Pred};
-use qc_refuter::{Extent, sum_extent};
+use qc_refuter::Extent;
 
 /// As much room as is told at most.
 const MOST: i64 = 4_000_000_000_000_000_000;
-
-/// The product of two numbers within the limit.
-#[inline(always)]
-pub(crate) fn product(a: i64, b: i64) -> i64
-    requires a { IsTrue (is_number a) }
-    requires b { IsTrue (is_number b) }
-    ensures value { result ≡ (a *ℤ b) }
-    ensures small { unsigned_abs result ≤ 10 ^ 18 }
-{
-    a * b
-}
 
 /// The items of a sum, or of an array of variables.
 pub(crate) fn items_met<'a>(args: &'a [Argument], store: &Store) -> &'a [Arg]
@@ -80,8 +72,8 @@ fn is_near(factor: i64, item: Arg, s: i64, store: &Store) -> bool
     }
 }
 
-// Whether two products are at most s apart.
-fn are_close(a: i64, b: i64, s: i64) -> bool
+/// Whether two products are at most s apart.
+pub(crate) fn are_close(a: i64, b: i64, s: i64) -> bool
     requires a { unsigned_abs a ≤ 10 ^ 18 }
     requires b { unsigned_abs b ≤ 10 ^ 18 }
     ensures up { IsTrue result → b ≤ℤ (a +ℤ s) }
@@ -175,8 +167,8 @@ fn room_of(is_equal: bool, bound: i64, extent: Extent) -> Room
     }
 }
 
-// The lesser of both.
-fn least_room(room: Room) -> i64
+/// The lesser of both.
+pub(crate) fn least_room(room: Room) -> i64
     ensures under { result ≤ℤ room.under }
     ensures over { result ≤ℤ room.over }
 {
@@ -209,8 +201,8 @@ fn clamped(n: i128) -> i64
     n as i64
 }
 
-// Whether the terms have such room.
-fn has_room(
+// Whether those of each term that the constraint may take are, where it may not take all: else it is told by the widest.
+fn are_others_near(
     task: &Task,
     rule: &Constraint,
     factors: &[i64],
@@ -220,13 +212,38 @@ fn has_room(
 ) -> bool
     requires factors { IsTrue (list_all is_number factors.now) }
     requires open { IsTrue (list_all (is_open store.now.box) items.now) }
+    requires room { pos 0 ≤ℤ s }
+    ensures { IsTrue result → AreNear (takes_of task.now.taking task.now.problem.now rule.now) s factors.now items.now store.now.box }
+{
+    match task.taking {
+        Taking::All => false,
+        Taking::Owners => are_near(task, rule, factors, items, s, store),
+    }
+}
+
+// Whether the terms, of which this is the widest, have such room.
+fn has_room(
+    task: &Task,
+    rule: &Constraint,
+    factors: &[i64],
+    items: &[Arg],
+    widest: i64,
+    s: i64,
+    store: &Store,
+) -> bool
+    requires factors { IsTrue (list_all is_number factors.now) }
+    requires open { IsTrue (list_all (is_open store.now.box) items.now) }
+    requires near { AllNear widest factors.now items.now store.now.box }
     ensures room { IsTrue result → pos 0 ≤ℤ s }
     ensures near { IsTrue result → AreNear (takes_of task.now.taking task.now.problem.now rule.now) s factors.now items.now store.now.box }
 {
     if s < 0 {
         return false;
     }
-    are_near(task, rule, factors, items, s, store)
+    if widest <= s {
+        return true;
+    }
+    are_others_near(task, rule, factors, items, s, store)
 }
 
 // What a reading tells of a sum that a number bounds.
@@ -242,14 +259,19 @@ fn slack_below(task: &Task, rule: &Constraint, is_equal: bool, bound: i64, store
     let args = arguments(rule);
     let factors = factors_met(args, store);
     let items = items_met(args, store);
-    let room = room_of(
-        is_equal,
-        bound,
-        sum_extent(task.problem, rule, factors, items, store),
-    );
+    let reading = read_sum(factors, items, store);
+    let room = room_of(is_equal, bound, reading.extent);
     Slack {
         sum: true,
-        roomy: has_room(task, rule, factors, items, least_room(room), store),
+        roomy: has_room(
+            task,
+            rule,
+            factors,
+            items,
+            reading.widest,
+            least_room(room),
+            store,
+        ),
         room,
     }
 }

@@ -11,10 +11,11 @@ ghost use Rattle.model_arguments.specs.Asked.{is_box_of};
 ghost use Rattle.model_arguments.specs.Written.{args_at, ints_at};
 ghost use Rattle.fd_store.specs.Held.{Follows};
 ghost use Rattle.dense_close.specs.Cutting.{IsCut, HasCut};
-ghost use Rattle.dense_close.specs.Slack.{RoomTells, IsTermOf, IsLong, IsPast};
+ghost use Rattle.dense_close.specs.Slack.{RoomTells, IsTermOf, IsMeasured, IsLong, IsPast};
 
 use crate::cutting::{End, Stretch, cut_stretch};
-use crate::slack::Room;
+use crate::reading::product;
+use crate::slack::{Room, are_close, least_room};
 use check_box::Remains;
 use model_arguments::arguments;
 use qc_model::{Arg, Argument, ConId, Constraint, Problem, VarId};
@@ -70,12 +71,8 @@ fn steps_down(factor: i64, room: Room, width: i64) -> i64
 
 // The values from least to greatest that are farther from the least than the room lets a variable with this factor go.
 fn past_least(factor: i64, room: Room, least: i64, greatest: i64) -> Stretch
-    requires factor { IsTrue (is_number factor) }
-    requires some { factor ≢ pos 0 }
+    requires measured { IsMeasured factor least greatest }
     requires room { IsLong room }
-    requires least { IsTrue (is_number least) }
-    requires greatest { IsTrue (is_number greatest) }
-    requires order { least ≤ℤ greatest }
     ensures { IsPast room factor least result.low result.high }
 {
     let up = steps_up(factor, room, greatest - least);
@@ -87,12 +84,8 @@ fn past_least(factor: i64, room: Room, least: i64, greatest: i64) -> Stretch
 
 // Those that are farther from the greatest.
 fn past_greatest(factor: i64, room: Room, least: i64, greatest: i64) -> Stretch
-    requires factor { IsTrue (is_number factor) }
-    requires some { factor ≢ pos 0 }
+    requires measured { IsMeasured factor least greatest }
     requires room { IsLong room }
-    requires least { IsTrue (is_number least) }
-    requires greatest { IsTrue (is_number greatest) }
-    requires order { least ≤ℤ greatest }
     ensures { IsPast room factor greatest result.low result.high }
 {
     let down = steps_down(factor, room, greatest - least);
@@ -100,6 +93,17 @@ fn past_greatest(factor: i64, room: Room, least: i64, greatest: i64) -> Stretch
         low: least,
         high: greatest - down - 1,
     }
+}
+
+// Whether the room lets a variable with this factor go from its least value to its greatest.
+fn is_free(factor: i64, room: Room, least: i64, greatest: i64) -> bool
+    requires { IsMeasured factor least greatest }
+{
+    are_close(
+        product(factor, least),
+        product(factor, greatest),
+        least_room(room),
+    )
 }
 
 /// The factor of x, which is the item at this place, or 0 where it isn't.
@@ -161,9 +165,11 @@ pub(crate) fn cut_by_room(
     ensures gone { HasCut result remains.old.box remains.new.box }
 {
     problem.known();
-    remains.store().known(x);
     let least = remains.store().min(x);
     let greatest = remains.store().max(x);
+    if is_free(factor, room, least, greatest) {
+        return false;
+    }
     let below = past_greatest(factor, room, least, greatest);
     let above = past_least(factor, room, least, greatest);
     let from_below = cut_stretch(problem, c, x, End::Least, below, remains);

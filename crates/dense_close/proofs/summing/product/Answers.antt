@@ -4,7 +4,7 @@ use Rattle.std.proofs.lemmas.Int.{to_z-of_z, fits_signed_from_abs}
 use mir.Val.{SFits}
 use mir.Syntax.{w64}
 use Rattle.qc_refuter.proofs.Terms.{product_small}
-use Rattle.dense_close.proofs.slack.product.Goals as goal
+use Rattle.dense_close.proofs.summing.product.Goals as goal
 
 pub returns-clause-value : goal.returns-clause-value
 returns-clause-value c =
