@@ -98,12 +98,13 @@ fn close_all(
     ensures answer { MatchBool result (greatest_closed (takes_of task.now.taking task.now.problem.now) task.now.problem.now task.now.from task.now.stop remains.old.box ≡ Some remains.new.box) (greatest_closed (takes_of task.now.taking task.now.problem.now) task.now.problem.now task.now.from task.now.stop remains.old.box ≡ None) }
 {
     task.problem.known();
+    let at = remains.mark().at;
     memories.begin(task, remains);
     wake_pending(task, memories.present(), list);
     let closed = settle(task, list, remains);
     clear(list);
     if closed {
-        memories.end(task, remains);
+        memories.end(task, remains, remains.mark().at != at);
     }
     closed
 }

@@ -1,6 +1,7 @@
 //! What is remembered of the closings on the way to a box.
-ghost use Rattle.std.specs.Prelude.{◌≡◌, ◌≤◌, ℕ, length, slice_get, Some, IsTrue, IfOk, OnOk};
+ghost use Rattle.std.specs.Prelude.{◌≡◌, ◌≤◌, ℕ, length, slice_get, Some, IsTrue, IsFalse, IfOk, OnOk};
 ghost use Rattle.qc_model.specs.Content.{Rule};
+ghost use Rattle.qc_model.specs.Domains.{has_empty};
 ghost use Rattle.qc_model.specs.Lists.{Among};
 ghost use Rattle.model_arguments.specs.Asked.{is_box_of};
 ghost use Rattle.model_levels.specs.Spans.{is_between};
@@ -111,6 +112,7 @@ impl Memories {
     /// Begins a closing of this box: what is remembered of boxes that it lies within is taken over, and all variables are looked at.
     pub(crate) fn begin(&mut self, task: &Task, remains: &Remains)
         requires declared { IsTrue (is_box_of task.now.problem.now remains.now.box) }
+        requires full { IsFalse (has_empty remains.now.box) }
         requires memories { AreMemories task.now.taking task.now.problem.now self.old }
         ensures memories { AreMemories task.now.taking task.now.problem.now self.new }
         ensures seen { IsAsSeen (length task.now.problem.now.variables) task.now.taking task.now.problem.now self.new.present remains.now.box }
@@ -149,14 +151,16 @@ impl Memories {
         }
     }
 
-    /// Ends a closing with this box: the constraints of the span are settled.
-    pub(crate) fn end(&mut self, task: &Task, remains: &Remains)
+    /// Ends a closing with this box, which may have changed since it began: the constraints of the span are settled.
+    pub(crate) fn end(&mut self, task: &Task, remains: &Remains, changed: bool)
         requires declared { IsTrue (is_box_of task.now.problem.now remains.now.box) }
+        requires full { IsFalse (has_empty remains.now.box) }
         requires memories { AreMemories task.now.taking task.now.problem.now self.old }
+        requires seen { IsFalse changed → IsAsSeen (length task.now.problem.now.variables) task.now.taking task.now.problem.now self.old.present remains.now.box }
         requires keeps { (k : ℕ) (c : Rule) → IsTrue (is_between task.now.span.first task.now.span.end k) → slice_get task.now.problem.now.constraints k ≡ Some c → IsTrue (keeps_box (takes_of task.now.taking task.now.problem.now) remains.now.box c) }
         ensures { AreMemories task.now.taking task.now.problem.now self.new }
     {
-        self.present.look(task, remains.store());
+        self.present.look_again(task, remains.store(), changed);
         self.present.settle(task, remains.mark().at);
         self.keep();
     }
