@@ -11,8 +11,10 @@ use Rattle.std.proofs.lemmas.List.{get_or_past}
 use Rattle.qc_model.specs.Arguments.{variables_of}
 use Rattle.qc_model.specs.Block.{is_owned_within, constraints_within}
 use Rattle.qc_model.specs.Content.{Game, Rule}
-use Rattle.qc_model.specs.Domains.{Values, Box, values_left, has_empty, is_none_left, is_ascending, least_value, greatest_value, greatest_from}
+use Rattle.qc_model.specs.Domains.{Values, Box, declared_box, values_left, has_empty, is_none_left, is_ascending, least_value, greatest_value, greatest_from}
 use Rattle.qc_model.specs.Lists.{Among, numbers_from}
+use Rattle.qc_model.specs.Refuted.{refuted_by}
+use Rattle.qc_model.specs.Verdict.{is_none_of}
 use Rattle.qc_model.specs.Valid.{IsValid, is_number}
 use Rattle.qc_model.proofs.Moves.{among_filter}
 use Rattle.qc_model.proofs.Readable.{first, second}
@@ -30,7 +32,9 @@ use Rattle.dense_closing.specs.Closing.{IsGreatestClosed}
 use Rattle.dense_closing.specs.ClosingSteps.{greatest_closed}
 use Rattle.dense_closing.specs.Takes.{keeps_box, NoneClosedBy}
 use Rattle.dense_closing.proofs.Closing.{closing_finds}
+use Rattle.dense_closing.proofs.Keeping.{box_stands}
 use Rattle.dense_closing.proofs.Own.{own_of}
+use Rattle.dense_closing.proofs.Within.{sub_self}
 use Rattle.dense_close.specs.declared.memory.Sight.{Sight}
 use Rattle.dense_close.specs.declared.taking.Taking.{Taking}
 use Rattle.dense_close.specs.Index.{Index, has_it, IsIndexOf}
@@ -212,3 +216,13 @@ seen_unchanged t g n m s u a b f p q h seen = subst (λ box. IsAsSeen n t g m bo
   where
     equal : (a b : ℕ) → not (a == b) ≡ false → a ≡ b
     equal a b h = grind (arith, nat_tests)
+
+-- a constraint that keeps the box and has a variable doesn't refute it
+pub kept_stands : (t : Taking) (g : Game) → IsValid g → (k : ℕ) (c : Rule) (box : Box) → slice_get g.constraints k ≡ Some c → is_box_of g box ≡ true → has_empty box ≡ false → keeps_box (takes_of t g) box c ≡ true → is_none_of (variables_of c.args) ≡ false →
+    refuted_by c box ≡ false
+kept_stands t g v k c box e d full kept some = never (refuted_by c box) (box_stands g v k c e box box d (sub_self box (declared_box g) d) full (takes_of t g) kept some)
+
+-- so one that was settled with what is left doesn't
+pub settled_stands : (t : Taking) (g : Game) → IsValid g → (m : Memory) (box : Box) → is_box_of g box ≡ true → has_empty box ≡ false → IsAsSeen (length g.variables) t g m box → (k : ℕ) (c : Rule) → slice_get g.constraints k ≡ Some c → is_pending m k ≡ false →
+    is_none_of (variables_of c.args) ≡ false → refuted_by c box ≡ false
+settled_stands t g v m box d full p k c e u some = kept_stands t g v k c box e d full (settled_here t g v m box d p k c e u) some

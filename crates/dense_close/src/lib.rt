@@ -25,6 +25,7 @@ mod having;
 mod index;
 mod memories;
 mod memory;
+mod refuting;
 mod revising;
 mod slack;
 mod taking;

@@ -7,7 +7,7 @@ ghost use Rattle.model_arguments.specs.Asked.{is_box_of};
 ghost use Rattle.model_levels.specs.Spans.{is_between};
 ghost use Rattle.dense_closing.specs.Takes.{keeps_box};
 ghost use Rattle.dense_close.specs.declared.taking.Taking.{Taking};
-ghost use Rattle.dense_close.specs.Memory.{Memory, AreMemories, ComeFrom, IsAlike, IsAsSeen};
+ghost use Rattle.dense_close.specs.Memory.{Memory, IsOneOf, AreMemories, ComeFrom, IsAlike, IsAsSeen};
 ghost use Rattle.dense_close.specs.Taking.{takes_of};
 
 use crate::memory::Memory;
@@ -97,6 +97,17 @@ impl Memories {
             used -= 1;
         }
         0
+    }
+
+    /// The last one that was made where the trail wasn't longer than this.
+    pub(crate) fn last(&self, at: usize) -> &Memory
+        ensures { IsOneOf result.now self.now }
+    {
+        let used = self.made_by(at);
+        if used == 0 {
+            return &self.present;
+        }
+        &self.kept[used - 1]
     }
 
     // The last one in use becomes the present one too.

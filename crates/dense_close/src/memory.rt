@@ -224,6 +224,17 @@ impl Memory {
         }
     }
 
+    /// Whether what is left to each variable was seen of it.
+    pub(crate) fn has_seen_all(&self, task: &Task, store: &Store) -> bool
+        requires declared { IsTrue (is_box_of task.now.problem.now store.now.box) }
+        requires full { IsFalse (has_empty store.now.box) }
+        requires memory { IsMemory task.now.taking task.now.problem.now self.now }
+        ensures { IsTrue result → IsAsSeen (length task.now.problem.now.variables) task.now.taking task.now.problem.now self.now store.now.box }
+    {
+        task.problem.known();
+        self.next_unseen(task, store, 0) == task.problem.variables()
+    }
+
     /// Looks at all variables again where something changed since.
     pub(crate) fn look_again(&mut self, task: &Task, store: &Store, changed: bool)
         requires declared { IsTrue (is_box_of task.now.problem.now store.now.box) }
