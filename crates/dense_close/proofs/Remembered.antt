@@ -1,16 +1,20 @@
 -- What was seen of variables, and the constraints that were settled then.
-use Rattle.std.proofs.Common.{rules, Fits, to_z, ◌≡◌, ◌≢◌, ◌<◌, ◌+◌, ◌⊎◌, inl, inr, ℕ, suc, true, false, ◌&&◌, cond, List, [], ◌∷◌, length, refl, sym, ap, ◌∙◌, subst, arith, ℤ}
+use Rattle.std.proofs.Common.{rules, Fits, to_z, ◌≡◌, ◌≢◌, ◌<◌, ◌≤◌, ◌+◌, ◌==◌, ◌⊎◌, inl, inr, ℕ, suc, true, false, ◌&&◌, cond, List, [], ◌∷◌, length, refl, sym, ap, ◌∙◌, subst, arith, ℤ}
 use mir.Val.{SFits}
 use Rattle.std.proofs.Math.Facts.{Fits-lt-pow}
 use mir.Syntax.{w32, w64}
 use Rattle.std.specs.Prelude.{slice_get, slice_index_or, Some, MatchOption, not, int_lt, ◌≤ℤ◌, ◌+ℤ◌, ◌-ℤ◌, pos, neg_ℤ}
 use Rattle.std.specs.List.{list_all}
+use Rattle.std.proofs.lemmas.Bool.Decides.{nat_tests}
 use Rattle.std.proofs.lemmas.Int.{ints, to_z_pos}
+use Rattle.std.proofs.lemmas.List.{get_or_past}
 use Rattle.qc_model.specs.Arguments.{variables_of}
 use Rattle.qc_model.specs.Block.{is_owned_within, constraints_within}
 use Rattle.qc_model.specs.Content.{Game, Rule}
-use Rattle.qc_model.specs.Domains.{Values, Box, values_left, has_empty, is_none_left, is_ascending, least_value, greatest_value, greatest_from}
+use Rattle.qc_model.specs.Domains.{Values, Box, declared_box, values_left, has_empty, is_none_left, is_ascending, least_value, greatest_value, greatest_from}
 use Rattle.qc_model.specs.Lists.{Among, numbers_from}
+use Rattle.qc_model.specs.Refuted.{refuted_by}
+use Rattle.qc_model.specs.Verdict.{is_none_of}
 use Rattle.qc_model.specs.Valid.{IsValid, is_number}
 use Rattle.qc_model.proofs.Moves.{among_filter}
 use Rattle.qc_model.proofs.Readable.{first, second}
@@ -21,13 +25,16 @@ use Rattle.model_arguments.proofs.Values.{above_first, has_least, has_greatest, 
 use Rattle.model_levels.specs.Spans.{is_between, IsSpanOf}
 use Rattle.model_table.proofs.Fits.{all_at}
 use Rattle.proof_alike.proofs.Filling.{get_among}
+use Rattle.fd_store.specs.Held.{Held, trail_len, past_box, Follows}
 use Rattle.box_laws.proofs.Firsts.{least_is}
 use Rattle.box_laws.proofs.Readings.{box_size}
 use Rattle.dense_closing.specs.Closing.{IsGreatestClosed}
 use Rattle.dense_closing.specs.ClosingSteps.{greatest_closed}
 use Rattle.dense_closing.specs.Takes.{keeps_box, NoneClosedBy}
 use Rattle.dense_closing.proofs.Closing.{closing_finds}
+use Rattle.dense_closing.proofs.Keeping.{box_stands}
 use Rattle.dense_closing.proofs.Own.{own_of}
+use Rattle.dense_closing.proofs.Within.{sub_self}
 use Rattle.dense_close.specs.declared.memory.Sight.{Sight}
 use Rattle.dense_close.specs.declared.taking.Taking.{Taking}
 use Rattle.dense_close.specs.Index.{Index, has_it, IsIndexOf}
@@ -79,9 +86,12 @@ row_of (v ∷ us) least greatest count a c l h e n =
     end least greatest v far count n s c f r e = grind (arith, ints)
 
 -- values that are counted, and their ends
-pub some_counted : (vs : Values) (count : ℕ) → count ≡ length vs → count ≢ 0 → is_none_left vs ≡ false
-some_counted [] count e n = absurd (n e)
-some_counted (v ∷ vs) count e n = refl
+pub counted_some : (vs : Values) (count : ℕ) → count ≡ length vs → is_none_left vs ≡ false → count ≢ 0
+counted_some [] count e n = cc
+counted_some (v ∷ vs) count e n = λ z. more (length vs) (sym z ∙ e)
+  where
+    more : (n : ℕ) → 0 ≡ suc n → ⊥
+    more n q = omega (arith, q)
 
 pub count_is : (count : ℕ) → Fits w32 count → to_z w64 count ≡ pos count
 count_is count f = to_z_pos w64 count (below count (Fits-lt-pow f))
@@ -150,10 +160,6 @@ seen_same t g x m box p s = record { memory = p.memory; tells = λ y l. at y (la
     either k c e u y a (inl l) = p.some k c y e u l a
     either k c e u y a (inr q) = here y q
 
--- what is told of the values of x now, and the same was seen of it
-pub seen_told : (now s : Sight) (vs : Values) → TellsOf now vs → now.count ≢ 0 → s ≡ now → IsSeen s vs
-seen_told now s vs tells n e = subst (λ z. IsSeen z vs) (sym e) (record { some = n; same = tells n })
-
 place_of_own : (g : Game) → IsValid g → (k : ℕ) (c : Rule) (box : Box) → slice_get g.constraints k ≡ Some c → is_box_of g box ≡ true → (x : ℕ) → Among x (variables_of c.args) → x < length g.variables
 place_of_own g v k c box e d x m = subst (λ n. x < n) (box_size g box d) (own_within g v k c box e d x m)
 
@@ -196,3 +202,27 @@ closed_keeps t g v i stop first end box now d s found k c b e =
 
     closed : (not (has_empty now) && list_all (keeps_box (takes_of t g) now) cs) ≡ true
     closed = (subst (λ o. MatchOption o (NoneClosedBy (takes_of t g) cs box) (IsGreatestClosed (takes_of t g) cs box)) found (closing_finds (takes_of t g) g v i stop box d)).closed
+
+-- a box whose trail didn't grow is the same
+pub same_box : (s t : Held) → Follows s t → trail_len t ≡ trail_len s → t.box ≡ s.box
+same_box s t f e = sym (own t (trail_len s) (omega (arith, e))) ∙ (f.boxes (trail_len s) (omega arith) ∙ own s (trail_len s) (omega arith))
+  where
+    own : (h : Held) (n : ℕ) → trail_len h ≤ n → past_box h n ≡ h.box
+    own h n l = get_or_past h.past n h.box l
+
+-- so what was seen of it still is
+pub seen_unchanged : (t : Taking) (g : Game) (n : ℕ) (m : Memory) (s u : Held) (a b : ℕ) → Follows s u → a ≡ trail_len u → b ≡ trail_len s → not (a == b) ≡ false → IsAsSeen n t g m s.box → IsAsSeen n t g m u.box
+seen_unchanged t g n m s u a b f p q h seen = subst (λ box. IsAsSeen n t g m box) (sym (same_box s u f (sym p ∙ (equal a b h ∙ q)))) seen
+  where
+    equal : (a b : ℕ) → not (a == b) ≡ false → a ≡ b
+    equal a b h = grind (arith, nat_tests)
+
+-- a constraint that keeps the box and has a variable doesn't refute it
+pub kept_stands : (t : Taking) (g : Game) → IsValid g → (k : ℕ) (c : Rule) (box : Box) → slice_get g.constraints k ≡ Some c → is_box_of g box ≡ true → has_empty box ≡ false → keeps_box (takes_of t g) box c ≡ true → is_none_of (variables_of c.args) ≡ false →
+    refuted_by c box ≡ false
+kept_stands t g v k c box e d full kept some = never (refuted_by c box) (box_stands g v k c e box box d (sub_self box (declared_box g) d) full (takes_of t g) kept some)
+
+-- so one that was settled with what is left doesn't
+pub settled_stands : (t : Taking) (g : Game) → IsValid g → (m : Memory) (box : Box) → is_box_of g box ≡ true → has_empty box ≡ false → IsAsSeen (length g.variables) t g m box → (k : ℕ) (c : Rule) → slice_get g.constraints k ≡ Some c → is_pending m k ≡ false →
+    is_none_of (variables_of c.args) ≡ false → refuted_by c box ≡ false
+settled_stands t g v m box d full p k c e u some = kept_stands t g v k c box e d full (settled_here t g v m box d p k c e u) some

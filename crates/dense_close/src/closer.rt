@@ -3,6 +3,7 @@ ghost use Rattle.std.specs.Prelude.{◌≡◌, ◌≤◌, ℕ, suc, None, Some, 
 ghost use Rattle.std.specs.List.{list_any};
 ghost use Rattle.qc_model.specs.Block.{constraints_within};
 ghost use Rattle.qc_model.specs.Domains.{Box, has_empty, is_sub_box};
+ghost use Rattle.qc_model.specs.Refuted.{refuted_by};
 ghost use Rattle.model_arguments.specs.Asked.{is_box_of};
 ghost use Rattle.model_levels.specs.Spans.{IsSpanOf};
 ghost use Rattle.fd_store.specs.Held.{Follows};
@@ -17,6 +18,7 @@ ghost use Rattle.dense_close.specs.Waiting.{MarkedWait, all_waiting};
 use crate::answerless::some_answerless;
 use crate::index::Index;
 use crate::memories::Memories;
+use crate::refuting::some_refuted;
 use crate::revising::{Revised, revise};
 use crate::taking::Taking;
 use crate::task::Task;
@@ -98,12 +100,13 @@ fn close_all(
     ensures answer { MatchBool result (greatest_closed (takes_of task.now.taking task.now.problem.now) task.now.problem.now task.now.from task.now.stop remains.old.box ≡ Some remains.new.box) (greatest_closed (takes_of task.now.taking task.now.problem.now) task.now.problem.now task.now.from task.now.stop remains.old.box ≡ None) }
 {
     task.problem.known();
+    let at = remains.mark().at;
     memories.begin(task, remains);
     wake_pending(task, memories.present(), list);
     let closed = settle(task, list, remains);
     clear(list);
     if closed {
-        memories.end(task, remains);
+        memories.end(task, remains, remains.mark().at != at);
     }
     closed
 }
@@ -203,5 +206,37 @@ impl<'p> Closer<'p> {
     {
         let span = span_of(levels, number, stop);
         some_answerless(levels, &self.index, store, number, span)
+    }
+    /// Whether the box refutes one of the constraints of the scopes from `from` to the one before `stop`. Those that were found settled
+    /// in this box by a closing, in which constraints took what these take, aren't asked again. It takes no memory.
+    pub fn has_refuted(
+        &self,
+        levels: &Levels,
+        store: &Store,
+        taking: Taking,
+        from: usize,
+        stop: usize,
+    ) -> bool
+        requires game { self.now ≡ levels.now.problem.now }
+        requires order { from ≤ stop }
+        requires bound { stop ≤ suc (length levels.now.problem.now.scopes) }
+        requires declared { IsTrue (is_box_of levels.now.problem.now store.now.box) }
+        requires full { IsFalse (has_empty store.now.box) }
+        ensures { result ≡ list_any (λ c. refuted_by c store.now.box) (constraints_within levels.now.problem.now from stop) }
+    {
+        levels.problem.known();
+        let task = Task {
+            problem: levels.problem,
+            index: &self.index,
+            taking,
+            from,
+            stop,
+            span: span_of(levels, from, stop),
+        };
+        let at = store.mark().at;
+        match taking {
+            Taking::All => some_refuted(&task, self.all.last(at), store),
+            Taking::Owners => some_refuted(&task, self.owners.last(at), store),
+        }
     }
 }

@@ -35,6 +35,7 @@ mod memory;
 mod quiet;
 mod reading;
 mod relating;
+mod refuting;
 mod revising;
 mod slack;
 mod summing;

@@ -1,12 +1,13 @@
 //! What is remembered of the closings on the way to a box.
-ghost use Rattle.std.specs.Prelude.{◌≡◌, ◌≤◌, ℕ, length, slice_get, Some, IsTrue, IfOk, OnOk};
+ghost use Rattle.std.specs.Prelude.{◌≡◌, ◌≤◌, ℕ, length, slice_get, Some, IsTrue, IsFalse, IfOk, OnOk};
 ghost use Rattle.qc_model.specs.Content.{Rule};
+ghost use Rattle.qc_model.specs.Domains.{has_empty};
 ghost use Rattle.qc_model.specs.Lists.{Among};
 ghost use Rattle.model_arguments.specs.Asked.{is_box_of};
 ghost use Rattle.model_levels.specs.Spans.{is_between};
 ghost use Rattle.dense_closing.specs.Takes.{keeps_box};
 ghost use Rattle.dense_close.specs.declared.taking.Taking.{Taking};
-ghost use Rattle.dense_close.specs.Memory.{Memory, AreMemories, ComeFrom, IsAlike, IsAsSeen};
+ghost use Rattle.dense_close.specs.Memory.{Memory, IsOneOf, AreMemories, ComeFrom, IsAlike, IsAsSeen};
 ghost use Rattle.dense_close.specs.Taking.{takes_of};
 
 use crate::memory::Memory;
@@ -98,6 +99,17 @@ impl Memories {
         0
     }
 
+    /// The last one that was made where the trail wasn't longer than this.
+    pub(crate) fn last(&self, at: usize) -> &Memory
+        ensures { IsOneOf result.now self.now }
+    {
+        let used = self.made_by(at);
+        if used == 0 {
+            return &self.present;
+        }
+        &self.kept[used - 1]
+    }
+
     // The last one in use becomes the present one too.
     fn restore(&mut self)
         requires alike { (m : Memory) → Among m self.old.kept → IsAlike self.old.present m }
@@ -111,6 +123,7 @@ impl Memories {
     /// Begins a closing of this box: what is remembered of boxes that it lies within is taken over, and all variables are looked at.
     pub(crate) fn begin(&mut self, task: &Task, remains: &Remains)
         requires declared { IsTrue (is_box_of task.now.problem.now remains.now.box) }
+        requires full { IsFalse (has_empty remains.now.box) }
         requires memories { AreMemories task.now.taking task.now.problem.now self.old }
         ensures memories { AreMemories task.now.taking task.now.problem.now self.new }
         ensures seen { IsAsSeen (length task.now.problem.now.variables) task.now.taking task.now.problem.now self.new.present remains.now.box }
@@ -149,14 +162,16 @@ impl Memories {
         }
     }
 
-    /// Ends a closing with this box: the constraints of the span are settled.
-    pub(crate) fn end(&mut self, task: &Task, remains: &Remains)
+    /// Ends a closing with this box, which may have changed since it began: the constraints of the span are settled.
+    pub(crate) fn end(&mut self, task: &Task, remains: &Remains, changed: bool)
         requires declared { IsTrue (is_box_of task.now.problem.now remains.now.box) }
+        requires full { IsFalse (has_empty remains.now.box) }
         requires memories { AreMemories task.now.taking task.now.problem.now self.old }
+        requires seen { IsFalse changed → IsAsSeen (length task.now.problem.now.variables) task.now.taking task.now.problem.now self.old.present remains.now.box }
         requires keeps { (k : ℕ) (c : Rule) → IsTrue (is_between task.now.span.first task.now.span.end k) → slice_get task.now.problem.now.constraints k ≡ Some c → IsTrue (keeps_box (takes_of task.now.taking task.now.problem.now) remains.now.box c) }
         ensures { AreMemories task.now.taking task.now.problem.now self.new }
     {
-        self.present.look(task, remains.store());
+        self.present.look_again(task, remains.store(), changed);
         self.present.settle(task, remains.mark().at);
         self.keep();
     }

@@ -1,7 +1,8 @@
 //! Which constraints are settled, and with which values of their variables.
-ghost use Rattle.std.specs.Prelude.{◌≡◌, ◌≢◌, ◌<◌, ◌+◌, ℕ, length, slice_get, Some, IsTrue, IfOk};
+ghost use Rattle.std.specs.Prelude.{◌≡◌, ◌≢◌, ◌<◌, ◌≤◌, ◌+◌, ℕ, false, length, slice_get, Some, IsTrue, IsFalse, IfOk};
 ghost use Rattle.qc_model.specs.Content.{Rule};
-ghost use Rattle.qc_model.specs.Domains.{Box, values_left, least_value};
+ghost use Rattle.qc_model.specs.Domains.{Box, values_left, is_none_left, least_value, has_empty};
+ghost use Rattle.qc_model.specs.Lists.{numbers_from};
 ghost use Rattle.model_arguments.specs.Asked.{is_box_of};
 ghost use Rattle.model_levels.specs.Spans.{is_between};
 ghost use Rattle.dense_closing.specs.Takes.{keeps_box};
@@ -31,36 +32,32 @@ fn nothing() -> Sight
     Sight { least: 0, count: 0 }
 }
 
-// Whether what is left to x is numbers in a row, where it is so many from the least one on.
+// Whether what is left to x, which is so many values, is numbers in a row.
 #[inline(always)]
-fn has_no_gap(store: &Store, x: VarId, sight: Sight) -> bool
+fn has_no_gap(store: &Store, x: VarId, count: u32) -> bool
     requires x { x.0 < length store.now.box }
-    requires some { sight.count ≢ 0 }
-    requires count { sight.count ≡ length (values_left store.now.box x.0) }
-    requires least { sight.least ≡ least_value (values_left store.now.box x.0) }
-    ensures { IsTrue result → IsSeen sight (values_left store.now.box x.0) }
+    requires some { is_none_left (values_left store.now.box x.0) ≡ false }
+    requires count { count ≡ length (values_left store.now.box x.0) }
+    ensures { let vs = values_left store.now.box x.0 in IsTrue result → vs ≡ numbers_from (least_value vs) count }
 {
     store.known(x);
     // ascending values have at least as many numbers from the least to the greatest
-    store.max(x) - sight.least < sight.count as i64
+    store.max(x) - store.min(x) < count as i64
 }
 
 // What is left to x, where it is numbers in a row.
 #[inline(always)]
 fn sight_of(store: &Store, x: VarId) -> Sight
     requires x { x.0 < length store.now.box }
+    requires some { is_none_left (values_left store.now.box x.0) ≡ false }
     ensures { TellsOf result (values_left store.now.box x.0) }
 {
     let count = store.size(x);
-    if count == 0 {
-        return nothing();
-    }
-    let sight = Sight {
-        least: store.min(x),
-        count,
-    };
-    if has_no_gap(store, x, sight) {
-        sight
+    if has_no_gap(store, x, count) {
+        Sight {
+            least: store.min(x),
+            count,
+        }
     } else {
         nothing()
     }
@@ -166,44 +163,88 @@ impl Memory {
     fn is_as_seen(&self, store: &Store, x: VarId) -> bool
         requires store { x.0 < length store.now.box }
         requires x { x.0 < length self.now.seen }
+        requires some { is_none_left (values_left store.now.box x.0) ≡ false }
         ensures { IsTrue result → IsSeen (seen_of self.now x.0) (values_left store.now.box x.0) }
     {
         let seen = self.seen[x.0 as usize];
-        if seen.count == 0 {
+        let count = store.size(x);
+        if seen.count != count {
             return false;
         }
-        if store.size(x) != seen.count {
+        if seen.least != store.min(x) {
             return false;
         }
-        if store.min(x) != seen.least {
-            return false;
+        has_no_gap(store, x, count)
+    }
+
+    // The first variable from this one on of which something else is left than was seen of it, or their number.
+    fn next_unseen(&self, task: &Task, store: &Store, from: usize) -> usize
+        requires declared { IsTrue (is_box_of task.now.problem.now store.now.box) }
+        requires full { IsFalse (has_empty store.now.box) }
+        requires from { from ≤ length task.now.problem.now.variables }
+        requires before { IsAsSeen from task.now.taking task.now.problem.now self.now store.now.box }
+        ensures from { from ≤ result }
+        ensures inside { result ≤ length task.now.problem.now.variables }
+        ensures before { IsAsSeen result task.now.taking task.now.problem.now self.now store.now.box }
+    {
+        task.problem.known();
+        let end = task.problem.variables();
+        for x in from..end {
+            if !self.is_as_seen(store, VarId(x as u16)) {
+                return x;
+            }
         }
-        has_no_gap(store, x, seen)
+        end
     }
 
     // Looks at x, once those before it were looked at.
-    #[inline(always)]
     fn look_at(&mut self, task: &Task, store: &Store, x: VarId)
         requires declared { IsTrue (is_box_of task.now.problem.now store.now.box) }
+        requires full { IsFalse (has_empty store.now.box) }
         requires x { x.0 < length task.now.problem.now.variables }
         requires before { IsAsSeen x.0 task.now.taking task.now.problem.now self.old store.now.box }
         ensures { IsAsSeen (x.0 + 1) task.now.taking task.now.problem.now self.new store.now.box }
     {
-        if self.is_as_seen(store, x) {
-            return;
-        }
         self.see(task.index, x, sight_of(store, x));
     }
 
     /// Looks at all variables. The constraints that have one of which something else is left than was seen of it are pending.
     pub(crate) fn look(&mut self, task: &Task, store: &Store)
         requires declared { IsTrue (is_box_of task.now.problem.now store.now.box) }
+        requires full { IsFalse (has_empty store.now.box) }
         requires memory { IsMemory task.now.taking task.now.problem.now self.old }
         ensures { IsAsSeen (length task.now.problem.now.variables) task.now.taking task.now.problem.now self.new store.now.box }
     {
         task.problem.known();
-        for k in 0..task.problem.variables() {
-            self.look_at(task, store, VarId(k as u16));
+        let end = task.problem.variables();
+        let mut x = self.next_unseen(task, store, 0);
+        while x < end {
+            self.look_at(task, store, VarId(x as u16));
+            x = self.next_unseen(task, store, x + 1);
+        }
+    }
+
+    /// Whether what is left to each variable was seen of it.
+    pub(crate) fn has_seen_all(&self, task: &Task, store: &Store) -> bool
+        requires declared { IsTrue (is_box_of task.now.problem.now store.now.box) }
+        requires full { IsFalse (has_empty store.now.box) }
+        requires memory { IsMemory task.now.taking task.now.problem.now self.now }
+        ensures { IsTrue result → IsAsSeen (length task.now.problem.now.variables) task.now.taking task.now.problem.now self.now store.now.box }
+    {
+        task.problem.known();
+        self.next_unseen(task, store, 0) == task.problem.variables()
+    }
+
+    /// Looks at all variables again where something changed since.
+    pub(crate) fn look_again(&mut self, task: &Task, store: &Store, changed: bool)
+        requires declared { IsTrue (is_box_of task.now.problem.now store.now.box) }
+        requires full { IsFalse (has_empty store.now.box) }
+        requires memory { IsMemory task.now.taking task.now.problem.now self.old }
+        requires seen { IsFalse changed → IsAsSeen (length task.now.problem.now.variables) task.now.taking task.now.problem.now self.old store.now.box }
+        ensures { IsAsSeen (length task.now.problem.now.variables) task.now.taking task.now.problem.now self.new store.now.box }
+    {
+        if changed {
+            self.look(task, store);
         }
     }
 

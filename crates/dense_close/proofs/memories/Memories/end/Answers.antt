@@ -10,6 +10,6 @@ returns c =
     let g = t.problem.now in
     let v = c.self.inside in
     let were = subst (λ (w : Memories). AreMemories t.taking g w) (sym c.self.view_is) c.requires.memories in
-    let seen = subst (λ (h : Held). IsAsSeen (length g.variables) t.taking g c.look.new.self h.box) c.store.ensures c.look.ensures in
+    let seen = subst (λ (h : Held). IsAsSeen (length g.variables) t.taking g c.look_again.new.self h.box) c.store.ensures c.look_again.ensures in
     let own = c.settle.ensures c.args.remains.now.box c.requires.declared seen c.requires.keeps in
     λ m h. present_anew t.taking g v.present c.settle.new.self v.kept.items were own m (c.keep.ensures m h)
