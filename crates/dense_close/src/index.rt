@@ -1,17 +1,23 @@
 //! Which variables each constraint has, and which constraints have each variable, looked up once.
-ghost use Rattle.std.specs.Prelude.{◌≡◌, ◌<◌, ◌+◌, length, IfOk, OnOk};
+ghost use Rattle.std.specs.Prelude.{◌≡◌, ◌<◌, ◌+◌, length, IsTrue, IfOk, OnOk};
+ghost use Rattle.qc_model.specs.Lists.{Distinct};
+ghost use Rattle.model_arguments.specs.Apart.{all_apart};
+ghost use Rattle.model_arguments.specs.Written.{variable_numbers};
 ghost use Rattle.dense_close.specs.Index.{IsIndexTo, IsIndexOf, own, having};
 
 use crate::having::Having;
-use model_arguments::{arguments, own_variables};
+use model_arguments::{are_distinct, arguments, own_variables};
 use qc_model::{ConId, Problem, VarId};
 use std::alloc::{AllocError, Global};
 use std::marker::Model;
 
-/// The variables of one constraint, in the order in which they stand, each as often as it stands.
+/// The variables of one constraint, in the order in which they stand, each as often as it stands. Where they are marked as apart,
+/// none stands twice.
 #[derive(Drop)]
 struct OwnList {
     items: Vec<VarId>,
+    apart: bool,
+    ghost apart_is: { IsTrue apart → IsTrue (all_apart (variable_numbers items.items)) },
 }
 
 impl Model for OwnList {
@@ -48,7 +54,8 @@ impl Index {
         problem.known();
         let items = own_variables(alloc, arguments(problem.constraint(c)))?;
         self.having.add_rule(c, items.as_slice())?;
-        self.own.push(OwnList { items })?;
+        let apart = are_distinct(items.as_slice());
+        self.own.push(OwnList { items, apart })?;
         Ok(())
     }
 
@@ -81,6 +88,17 @@ impl Index {
         match self.own.get(c.0 as usize) {
             Some(list) => list.items.as_slice(),
             None => &[],
+        }
+    }
+
+    #[tactic(auto, using(model_arguments::proofs::Apart::apart_distinct))]
+    /// Whether no variable stands twice in constraint c. `false` tells nothing.
+    pub(crate) fn is_apart(&self, c: ConId) -> bool
+        ensures { IsTrue result → Distinct (variable_numbers (own self.now.own c.0)) }
+    {
+        match self.own.get(c.0 as usize) {
+            Some(list) => list.apart,
+            None => false,
         }
     }
 

@@ -16,6 +16,7 @@
 mod answerless;
 mod closer;
 mod cutting;
+mod elements;
 mod ends;
 mod equality;
 mod having;

@@ -6,9 +6,10 @@ ghost use Rattle.qc_model.specs.Domains.{Box, has_empty};
 ghost use Rattle.qc_model.specs.Lists.{Among};
 ghost use Rattle.qc_model.specs.Refuted.{refuted_by};
 ghost use Rattle.qc_model.specs.Verdict.{is_none_of};
-ghost use Rattle.model_arguments.specs.Asked.{is_box_of};
+ghost use Rattle.model_arguments.specs.Asked.{is_box_of, IsAsked};
 ghost use Rattle.model_levels.specs.Spans.{is_between};
 ghost use Rattle.fd_store.specs.Held.{Follows};
+ghost use Rattle.dense_close.specs.Slack.{SparesTaken};
 ghost use Rattle.dense_close.specs.Cutting.{IsCut, HasCut, SparesEnd};
 ghost use Rattle.dense_close.specs.Taking.{takes_of};
 ghost use Rattle.dense_close.specs.Waiting.{Waiting};
@@ -16,6 +17,7 @@ ghost use Rattle.dense_close.specs.Narrowing.{IsNarrowed, IsListOf, OthersSettle
 ghost use Rattle.dense_close.specs.declared.cutting.End.TheVariants.{Least, Greatest};
 
 use crate::cutting::{End, cut_end};
+use crate::quiet::is_quiet;
 use crate::slack::{Room, is_short, slack_of};
 use crate::taking::may_take;
 use crate::task::Task;
@@ -24,7 +26,7 @@ use crate::waiting::WorkList;
 use crate::waking::wake;
 use check_box::Remains;
 use fd_store::Store;
-use qc_model::{ConId, Problem, VarId};
+use qc_model::{ConId, Constraint, Problem, VarId};
 use qc_refuter::refutes;
 
 /// What came of a constraint that was held against the box: no box within is closed; or nothing changed; or values went.
@@ -349,6 +351,18 @@ fn revise_sum(
     revise_each(task, c, list, remains)
 }
 
+// Whether one reading tells that the constraint c refutes nothing that it may take: no variable stands twice in it.
+fn is_quiet_apart(task: &Task, c: ConId, rule: &Constraint, store: &Store) -> bool
+    requires rule { slice_get task.now.problem.now.constraints c.0 ≡ Some rule.now }
+    requires asked { IsAsked task.now.problem.now rule.now store.now.box }
+    ensures { IsTrue result → SparesTaken (takes_of task.now.taking task.now.problem.now) rule.now store.now.box }
+{
+    if !task.index.is_apart(c) {
+        return false;
+    }
+    is_quiet(task, rule, store)
+}
+
 /// Takes the ends that the constraint c of the span refutes and may take, each of its variables once. Where values went, all
 /// constraints that have the variable wait, c itself among them.
 pub(crate) fn revise(task: &Task, c: ConId, list: &mut WorkList, remains: &mut Remains) -> Revised
@@ -374,6 +388,9 @@ pub(crate) fn revise(task: &Task, c: ConId, list: &mut WorkList, remains: &mut R
     }
     if slack.sum {
         return revise_sum(task, c, slack.room, list, remains);
+    }
+    if is_quiet_apart(task, c, rule, remains.store()) {
+        return Revised::Stable;
     }
     revise_each(task, c, list, remains)
 }

@@ -51,3 +51,19 @@ revise_each-requires-clause-some c = λ r e.
     let t = c.args.task.now in
     let own_is = ap variable_numbers c.own-own.ensures ∙ t.index_is.own_are c.args.c.0 r e in
     clad_of c.own-own.result.now (variables_of r.args) c.is_empty.result own_is c.is_empty.ensures c.if-is_empty.false
+
+pub is_quiet_apart-requires-clause-asked : goal.is_quiet_apart-requires-clause-asked
+is_quiet_apart-requires-clause-asked c =
+    let t = c.args.task.now in
+    subst (λ (h : Held). IsAsked t.problem.now c.constraint-rule.result.now h.box) (sym c.store-2.ensures) (asked t.problem.now c.known.ensures c.args.remains.now.box c.requires.declared c.requires.full c.args.c.0 c.constraint-rule.result.now c.constraint-rule.ensures)
+
+pub returns-then-is_quiet_apart-clause-answer : goal.returns-then-is_quiet_apart-clause-answer
+returns-then-is_quiet_apart-clause-answer c =
+    let t = c.args.task.now in
+    let r = c.constraint-rule.result.now in
+    let spares = subst (λ (h : Held). SparesTaken (takes_of t.taking t.problem.now) r h.box) c.store-2.ensures (c.is_quiet_apart.ensures c.if-is_quiet_apart.true) in (
+      refl,
+      refl,
+      settled_all t.taking t.problem.now t.span.first t.span.end c.args.c.0 c.args.list.now c.args.remains.now.box c.requires.others
+          (settled_roomy t.taking t.problem.now c.args.c.0 r c.args.list.now c.args.remains.now.box c.constraint-rule.ensures spares),
+    )
