@@ -13,6 +13,8 @@ pub mod Narrowed
 pub mod OneEnd
 pub mod OpenMoves
 pub mod Own
+pub mod Placed
+pub mod Places
 pub mod Related
 pub mod Remembered
 pub mod Replaced

@@ -32,7 +32,7 @@ any_has p (w ∷ vs) v h k = by (any_has p vs v) (int_eq v w) refl h
     by f true e m = or_left (p w) (list_any p vs) (subst (λ z. p z ≡ true) (equal e) k)
     by f false e m = or_right (p w) (list_any p vs) (f m k)
 
-turned : (b : Bool) → b ≡ true → not b ≡ false
+pub turned : (b : Bool) → b ≡ true → not b ≡ false
 turned true h = refl
 turned false h = cc
 

@@ -1,8 +1,8 @@
 -- Constraints of two or three arguments that refute nothing that they may take.
-use Rattle.std.specs.Prelude.{ℕ, Bool, [], ◌∷◌, int_lt, int_le, IsTrue, IsFalse}
+use Rattle.std.specs.Prelude.{ℕ, Bool, not, List, [], ◌∷◌, ℤ, pos, int_lt, int_le, IsTrue, IsFalse}
 use Rattle.qc_model.specs.declared.problem.Arg.{Arg}
 use Rattle.qc_model.specs.Domains.{Values, Box, least_value, greatest_value}
-use Rattle.qc_model.specs.Left.{span}
+use Rattle.qc_model.specs.Left.{span, some_item_in}
 use Rattle.qc_model.specs.Meaning.{Meaning, at_most, below, plus, times}
 use Rattle.qc_model.specs.Ranges.{Range, range_of, point, ranges_miss, range_sum, product}
 use Rattle.qc_model.specs.Refuted.{left_to}
@@ -57,3 +57,7 @@ meaning_in Product = times
 -- a test of ranges, for values
 abbrev pub by_spans : (Range → Range → Range → Bool) → Values → Values → Values → Bool
 by_spans test d e f = test (span d) (span e) (span f)
+
+-- what refutes that the number of an array at place b, counted from 1, is c
+abbrev pub misses_number : List ℤ → Values → Values → Bool
+misses_number ns b c = not (some_item_in (pos 1) b ns c)

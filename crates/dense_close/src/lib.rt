@@ -25,6 +25,7 @@ mod answerless;
 mod closer;
 mod cutting;
 mod differing;
+mod elements;
 mod ends;
 mod equality;
 mod guessing;

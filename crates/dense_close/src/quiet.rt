@@ -8,6 +8,7 @@ ghost use Rattle.model_arguments.specs.Asked.{IsAsked};
 ghost use Rattle.dense_close.specs.Slack.{SparesTaken};
 ghost use Rattle.dense_close.specs.Taking.{takes_of};
 
+use crate::elements::is_quiet_element;
 use crate::equality::is_quiet_equality;
 use crate::relating::{Relation, is_quiet_by_ends};
 use crate::task::Task;
@@ -30,6 +31,7 @@ fn is_quiet_as(meaning: Meaning, task: &Task, rule: &Constraint, store: &Store) 
         Meaning::Below => is_quiet_by_ends(Relation::Below, task, rule, args, store),
         Meaning::Plus => is_quiet_by_ends(Relation::Sum, task, rule, args, store),
         Meaning::Times => is_quiet_by_ends(Relation::Product, task, rule, args, store),
+        Meaning::Element => is_quiet_element(task, rule, args, store),
         _ => false,
     }
 }

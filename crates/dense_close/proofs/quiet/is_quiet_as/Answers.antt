@@ -3,11 +3,12 @@ use Rattle.qc_model.specs.Domains.{misses}
 use Rattle.qc_model.specs.Meaning.{equal}
 use Rattle.qc_model.specs.RowMeaning.{plain_meaning}
 use Rattle.qc_refuter.proofs.Ready.{rule_met}
-use Rattle.model_arguments.specs.Written.{arg_at}
+use Rattle.model_arguments.specs.Written.{arg_at, ints_at}
 use Rattle.dense_close.specs.declared.relating.Relation.TheVariants.{AtMost, Below, Sum, Product}
-use Rattle.dense_close.specs.Quiet.{SparesTwo, SparesThree, by_spans, refuted_in}
+use Rattle.dense_close.specs.Quiet.{SparesTwo, SparesThree, by_spans, refuted_in, misses_number}
 use Rattle.dense_close.specs.Taking.{takes_of}
 use Rattle.dense_close.proofs.OneEnd.{quiet_two}
+use Rattle.dense_close.proofs.Placed.{quiet_element}
 use Rattle.dense_close.proofs.Related.{quiet_relation}
 use Rattle.dense_close.proofs.quiet.is_quiet_as.Goals as goal
 
@@ -70,3 +71,15 @@ returns-in-Times c = λ h.
     let takes = takes_of t.taking t.problem.now in
     quiet_relation Product takes r c.args.store.now.box (c.requires.meaning ∙ ap plain_meaning c.in-Times.is) c.requires.apart
     (subst (λ args. SparesThree (by_spans (refuted_in Product)) (takes r) (arg_at args 0) (arg_at args 1) (arg_at args 2) c.args.store.now.box) c.arguments-args.ensures (c.is_quiet_by_ends-in-Times.ensures h))
+
+pub is_quiet_element-requires : goal.is_quiet_element-requires
+is_quiet_element-requires c =
+    rw c.arguments-args.ensures (rule_met c.args.task.now.problem.now c.args.store.now.box c.known.ensures.domains c.requires.asked.declared c.requires.asked.full c.args.rule.now c.requires.asked.rule)
+
+pub returns-in-Element : goal.returns-in-Element
+returns-in-Element c = λ h.
+    let t = c.args.task.now in
+    let r = c.args.rule.now in
+    let takes = takes_of t.taking t.problem.now in
+    quiet_element takes r c.args.store.now.box (c.requires.meaning ∙ ap plain_meaning c.in-Element.is) c.requires.apart
+    (subst (λ args. SparesTwo (misses_number (ints_at args 1)) (takes r) (arg_at args 0) (arg_at args 2) c.args.store.now.box) c.arguments-args.ensures (c.is_quiet_element.ensures h))
