@@ -6,15 +6,25 @@ ghost use Rattle.dense_close.specs.Index.{IsIndexTo, IsIndexOf, own, having};
 
 use crate::having::Having;
 use model_arguments::{are_distinct, arguments, own_variables};
-use qc_model::{ConId, Problem, VarId};
+use qc_model::{ConId, Pred, Problem, VarId};
 use std::alloc::{AllocError, Global};
 use std::marker::Model;
 
-/// The variables of one constraint, in the order in which they stand, each as often as it stands, and whether none stands twice.
+/// The variables of one constraint, in the order in which they stand, each as often as it stands, whether none stands twice, and whether it
+/// is to be looked at after others, since that takes long.
 #[derive(Drop)]
 struct OwnList {
     items: Vec<VarId>,
     apart: bool,
+    late: bool,
+}
+
+// Whether to look at a constraint of this predicate takes long.
+fn takes_long(pred: Pred) -> bool {
+    match pred {
+        Pred::AllDifferentInt | Pred::TableInt => true,
+        _ => false,
+    }
 }
 
 impl Model for OwnList {
@@ -31,11 +41,11 @@ impl Model for OwnList {
 }
 
 impl OwnList {
-    fn new(items: Vec<VarId>) -> OwnList
+    fn new(items: Vec<VarId>, late: bool) -> OwnList
         ensures { result ≡ items.items }
     {
         let apart = are_distinct(items.as_slice());
-        OwnList { items, apart }
+        OwnList { items, apart, late }
     }
 
     fn is_apart(&self) -> bool
@@ -68,9 +78,10 @@ impl Index {
         ensures { OnOk result (IsIndexTo (c.0 + 1) problem.now self.new) }
     {
         problem.known();
-        let items = own_variables(alloc, arguments(problem.constraint(c)))?;
+        let rule = problem.constraint(c);
+        let items = own_variables(alloc, arguments(rule))?;
         self.having.add_rule(c, items.as_slice())?;
-        self.own.push(OwnList::new(items))?;
+        self.own.push(OwnList::new(items, takes_long(rule.pred)))?;
         Ok(())
     }
 
@@ -112,6 +123,14 @@ impl Index {
     {
         match self.own.get(c.0 as usize) {
             Some(list) => list.is_apart(),
+            None => false,
+        }
+    }
+
+    /// Whether constraint c is to be looked at after others.
+    pub(crate) fn is_late(&self, c: ConId) -> bool {
+        match self.own.get(c.0 as usize) {
+            Some(list) => list.late,
             None => false,
         }
     }
