@@ -1,13 +1,14 @@
 -- Items are counted alike by the ends that were read and by their values.
-use Rattle.std.proofs.Common.{◌≡◌, ℕ, suc, ◌+◌, ◌<◌, ◌==◌, Bool, ◌&&◌, cond, List, [], ◌∷◌, length, get_or, nat_le, refl, ap, ◌∙◌, arith, ℤ}
+use Rattle.std.proofs.Common.{◌≡◌, ℕ, suc, ◌+◌, ◌<◌, ◌≤◌, ◌==◌, Bool, true, ◌&&◌, cond, List, [], ◌∷◌, length, get_or, nat_le, refl, ap, ◌∙◌, arith, ℤ}
 use Rattle.std.specs.Prelude.{pos, ◌+ℤ◌, int_le, count_by}
 use Rattle.std.specs.Ordering.{int_eq}
 use Rattle.std.proofs.lemmas.Bool.Decides.{nat_tests}
 use Rattle.std.proofs.lemmas.Int.{ints}
 use Rattle.std.proofs.lemmas.List.Sums.{sum_by-cons}
 use Rattle.qc_model.specs.Domains.{Values, least_value, greatest_value}
+use Rattle.qc_model.specs.Left.{has_crowd}
 use Rattle.qc_refuter.specs.Full.{ends_past, held, first_sum, AreWidest}
-use Rattle.qc_refuter.proofs.Fill.{sums_held, widest_held}
+use Rattle.qc_refuter.proofs.Fill.{crowd_of_held, sums_held, widest_held}
 use Rattle.dense_close.specs.declared.differing.Ends.{Ends}
 use Rattle.dense_close.specs.Differing.{StandsFor, AreEndsOf, HaveEnds, ends_at, AreRooms}
 
@@ -38,3 +39,7 @@ rooms_counted ds es l v ns rooms last s h n m f w = record {
   count = m ∙ (n ∙ h.count);
   widest = widest_held (first_sum ns) (held ds v) rooms last (λ k q. sums_held ds v ns (λ j r. f j r ∙ same_count l j v ds es s h.count h.each) k (omega (arith, q, m))) w;
 }
+
+-- and where they are too many, the items are crowded
+pub crowd_counted : (ds : List Values) (es : List Ends) (l : ℕ) (v : ℤ) (ns : List ℕ) (n : ℕ) → StandsFor l v → HaveEnds ds es → ((k : ℕ) → k < length ns → get_or ns k 0 ≡ count_by (ends_at l k) es) → n ≤ length ns → n < first_sum ns n → has_crowd ds ≡ true
+crowd_counted ds es l v ns n s h f m w = crowd_of_held ds v n (omega (arith, w, sums_held ds v ns (λ j r. f j r ∙ same_count l j v ds es s h.count h.each) n m))

@@ -8,8 +8,8 @@ use Rattle.qc_refuter.specs.Full.{lies_in, held, IsWidest, AreWidest}
 use Rattle.qc_refuter.proofs.Fill.{least_to_greatest, held_roomy}
 use Rattle.dense_close.specs.declared.differing.Ends.{Ends}
 use Rattle.dense_close.specs.declared.differing.Sight.{Sight}
-use Rattle.dense_close.specs.declared.differing.Sight.TheVariants.{Quiet, Filled, Unknown}
-use Rattle.dense_close.specs.Differing.{StandsFor, AreEndsOf, is_among, IsApart, IsLeftAlone, IsQuiet, IsRoom, AreRooms, IfQuiet}
+use Rattle.dense_close.specs.declared.differing.Sight.TheVariants.{Quiet, Crowded, Filled, Unknown}
+use Rattle.dense_close.specs.Differing.{StandsFor, AreEndsOf, is_among, IsApart, IsLeftAlone, IsQuiet, IsRoom, AreRooms, Tells}
 use Rattle.dense_close.proofs.FullRanges.{lies_from}
 
 widest_most : (f : ℕ → ℕ) (k j m : ℕ) → IsWidest f k j → m ≤ k → f m ≡ m → m ≤ j
@@ -126,7 +126,8 @@ ends_after ds v d l e widest last k room s a w r q h = alone_after ds v d widest
     starts b p = omega (arith, ints, s, p, h)
 
 -- what is seen, said otherwise
-pub quiet_so : (s : Sight) (P Q : Type 0) → (P → Q) → IfQuiet s P → IfQuiet s Q
-quiet_so Quiet P Q f h = f h
-quiet_so (Filled n) P Q f h = h
-quiet_so Unknown P Q f h = h
+pub tells_so : (s : Sight) (P Q R S : Type 0) → (P → R) → (Q → S) → Tells s P Q → Tells s R S
+tells_so Quiet P Q R S f g h = f h
+tells_so Crowded P Q R S f g h = g h
+tells_so (Filled n) P Q R S f g h = h
+tells_so Unknown P Q R S f g h = h

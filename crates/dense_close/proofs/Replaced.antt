@@ -155,3 +155,6 @@ quiet_spares takes c box e d all = record {
         by (inr r) =
             ap has_crowd r.now
             ∙ quiet_keeps ds r.place v all r.within (subst (λ us. (v ≡ least_value us) ⊎ (v ≡ greatest_value us)) (sym r.was) w)
+
+pub crowd_refutes : (c : Rule) (box : Box) → c.pred ≡ AllDifferentInt → has_crowd (map (left_to box) (args_at c.args 0)) ≡ true → refuted_by c box ≡ true
+crowd_refutes c box e h = refuted_is c box e ∙ h

@@ -4,7 +4,7 @@ use Rattle.qc_model.specs.Domains.{Values, least_value, greatest_value}
 use Rattle.qc_refuter.specs.Full.{lies_in, held, AreWidest, IsRoomy}
 use Rattle.dense_close.specs.declared.differing.Ends.{Ends}
 use Rattle.dense_close.specs.declared.differing.Sight.{Sight}
-use Rattle.dense_close.specs.declared.differing.Sight.TheVariants.{Quiet, Filled, Unknown}
+use Rattle.dense_close.specs.declared.differing.Sight.TheVariants.{Quiet, Crowded, Filled, Unknown}
 
 -- counted from the least number that there is, v is the number n
 abbrev pub StandsFor : ℕ → ℤ → Type 0
@@ -55,8 +55,9 @@ pub record AreRooms (ds : List Values) (l : ℤ) (rooms : List ℕ) (last : ℕ)
   pub count : length rooms ≡ length ds
   pub widest : AreWidest (held ds l) rooms last
 
--- nothing was seen that an item could lose
-abbrev pub IfQuiet : Sight → Type 0 → Type 0
-IfQuiet Quiet P = P
-IfQuiet (Filled s) P = ⊤
-IfQuiet Unknown P = ⊤
+-- P where it is quiet, and Q where it is crowded
+abbrev pub Tells : Sight → Type 0 → Type 0 → Type 0
+Tells Quiet P Q = P
+Tells Crowded P Q = Q
+Tells (Filled s) P Q = ⊤
+Tells Unknown P Q = ⊤

@@ -12,13 +12,14 @@ ghost use Rattle.qc_model.specs.declared.problem.Pred.TheVariants.{AllDifferentI
 ghost use Rattle.qc_model.specs.Arguments.{variables_of};
 ghost use Rattle.qc_model.specs.Domains.{Values, least_value, greatest_value};
 ghost use Rattle.qc_model.specs.Lists.{Distinct};
-ghost use Rattle.qc_model.specs.Refuted.{left_to};
+ghost use Rattle.qc_model.specs.Left.{has_crowd};
+ghost use Rattle.qc_model.specs.Refuted.{left_to, refuted_by};
 ghost use Rattle.model_arguments.specs.Asked.{IsAsked};
 ghost use Rattle.model_arguments.specs.Written.{args_at};
 ghost use Rattle.qc_refuter.specs.Full.{first_sum, AreWidest};
 ghost use Rattle.qc_refuter.specs.Met.{is_open, are_met};
 ghost use Rattle.dense_closing.specs.Takes.{Takes};
-ghost use Rattle.dense_close.specs.Differing.{StandsFor, AreEndsOf, HaveEnds, ends_at, IsLeftAlone, IsQuiet, AllQuiet, IsRoom, AreRooms, IfQuiet};
+ghost use Rattle.dense_close.specs.Differing.{StandsFor, AreEndsOf, HaveEnds, ends_at, IsLeftAlone, IsQuiet, AllQuiet, IsRoom, AreRooms, Tells};
 ghost use Rattle.dense_close.specs.Slack.{SparesTaken};
 
 use crate::cutting::Stretch;
@@ -42,11 +43,12 @@ pub(crate) struct Ends {
     pub(crate) high: u32,
 }
 
-/// What was seen of the items: that the constraint refutes no end of any; or numbers that some of them fill, with an end of another; or
-/// nothing that tells.
+/// What was seen of the items: that the constraint refutes no end of any; or that it refutes the box; or numbers that some of them fill,
+/// with an end of another; or nothing that tells.
 #[derive(Clone, Copy)]
 pub(crate) enum Sight {
     Quiet,
+    Crowded,
     Filled(Stretch),
     Unknown,
 }
@@ -138,6 +140,7 @@ fn count_ends(ends: &[Ends], low: u32, counts: &mut [u16])
 fn widest_of(counts: &mut [u16]) -> Option<usize>
     requires few { length counts.old ≤ 1000 }
     ensures length { length counts.new ≡ length counts.old }
+    ensures none { IfNone result ((n : ℕ) × (n ≤ length counts.old) × (n < first_sum counts.old n)) }
     ensures some { IfSome result (λ t. AreWidest (first_sum counts.old) counts.new t) }
 {
     let mut sum: u32 = 0;
@@ -210,7 +213,7 @@ fn first_room(ends: &[Ends], low: u32, rooms: &[u16], last: usize) -> usize
 // So many numbers from one on, if any.
 fn filled(low: u32, room: usize) -> Sight
     requires small { room < 2 ^ 16 }
-    ensures { IfQuiet result (room ≡ 0) }
+    ensures { Tells result (room ≡ 0) ⊥ }
 {
     if room == 0 {
         return Sight::Quiet;
@@ -227,11 +230,11 @@ fn sight_from(ends: &[Ends], low: u32, counts: &mut [u16]) -> Sight
     requires few { length ends.now ≤ 1000 }
     requires room { length counts.old ≡ length ends.now }
     ensures length { length counts.new ≡ length counts.old }
-    ensures quiet { IfQuiet result ((ds : List Values) (v : ℤ) → StandsFor low v → HaveEnds ds ends.now → IsQuiet ds v) }
+    ensures told { Tells result ((ds : List Values) (v : ℤ) → StandsFor low v → HaveEnds ds ends.now → IsQuiet ds v) ((ds : List Values) (v : ℤ) → StandsFor low v → HaveEnds ds ends.now → IsTrue (has_crowd ds)) }
 {
     count_ends(ends, low, counts);
     match widest_of(counts) {
-        None => Sight::Unknown,
+        None => Sight::Crowded,
         Some(last) => {
             // No range is full.
             if last == 0 {
@@ -246,11 +249,12 @@ fn sight_from(ends: &[Ends], low: u32, counts: &mut [u16]) -> Sight
 fn sight_of(ends: &[Ends], counts: &mut [u16]) -> Sight
     requires few { length ends.now ≤ 1000 }
     requires room { length counts.old ≡ length ends.now }
-    ensures { IfQuiet result ((ds : List Values) → HaveEnds ds ends.now → AllQuiet ds) }
+    ensures { Tells result ((ds : List Values) → HaveEnds ds ends.now → AllQuiet ds) ((ds : List Values) → HaveEnds ds ends.now → IsTrue (has_crowd ds)) }
 {
     for k in 0..ends.len() {
         match sight_from(ends, ends[k].low, counts) {
             Sight::Quiet => {}
+            Sight::Crowded => return Sight::Crowded,
             Sight::Filled(s) => return Sight::Filled(s),
             Sight::Unknown => return Sight::Unknown,
         }
@@ -264,7 +268,7 @@ fn sight_in(items: &[Arg], store: &Store, ends: &mut [Ends], counts: &mut [u16])
     requires few { length items.now ≤ 1000 }
     requires ends { length ends.old ≡ length items.now }
     requires counts { length counts.old ≡ length items.now }
-    ensures { IfQuiet result (AllQuiet (map (left_to store.now.box) items.now)) }
+    ensures { Tells result (AllQuiet (map (left_to store.now.box) items.now)) (IsTrue (has_crowd (map (left_to store.now.box) items.now))) }
 {
     read_ends(items, store, ends);
     sight_of(ends, counts)
@@ -275,7 +279,7 @@ fn sight_in(items: &[Arg], store: &Store, ends: &mut [Ends], counts: &mut [u16])
 fn sight_of_few(items: &[Arg], store: &Store) -> Sight
     requires items { IsTrue (list_all (is_open store.now.box) items.now) }
     requires few { length items.now ≤ 64 }
-    ensures { IfQuiet result (AllQuiet (map (left_to store.now.box) items.now)) }
+    ensures { Tells result (AllQuiet (map (left_to store.now.box) items.now)) (IsTrue (has_crowd (map (left_to store.now.box) items.now))) }
 {
     let mut buffer = [Ends { low: 0, high: 0 }; FEW_ITEMS];
     let mut numbers = [0u16; FEW_ITEMS];
@@ -287,7 +291,7 @@ fn sight_of_few(items: &[Arg], store: &Store) -> Sight
 fn sight_of_many(items: &[Arg], store: &Store) -> Sight
     requires items { IsTrue (list_all (is_open store.now.box) items.now) }
     requires few { length items.now ≤ 1000 }
-    ensures { IfQuiet result (AllQuiet (map (left_to store.now.box) items.now)) }
+    ensures { Tells result (AllQuiet (map (left_to store.now.box) items.now)) (IsTrue (has_crowd (map (left_to store.now.box) items.now))) }
 {
     let mut buffer = [Ends { low: 0, high: 0 }; MOST_ITEMS];
     let mut numbers = [0u16; MOST_ITEMS];
@@ -298,7 +302,7 @@ fn sight_of_many(items: &[Arg], store: &Store) -> Sight
 fn sight_of_items(items: &[Arg], store: &Store) -> Sight
     requires items { IsTrue (list_all (is_open store.now.box) items.now) }
     requires few { length items.now ≤ 1000 }
-    ensures { IfQuiet result (AllQuiet (map (left_to store.now.box) items.now)) }
+    ensures { Tells result (AllQuiet (map (left_to store.now.box) items.now)) (IsTrue (has_crowd (map (left_to store.now.box) items.now))) }
 {
     if items.len() <= FEW_ITEMS {
         sight_of_few(items, store)
@@ -325,19 +329,19 @@ fn look_at_items(problem: &Problem, rule: &Constraint, store: &Store) -> Sight
     requires asked { IsAsked problem.now rule.now store.now.box }
     requires pred { rule.now.pred ≡ AllDifferentInt }
     requires apart { Distinct (variables_of rule.now.args) }
-    ensures { IfQuiet result ((takes : Takes) → SparesTaken takes rule.now store.now.box) }
+    ensures { Tells result ((takes : Takes) → SparesTaken takes rule.now store.now.box) (IsTrue (refuted_by rule.now store.now.box)) }
 {
     problem.known();
     sight_of_items(items_met(arguments(rule), store), store)
 }
 
 /// What is seen of a constraint in which no variable stands twice. Where it is quiet, the constraint refutes neither the box nor an end
-/// of any of its variables; numbers that are filled are advice. Only where the items are to differ is anything told, which takes time in
+/// of any of its variables, and where it is crowded, it refutes the box; numbers that are filled are advice. Only where the items are to differ is anything told, which takes time in
 /// the order of the square of their number.
 pub(crate) fn look(problem: &Problem, rule: &Constraint, store: &Store) -> Sight
     requires asked { IsAsked problem.now rule.now store.now.box }
     requires apart { Distinct (variables_of rule.now.args) }
-    ensures { IfQuiet result ((takes : Takes) → SparesTaken takes rule.now store.now.box) }
+    ensures { Tells result ((takes : Takes) → SparesTaken takes rule.now store.now.box) (IsTrue (refuted_by rule.now store.now.box)) }
 {
     match rule.pred {
         Pred::AllDifferentInt => look_at_items(problem, rule, store),

@@ -406,6 +406,7 @@ fn revise_other(task: &Task, c: ConId, list: &mut WorkList, remains: &mut Remain
     let rule = task.problem.constraint(c);
     match look(task.problem, rule, remains.store()) {
         Sight::Quiet => Revised::Stable,
+        Sight::Crowded => Revised::Lost,
         Sight::Filled(s) => revise_advised(task, c, Advice::Filled(s), list, remains),
         Sight::Unknown => revise_by_ends(task, c, list, remains),
     }

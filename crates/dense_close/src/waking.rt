@@ -21,7 +21,11 @@ fn wake_one(task: &Task, c: ConId, list: &mut WorkList)
 {
     let k = c.0 as usize;
     if task.span.first <= k && k < task.span.end {
-        list.add(c);
+        if task.index.is_late(c) {
+            list.add_late(c);
+        } else {
+            list.add(c);
+        }
     }
 }
 
