@@ -101,8 +101,16 @@ fn of_equal(a: Arg, b: Arg, store: &Store) -> Stretch
     let one = ends_of(a, store);
     let other = ends_of(b, store);
     Stretch {
-        low: if one.least < other.least { other.least } else { one.least },
-        high: if one.greatest < other.greatest { one.greatest } else { other.greatest },
+        low: if one.least < other.least {
+            other.least
+        } else {
+            one.least
+        },
+        high: if one.greatest < other.greatest {
+            one.greatest
+        } else {
+            other.greatest
+        },
     }
 }
 
@@ -144,7 +152,11 @@ fn factor_of(other: Ends, product: Ends) -> Stretch {
     let below = product.least / n;
     let is_whole = product.least % n == 0;
     Stretch {
-        low: if is_whole { below } else { below.saturating_add(1) },
+        low: if is_whole {
+            below
+        } else {
+            below.saturating_add(1)
+        },
         high: product.greatest / n,
     }
 }
@@ -190,8 +202,16 @@ fn of_element(b: Arg, numbers: &[i64], c: Arg, x: VarId, store: &Store) -> Stret
 // The numbers that both may have, by their ends.
 fn shared(one: Ends, other: Ends) -> Stretch {
     Stretch {
-        low: if one.least < other.least { other.least } else { one.least },
-        high: if one.greatest < other.greatest { one.greatest } else { other.greatest },
+        low: if one.least < other.least {
+            other.least
+        } else {
+            one.least
+        },
+        high: if one.greatest < other.greatest {
+            one.greatest
+        } else {
+            other.greatest
+        },
     }
 }
 
@@ -221,7 +241,11 @@ fn of_item(b: Arg, items: &[Arg], c: Arg, x: VarId, store: &Store) -> Stretch
         if has(b, place, store) {
             let both = shared(ends_of(items[k], store), left);
             if both.low <= both.high {
-                found = if is_place { joined(found, place) } else { joined(joined(found, both.low), both.high) };
+                found = if is_place {
+                    joined(found, place)
+                } else {
+                    joined(joined(found, both.low), both.high)
+                };
             }
         }
     }

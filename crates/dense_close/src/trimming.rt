@@ -14,8 +14,8 @@ ghost use Rattle.dense_close.specs.Cutting.{IsCut, HasCut};
 ghost use Rattle.dense_close.specs.Slack.{RoomTells, IsTermOf, IsMeasured, IsLong, IsPast};
 
 use crate::cutting::{End, Stretch, cut_stretch};
-use crate::reading::product;
 use crate::slack::{Room, are_close, least_room};
+use crate::summing::product;
 use check_box::Remains;
 use model_arguments::arguments;
 use qc_model::{Arg, Argument, ConId, Constraint, Problem, VarId};
