@@ -1,6 +1,8 @@
 pub mod Cuts
 pub mod Found
 pub mod Indexed
+pub mod ItemLaws
+pub mod ItemPlaces
 pub mod Looked
 pub mod Narrowed
 pub mod OneEnd

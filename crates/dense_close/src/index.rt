@@ -91,8 +91,8 @@ impl Index {
         }
     }
 
-    #[tactic(auto, using(model_arguments::proofs::Apart::apart_distinct))]
     /// Whether no variable stands twice in constraint c. `false` tells nothing.
+    #[tactic(auto, using(model_arguments::proofs::Apart::apart_distinct))]
     pub(crate) fn is_apart(&self, c: ConId) -> bool
         ensures { IsTrue result → Distinct (variable_numbers (own self.now.own c.0)) }
     {

@@ -11,6 +11,9 @@
 //! each end takes the square of that. Where it may, that reading tells by a division how far each variable can go (`trimming`): what
 //! lies past it goes where the constraint refutes it, which is asked once. Other values go by stretches: where a constraint refutes an
 //! end, it is asked of twice as many numbers from there on, as long as it refutes them together.
+//!
+//! Comparisons, sums and products of two numbers and items of arrays are read once too (`quiet`): where no variable stands twice, the
+//! ends of what is left to their arguments mostly tell that they refute nothing that they may take.
 #![tactic(auto)]
 
 mod answerless;
@@ -21,6 +24,7 @@ mod ends;
 mod equality;
 mod having;
 mod index;
+mod items;
 mod quiet;
 mod reading;
 mod relating;
