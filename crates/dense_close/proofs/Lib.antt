@@ -6,6 +6,8 @@ pub mod EndsCounted
 pub mod Found
 pub mod FullRanges
 pub mod Indexed
+pub mod ItemLaws
+pub mod ItemPlaces
 pub mod Kept
 pub mod LeftAlone
 pub mod Looked

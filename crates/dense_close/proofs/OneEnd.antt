@@ -1,6 +1,7 @@
 -- A box in which one variable of a constraint has one of its ends alone.
 use Rattle.std.proofs.Common.{◌≡◌, ◌⊎◌, inl, inr, ℕ, zero, suc, ◌<◌, ◌++◌, ◌==◌, Bool, true, false, List, [], ◌∷◌, map, refl, sym, ap, ◌∙◌, subst, arith, ℤ}
 use Rattle.std.specs.Prelude.{pos}
+use Rattle.std.specs.List.{list_any}
 use Rattle.std.proofs.lemmas.List.{get_or-set_other}
 use Rattle.qc_model.specs.declared.problem.Arg.{Arg}
 use Rattle.qc_model.specs.declared.problem.Arg.TheVariants.{Var, Num}
@@ -16,7 +17,7 @@ use Rattle.qc_model.specs.Meaning.{Meaning, meaning_of}
 use Rattle.qc_model.specs.Refuted.{left_to, refuted_as, refuted_by}
 use Rattle.model_arguments.specs.Repeats.{is_variable, same_variable}
 use Rattle.model_arguments.specs.Written.{arg_at}
-use Rattle.model_arguments.proofs.Bools.{never}
+use Rattle.model_arguments.proofs.Bools.{never, neither}
 use Rattle.model_arguments.proofs.Written.{left_written}
 use Rattle.dense_closing.specs.Takes.{Takes}
 use Rattle.dense_close.specs.Quiet.{FailsAtEnds, SparesTwo, SparesThree}
@@ -24,11 +25,11 @@ use Rattle.dense_close.specs.Slack.{is_taken, SparesTaken}
 use Rattle.dense_close.proofs.Sums.{equal_numbers, apart_numbers, set_cases}
 
 -- no variable stands at two places
-among_right : (k : ℕ) (xs ys : List ℕ) → Among k ys → Among k (xs ++ ys)
+pub among_right : (k : ℕ) (xs ys : List ℕ) → Among k ys → Among k (xs ++ ys)
 among_right k [] ys m = m
 among_right k (x ∷ xs) ys m = inr (among_right k xs ys m)
 
-distinct_right : (xs ys : List ℕ) → Distinct (xs ++ ys) → Distinct ys
+pub distinct_right : (xs ys : List ℕ) → Distinct (xs ++ ys) → Distinct ys
 distinct_right [] ys d = d
 distinct_right (x ∷ xs) ys d = distinct_right xs ys d.1
 
@@ -70,6 +71,12 @@ module _ (ok : ℕ → Bool) (box : Box) (x : ℕ) (taken : ok x ≡ true) (v : 
   pub kept_left : (a : Arg) → is_variable a x ≡ false → left_to (box_at box x v) a ≡ left_to box a
   kept_left (Num n) h = refl
   kept_left (Var y) h = get_or-set_other box x y.0 (v ∷ []) [] (apart_numbers y.0 x h)
+
+  pub kept_items : (xs : List Arg) → list_any (λ a. is_variable a x) xs ≡ false → map (left_to (box_at box x v)) xs ≡ map (left_to box) xs
+  kept_items [] h = refl
+  kept_items (a ∷ xs) h =
+      let n = neither (is_variable a x) (list_any (λ z. is_variable z x) xs) h in
+      ap (λ u. u ∷ map (left_to (box_at box x v)) xs) (kept_left a n.0) ∙ ap (λ us. left_to box a ∷ us) (kept_items xs n.1)
 
   -- x itself has one end
   own_left : (y : ℕ) → x ≡ y → ((ok y ≡ true) × ((values_left (box_at box x v) y ≡ least_value (values_left box y) ∷ []) ⊎ (values_left (box_at box x v) y ≡ greatest_value (values_left box y) ∷ []))) ⊎ (values_left (box_at box x v) y ≡ values_left box y)
@@ -113,17 +120,17 @@ module _ (ok : ℕ → Bool) (box : Box) (x : ℕ) (taken : ok x ≡ true) (v : 
       by_first (inr i) = by_second i (left_cases b)
       by_first (inl h) = moved test (now a) (was b) (was c) (now a) (now b) (now c) refl (kept_left b (not_both a b x h.0 ab)) (kept_left c (not_both a c x h.0 ac)) (fails_at ok box a (now a) (λ d. test d (was b) (was c)) s.first h.1)
 
--- a constraint of three arguments, or of two, that such a test refutes
-pub spares_three : (test : Values → Values → Values → Bool) (takes : Takes) (r : Rule) (box : Box) (a b c : Arg) → ((at : Box) → refuted_by r at ≡ test (left_to at a) (left_to at b) (left_to at c)) →
+-- a constraint of three arguments, or of two, that nothing refutes where such a test fails
+pub spares_three : (test : Values → Values → Values → Bool) (takes : Takes) (r : Rule) (box : Box) (a b c : Arg) → ((at : Box) → test (left_to at a) (left_to at b) (left_to at c) ≡ false → refuted_by r at ≡ false) →
     same_variable a b ≡ false → same_variable a c ≡ false → same_variable b c ≡ false → SparesThree test (takes r) a b c box → SparesTaken takes r box
 spares_three test takes r box a b c is ab ac bc s = record {
-  whole = is box ∙ s.whole;
+  whole = is box s.whole;
   least = λ x own taken. at x taken (least_value (values_left box x)) (inl refl);
   greatest = λ x own taken. at x taken (greatest_value (values_left box x)) (inr refl);
 }
   where
     at : (x : ℕ) → takes r x ≡ true → (v : ℤ) → (v ≡ least_value (values_left box x)) ⊎ (v ≡ greatest_value (values_left box x)) → refutes_at r box x v ≡ false
-    at x taken v w = is (box_at box x v) ∙ three_at (takes r) box x taken v w test a b c ab ac bc s
+    at x taken v w = is (box_at box x v) (three_at (takes r) box x taken v w test a b c ab ac bc s)
 
 number_apart : (a : Arg) (n : ℤ) → same_variable a (Num n) ≡ false
 number_apart (Var x) n = refl
@@ -139,7 +146,7 @@ two_as_three test ok a b box s = record {
 
 pub spares_two : (test : Values → Values → Bool) (takes : Takes) (r : Rule) (box : Box) (a b : Arg) → ((at : Box) → refuted_by r at ≡ test (left_to at a) (left_to at b)) → same_variable a b ≡ false → SparesTwo test (takes r) a b box → SparesTaken takes r box
 spares_two test takes r box a b is ab s =
-    spares_three (λ d e f. test d e) takes r box a b (Num (pos 0)) is ab (number_apart a (pos 0)) (number_apart b (pos 0)) (two_as_three test (takes r) a b box s)
+    spares_three (λ d e f. test d e) takes r box a b (Num (pos 0)) (λ at h. is at ∙ h) ab (number_apart a (pos 0)) (number_apart b (pos 0)) (two_as_three test (takes r) a b box s)
 
 -- by its meaning and the places of its arguments
 pub quiet_two : (m : Meaning) (test : Values → Values → Bool) → ((ls : Lefts) → refuted_as m ls ≡ test (left_at ls 0) (left_at ls 1)) → (takes : Takes) (r : Rule) (box : Box) → meaning_of r.pred ≡ m → Distinct (variables_of r.args) →
@@ -154,7 +161,7 @@ quiet_two m test means takes r box e d s = spares_two test takes r box (arg_at r
 pub quiet_three : (m : Meaning) (test : Values → Values → Values → Bool) → ((ls : Lefts) → refuted_as m ls ≡ test (left_at ls 0) (left_at ls 1) (left_at ls 2)) → (takes : Takes) (r : Rule) (box : Box) → meaning_of r.pred ≡ m → Distinct (variables_of r.args) →
     SparesThree test (takes r) (arg_at r.args 0) (arg_at r.args 1) (arg_at r.args 2) box → SparesTaken takes r box
 quiet_three m test means takes r box e d s =
-    spares_three test takes r box a b c is (args_apart r.args 0 1 (omega arith) d) (args_apart r.args 0 2 (omega arith) d) (args_apart r.args 1 2 (omega arith) d) s
+    spares_three test takes r box a b c (λ at h. is at ∙ h) (args_apart r.args 0 1 (omega arith) d) (args_apart r.args 0 2 (omega arith) d) (args_apart r.args 1 2 (omega arith) d) s
   where
     a : Arg
     a = arg_at r.args 0

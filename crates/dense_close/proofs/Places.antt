@@ -15,10 +15,10 @@ use Rattle.qc_refuter.proofs.Terms.{some_left}
 use Rattle.dense_close.specs.Quiet.{SparesTwo, misses_number}
 use Rattle.dense_close.proofs.Shared.{turned}
 
-nothing_more : (i : ℤ) → i +ℤ pos 0 ≡ i
+pub nothing_more : (i : ℤ) → i +ℤ pos 0 ≡ i
 nothing_more i = omega (arith, ints)
 
-further : (i : ℤ) (k : ℕ) → i +ℤ pos (suc k) ≡ (i +ℤ pos 1) +ℤ pos k
+pub further : (i : ℤ) (k : ℕ) → i +ℤ pos (suc k) ≡ (i +ℤ pos 1) +ℤ pos k
 further i k = omega (arith, ints)
 
 item_in : (i : ℤ) (b c : Values) (ns : List ℤ) (k : ℕ) → k < length ns → has_value b (i +ℤ pos k) ≡ true → has_value c (get_or ns k (pos 0)) ≡ true → some_item_in i b ns c ≡ true

@@ -10,7 +10,7 @@ use Rattle.qc_model.specs.Ranges.{range_of}
 use Rattle.qc_model.specs.Refuted.{left_to}
 use Rattle.model_arguments.proofs.Bools.{or_left, or_right}
 use Rattle.model_arguments.proofs.Values.{has_first, has_least, has_greatest}
-use Rattle.qc_refuter.specs.Met.{is_open}
+use Rattle.qc_refuter.specs.Met.{is_domain_left, is_open}
 use Rattle.qc_refuter.proofs.Terms.{some_left}
 use Rattle.dense_close.specs.Quiet.{SparesTwo}
 
@@ -69,3 +69,10 @@ equal_spares ok x y box ox oy low high = record {
 
     high_there : has_value e (greatest_value d) ≡ true
     high_there = subst (λ v. has_value e v ≡ true) (sym high) (has_greatest e (some_left e oy))
+
+-- the least value of one that the other has
+pub least_shared : (d e : Values) (v : ℤ) → is_domain_left d ≡ true → v ≡ least_value d → has_value e v ≡ true → misses d e ≡ false
+least_shared d e v o i h = in_both d e v (subst (λ z. has_value d z ≡ true) (sym i) (has_least d (some_left d o))) h
+
+pub least_shares : (d e : Values) (v : ℤ) → is_domain_left e ≡ true → v ≡ least_value e → has_value d v ≡ true → misses d e ≡ false
+least_shares d e v o i h = in_both d e v h (subst (λ z. has_value e z ≡ true) (sym i) (has_least e (some_left e o)))

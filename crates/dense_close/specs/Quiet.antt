@@ -1,5 +1,5 @@
 -- Constraints of two or three arguments that refute nothing that they may take.
-use Rattle.std.specs.Prelude.{ℕ, Bool, not, List, [], ◌∷◌, ℤ, pos, int_lt, int_le, IsTrue, IsFalse}
+use Rattle.std.specs.Prelude.{ℕ, Bool, not, List, [], ◌∷◌, ℤ, pos, ◌-◌, cond, Option, None, slice_get, unsigned_abs, int_lt, int_le, IsTrue, IsFalse}
 use Rattle.qc_model.specs.declared.problem.Arg.{Arg}
 use Rattle.qc_model.specs.Domains.{Values, Box, least_value, greatest_value}
 use Rattle.qc_model.specs.Left.{span, some_item_in}
@@ -61,3 +61,7 @@ by_spans test d e f = test (span d) (span e) (span f)
 -- what refutes that the number of an array at place b, counted from 1, is c
 abbrev pub misses_number : List ℤ → Values → Values → Bool
 misses_number ns b c = not (some_item_in (pos 1) b ns c)
+
+-- the item of an array at a place, counted from 1
+abbrev pub item_at : List Arg → ℤ → Option Arg
+item_at xs p = cond (int_lt p (pos 1)) None (slice_get xs (unsigned_abs p - 1))

@@ -10,6 +10,7 @@ ghost use Rattle.dense_close.specs.Taking.{takes_of};
 
 use crate::elements::is_quiet_element;
 use crate::equality::is_quiet_equality;
+use crate::items::is_quiet_variable_element;
 use crate::relating::{Relation, is_quiet_by_ends};
 use crate::task::Task;
 use fd_store::Store;
@@ -32,6 +33,7 @@ fn is_quiet_as(meaning: Meaning, task: &Task, rule: &Constraint, store: &Store) 
         Meaning::Plus => is_quiet_by_ends(Relation::Sum, task, rule, args, store),
         Meaning::Times => is_quiet_by_ends(Relation::Product, task, rule, args, store),
         Meaning::Element => is_quiet_element(task, rule, args, store),
+        Meaning::VariableElement => is_quiet_variable_element(task, rule, store),
         _ => false,
     }
 }

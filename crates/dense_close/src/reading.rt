@@ -1,12 +1,13 @@
 //! What is left to the arguments of a constraint.
 ghost use Rattle.std.specs.Prelude.{◌≡◌, IsTrue};
+ghost use Rattle.std.specs.List.{list_all};
 ghost use Rattle.qc_model.specs.declared.problem.Arg.TheVariants.{Var};
 ghost use Rattle.qc_model.specs.Domains.{values_left, has_value};
 ghost use Rattle.qc_model.specs.Left.{span};
 ghost use Rattle.qc_model.specs.Ranges.{point};
 ghost use Rattle.qc_model.specs.Refuted.{left_to};
 ghost use Rattle.qc_model.specs.Valid.{is_number};
-ghost use Rattle.model_arguments.specs.Written.{arg_at};
+ghost use Rattle.model_arguments.specs.Written.{arg_at, args_at};
 ghost use Rattle.qc_refuter.specs.Met.{is_open, are_met};
 ghost use Rattle.dense_close.specs.Quiet.{range_in};
 ghost use Rattle.dense_close.specs.Slack.{is_taken};
@@ -52,6 +53,19 @@ fn ends_of_variable(x: VarId, store: &Store) -> Ends
     Ends {
         least: store.min(x),
         greatest: store.max(x),
+    }
+}
+
+/// The items of an array, by its place.
+#[inline(always)]
+pub(crate) fn items_met<'a>(args: &'a [Argument], place: usize, store: &Store) -> &'a [Arg]
+    requires { IsTrue (are_met store.now.box args.now) }
+    ensures is { result.now ≡ args_at args.now place }
+    ensures open { IsTrue (list_all (is_open store.now.box) result.now) }
+{
+    match args.get(place) {
+        Some(Argument::Many(items)) => items.items(),
+        _ => &[],
     }
 }
 
