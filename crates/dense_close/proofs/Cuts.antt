@@ -1,5 +1,5 @@
 -- Ends of a variable that one constraint takes.
-use Rattle.std.proofs.Common.{◌≡◌, ◌<◌, ℕ, Bool, true, false, not, ◌&&◌, List, [], ◌∷◌, length, set, filter, refl, sym, ap, ◌∙◌, subst, arith, rules, ℤ}
+use Rattle.std.proofs.Common.{◌≡◌, ◌<◌, ℕ, Bool, true, false, not, ◌&&◌, cond, List, [], ◌∷◌, length, set, filter, refl, sym, ap, ◌∙◌, subst, arith, rules, ℤ}
 use Rattle.std.specs.Prelude.{int_le, ◌≤ℤ◌, ◌↔◌, ◌+ℤ◌, ◌-ℤ◌, neg_ℤ, pos, slice_get, Some}
 use Rattle.std.specs.List.{list_all}
 use Rattle.std.proofs.lemmas.Int.{ints}
@@ -33,7 +33,7 @@ use Rattle.dense_closing.specs.Takes.{Takes}
 use Rattle.dense_closing.proofs.Keeping.{steps_keep}
 use Rattle.dense_close.specs.declared.cutting.End.{End}
 use Rattle.dense_close.specs.declared.cutting.End.TheVariants.{Least, Greatest}
-use Rattle.dense_close.specs.Cutting.{IsInside, end_of, IsStretch, IsCut, HasCut}
+use Rattle.dense_close.specs.Cutting.{IsInside, end_of, IsStretch, IsBarred, IsCut, HasCut}
 
 pub asked : (g : Game) → IsValid g → (box : Box) → is_box_of g box ≡ true → has_empty box ≡ false → (k : ℕ) (c : Rule) → slice_get g.constraints k ≡ Some c → IsAsked g c box
 asked g v box d f k c e = record { rule = constraint_at g v k c e; declared = d; full = f }
@@ -102,6 +102,21 @@ spans_end Greatest box x low high a b = or_right (int_le low (least_value (value
 pub stretch_of : (e : End) (g : Game) (k : ℕ) (box : Box) (x : ℕ) (low high : ℤ) → x < length box → has_empty box ≡ false → low ≤ℤ end_of e box x → end_of e box x ≤ℤ high → ((c : Rule) → slice_get g.constraints k ≡ Some c → refuted_by c (box_within box x low high) ≡ true) →
     IsStretch g k x box low high
 stretch_of e g k box x low high l f a b r = record { some = some_spanned e box x low high l f a b; end = spans_end e box x low high a b; refuted = r }
+
+-- values that are refuted whichever of them are left
+pub all_own : (p : ℤ → Bool) (vs : Values) → list_all p (filter p vs) ≡ true
+all_own p [] = refl
+all_own p (v ∷ vs) = by (p v) refl (all_own p vs)
+  where
+    by : (b : Bool) → p v ≡ b → list_all p (filter p vs) ≡ true → list_all p (cond b (v ∷ filter p vs) (filter p vs)) ≡ true
+    by true e h = together (p v) (list_all p (filter p vs)) e h
+    by false e h = h
+
+pub stretch_barred : (e : End) (g : Game) (k : ℕ) (box : Box) (x : ℕ) (low high v : ℤ) → x < length box → has_empty box ≡ false → v ≡ end_of e box x → low ≤ℤ v → v ≤ℤ high → IsBarred g k x box low high → IsStretch g k x box low high
+stretch_barred e g k box x low high v l f q a b h =
+    let below = subst (λ w. low ≤ℤ w) q a in
+    let above = subst (λ w. w ≤ℤ high) q b in
+    stretch_of e g k box x low high l f below above (λ c there. h c there (values_within low high (values_left box x)) (some_spanned e box x low high l f below above) (all_own (is_within low high) (values_left box x)))
 
 pub longer_up : (least greatest low high far end : ℤ) → IsInside least greatest low high → ((n : ℤ) → (n ≤ℤ end) ↔ ((n ≤ℤ far) × (n ≤ℤ greatest))) → far ≡ high +ℤ ((high -ℤ low) +ℤ pos 1) → IsInside least greatest low end × (high ≤ℤ end)
 longer_up least greatest low high far end i h e =

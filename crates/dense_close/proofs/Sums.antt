@@ -1,6 +1,6 @@
 -- A sum whose terms move less than it is away from its bound.
 use Rattle.std.proofs.Common.{◌≡◌, ◌≢◌, ◌⊎◌, inl, inr, ℕ, zero, suc, ◌<◌, ◌+◌, get_or, ◌==◌, Bool, true, false, List, [], ◌∷◌, length, map, set, refl, sym, ap, ◌∙◌, subst, arith, ℤ}
-use Rattle.std.specs.Prelude.{pos, ◌+ℤ◌, ◌-ℤ◌, ◌*ℤ◌, ◌≤ℤ◌, int_lt, slice_get, Some, cond}
+use Rattle.std.specs.Prelude.{pos, ◌+ℤ◌, ◌-ℤ◌, ◌*ℤ◌, ◌≤ℤ◌, int_lt, int_le, slice_get, Some, cond}
 use Rattle.std.specs.Int.{int_min, int_max}
 use Rattle.std.specs.List.{list_any}
 use Rattle.std.proofs.lemmas.Bool.Decides.{nat_tests}
@@ -22,7 +22,7 @@ use Rattle.model_arguments.specs.Written.{arg_at, args_at, ints_at}
 use Rattle.model_arguments.proofs.Bools.{neither, or_none}
 use Rattle.model_arguments.proofs.Written.{left_written, lefts_written, numbers_written}
 use Rattle.dense_closing.specs.Takes.{Takes}
-use Rattle.dense_close.specs.Slack.{IsNear, is_taken, AreNear, SparesTaken}
+use Rattle.dense_close.specs.Slack.{IsNear, is_taken, AreNear, AllNear, SparesTaken}
 use Rattle.dense_close.proofs.Indexed.{last_or_before}
 use Rattle.std.proofs.lemmas.Option.{same_Some}
 
@@ -61,13 +61,13 @@ part_close s a b c d h k = omega (arith, ints)
 rest_close : (s a b c d : ℤ) → a ≡ b → c ≤ℤ (d +ℤ s) → (a +ℤ c) ≤ℤ ((b +ℤ d) +ℤ s)
 rest_close s a b c d k h = omega (arith, ints)
 
-equal_numbers : (j k : ℕ) → (j == k) ≡ true → j ≡ k
+pub equal_numbers : (j k : ℕ) → (j == k) ≡ true → j ≡ k
 equal_numbers j k h = grind (arith, nat_tests)
 
-apart_numbers : (j k : ℕ) → (j == k) ≡ false → j ≢ k
+pub apart_numbers : (j k : ℕ) → (j == k) ≡ false → j ≢ k
 apart_numbers j k h e = grind (arith, nat_tests)
 
-set_cases : (box : Box) (x : ℕ) (us : Values) → (values_left (set box x us) x ≡ us) ⊎ (values_left (set box x us) x ≡ values_left box x)
+pub set_cases : (box : Box) (x : ℕ) (us : Values) → (values_left (set box x us) x ≡ us) ⊎ (values_left (set box x us) x ≡ values_left box x)
 set_cases [] x us = inr refl
 set_cases (d ∷ box) zero us = inl refl
 set_cases (d ∷ box) (suc x) us = set_cases box x us
@@ -125,7 +125,7 @@ module _ (ok : ℕ → Bool) (s : ℤ) (z : pos 0 ≤ℤ s) (box : Box) (x : ℕ
           }
 
 -- what a sum refutes that a number bounds
-at_most_is : (c : Rule) (m : ℤ) (at : Box) → c.pred ≡ IntLinLe → arg_at c.args 2 ≡ Num m → refuted_by c at ≡ int_lt m (sum_range (ints_at c.args 0) (map (left_to at) (args_at c.args 1))).from
+pub at_most_is : (c : Rule) (m : ℤ) (at : Box) → c.pred ≡ IntLinLe → arg_at c.args 2 ≡ Num m → refuted_by c at ≡ int_lt m (sum_range (ints_at c.args 0) (map (left_to at) (args_at c.args 1))).from
 at_most_is c m at e n =
     let args = map (fill (left_to at)) c.args in
     ap (λ p. refuted_as (meaning_of p) args) e
@@ -133,7 +133,7 @@ at_most_is c m at e n =
     ∙ (ap (λ ns. int_lt m (sum_range ns (lefts_at args 1)).from) (numbers_written at c.args 0)
     ∙ ap (λ ds. int_lt m (sum_range (ints_at c.args 0) ds).from) (lefts_written at c.args 1)))
 
-equal_is : (c : Rule) (m : ℤ) (at : Box) → c.pred ≡ IntLinEq → arg_at c.args 2 ≡ Num m → refuted_by c at ≡ ranges_miss (sum_range (ints_at c.args 0) (map (left_to at) (args_at c.args 1))) (range_of m m)
+pub equal_is : (c : Rule) (m : ℤ) (at : Box) → c.pred ≡ IntLinEq → arg_at c.args 2 ≡ Num m → refuted_by c at ≡ ranges_miss (sum_range (ints_at c.args 0) (map (left_to at) (args_at c.args 1))) (range_of m m)
 equal_is c m at e n =
     let args = map (fill (left_to at)) c.args in
     ap (λ p. refuted_as (meaning_of p) args) e
@@ -200,9 +200,40 @@ near_of s n p q u v d a b e f up down =
       down = subst (λ z. z ≤ℤ ((n *ℤ greatest_value d) +ℤ s)) low (subst (λ z. p ≤ℤ (z +ℤ s)) high down);
     }
 
+pub near_wider : (s t n : ℤ) (d : Values) → s ≤ℤ t → IsNear s n d → IsNear t n d
+near_wider s t n d l h = record { up = more (n *ℤ greatest_value d) (n *ℤ least_value d) h.up; down = more (n *ℤ least_value d) (n *ℤ greatest_value d) h.down }
+  where
+    more : (a b : ℤ) → a ≤ℤ (b +ℤ s) → a ≤ℤ (b +ℤ t)
+    more a b h = omega (arith, ints)
+
+pub near_width : (s n : ℤ) (d : Values) (f t : ℤ) → range_of f t ≡ product (point n) (span d) → (t -ℤ f) ≤ℤ s → IsNear s n d
+near_width s n d f t e h =
+    let from : f ≡ (product (point n) (span d)).from = ap (λ (r : Range). r.from) e in
+    let to : t ≡ (product (point n) (span d)).to = ap (λ (r : Range). r.to) e in
+    record { up = up (n *ℤ least_value d) (n *ℤ greatest_value d) from to; down = down (n *ℤ least_value d) (n *ℤ greatest_value d) from to }
+  where
+    up : (p q : ℤ) → f ≡ int_min p (int_min q (int_min p q)) → t ≡ int_max p (int_max q (int_max p q)) → q ≤ℤ (p +ℤ s)
+    up p q a b = omega (arith, ints, clamps)
+
+    down : (p q : ℤ) → f ≡ int_min p (int_min q (int_min p q)) → t ≡ int_max p (int_max q (int_max p q)) → p ≤ℤ (q +ℤ s)
+    down p q a b = omega (arith, ints, clamps)
+
+pub as_bound : (a b : ℤ) → int_le a b ≡ true → a ≤ℤ b
+as_bound a b h = grind (arith, ints)
+
+pub near_taken : (ok : ℕ → Bool) (s t : ℤ) (ns : List ℤ) (xs : List Arg) (box : Box) → s ≤ℤ t → AllNear s ns xs box → AreNear ok t ns xs box
+near_taken ok s t ns xs box l h = λ i n a p q w. near_wider s t n (left_to box a) l (h i n a p q (any a w))
+  where
+    any : (a : Arg) → is_taken ok a ≡ true → is_taken (λ x. true) a ≡ true
+    any (Var x) w = refl
+    any (Num n) w = w
+
 -- the room that is left
 pub room_left : (low high u r : ℤ) → (pos 0 ≤ℤ u → u ≤ℤ (high -ℤ low)) → r ≤ℤ u → pos 0 ≤ℤ r → (low +ℤ r) ≤ℤ high
 room_left low high u r h l z = let k = h (let m = l in omega (arith, ints)) in omega (arith, ints)
+
+pub room_tight : (low high u : ℤ) → (high -ℤ low) ≤ℤ u → high ≤ℤ (low +ℤ u)
+room_tight low high u h = omega (arith, ints)
 
 pub room_less : (low high u s : ℤ) → (pos 0 ≤ℤ u → (low +ℤ u) ≤ℤ high) → s ≤ℤ u → pos 0 ≤ℤ s → (low +ℤ s) ≤ℤ high
 room_less low high u s h l z = let k = h (let m = l in omega (arith, ints)) in omega (arith, ints)

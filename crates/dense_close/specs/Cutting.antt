@@ -1,10 +1,11 @@
 -- Ends of a variable that one constraint takes.
-use Rattle.std.specs.Prelude.{◌≡◌, ◌≢◌, ◌<◌, ◌≤ℤ◌, ℕ, Bool, true, false, length, slice_get, Some, IsTrue, IsFalse, ℤ}
+use Rattle.std.specs.Prelude.{◌≡◌, ◌≢◌, ◌<◌, ◌≤ℤ◌, ℕ, Bool, true, false, length, set, slice_get, Some, IsTrue, IsFalse, ℤ}
+use Rattle.std.specs.List.{list_all}
 use Rattle.qc_model.specs.Arguments.{variables_of}
 use Rattle.qc_model.specs.Block.{is_owned_within, constraints_within}
 use Rattle.qc_model.specs.Closed.{refutes_at}
 use Rattle.qc_model.specs.Content.{Game, Rule}
-use Rattle.qc_model.specs.Domains.{Box, values_left, values_within, least_value, greatest_value, box_within, is_none_left, is_sub_box}
+use Rattle.qc_model.specs.Domains.{Values, Box, values_left, values_within, is_within, least_value, greatest_value, box_within, is_none_left, is_sub_box}
 use Rattle.qc_model.specs.Lists.{Among}
 use Rattle.qc_model.specs.Refuted.{refuted_by}
 use Rattle.fd_store.specs.Held.{count_left}
@@ -27,6 +28,10 @@ pub record IsStretch (g : Game) (k x : ℕ) (box : Box) (low high : ℤ) : Type 
   pub some : IsFalse (is_none_left (values_within low high (values_left box x)))
   pub end : IsTrue (is_end low high (values_left box x))
   pub refuted : (c : Rule) → slice_get g.constraints k ≡ Some c → IsTrue (refuted_by c (box_within box x low high))
+
+-- constraint k refutes the box with any of the values from low to high alone left to x
+abbrev pub IsBarred : Game → ℕ → ℕ → Box → ℤ → ℤ → Type 0
+IsBarred g k x box low high = (c : Rule) → slice_get g.constraints k ≡ Some c → (vs : Values) → IsFalse (is_none_left vs) → IsTrue (list_all (is_within low high) vs) → IsTrue (refuted_by c (set box x vs))
 
 -- the numbers from low to high are some, and lie from least to greatest
 pub record IsInside (least greatest low high : ℤ) : Type 0 where

@@ -5,4 +5,8 @@ pub mod Taking
 pub mod Cutting
 pub mod Narrowing
 pub mod Slack
+pub mod Differing
 pub mod Answerless
+pub mod Memory
+pub mod Quiet
+pub mod Advice

@@ -14,10 +14,11 @@ marked [] = 0
 marked (true ∷ marks) = marked marks + 1
 marked (false ∷ marks) = marked marks
 
--- no more wait than are marked, and there is a place for each mark
-pub record HasRoom (waiting room : ℕ) (marks : List Bool) : Type 0 where
+-- no more wait than are marked, and there is a place for each mark among the early ones and among the late ones
+pub record HasRoom (waiting early late : ℕ) (marks : List Bool) : Type 0 where
   pub few : waiting ≤ marked marks
-  pub places : length marks ≤ room
+  pub early_places : length marks ≤ early
+  pub late_places : length marks ≤ late
 
 abbrev pub is_marked : Waiting → ℕ → Bool
 is_marked w k = slice_index_or w.marks k false

@@ -3,11 +3,13 @@ ghost use Rattle.std.specs.Prelude.{◌≡◌, ◌≤◌, ℕ, suc, None, Some, 
 ghost use Rattle.std.specs.List.{list_any};
 ghost use Rattle.qc_model.specs.Block.{constraints_within};
 ghost use Rattle.qc_model.specs.Domains.{Box, has_empty, is_sub_box};
+ghost use Rattle.qc_model.specs.Refuted.{refuted_by};
 ghost use Rattle.model_arguments.specs.Asked.{is_box_of};
 ghost use Rattle.model_levels.specs.Spans.{IsSpanOf};
 ghost use Rattle.fd_store.specs.Held.{Follows};
 ghost use Rattle.dense_closing.specs.ClosingSteps.{greatest_closed};
 ghost use Rattle.dense_close.specs.Answerless.{is_answerless};
+ghost use Rattle.dense_close.specs.Memory.{AreMemories};
 ghost use Rattle.dense_close.specs.Narrowing.{IsNarrowed, IsListOf, IsLost, AreSettled};
 ghost use Rattle.dense_close.specs.Ready.{IsIdle};
 ghost use Rattle.dense_close.specs.Taking.{takes_of};
@@ -15,11 +17,13 @@ ghost use Rattle.dense_close.specs.Waiting.{MarkedWait, all_waiting};
 
 use crate::answerless::some_answerless;
 use crate::index::Index;
+use crate::memories::Memories;
+use crate::refuting::some_refuted;
 use crate::revising::{Revised, revise};
 use crate::taking::Taking;
 use crate::task::Task;
 use crate::waiting::WorkList;
-use crate::waking::wake_all;
+use crate::waking::wake_pending;
 use check_box::Remains;
 use fd_store::Store;
 use model_arguments::Span;
@@ -78,10 +82,17 @@ fn clear(list: &mut WorkList)
 }
 
 // Leaves the greatest closed box within, where there is one, and nothing waits.
-fn close_all(task: &Task, list: &mut WorkList, remains: &mut Remains) -> bool
+fn close_all(
+    task: &Task,
+    memories: &mut Memories,
+    list: &mut WorkList,
+    remains: &mut Remains,
+) -> bool
     requires declared { IsTrue (is_box_of task.now.problem.now remains.old.box) }
     requires full { IsFalse (has_empty remains.old.box) }
+    requires memories { AreMemories task.now.taking task.now.problem.now memories.old }
     requires list { IsIdle task.now.problem.now list.old }
+    ensures memories { AreMemories task.now.taking task.now.problem.now memories.new }
     ensures narrowed { IsNarrowed task.now.taking task.now.problem.now task.now.from task.now.stop remains.old.box remains.new.box }
     ensures past { Follows remains.old remains.new }
     ensures full { IsTrue result → IsFalse (has_empty remains.new.box) }
@@ -89,14 +100,20 @@ fn close_all(task: &Task, list: &mut WorkList, remains: &mut Remains) -> bool
     ensures answer { MatchBool result (greatest_closed (takes_of task.now.taking task.now.problem.now) task.now.problem.now task.now.from task.now.stop remains.old.box ≡ Some remains.new.box) (greatest_closed (takes_of task.now.taking task.now.problem.now) task.now.problem.now task.now.from task.now.stop remains.old.box ≡ None) }
 {
     task.problem.known();
-    wake_all(task, list);
+    let at = remains.mark().at;
+    memories.begin(task, remains);
+    wake_pending(task, memories.present(), list);
     let closed = settle(task, list, remains);
     clear(list);
+    if closed {
+        memories.end(task, remains, remains.mark().at != at);
+    }
     closed
 }
 
 /// What closings of a problem's boxes need besides a box, made once: which variables each constraint has, which constraints have
-/// each variable, and a queue with room for all of them, so that nothing but `new` takes memory.
+/// each variable, a queue with room for all of them, and what is remembered of those that were settled, for each choice of what
+/// constraints may take. So nothing but `new` takes memory.
 ///
 /// Clauses see the game.
 #[derive(Drop)]
@@ -104,6 +121,8 @@ pub struct Closer<'p> {
     problem: &'p Problem,
     index: Index,
     list: WorkList,
+    all: Memories,
+    owners: Memories,
 }
 
 impl<'p> Model for Closer<'p> {
@@ -114,7 +133,7 @@ impl<'p> Model for Closer<'p> {
 
     ghost view = { λ c. c.problem.now };
 
-    ghost invariant = { λ c. IsReady c.problem.now c.index c.list };
+    ghost invariant = { λ c. IsReady c.problem.now c.index c.list c.all c.owners };
 }
 
 impl<'p> Closer<'p> {
@@ -129,6 +148,8 @@ impl<'p> Closer<'p> {
             problem,
             index,
             list,
+            all: Memories::new(alloc, problem)?,
+            owners: Memories::new(alloc, problem)?,
         })
     }
 
@@ -166,7 +187,10 @@ impl<'p> Closer<'p> {
             stop,
             span: span_of(levels, from, stop),
         };
-        close_all(&task, &mut self.list, remains)
+        match taking {
+            Taking::All => close_all(&task, &mut self.all, &mut self.list, remains),
+            Taking::Owners => close_all(&task, &mut self.owners, &mut self.list, remains),
+        }
     }
 
     /// Whether one of the constraints of the scopes from `number` to the one before `stop` refutes the box with the least or the
@@ -182,5 +206,37 @@ impl<'p> Closer<'p> {
     {
         let span = span_of(levels, number, stop);
         some_answerless(levels, &self.index, store, number, span)
+    }
+    /// Whether the box refutes one of the constraints of the scopes from `from` to the one before `stop`. Those that were found settled
+    /// in this box by a closing, in which constraints took what these take, aren't asked again. It takes no memory.
+    pub fn has_refuted(
+        &self,
+        levels: &Levels,
+        store: &Store,
+        taking: Taking,
+        from: usize,
+        stop: usize,
+    ) -> bool
+        requires game { self.now ≡ levels.now.problem.now }
+        requires order { from ≤ stop }
+        requires bound { stop ≤ suc (length levels.now.problem.now.scopes) }
+        requires declared { IsTrue (is_box_of levels.now.problem.now store.now.box) }
+        requires full { IsFalse (has_empty store.now.box) }
+        ensures { result ≡ list_any (λ c. refuted_by c store.now.box) (constraints_within levels.now.problem.now from stop) }
+    {
+        levels.problem.known();
+        let task = Task {
+            problem: levels.problem,
+            index: &self.index,
+            taking,
+            from,
+            stop,
+            span: span_of(levels, from, stop),
+        };
+        let at = store.mark().at;
+        match taking {
+            Taking::All => some_refuted(&task, self.all.last(at), store),
+            Taking::Owners => some_refuted(&task, self.owners.last(at), store),
+        }
     }
 }

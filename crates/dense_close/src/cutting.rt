@@ -7,7 +7,7 @@ ghost use Rattle.qc_model.specs.Refuted.{refuted_by};
 ghost use Rattle.qc_model.specs.Valid.{is_number};
 ghost use Rattle.model_arguments.specs.Asked.{is_box_of};
 ghost use Rattle.fd_store.specs.Held.{Follows};
-ghost use Rattle.dense_close.specs.Cutting.{IsInside, IsStretch, IsCut, HasCut, SparesEnd, end_of as end_in};
+ghost use Rattle.dense_close.specs.Cutting.{IsInside, IsStretch, IsBarred, IsCut, HasCut, SparesEnd, end_of as end_in};
 
 use check_box::Remains;
 use fd_store::Store;
@@ -184,8 +184,40 @@ pub(crate) fn cut_end(
     cut
 }
 
-/// Takes the values of a stretch at the end of x, where the constraint c refutes them together. Whether some went.
+/// Takes the values of a stretch at the end of x, which the constraint c refutes together. Whether some went.
 pub(crate) fn cut_stretch(
+    problem: &Problem,
+    c: ConId,
+    x: VarId,
+    end: End,
+    s: Stretch,
+    remains: &mut Remains,
+) -> bool
+    requires c { c.0 < length problem.now.constraints }
+    requires declared { IsTrue (is_box_of problem.now remains.old.box) }
+    requires full { IsFalse (has_empty remains.old.box) }
+    requires x { x.0 < length remains.old.box }
+    requires barred { IsBarred problem.now c.0 x.0 remains.old.box s.low s.high }
+    ensures cut { IsCut problem.now c.0 x.0 remains.old.box remains.new.box }
+    ensures past { Follows remains.old remains.new }
+    ensures gone { HasCut result remains.old.box remains.new.box }
+{
+    problem.known();
+    let value = end_of(x, end, remains.store());
+    let low = s.low;
+    let high = s.high;
+    if value < low {
+        return false;
+    }
+    if high < value {
+        return false;
+    }
+    remains.cut(x, low, high);
+    true
+}
+
+/// Takes the values of a stretch at the end of x, where the constraint c refutes them together. Whether some went.
+pub(crate) fn cut_refuted(
     problem: &Problem,
     c: ConId,
     x: VarId,

@@ -1,26 +1,58 @@
 //! Which variables each constraint has, and which constraints have each variable, looked up once.
-ghost use Rattle.std.specs.Prelude.{◌≡◌, ◌<◌, ◌+◌, length, IfOk, OnOk};
+ghost use Rattle.std.specs.Prelude.{◌≡◌, ◌<◌, ◌+◌, length, IsTrue, IfOk, OnOk};
+ghost use Rattle.qc_model.specs.Lists.{Distinct};
+ghost use Rattle.model_arguments.specs.Written.{variable_numbers};
 ghost use Rattle.dense_close.specs.Index.{IsIndexTo, IsIndexOf, own, having};
 
 use crate::having::Having;
-use model_arguments::{arguments, own_variables};
-use qc_model::{ConId, Problem, VarId};
+use model_arguments::{are_distinct, arguments, own_variables};
+use qc_model::{ConId, Pred, Problem, VarId};
 use std::alloc::{AllocError, Global};
 use std::marker::Model;
 
-/// The variables of one constraint, in the order in which they stand, each as often as it stands.
+/// The variables of one constraint, in the order in which they stand, each as often as it stands, whether none stands twice, and whether it
+/// is to be looked at after others, since that takes long.
 #[derive(Drop)]
 struct OwnList {
     items: Vec<VarId>,
+    apart: bool,
+    late: bool,
+}
+
+// Whether to look at a constraint of this predicate takes long.
+fn takes_long(pred: Pred) -> bool {
+    match pred {
+        Pred::AllDifferentInt | Pred::TableInt => true,
+        _ => false,
+    }
 }
 
 impl Model for OwnList {
-    ghost use Rattle.std.specs.Prelude.{List};
+    ghost use Rattle.std.specs.Prelude.{List, IsTrue};
     ghost use Rattle.qc_model.specs.declared.problem.VarId.{VarId};
+    ghost use Rattle.qc_model.specs.Lists.{Distinct};
+    ghost use Rattle.model_arguments.specs.Written.{variable_numbers};
 
     ghost Value = { List VarId };
 
     ghost view = { λ a. a.items.items };
+
+    ghost invariant = { λ a. IsTrue a.apart → Distinct (variable_numbers a.items.items) };
+}
+
+impl OwnList {
+    fn new(items: Vec<VarId>, late: bool) -> OwnList
+        ensures { result ≡ items.items }
+    {
+        let apart = are_distinct(items.as_slice());
+        OwnList { items, apart, late }
+    }
+
+    fn is_apart(&self) -> bool
+        ensures { IsTrue result → Distinct (variable_numbers self.now) }
+    {
+        self.apart
+    }
 }
 
 /// The variables of each constraint, and the constraints that have each variable.
@@ -46,9 +78,10 @@ impl Index {
         ensures { OnOk result (IsIndexTo (c.0 + 1) problem.now self.new) }
     {
         problem.known();
-        let items = own_variables(alloc, arguments(problem.constraint(c)))?;
+        let rule = problem.constraint(c);
+        let items = own_variables(alloc, arguments(rule))?;
         self.having.add_rule(c, items.as_slice())?;
-        self.own.push(OwnList { items })?;
+        self.own.push(OwnList::new(items, takes_long(rule.pred)))?;
         Ok(())
     }
 
@@ -81,6 +114,24 @@ impl Index {
         match self.own.get(c.0 as usize) {
             Some(list) => list.items.as_slice(),
             None => &[],
+        }
+    }
+
+    /// Whether no variable stands twice in constraint c, if there is one of this number.
+    pub(crate) fn is_apart(&self, c: ConId) -> bool
+        ensures { IsTrue result → Distinct (variable_numbers (own self.now.own c.0)) }
+    {
+        match self.own.get(c.0 as usize) {
+            Some(list) => list.is_apart(),
+            None => false,
+        }
+    }
+
+    /// Whether constraint c is to be looked at after others.
+    pub(crate) fn is_late(&self, c: ConId) -> bool {
+        match self.own.get(c.0 as usize) {
+            Some(list) => list.late,
+            None => false,
         }
     }
 

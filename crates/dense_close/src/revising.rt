@@ -1,25 +1,28 @@
 //! One constraint held against the box.
-ghost use Rattle.std.specs.Prelude.{◌≡◌, ◌<◌, ◌∷◌, [], ◌||◌, true, false, length, IsTrue, IsFalse, slice_get, Some};
+ghost use Rattle.std.specs.Prelude.{◌≡◌, ◌≢◌, pos, ◌<◌, ◌∷◌, [], ◌||◌, true, false, length, IsTrue, IsFalse, slice_get, Some};
 ghost use Rattle.qc_model.specs.Arguments.{variables_of};
 ghost use Rattle.qc_model.specs.Content.{Rule};
 ghost use Rattle.qc_model.specs.Domains.{Box, has_empty};
-ghost use Rattle.qc_model.specs.Lists.{Among};
-ghost use Rattle.qc_model.specs.Refuted.{refuted_by};
+ghost use Rattle.qc_model.specs.Lists.{Among, Distinct};
 ghost use Rattle.qc_model.specs.Verdict.{is_none_of};
 ghost use Rattle.model_arguments.specs.Asked.{is_box_of};
 ghost use Rattle.model_levels.specs.Spans.{is_between};
 ghost use Rattle.fd_store.specs.Held.{Follows};
 ghost use Rattle.dense_close.specs.Cutting.{IsCut, HasCut, SparesEnd};
+ghost use Rattle.dense_close.specs.Advice.{AdviceTells};
+ghost use Rattle.dense_close.specs.Slack.{RoomTells};
 ghost use Rattle.dense_close.specs.Taking.{takes_of};
 ghost use Rattle.dense_close.specs.Waiting.{Waiting};
 ghost use Rattle.dense_close.specs.Narrowing.{IsNarrowed, IsListOf, OthersSettled, HasLooked, IsRevised};
 ghost use Rattle.dense_close.specs.declared.cutting.End.TheVariants.{Least, Greatest};
 
+use crate::advising::{Advice, cut_advised};
 use crate::cutting::{End, cut_end};
+use crate::differing::{Sight, look};
+use crate::quiet::is_quiet;
 use crate::slack::{Room, is_short, slack_of};
 use crate::taking::may_take;
 use crate::task::Task;
-use crate::trimming::{cut_by_room, factor_at};
 use crate::waiting::WorkList;
 use crate::waking::wake;
 use check_box::Remains;
@@ -156,14 +159,14 @@ fn outcome(task: &Task, c: ConId, look: Look, list: &WorkList, store: &Store) ->
     }
 }
 
-// Takes an end of x, which the constraint c may take, as far as the room of a sum tells, and lets the constraints that have x wait
-// where values went.
+// Takes the ends of x, which the constraint c may take, as far as was seen of it, and lets the constraints that have x wait where values
+// went.
 fn trim_at(
     task: &Task,
     c: ConId,
+    place: usize,
     x: VarId,
-    factor: i64,
-    room: Room,
+    advice: Advice,
     queue: &mut WorkList,
     remains: &mut Remains,
 ) -> Look
@@ -175,6 +178,7 @@ fn trim_at(
     requires list { IsListOf task.now.problem.now task.now.span.first task.now.span.end queue.old }
     requires others { OthersSettled c.0 task.now.taking task.now.problem.now task.now.span.first task.now.span.end queue.old remains.old.box }
     requires taken { (rule : Rule) → slice_get task.now.problem.now.constraints c.0 ≡ Some rule → IsTrue (takes_of task.now.taking task.now.problem.now rule x.0) }
+    requires tells { (rule : Rule) → slice_get task.now.problem.now.constraints c.0 ≡ Some rule → AdviceTells advice rule remains.old.box }
     ensures narrowed { IsNarrowed task.now.taking task.now.problem.now task.now.from task.now.stop remains.old.box remains.new.box }
     ensures past { Follows remains.old remains.new }
     ensures list { IsListOf task.now.problem.now task.now.span.first task.now.span.end queue.new }
@@ -183,7 +187,7 @@ fn trim_at(
 {
     task.problem.known();
     let _ = task.problem.constraint(c);
-    if cut_by_room(task.problem, c, x, factor, room, remains) {
+    if cut_advised(task.problem, c, place, x, advice, remains) {
         wake(task, x, queue);
         return Look {
             changed: true,
@@ -202,7 +206,7 @@ fn trim_own(
     c: ConId,
     place: usize,
     x: VarId,
-    room: Room,
+    advice: Advice,
     list: &mut WorkList,
     remains: &mut Remains,
 ) -> Look
@@ -213,6 +217,7 @@ fn trim_own(
     requires full { IsFalse (has_empty remains.old.box) }
     requires list { IsListOf task.now.problem.now task.now.span.first task.now.span.end list.old }
     requires others { OthersSettled c.0 task.now.taking task.now.problem.now task.now.span.first task.now.span.end list.old remains.old.box }
+    requires tells { (rule : Rule) → slice_get task.now.problem.now.constraints c.0 ≡ Some rule → AdviceTells advice rule remains.old.box }
     ensures narrowed { IsNarrowed task.now.taking task.now.problem.now task.now.from task.now.stop remains.old.box remains.new.box }
     ensures past { Follows remains.old remains.new }
     ensures list { IsListOf task.now.problem.now task.now.span.first task.now.span.end list.new }
@@ -231,21 +236,18 @@ fn trim_own(
     if !may_take(task.problem, task.taking, rule, x) {
         return nothing;
     }
-    let factor = factor_at(rule, place, x);
-    if factor == 0 {
-        return nothing;
-    }
-    trim_at(task, c, x, factor, room, list, remains)
+    trim_at(task, c, place, x, advice, list, remains)
 }
 
 // The same for all variables of the constraint, until one has no value left.
-fn trim(task: &Task, c: ConId, room: Room, list: &mut WorkList, remains: &mut Remains) -> Look
+fn trim(task: &Task, c: ConId, advice: Advice, list: &mut WorkList, remains: &mut Remains) -> Look
     requires c { c.0 < length task.now.problem.now.constraints }
     requires inside { IsTrue (is_between task.now.span.first task.now.span.end c.0) }
     requires declared { IsTrue (is_box_of task.now.problem.now remains.old.box) }
     requires full { IsFalse (has_empty remains.old.box) }
     requires list { IsListOf task.now.problem.now task.now.span.first task.now.span.end list.old }
     requires others { OthersSettled c.0 task.now.taking task.now.problem.now task.now.span.first task.now.span.end list.old remains.old.box }
+    requires tells { (rule : Rule) → slice_get task.now.problem.now.constraints c.0 ≡ Some rule → AdviceTells advice rule remains.old.box }
     ensures narrowed { IsNarrowed task.now.taking task.now.problem.now task.now.from task.now.stop remains.old.box remains.new.box }
     ensures past { Follows remains.old remains.new }
     ensures list { IsListOf task.now.problem.now task.now.span.first task.now.span.end list.new }
@@ -261,7 +263,7 @@ fn trim(task: &Task, c: ConId, room: Room, list: &mut WorkList, remains: &mut Re
     for place in 0..own.len() {
         look = both(
             look,
-            trim_own(task, c, place, own[place], room, list, remains),
+            trim_own(task, c, place, own[place], advice, list, remains),
         );
         if remains.is_empty() {
             return look;
@@ -300,21 +302,40 @@ fn revise_each(task: &Task, c: ConId, list: &mut WorkList, remains: &mut Remains
     outcome(task, c, look, list, remains.store())
 }
 
-// Whether the constraint c, a sum without room, refutes the box.
-fn is_broken(problem: &Problem, c: ConId, room: Room, store: &Store) -> bool
-    requires c { c.0 < length problem.now.constraints }
-    requires declared { IsTrue (is_box_of problem.now store.now.box) }
-    requires full { IsFalse (has_empty store.now.box) }
-    ensures { IsTrue result → (rule : Rule) → slice_get problem.now.constraints c.0 ≡ Some rule → IsTrue (refuted_by rule store.now.box) }
+// The same by what was seen of the constraint: most goes at once.
+fn revise_advised(
+    task: &Task,
+    c: ConId,
+    advice: Advice,
+    list: &mut WorkList,
+    remains: &mut Remains,
+) -> Revised
+    requires c { c.0 < length task.now.problem.now.constraints }
+    requires some { (rule : Rule) → slice_get task.now.problem.now.constraints c.0 ≡ Some rule → IsFalse (is_none_of (variables_of rule.args)) }
+    requires inside { IsTrue (is_between task.now.span.first task.now.span.end c.0) }
+    requires declared { IsTrue (is_box_of task.now.problem.now remains.old.box) }
+    requires full { IsFalse (has_empty remains.old.box) }
+    requires list { IsListOf task.now.problem.now task.now.span.first task.now.span.end list.old }
+    requires others { OthersSettled c.0 task.now.taking task.now.problem.now task.now.span.first task.now.span.end list.old remains.old.box }
+    requires tells { (rule : Rule) → slice_get task.now.problem.now.constraints c.0 ≡ Some rule → AdviceTells advice rule remains.old.box }
+    ensures narrowed { IsNarrowed task.now.taking task.now.problem.now task.now.from task.now.stop remains.old.box remains.new.box }
+    ensures past { Follows remains.old remains.new }
+    ensures list { IsListOf task.now.problem.now task.now.span.first task.now.span.end list.new }
+    ensures answer { IsRevised result task.now.taking task.now.problem.now task.now.from task.now.stop task.now.span.first task.now.span.end list.old list.new remains.old.box remains.new.box }
 {
-    problem.known();
-    if !is_short(room) {
-        return false;
+    task.problem.known();
+    let _ = task.problem.constraint(c);
+    let look = trim(task, c, advice, list, remains);
+    if remains.is_empty() {
+        return Revised::Lost;
     }
-    refutes(problem, c, store)
+    if look.changed {
+        return Revised::Changed;
+    }
+    revise_each(task, c, list, remains)
 }
 
-// The same for a sum with this room: most goes at once.
+// The same for a sum with this room.
 fn revise_sum(
     task: &Task,
     c: ConId,
@@ -329,6 +350,7 @@ fn revise_sum(
     requires full { IsFalse (has_empty remains.old.box) }
     requires list { IsListOf task.now.problem.now task.now.span.first task.now.span.end list.old }
     requires others { OthersSettled c.0 task.now.taking task.now.problem.now task.now.span.first task.now.span.end list.old remains.old.box }
+    requires tells { (rule : Rule) → slice_get task.now.problem.now.constraints c.0 ≡ Some rule → RoomTells rule room remains.old.box }
     ensures narrowed { IsNarrowed task.now.taking task.now.problem.now task.now.from task.now.stop remains.old.box remains.new.box }
     ensures past { Follows remains.old remains.new }
     ensures list { IsListOf task.now.problem.now task.now.span.first task.now.span.end list.new }
@@ -336,17 +358,85 @@ fn revise_sum(
 {
     task.problem.known();
     let _ = task.problem.constraint(c);
-    if is_broken(task.problem, c, room, remains.store()) {
+    if is_short(room) {
         return Revised::Lost;
     }
-    let look = trim(task, c, room, list, remains);
-    if remains.is_empty() {
-        return Revised::Lost;
+    revise_advised(task, c, Advice::Room(room), list, remains)
+}
+
+// The same for a constraint in which no variable stands twice, by the ends of what is left to its arguments.
+fn revise_by_ends(task: &Task, c: ConId, list: &mut WorkList, remains: &mut Remains) -> Revised
+    requires c { c.0 < length task.now.problem.now.constraints }
+    requires some { (rule : Rule) → slice_get task.now.problem.now.constraints c.0 ≡ Some rule → IsFalse (is_none_of (variables_of rule.args)) }
+    requires apart { (rule : Rule) → slice_get task.now.problem.now.constraints c.0 ≡ Some rule → Distinct (variables_of rule.args) }
+    requires inside { IsTrue (is_between task.now.span.first task.now.span.end c.0) }
+    requires declared { IsTrue (is_box_of task.now.problem.now remains.old.box) }
+    requires full { IsFalse (has_empty remains.old.box) }
+    requires list { IsListOf task.now.problem.now task.now.span.first task.now.span.end list.old }
+    requires others { OthersSettled c.0 task.now.taking task.now.problem.now task.now.span.first task.now.span.end list.old remains.old.box }
+    ensures narrowed { IsNarrowed task.now.taking task.now.problem.now task.now.from task.now.stop remains.old.box remains.new.box }
+    ensures past { Follows remains.old remains.new }
+    ensures list { IsListOf task.now.problem.now task.now.span.first task.now.span.end list.new }
+    ensures answer { IsRevised result task.now.taking task.now.problem.now task.now.from task.now.stop task.now.span.first task.now.span.end list.old list.new remains.old.box remains.new.box }
+{
+    task.problem.known();
+    let rule = task.problem.constraint(c);
+    if is_quiet(task, rule, remains.store()) {
+        return Revised::Stable;
     }
-    if look.changed {
-        return Revised::Changed;
+    revise_advised(task, c, Advice::Ends, list, remains)
+}
+
+// The same where that is no sum.
+fn revise_other(task: &Task, c: ConId, list: &mut WorkList, remains: &mut Remains) -> Revised
+    requires c { c.0 < length task.now.problem.now.constraints }
+    requires some { (rule : Rule) → slice_get task.now.problem.now.constraints c.0 ≡ Some rule → IsFalse (is_none_of (variables_of rule.args)) }
+    requires apart { (rule : Rule) → slice_get task.now.problem.now.constraints c.0 ≡ Some rule → Distinct (variables_of rule.args) }
+    requires inside { IsTrue (is_between task.now.span.first task.now.span.end c.0) }
+    requires declared { IsTrue (is_box_of task.now.problem.now remains.old.box) }
+    requires full { IsFalse (has_empty remains.old.box) }
+    requires list { IsListOf task.now.problem.now task.now.span.first task.now.span.end list.old }
+    requires others { OthersSettled c.0 task.now.taking task.now.problem.now task.now.span.first task.now.span.end list.old remains.old.box }
+    ensures narrowed { IsNarrowed task.now.taking task.now.problem.now task.now.from task.now.stop remains.old.box remains.new.box }
+    ensures past { Follows remains.old remains.new }
+    ensures list { IsListOf task.now.problem.now task.now.span.first task.now.span.end list.new }
+    ensures answer { IsRevised result task.now.taking task.now.problem.now task.now.from task.now.stop task.now.span.first task.now.span.end list.old list.new remains.old.box remains.new.box }
+{
+    task.problem.known();
+    let rule = task.problem.constraint(c);
+    match look(task.problem, rule, remains.store()) {
+        Sight::Quiet => Revised::Stable,
+        Sight::Crowded => Revised::Lost,
+        Sight::Filled(s) => revise_advised(task, c, Advice::Filled(s), list, remains),
+        Sight::Unknown => revise_by_ends(task, c, list, remains),
     }
-    revise_each(task, c, list, remains)
+}
+
+// The same for a constraint in which no variable stands twice.
+fn revise_apart(task: &Task, c: ConId, list: &mut WorkList, remains: &mut Remains) -> Revised
+    requires c { c.0 < length task.now.problem.now.constraints }
+    requires some { (rule : Rule) → slice_get task.now.problem.now.constraints c.0 ≡ Some rule → IsFalse (is_none_of (variables_of rule.args)) }
+    requires apart { (rule : Rule) → slice_get task.now.problem.now.constraints c.0 ≡ Some rule → Distinct (variables_of rule.args) }
+    requires inside { IsTrue (is_between task.now.span.first task.now.span.end c.0) }
+    requires declared { IsTrue (is_box_of task.now.problem.now remains.old.box) }
+    requires full { IsFalse (has_empty remains.old.box) }
+    requires list { IsListOf task.now.problem.now task.now.span.first task.now.span.end list.old }
+    requires others { OthersSettled c.0 task.now.taking task.now.problem.now task.now.span.first task.now.span.end list.old remains.old.box }
+    ensures narrowed { IsNarrowed task.now.taking task.now.problem.now task.now.from task.now.stop remains.old.box remains.new.box }
+    ensures past { Follows remains.old remains.new }
+    ensures list { IsListOf task.now.problem.now task.now.span.first task.now.span.end list.new }
+    ensures answer { IsRevised result task.now.taking task.now.problem.now task.now.from task.now.stop task.now.span.first task.now.span.end list.old list.new remains.old.box remains.new.box }
+{
+    task.problem.known();
+    let rule = task.problem.constraint(c);
+    let slack = slack_of(task, rule, remains.store());
+    if slack.roomy {
+        return Revised::Stable;
+    }
+    if slack.sum {
+        return revise_sum(task, c, slack.room, list, remains);
+    }
+    revise_other(task, c, list, remains)
 }
 
 /// Takes the ends that the constraint c of the span refutes and may take, each of its variables once. Where values went, all
@@ -363,17 +453,13 @@ pub(crate) fn revise(task: &Task, c: ConId, list: &mut WorkList, remains: &mut R
     ensures answer { IsRevised result task.now.taking task.now.problem.now task.now.from task.now.stop task.now.span.first task.now.span.end list.old list.new remains.old.box remains.new.box }
 {
     task.problem.known();
-    let rule = task.problem.constraint(c);
+    let _ = task.problem.constraint(c);
     let own = task.index.own(c);
     if own.is_empty() {
         return Revised::Stable;
     }
-    let slack = slack_of(task, rule, remains.store());
-    if slack.roomy {
-        return Revised::Stable;
-    }
-    if slack.sum {
-        return revise_sum(task, c, slack.room, list, remains);
+    if task.index.is_apart(c) {
+        return revise_apart(task, c, list, remains);
     }
     revise_each(task, c, list, remains)
 }

@@ -2,45 +2,36 @@
 //!
 //! Whether a sum refutes an end takes as long as to read the sum, so to hold one against all its ends takes the square of that.
 //! Where the ends of each term are nearer to each other than the sum is to its bound, it refutes none, which one reading tells.
-//! Terms whose variables the sum may not take don't count.
-ghost use Rattle.std.specs.Prelude.{◌≡◌, ◌≤◌, ◌^◌, IsTrue, IsFalse, false, cond, length, pos, ◌*ℤ◌, ◌+ℤ◌, ◌≤ℤ◌, unsigned_abs};
+//! Terms whose variables the sum may not take don't count. Where there isn't such room, the same reading tells how far each variable
+//! can go (`trimming`). It speaks of sums in which no variable stands twice.
+ghost use Rattle.std.specs.Prelude.{◌≡◌, ◌⊎◌, ◌≤◌, ◌^◌, IsTrue, IsFalse, false, cond, length, pos, ◌*ℤ◌, ◌+ℤ◌, ◌≤ℤ◌, ◌<ℤ◌, unsigned_abs};
 ghost use Rattle.std.specs.List.{list_all};
 ghost use Rattle.qc_model.specs.declared.problem.Arg.TheVariants.{Num};
 ghost use Rattle.qc_model.specs.declared.problem.Pred.TheVariants.{IntLinEq, IntLinLe};
+ghost use Rattle.qc_model.specs.Arguments.{variables_of};
+ghost use Rattle.qc_model.specs.Lists.{Distinct};
 ghost use Rattle.qc_model.specs.Refuted.{left_to};
 ghost use Rattle.qc_model.specs.Valid.{is_number};
 ghost use Rattle.model_arguments.specs.Asked.{IsAsked};
-ghost use Rattle.model_arguments.specs.Repeats.{has_repeat};
 ghost use Rattle.model_arguments.specs.Written.{arg_at, args_at, ints_at};
 ghost use Rattle.qc_refuter.specs.Met.{is_open, are_met};
-ghost use Rattle.dense_close.specs.Slack.{IsNear, is_taken, AreNear, SparesTaken};
+ghost use Rattle.dense_close.specs.Slack.{IsNear, is_taken, AreNear, AllNear, SparesTaken, most_room, RoomTells, IsLong};
 ghost use Rattle.dense_close.specs.Taking.{takes_of};
 
-use crate::taking::may_take;
+use crate::reading::may_take_item;
+use crate::summing::{product, read_sum};
+use crate::taking::Taking;
 use crate::task::Task;
 use fd_store::Store;
-use model_arguments::{arguments, is_among, is_repeated, one_at};
+use model_arguments::{arguments, one_at};
 use qc_model::{Arg, Argument, Constraint, Pred};
-use qc_refuter::{Extent, sum_extent};
+use qc_refuter::Extent;
 
 /// As much room as is told at most.
 const MOST: i64 = 4_000_000_000_000_000_000;
 
-/// Up to so many items are held beside each other, which takes less time than to mark them.
-const FEW_ITEMS: usize = 12;
-
-// The product of two numbers within the limit.
-fn product(a: i64, b: i64) -> i64
-    requires a { IsTrue (is_number a) }
-    requires b { IsTrue (is_number b) }
-    ensures value { result ≡ (a *ℤ b) }
-    ensures small { unsigned_abs result ≤ 10 ^ 18 }
-{
-    a * b
-}
-
-// The items of a sum.
-fn items_met<'a>(args: &'a [Argument], store: &Store) -> &'a [Arg]
+/// The items of a sum, or of an array of variables.
+pub(crate) fn items_met<'a>(args: &'a [Argument], store: &Store) -> &'a [Arg]
     requires { IsTrue (are_met store.now.box args.now) }
     ensures is { result.now ≡ args_at args.now 1 }
     ensures few { length result.now ≤ 1000 }
@@ -81,24 +72,14 @@ fn is_near(factor: i64, item: Arg, s: i64, store: &Store) -> bool
     }
 }
 
-// Whether two products are at most s apart.
-fn are_close(a: i64, b: i64, s: i64) -> bool
+/// Whether two products are at most s apart.
+pub(crate) fn are_close(a: i64, b: i64, s: i64) -> bool
     requires a { unsigned_abs a ≤ 10 ^ 18 }
     requires b { unsigned_abs b ≤ 10 ^ 18 }
     ensures up { IsTrue result → b ≤ℤ (a +ℤ s) }
     ensures down { IsTrue result → a ≤ℤ (b +ℤ s) }
 {
     b - a <= s && a - b <= s
-}
-
-// Whether the constraint may take the item: it is a variable that it may take values of.
-fn may_take_item(task: &Task, rule: &Constraint, item: Arg) -> bool
-    ensures { result ≡ is_taken (takes_of task.now.taking task.now.problem.now rule.now) item }
-{
-    match item {
-        Arg::Num(_) => false,
-        Arg::Var(x) => may_take(task.problem, task.taking, rule, x),
-    }
 }
 
 // Whether the ends of a term are, where the constraint may take the item.
@@ -155,7 +136,8 @@ pub(crate) struct Slack {
 
 // Nothing is told.
 fn unknown() -> Slack
-    ensures { result.roomy ≡ false }
+    ensures roomy { result.roomy ≡ false }
+    ensures sum { result.sum ≡ false }
 {
     Slack {
         sum: false,
@@ -173,6 +155,8 @@ fn room_of(is_equal: bool, bound: i64, extent: Extent) -> Room
     requires to { unsigned_abs extent.to ≤ 10 ^ 21 }
     ensures under { pos 0 ≤ℤ result.under → (extent.from +ℤ result.under) ≤ℤ bound }
     ensures over { pos 0 ≤ℤ result.over → IsTrue is_equal → (bound +ℤ result.over) ≤ℤ extent.to }
+    ensures tight_under { result.under <ℤ most_room → bound ≤ℤ (extent.from +ℤ result.under) }
+    ensures tight_over { result.over <ℤ most_room → IsTrue is_equal × (extent.to ≤ℤ (bound +ℤ result.over)) }
 {
     let under = clamped(bound as i128 - extent.from);
     if is_equal {
@@ -183,8 +167,8 @@ fn room_of(is_equal: bool, bound: i64, extent: Extent) -> Room
     }
 }
 
-// The lesser of both.
-fn least_room(room: Room) -> i64
+/// The lesser of both.
+pub(crate) fn least_room(room: Room) -> i64
     ensures under { result ≤ℤ room.under }
     ensures over { result ≤ℤ room.over }
 {
@@ -196,13 +180,17 @@ fn least_room(room: Room) -> i64
 }
 
 /// Whether there is none.
-pub(crate) fn is_short(room: Room) -> bool {
+pub(crate) fn is_short(room: Room) -> bool
+    ensures short { IsTrue result → (room.under <ℤ pos 0) ⊎ (room.over <ℤ pos 0) }
+    ensures long { IsFalse result → IsLong room }
+{
     room.under < 0 || room.over < 0
 }
 
-// The number, or a lesser one within 64 bits; a negative one may become any negative one.
+// The number, or a lesser one within 64 bits; a negative one may become a greater one that is negative too.
 fn clamped(n: i128) -> i64
-    ensures { pos 0 ≤ℤ result → result ≤ℤ n }
+    ensures less { pos 0 ≤ℤ result → result ≤ℤ n }
+    ensures tight { result <ℤ most_room → n ≤ℤ result }
 {
     if n < 0 {
         return -1;
@@ -213,33 +201,8 @@ fn clamped(n: i128) -> i64
     n as i64
 }
 
-// Whether a variable stands twice, each item held beside those after it.
-fn stands_twice(items: &[Arg]) -> bool
-    ensures { result ≡ has_repeat items.now }
-{
-    let mut rest = items;
-    while let [first, others @ ..] = rest {
-        if is_among(*first, others) {
-            return true;
-        }
-        rest = others;
-    }
-    false
-}
-
-// Whether a variable stands twice.
-fn has_twice(items: &[Arg]) -> bool
-    ensures { result ≡ has_repeat items.now }
-{
-    if items.len() <= FEW_ITEMS {
-        stands_twice(items)
-    } else {
-        is_repeated(items)
-    }
-}
-
-// Whether the terms have such room.
-fn has_room(
+// Whether those of each term that the constraint may take are, where it may not take all: else it is told by the widest.
+fn are_others_near(
     task: &Task,
     rule: &Constraint,
     factors: &[i64],
@@ -249,17 +212,38 @@ fn has_room(
 ) -> bool
     requires factors { IsTrue (list_all is_number factors.now) }
     requires open { IsTrue (list_all (is_open store.now.box) items.now) }
+    requires room { pos 0 ≤ℤ s }
+    ensures { IsTrue result → AreNear (takes_of task.now.taking task.now.problem.now rule.now) s factors.now items.now store.now.box }
+{
+    match task.taking {
+        Taking::All => false,
+        Taking::Owners => are_near(task, rule, factors, items, s, store),
+    }
+}
+
+// Whether the terms, of which this is the widest, have such room.
+fn has_room(
+    task: &Task,
+    rule: &Constraint,
+    factors: &[i64],
+    items: &[Arg],
+    widest: i64,
+    s: i64,
+    store: &Store,
+) -> bool
+    requires factors { IsTrue (list_all is_number factors.now) }
+    requires open { IsTrue (list_all (is_open store.now.box) items.now) }
+    requires near { AllNear widest factors.now items.now store.now.box }
     ensures room { IsTrue result → pos 0 ≤ℤ s }
     ensures near { IsTrue result → AreNear (takes_of task.now.taking task.now.problem.now rule.now) s factors.now items.now store.now.box }
-    ensures apart { IsTrue result → IsFalse (has_repeat items.now) }
 {
     if s < 0 {
         return false;
     }
-    if !are_near(task, rule, factors, items, s, store) {
-        return false;
+    if widest <= s {
+        return true;
     }
-    !has_twice(items)
+    are_others_near(task, rule, factors, items, s, store)
 }
 
 // What a reading tells of a sum that a number bounds.
@@ -267,20 +251,27 @@ fn slack_below(task: &Task, rule: &Constraint, is_equal: bool, bound: i64, store
     requires asked { IsAsked task.now.problem.now rule.now store.now.box }
     requires pred { rule.now.pred ≡ cond is_equal IntLinEq IntLinLe }
     requires bound { arg_at rule.now.args 2 ≡ Num bound }
-    ensures { IsTrue result.roomy → SparesTaken (takes_of task.now.taking task.now.problem.now) rule.now store.now.box }
+    requires apart { Distinct (variables_of rule.now.args) }
+    ensures roomy { IsTrue result.roomy → SparesTaken (takes_of task.now.taking task.now.problem.now) rule.now store.now.box }
+    ensures tells { IsTrue result.sum → RoomTells rule.now result.room store.now.box }
 {
     task.problem.known();
     let args = arguments(rule);
     let factors = factors_met(args, store);
     let items = items_met(args, store);
-    let room = room_of(
-        is_equal,
-        bound,
-        sum_extent(task.problem, rule, factors, items, store),
-    );
+    let reading = read_sum(factors, items, store);
+    let room = room_of(is_equal, bound, reading.extent);
     Slack {
         sum: true,
-        roomy: has_room(task, rule, factors, items, least_room(room), store),
+        roomy: has_room(
+            task,
+            rule,
+            factors,
+            items,
+            reading.widest,
+            least_room(room),
+            store,
+        ),
         room,
     }
 }
@@ -288,7 +279,9 @@ fn slack_below(task: &Task, rule: &Constraint, is_equal: bool, bound: i64, store
 fn slack_of_sum(task: &Task, rule: &Constraint, is_equal: bool, store: &Store) -> Slack
     requires asked { IsAsked task.now.problem.now rule.now store.now.box }
     requires pred { rule.now.pred ≡ cond is_equal IntLinEq IntLinLe }
-    ensures { IsTrue result.roomy → SparesTaken (takes_of task.now.taking task.now.problem.now) rule.now store.now.box }
+    requires apart { Distinct (variables_of rule.now.args) }
+    ensures roomy { IsTrue result.roomy → SparesTaken (takes_of task.now.taking task.now.problem.now) rule.now store.now.box }
+    ensures tells { IsTrue result.sum → RoomTells rule.now result.room store.now.box }
 {
     match one_at(arguments(rule), 2) {
         Arg::Var(_) => unknown(),
@@ -299,8 +292,10 @@ fn slack_of_sum(task: &Task, rule: &Constraint, is_equal: bool, store: &Store) -
 /// What one reading tells of a constraint: where it is a sum that a number bounds and has room, it refutes neither end of any of its
 /// variables that it may take, nor the box. It takes time in the order of the sum's length.
 pub(crate) fn slack_of(task: &Task, rule: &Constraint, store: &Store) -> Slack
-    requires { IsAsked task.now.problem.now rule.now store.now.box }
-    ensures { IsTrue result.roomy → SparesTaken (takes_of task.now.taking task.now.problem.now) rule.now store.now.box }
+    requires asked { IsAsked task.now.problem.now rule.now store.now.box }
+    requires apart { Distinct (variables_of rule.now.args) }
+    ensures roomy { IsTrue result.roomy → SparesTaken (takes_of task.now.taking task.now.problem.now) rule.now store.now.box }
+    ensures tells { IsTrue result.sum → RoomTells rule.now result.room store.now.box }
 {
     match rule.pred {
         Pred::IntLinLe => slack_of_sum(task, rule, false, store),

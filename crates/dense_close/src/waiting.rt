@@ -1,4 +1,6 @@
 //! The constraints that wait to be looked at, each once.
+//!
+//! Those that take long wait until no other does: the fewer values are left, the more they tell, and the less often they are looked at.
 ghost use Rattle.std.specs.Prelude.{◌≡◌, ◌≢◌, ◌≤◌, ◌<◌, ℕ, Bool, length, [], ◌∷◌, IsTrue, IfOk, IfNone, IfSome, nat_lt};
 ghost use Rattle.dense_close.specs.Waiting.{is_marked, MarkedWait, all_waiting};
 
@@ -9,21 +11,25 @@ use std::marker::Model;
 
 /// A queue of constraints, with a mark for each that stands in it. It has a place for each constraint, so it asks for no memory
 /// once it is made.
+///
+/// It is kept in two: those that are late stand behind all others. Clauses see one queue.
 #[derive(Drop)]
 pub(crate) struct WorkList {
     marks: Vec<bool>,
-    queue: VecDeque<ConId>,
+    early: VecDeque<ConId>,
+    late: VecDeque<ConId>,
 }
 
 impl Model for WorkList {
+    ghost use Rattle.std.specs.Prelude.{◌++◌, ◌+◌};
     ghost use Rattle.std.specs.VecDeque.{deque_capacity, deque_len};
     ghost use Rattle.dense_close.specs.Waiting.{HasRoom, Waiting};
 
     ghost Value = { Waiting };
 
-    ghost view = { λ a. record { marks = a.marks.items; queue = a.queue.items } };
+    ghost view = { λ a. record { marks = a.marks.items; queue = a.early.items ++ a.late.items } };
 
-    ghost invariant = { λ a. HasRoom (deque_len a.queue) (deque_capacity a.queue) a.marks.items };
+    ghost invariant = { λ a. HasRoom (deque_len a.early + deque_len a.late) (deque_capacity a.early) (deque_capacity a.late) a.marks.items };
 }
 
 impl WorkList {
@@ -35,7 +41,8 @@ impl WorkList {
     {
         Ok(WorkList {
             marks: vec![in alloc; false; count]?,
-            queue: VecDeque::with_capacity(alloc, count)?,
+            early: VecDeque::with_capacity(alloc, count)?,
+            late: VecDeque::with_capacity(alloc, count)?,
         })
     }
 
@@ -46,7 +53,7 @@ impl WorkList {
         let _ = &self.marks;
     }
 
-    /// Lets c wait behind the others, unless it waits already.
+    /// Lets c wait behind the others that are not late, unless it waits already.
     pub(crate) fn add(&mut self, c: ConId)
         requires c { c.0 < length self.old.marks }
         requires waiting { MarkedWait self.old }
@@ -59,7 +66,24 @@ impl WorkList {
         if self.marks[c.0 as usize] {
             return;
         }
-        self.queue.push_back_reserved(c);
+        self.early.push_back_reserved(c);
+        self.marks[c.0 as usize] = true;
+    }
+
+    /// Lets c wait behind all others, as one that is late, unless it waits already.
+    pub(crate) fn add_late(&mut self, c: ConId)
+        requires c { c.0 < length self.old.marks }
+        requires waiting { MarkedWait self.old }
+        ensures waiting { MarkedWait self.new }
+        ensures allowed { (ok : ℕ → Bool) → IsTrue (ok c.0) → IsTrue (all_waiting ok self.old) → IsTrue (all_waiting ok self.new) }
+        ensures count { length self.new.marks ≡ length self.old.marks }
+        ensures kept { (k : ℕ) → IsTrue (is_marked self.old k) → IsTrue (is_marked self.new k) }
+        ensures marked { IsTrue (is_marked self.new c.0) }
+    {
+        if self.marks[c.0 as usize] {
+            return;
+        }
+        self.late.push_back_reserved(c);
         self.marks[c.0 as usize] = true;
     }
 
@@ -73,7 +97,11 @@ impl WorkList {
         ensures some { IfSome result (λ c. self.old.queue ≡ c ∷ self.new.queue) }
         ensures others { IfSome result (λ c. (k : ℕ) → k ≢ c.0 → is_marked self.new k ≡ is_marked self.old k) }
     {
-        let c = self.queue.pop_front()?;
+        if let Some(first) = self.early.pop_front() {
+            self.marks[first.0 as usize] = false;
+            return Some(first);
+        }
+        let c = self.late.pop_front()?;
         self.marks[c.0 as usize] = false;
         Some(c)
     }

@@ -2,9 +2,11 @@
 ghost use Rattle.std.specs.Prelude.{◌≡◌, ◌<◌, ℕ, IsTrue, length};
 ghost use Rattle.model_levels.specs.Spans.{is_between};
 ghost use Rattle.dense_close.specs.Index.{has_it};
+ghost use Rattle.dense_close.specs.Memory.{is_pending};
 ghost use Rattle.dense_close.specs.Narrowing.{IsListOf};
 ghost use Rattle.dense_close.specs.Waiting.{is_marked};
 
+use crate::memory::Memory;
 use crate::task::Task;
 use crate::waiting::WorkList;
 use qc_model::{ConId, VarId};
@@ -19,7 +21,11 @@ fn wake_one(task: &Task, c: ConId, list: &mut WorkList)
 {
     let k = c.0 as usize;
     if task.span.first <= k && k < task.span.end {
-        list.add(c);
+        if task.index.is_late(c) {
+            list.add_late(c);
+        } else {
+            list.add(c);
+        }
     }
 }
 
@@ -35,14 +41,18 @@ pub(crate) fn wake(task: &Task, x: VarId, list: &mut WorkList)
     }
 }
 
-/// Lets all constraints of the span wait.
-pub(crate) fn wake_all(task: &Task, list: &mut WorkList)
+/// Lets the constraints of the span that may be unsettled wait.
+pub(crate) fn wake_pending(task: &Task, memory: &Memory, list: &mut WorkList)
+    requires memory { length memory.now.pending ≡ length task.now.problem.now.constraints }
     requires list { IsListOf task.now.problem.now task.now.span.first task.now.span.end list.old }
     ensures list { IsListOf task.now.problem.now task.now.span.first task.now.span.end list.new }
-    ensures woken { (k : ℕ) → IsTrue (is_between task.now.span.first task.now.span.end k) → IsTrue (is_marked list.new k) }
+    ensures woken { (k : ℕ) → IsTrue (is_between task.now.span.first task.now.span.end k) → IsTrue (is_pending memory.now k) → IsTrue (is_marked list.new k) }
 {
     task.problem.known();
     for k in task.span.first..task.span.end {
-        wake_one(task, ConId(k as u16), list);
+        let c = ConId(k as u16);
+        if memory.is_pending(c) {
+            wake_one(task, c, list);
+        }
     }
 }

@@ -2,6 +2,8 @@ use Rattle.std.proofs.Common.{rules, ◌≡◌, ◌∙◌, sym, ap, subst, false
 use Rattle.qc_model.specs.Domains.{declared_box, has_empty}
 use Rattle.qc_model.specs.Lists.{Among}
 use Rattle.model_arguments.specs.Written.{variable_numbers}
+use Rattle.dense_closing.proofs.Within.{sub_self}
+use Rattle.dense_close.proofs.Advised.{advice_smaller}
 use Rattle.dense_close.proofs.Found.{own_at}
 use Rattle.dense_close.proofs.Trimmed.{trimmed_more}
 use Rattle.dense_close.proofs.Narrowed.{narrowed_more}
@@ -25,6 +27,9 @@ loop-place-preserved c =
       past = search rules;
       declared = narrowed.fewer (declared_box t.problem.now) c.requires.declared;
       full = full;
+      tells = λ r q.
+          advice_smaller t.problem.now c.known.ensures c.args.c.0 r c.args.advice c.trim_own.new.remains.box c.loop-place.remains.box q (narrowed.fewer (declared_box t.problem.now) c.requires.declared)
+          (e.narrowed.fewer c.loop-place.remains.box (sub_self c.loop-place.remains.box (declared_box t.problem.now) i.declared)) full (i.tells r q);
       listed = e.list;
       others = e.others;
       looked = trimmed_more t.taking t.problem.now c.args.c.0 c.loop-place.look c.trim_own.result c.both-look.result c.args.list.now c.loop-place.list c.trim_own.new.list c.args.remains.now.box c.loop-place.remains.box c.trim_own.new.remains.box c.both-look.ensures.changed

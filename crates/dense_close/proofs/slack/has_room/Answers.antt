@@ -1,12 +1,12 @@
-use Rattle.std.proofs.Common.{rules, ◌∙◌, sym}
-use Rattle.std.specs.Prelude.{pos}
+use Rattle.std.proofs.Common.{rules}
+use Rattle.std.specs.Prelude.{pos, ◌≤ℤ◌}
 use Rattle.std.proofs.lemmas.Int.{to_z-of_z}
 use mir.Val.{SFits}
 use mir.Syntax.{w64}
-use Rattle.model_arguments.proofs.Bools.{not_false}
 use Rattle.model_arguments.proofs.Kept.{reaches}
 use Rattle.dense_close.specs.Slack.{AreNear}
 use Rattle.dense_close.specs.Taking.{takes_of}
+use Rattle.dense_close.proofs.Sums.{as_bound, near_taken}
 use Rattle.dense_close.proofs.slack.has_room.Goals as goal
 
 pub returns-clause-room : goal.returns-clause-room
@@ -18,8 +18,18 @@ pub returns-clause-near : goal.returns-clause-near
 returns-clause-near c = λ h.
     let t = c.args.task.now in
     let s_fits : SFits w64 c.args.s = search rules in
-    let near : AreNear (takes_of t.taking t.problem.now c.args.rule.now) c.args.s c.args.factors.now c.args.items.now c.args.store.now.box = simp to_z-of_z at (c.are_near.ensures c.if-not-are_near.false) in
+    let near : AreNear (takes_of t.taking t.problem.now c.args.rule.now) c.args.s c.args.factors.now c.args.items.now c.args.store.now.box = simp to_z-of_z at (c.are_others_near.ensures h) in
     near
 
-pub returns-clause-apart : goal.returns-clause-apart
-returns-clause-apart c = λ h. sym c.has_twice.ensures ∙ not_false c.has_twice.result h
+pub returns-then-widest-s-clause-room : goal.returns-then-widest-s-clause-room
+returns-then-widest-s-clause-room c = λ h.
+    let s_fits : SFits w64 c.args.s = search rules in
+    reaches c.args.s (pos 0) (simp to_z-of_z at c.if-s-lt0.false)
+
+pub returns-then-widest-s-clause-near : goal.returns-then-widest-s-clause-near
+returns-then-widest-s-clause-near c = λ h.
+    let t = c.args.task.now in
+    let s_fits : SFits w64 c.args.s = search rules in
+    let w_fits : SFits w64 c.args.widest = search rules in
+    let less : c.args.widest ≤ℤ c.args.s = as_bound c.args.widest c.args.s (simp to_z-of_z at c.if-widest-s.true) in
+    near_taken (takes_of t.taking t.problem.now c.args.rule.now) c.args.widest c.args.s c.args.factors.now c.args.items.now c.args.store.now.box less c.requires.near

@@ -1,0 +1,21 @@
+use Rattle.std.proofs.Common.{subst, sym}
+use Rattle.fd_store.specs.Held.{Held}
+use Rattle.model_arguments.specs.Asked.{IsAsked}
+use Rattle.dense_close.specs.Advice.{AdviceTells}
+use Rattle.dense_close.proofs.Cuts.{asked}
+use Rattle.dense_close.proofs.Indexed.{some_at}
+use Rattle.dense_close.proofs.advising.cut_advised.Goals as goal
+
+pub cut_term-requires-clause-room : goal.cut_term-requires-clause-room
+cut_term-requires-clause-room c =
+    let box = c.args.remains.now.box in
+    let r = some_at c.args.problem.now.constraints c.args.c.0 c.requires.c in
+    (subst (λ a. AdviceTells a r.0 box) c.in-Room.is (c.requires.tells r.0 r.1)).0
+
+pub cut_term-requires-clause-tells : goal.cut_term-requires-clause-tells
+cut_term-requires-clause-tells c = λ r e. (subst (λ a. AdviceTells a r c.args.remains.now.box) c.in-Room.is (c.requires.tells r e)).1
+
+pub kept_by_ends-s-requires : goal.kept_by_ends-s-requires
+kept_by_ends-s-requires c =
+    let g = c.args.problem.now in
+    subst (λ (h : Held). IsAsked g c.constraint.result.now h.box) (sym c.store-in-Ends.ensures) (asked g c.known.ensures c.args.remains.now.box c.requires.declared c.requires.full c.args.c.0 c.constraint.result.now c.constraint.ensures)

@@ -1,0 +1,35 @@
+use Rattle.std.proofs.Common.{◌≡◌, refl, subst, sym, true}
+use Rattle.qc_model.specs.Refuted.{refuted_by}
+use Rattle.fd_store.specs.Held.{Held}
+use Rattle.model_arguments.specs.Asked.{IsAsked}
+use Rattle.dense_close.specs.Slack.{SparesTaken}
+use Rattle.dense_close.specs.Taking.{takes_of}
+use Rattle.dense_close.proofs.Cuts.{asked}
+use Rattle.dense_close.proofs.Looked.{lost_by, settled_all, settled_roomy}
+use Rattle.dense_close.proofs.revising.revise_other.Goals as goal
+
+pub look-requires-clause-asked : goal.look-requires-clause-asked
+look-requires-clause-asked c =
+    let t = c.args.task.now in
+    subst (λ (h : Held). IsAsked t.problem.now c.constraint-rule.result.now h.box) (sym c.store.ensures) (asked t.problem.now c.known.ensures c.args.remains.now.box c.requires.declared c.requires.full c.args.c.0 c.constraint-rule.result.now c.constraint-rule.ensures)
+
+pub look-requires-clause-apart : goal.look-requires-clause-apart
+look-requires-clause-apart c = c.requires.apart c.constraint-rule.result.now c.constraint-rule.ensures
+
+pub returns-in-Quiet-clause-answer : goal.returns-in-Quiet-clause-answer
+returns-in-Quiet-clause-answer c =
+    let t = c.args.task.now in
+    let r = c.constraint-rule.result.now in
+    let spares = subst (λ (h : Held). SparesTaken (takes_of t.taking t.problem.now) r h.box) c.store.ensures (c.in-Quiet.ensures (takes_of t.taking t.problem.now)) in (
+      refl,
+      refl,
+      settled_all t.taking t.problem.now t.span.first t.span.end c.args.c.0 c.args.list.now c.args.remains.now.box c.requires.others
+          (settled_roomy t.taking t.problem.now c.args.c.0 r c.args.list.now c.args.remains.now.box c.constraint-rule.ensures spares),
+    )
+
+pub returns-in-Crowded-clause-answer : goal.returns-in-Crowded-clause-answer
+returns-in-Crowded-clause-answer c =
+    let t = c.args.task.now in
+    let r = c.constraint-rule.result.now in
+    let broken = subst (λ (h : Held). refuted_by r h.box ≡ true) c.store.ensures c.in-Crowded.ensures in
+    lost_by t.taking t.problem.now c.known.ensures t.from t.stop t.span.first t.span.end c.args.c.0 r c.args.remains.now.box t.span_is c.requires.inside c.constraint-rule.ensures c.requires.declared (c.requires.some r c.constraint-rule.ensures) broken

@@ -1,0 +1,148 @@
+//! What was seen of a constraint that isn't quiet, and the ends that go by it.
+//!
+//! One reading tells how far each of a constraint's variables can go. For sums that is so by a law (`trimming`); for all others it's a
+//! guess, and the values past it go where the constraint refutes them together, which it is asked once. So no end is sought step by
+//! step.
+ghost use Rattle.std.specs.Prelude.{◌≡◌, ◌≢◌, ◌<◌, pos, length, slice_get, Some, IsTrue, IsFalse};
+ghost use Rattle.qc_model.specs.Content.{Rule};
+ghost use Rattle.qc_model.specs.Domains.{has_empty};
+ghost use Rattle.model_arguments.specs.Asked.{is_box_of};
+ghost use Rattle.fd_store.specs.Held.{Follows};
+ghost use Rattle.dense_close.specs.Advice.{AdviceTells};
+ghost use Rattle.dense_close.specs.Cutting.{IsCut, HasCut};
+ghost use Rattle.dense_close.specs.Slack.{RoomTells, IsLong};
+
+use crate::cutting::{End, Stretch, cut_refuted};
+use crate::guessing::{kept_beside, kept_by_ends};
+use crate::slack::Room;
+use crate::trimming::{cut_by_room, factor_at};
+use check_box::Remains;
+use qc_model::{ConId, Problem, VarId};
+
+/// What was seen of a constraint: the room of a sum; numbers that some items fill where all are to differ; or nothing but the ends of
+/// what is left to its arguments.
+#[derive(Clone, Copy)]
+pub(crate) enum Advice {
+    Room(Room),
+    Filled(Stretch),
+    Ends,
+}
+
+// Takes the values of x below the stretch, where the constraint c refutes them together. Whether some went.
+fn cut_below(problem: &Problem, c: ConId, x: VarId, s: Stretch, remains: &mut Remains) -> bool
+    requires c { c.0 < length problem.now.constraints }
+    requires declared { IsTrue (is_box_of problem.now remains.old.box) }
+    requires full { IsFalse (has_empty remains.old.box) }
+    requires x { x.0 < length remains.old.box }
+    ensures cut { IsCut problem.now c.0 x.0 remains.old.box remains.new.box }
+    ensures past { Follows remains.old remains.new }
+    ensures gone { HasCut result remains.old.box remains.new.box }
+{
+    let least = remains.store().min(x);
+    if least < s.low {
+        let below = Stretch {
+            low: least,
+            high: s.low.saturating_sub(1),
+        };
+        return cut_refuted(problem, c, x, End::Least, below, remains);
+    }
+    false
+}
+
+// The same of those above it.
+fn cut_above(problem: &Problem, c: ConId, x: VarId, s: Stretch, remains: &mut Remains) -> bool
+    requires c { c.0 < length problem.now.constraints }
+    requires declared { IsTrue (is_box_of problem.now remains.old.box) }
+    requires full { IsFalse (has_empty remains.old.box) }
+    requires x { x.0 < length remains.old.box }
+    ensures cut { IsCut problem.now c.0 x.0 remains.old.box remains.new.box }
+    ensures past { Follows remains.old remains.new }
+    ensures gone { HasCut result remains.old.box remains.new.box }
+{
+    let greatest = remains.store().max(x);
+    if s.high < greatest {
+        let above = Stretch {
+            low: s.high.saturating_add(1),
+            high: greatest,
+        };
+        return cut_refuted(problem, c, x, End::Greatest, above, remains);
+    }
+    false
+}
+
+// Those on both sides.
+fn cut_outside(problem: &Problem, c: ConId, x: VarId, s: Stretch, remains: &mut Remains) -> bool
+    requires c { c.0 < length problem.now.constraints }
+    requires declared { IsTrue (is_box_of problem.now remains.old.box) }
+    requires full { IsFalse (has_empty remains.old.box) }
+    requires x { x.0 < length remains.old.box }
+    ensures cut { IsCut problem.now c.0 x.0 remains.old.box remains.new.box }
+    ensures past { Follows remains.old remains.new }
+    ensures gone { HasCut result remains.old.box remains.new.box }
+{
+    let low = cut_below(problem, c, x, s, remains);
+    if remains.is_empty() {
+        return low;
+    }
+    let high = cut_above(problem, c, x, s, remains);
+    low || high
+}
+
+// Takes the values of x, the variable at this place of the constraint c, that a sum with this room refutes. Whether some went.
+fn cut_term(
+    problem: &Problem,
+    c: ConId,
+    place: usize,
+    x: VarId,
+    room: Room,
+    remains: &mut Remains,
+) -> bool
+    requires c { c.0 < length problem.now.constraints }
+    requires declared { IsTrue (is_box_of problem.now remains.old.box) }
+    requires full { IsFalse (has_empty remains.old.box) }
+    requires x { x.0 < length remains.old.box }
+    requires room { IsLong room }
+    requires tells { (rule : Rule) → slice_get problem.now.constraints c.0 ≡ Some rule → RoomTells rule room remains.old.box }
+    ensures cut { IsCut problem.now c.0 x.0 remains.old.box remains.new.box }
+    ensures past { Follows remains.old remains.new }
+    ensures gone { HasCut result remains.old.box remains.new.box }
+{
+    problem.known();
+    let factor = factor_at(problem.constraint(c), place, x);
+    if factor == 0 {
+        return false;
+    }
+    cut_by_room(problem, c, x, factor, room, remains)
+}
+
+/// Takes the values of x, the variable at this place of the constraint c, that it refutes by what was seen of it. Whether some went.
+pub(crate) fn cut_advised(
+    problem: &Problem,
+    c: ConId,
+    place: usize,
+    x: VarId,
+    advice: Advice,
+    remains: &mut Remains,
+) -> bool
+    requires c { c.0 < length problem.now.constraints }
+    requires declared { IsTrue (is_box_of problem.now remains.old.box) }
+    requires full { IsFalse (has_empty remains.old.box) }
+    requires x { x.0 < length remains.old.box }
+    requires tells { (rule : Rule) → slice_get problem.now.constraints c.0 ≡ Some rule → AdviceTells advice rule remains.old.box }
+    ensures cut { IsCut problem.now c.0 x.0 remains.old.box remains.new.box }
+    ensures past { Follows remains.old remains.new }
+    ensures gone { HasCut result remains.old.box remains.new.box }
+{
+    problem.known();
+    match advice {
+        Advice::Room(room) => cut_term(problem, c, place, x, room, remains),
+        Advice::Filled(filled) => {
+            let s = kept_beside(filled, x, remains.store());
+            cut_outside(problem, c, x, s, remains)
+        }
+        Advice::Ends => {
+            let s = kept_by_ends(problem, problem.constraint(c), x, remains.store());
+            cut_outside(problem, c, x, s, remains)
+        }
+    }
+}

@@ -1,0 +1,53 @@
+//! Constraints that refute nothing that they may take, told by one reading.
+ghost use Rattle.std.specs.Prelude.{◌≡◌, IsTrue};
+ghost use Rattle.qc_model.specs.Arguments.{variables_of};
+ghost use Rattle.qc_model.specs.Lists.{Distinct};
+ghost use Rattle.qc_model.specs.Meaning.{meaning_of as meaning_in_spec};
+ghost use Rattle.qc_model.specs.RowMeaning.{plain_meaning};
+ghost use Rattle.model_arguments.specs.Asked.{IsAsked};
+ghost use Rattle.dense_close.specs.Slack.{SparesTaken};
+ghost use Rattle.dense_close.specs.Taking.{takes_of};
+
+use crate::elements::is_quiet_element;
+use crate::equality::is_quiet_equality;
+use crate::items::is_quiet_variable_element;
+use crate::relating::{Relation, is_quiet_by_ends};
+use crate::task::Task;
+use fd_store::Store;
+use model_arguments::arguments;
+use qc_model::{Constraint, Meaning, meaning_of};
+
+// The same of one with this meaning.
+fn is_quiet_as(meaning: Meaning, task: &Task, rule: &Constraint, store: &Store) -> bool
+    requires asked { IsAsked task.now.problem.now rule.now store.now.box }
+    requires apart { Distinct (variables_of rule.now.args) }
+    requires meaning { meaning_in_spec rule.now.pred ≡ plain_meaning meaning }
+    ensures { IsTrue result → SparesTaken (takes_of task.now.taking task.now.problem.now) rule.now store.now.box }
+{
+    task.problem.known();
+    let args = arguments(rule);
+    match meaning {
+        Meaning::Equal => is_quiet_equality(task, rule, args, store),
+        Meaning::AtMost => is_quiet_by_ends(Relation::AtMost, task, rule, args, store),
+        Meaning::Below => is_quiet_by_ends(Relation::Below, task, rule, args, store),
+        Meaning::Plus => is_quiet_by_ends(Relation::Sum, task, rule, args, store),
+        Meaning::Times => is_quiet_by_ends(Relation::Product, task, rule, args, store),
+        Meaning::Element => is_quiet_element(task, rule, args, store),
+        Meaning::VariableElement => is_quiet_variable_element(task, rule, store),
+        _ => false,
+    }
+}
+
+/// Whether the constraint, in which no variable stands twice, refutes neither the box nor an end of a variable that it may take.
+/// `false` tells nothing.
+pub(crate) fn is_quiet(task: &Task, rule: &Constraint, store: &Store) -> bool
+    requires asked { IsAsked task.now.problem.now rule.now store.now.box }
+    requires apart { Distinct (variables_of rule.now.args) }
+    ensures { IsTrue result → SparesTaken (takes_of task.now.taking task.now.problem.now) rule.now store.now.box }
+{
+    let row = meaning_of(rule.pred);
+    if row.reified {
+        return false;
+    }
+    is_quiet_as(row.meaning, task, rule, store)
+}
