@@ -4,6 +4,8 @@ pub mod Keeping
 pub mod Entering
 pub mod Closings
 pub mod GivenUp
+pub mod Foreseeing
+pub mod Repeated
 pub mod Looks
 pub mod Goings
 pub mod Complete

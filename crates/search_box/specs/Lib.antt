@@ -3,6 +3,7 @@ pub mod Boxed
 pub mod Closes
 pub mod Complete
 pub mod Entered
+pub mod Foreseen
 pub mod Fresh
 pub mod Inside
 pub mod Looking

@@ -11,9 +11,11 @@
 mod ahead;
 mod bounding;
 mod closing;
+mod foresight;
 mod laws;
 mod mentioning;
 mod reading;
+mod repeating;
 mod search_box;
 mod taking;
 mod tuple;

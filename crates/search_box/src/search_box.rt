@@ -19,7 +19,8 @@ ghost use Rattle.search_box.specs.Rests.{IsFirst, IsLast, IsNext, IsPrevious};
 
 use crate::ahead::look;
 use crate::bounding::{Bounded, give_up};
-use crate::closing::{close_all, close_changed};
+use crate::closing::{close_changed, close_once};
+use crate::foresight::{Foresight, forget_after, nothing_foreseen};
 use crate::mentioning::all_shown;
 use crate::reading::{are_whole, next_unfixed};
 use crate::taking::keep_one;
@@ -39,7 +40,7 @@ use std::marker::Model;
 ///
 /// At a scope the values of the variables before it, which have one left each, stand in their places; those of its own
 /// variables are read once its tuple is complete. A call takes memory only for the trail, whose pages are kept when it is
-/// undone, and for the steps that it appends.
+/// undone, and for the steps that it appends or keeps.
 #[derive(Drop)]
 pub struct SearchBox<'p> {
     problem: &'p Problem,
@@ -48,6 +49,8 @@ pub struct SearchBox<'p> {
     engine: Engine,
     joint: Joint<'p>,
     values: Vec<i64>,
+    // How the box was closed when it was looked ahead from.
+    foresight: Foresight,
     // Whether each constraint of the problem has a variable or holds without any.
     all_shown: bool,
 }
@@ -63,7 +66,7 @@ impl<'p> Model for SearchBox<'p> {
 
     ghost view = { λ b. record { game = b.problem.now; store = b.store; values = b.values.items } };
 
-    ghost invariant = { λ b. IsSound b.problem.now b.store b.engine b.joint b.values.items b.all_shown };
+    ghost invariant = { λ b. IsSound b.problem.now b.store b.engine b.joint b.values.items b.foresight b.all_shown };
 }
 
 impl<'p> SearchBox<'p> {
@@ -86,6 +89,7 @@ impl<'p> SearchBox<'p> {
             engine,
             joint,
             values,
+            foresight: nothing_foreseen(alloc),
             all_shown,
         })
     }
@@ -116,6 +120,7 @@ impl<'p> SearchBox<'p> {
         ensures game { self.new.game ≡ self.old.game }
         ensures values { self.new.values ≡ self.old.values }
     {
+        forget_after(&mut self.foresight, mark);
         self.store.undo_to(mark);
     }
 
@@ -277,10 +282,11 @@ impl<'p> SearchBox<'p> {
         ensures on { LeadsOn self.old self.new }
         ensures here { IsFalse (has_empty self.new.store.box) → IsEntered level.now.problem.now level.now.number self.new }
     {
-        close_all(
+        close_once(
             &Families {},
             self.alloc,
             level,
+            &self.foresight,
             &mut self.engine,
             &mut self.store,
             steps,
@@ -339,6 +345,7 @@ impl<'p> SearchBox<'p> {
             i,
             in_force,
             &mut self.store,
+            &mut self.foresight,
         )
     }
 }

@@ -9,4 +9,4 @@ returns-then-branch-clause-answer g c =
     let game = c.args.levels.now.problem.now in
     let box = c.args.store.now.box in
     nothing_ahead game c.args.i.0 box (scope_number c.args.in_force) [] c.requires.scope
-    (subst (λ n. IsOpen game c.args.i.0 n box []) c.stop_of-stop.ensures (c.in_ok-sees_through.ensures.seen c.if-branch.true))
+    (subst (λ n. IsOpen game c.args.i.0 n box []) c.stop_of-stop.ensures (c.in_ok-sees.ensures.seen c.if-branch.true))

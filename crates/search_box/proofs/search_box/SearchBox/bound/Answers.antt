@@ -3,6 +3,7 @@ use Rattle.qc_model.specs.Domains.{declared_box, is_sub_box}
 use Rattle.fd_store.specs.Held.{Follows}
 use Rattle.search_box.specs.Boxed.{Boxed}
 use Rattle.search_box.proofs.Entering.{entered_on}
+use Rattle.search_box.proofs.Foreseeing.{foreseen_on}
 use Rattle.search_box.proofs.GivenUp.{bound_sub}
 use Rattle.search_box.proofs.Keeping.{sub_self}
 use Rattle.box_laws.proofs.Readings.{box_size}
@@ -18,6 +19,7 @@ invariant_of-self c = record {
   ready = c.self.invariant.ready;
   same = c.self.invariant.same;
   value_each = c.self.invariant.value_each;
+  foreseen = foreseen_on c.self.inside.problem.now c.self.inside.store c.give_up.new.store c.self.inside.foresight c.give_up.ensures.past c.self.invariant.foreseen;
   shown = c.self.invariant.shown;
 }
 

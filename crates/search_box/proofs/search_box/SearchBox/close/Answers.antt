@@ -11,7 +11,7 @@ returns-clause-here c = λ full.
     (record {
       game = ap (λ (b : Boxed). b.game) c.self.view_is;
       values = ap (λ (b : Boxed). b.values) c.self.view_is;
-      follows = subst (λ (b : Boxed). Follows b.store c.close_all.new.store) c.self.view_is c.close_all.ensures.follows;
-      fewer = subst (λ (b : Boxed). is_sub_box c.close_all.new.store.box b.store.box ≡ true) c.self.view_is c.close_all.ensures.fewer;
+      follows = subst (λ (b : Boxed). Follows b.store c.close_once.new.store) c.self.view_is c.close_once.ensures.follows;
+      fewer = subst (λ (b : Boxed). is_sub_box c.close_once.new.store.box b.store.box ≡ true) c.self.view_is c.close_once.ensures.fewer;
     })
     full

@@ -7,6 +7,7 @@ use Rattle.qc_model.specs.Domains.{has_empty, has_value, is_sub_box, values_left
 use Rattle.fd_store.specs.Held.{Follows}
 use Rattle.search_box.specs.Boxed.{Boxed}
 use Rattle.search_box.proofs.Entering.{either, entered_on}
+use Rattle.search_box.proofs.Foreseeing.{foreseen_on}
 use Rattle.search_box.proofs.Keeping.{sub_one, sub_self, one_full}
 use Rattle.search_box.proofs.search_box.SearchBox.take.Goals as goal
 
@@ -26,6 +27,7 @@ invariant_of-self c =
       ready = c.self.invariant.ready;
       same = c.self.invariant.same;
       value_each = c.self.invariant.value_each;
+      foreseen = foreseen_on g c.self.inside.store c.keep_one.new.store c.self.inside.foresight c.keep_one.ensures.past c.self.invariant.foreseen;
       shown = c.self.invariant.shown;
     }
 
