@@ -3,8 +3,7 @@ ghost use Rattle.std.specs.Prelude.{◌≡◌, ◌<◌, ◌≤◌, length, false
 ghost use Rattle.qc_model.specs.Domains.{has_empty};
 
 use crate::board::Board;
-use dense_box::{all_entailed, best_left, is_fixed, may_be_barred, may_go_on, some_refuted};
-use fd_store::Store;
+use dense_box::{all_entailed, best_left, may_be_barred, may_go_on, some_refuted};
 use model_levels::Level;
 use qc_model::{Condition, Fold, Kind, ScopeId, Target, VarId};
 use std::alloc::{AllocError, Global};
@@ -68,6 +67,11 @@ impl<'p> Board<'p> {
         self.freedom.is_free()
     }
 
+    /// Whether the opponent is never stuck from scope i on, or from the goal on, by the tuples that were given.
+    pub fn is_free_from(&self, i: ScopeId) -> bool {
+        self.freedom.is_free_from(i)
+    }
+
     /// Whether the opponent is never stuck at scope i.
     pub fn is_free_at(&self, i: ScopeId) -> bool {
         if !self.is_scope(i) {
@@ -87,21 +91,6 @@ impl<'p> Board<'p> {
                 Some(self.levels.problem.aggregate(a).fold)
             }
         }
-    }
-
-    /// Whether the box is closed for all constraints ahead at once at scope i.
-    pub fn is_joint(&self, i: ScopeId) -> bool {
-        if !self.is_scope(i) {
-            return false;
-        }
-        self.freedom.is_joint(i)
-    }
-
-    /// What is left.
-    pub fn store(&self) -> &Store
-        ensures { result.now ≡ self.now.remains }
-    {
-        self.remains.store()
     }
 
     /// Whether a variable has no value left.
@@ -191,14 +180,6 @@ impl<'p> Board<'p> {
             }
         }
         Ok(tuple)
-    }
-
-    /// Whether each variable of scope i has one value left.
-    pub fn is_fixed(&self, i: ScopeId) -> bool {
-        if !self.is_scope(i) {
-            return true;
-        }
-        is_fixed(self.levels.level(i), self.remains.store())
     }
 
     /// Whether scope i may go on to the next.
