@@ -1,9 +1,15 @@
 //! What a board tells.
 ghost use Rattle.std.specs.Prelude.{◌≡◌, ◌<◌, ◌≤◌, length, false, IsTrue};
 ghost use Rattle.qc_model.specs.Domains.{has_empty};
+ghost use Rattle.qc_model.specs.Game.{restriction};
+ghost use Rattle.dense_tree.specs.Tuples.{some_fails};
+ghost use Rattle.dense_box.specs.Ends.{needs_restriction_at};
 
 use crate::board::Board;
-use dense_box::{all_entailed, best_left, may_be_barred, may_go_on, some_refuted};
+use dense_box::{
+    all_entailed, best_left, may_be_barred, may_go_on, needs_restriction, some_refuted,
+};
+use dense_close::Taking;
 use model_levels::Level;
 use qc_model::{Condition, Fold, Kind, ScopeId, Target, VarId};
 use std::alloc::{AllocError, Global};
@@ -182,12 +188,26 @@ impl<'p> Board<'p> {
         Ok(tuple)
     }
 
+    // Whether the box refutes a constraint of scope i, where that counts for going on.
+    fn is_refuted(&self, i: ScopeId) -> bool
+        requires { i.0 < length self.now.levels.problem.now.scopes }
+        ensures { IsTrue (needs_restriction_at self.now.levels.problem.now i.0 self.now.remains.box) → result ≡ some_fails (restriction self.now.levels.problem.now i.0) self.now.remains.box }
+    {
+        if !needs_restriction(&self.levels, i, &self.remains) {
+            return false;
+        }
+        let from = i.0 as usize;
+        let store = self.remains.store();
+        self.closer
+            .has_refuted(&self.levels, store, Taking::Owners, from, from + 1)
+    }
+
     /// Whether scope i may go on to the next.
     pub fn may_go_on(&self, i: ScopeId) -> bool {
         if !self.is_scope(i) {
             return false;
         }
-        may_go_on(&self.levels, i, &self.remains)
+        may_go_on(&self.levels, i, &self.remains, self.is_refuted(i))
     }
 
     /// Whether the values of scope i are single, and its restriction fails.
