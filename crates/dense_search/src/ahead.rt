@@ -47,7 +47,7 @@ fn look_for_horizon(search: &mut Search, place: Place) -> Result<Ahead, Stop> {
             break;
         }
     }
-    search.lines.put_line(b"h", &[i64::from(horizon) + 1])?;
+    search.lines.put_line(b"h", &[horizon as i64 + 1])?;
     let place = Place {
         horizon: Some(horizon),
         ..place
