@@ -1,5 +1,6 @@
 pub mod Advised
 pub mod Barred
+pub mod ClauseLaws
 pub mod Cuts
 pub mod Distances
 pub mod EndsCounted

@@ -10,3 +10,4 @@ pub mod Answerless
 pub mod Memory
 pub mod Quiet
 pub mod Advice
+pub mod Clauses

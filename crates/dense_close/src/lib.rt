@@ -24,6 +24,7 @@
 
 mod advising;
 mod answerless;
+mod clauses;
 mod closer;
 mod cutting;
 mod differing;

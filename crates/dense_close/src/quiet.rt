@@ -8,6 +8,7 @@ ghost use Rattle.model_arguments.specs.Asked.{IsAsked};
 ghost use Rattle.dense_close.specs.Slack.{SparesTaken};
 ghost use Rattle.dense_close.specs.Taking.{takes_of};
 
+use crate::clauses::is_quiet_clause;
 use crate::elements::is_quiet_element;
 use crate::equality::is_quiet_equality;
 use crate::items::is_quiet_variable_element;
@@ -34,6 +35,7 @@ fn is_quiet_as(meaning: Meaning, task: &Task, rule: &Constraint, store: &Store) 
         Meaning::Times => is_quiet_by_ends(Relation::Product, task, rule, args, store),
         Meaning::Element => is_quiet_element(task, rule, args, store),
         Meaning::VariableElement => is_quiet_variable_element(task, rule, store),
+        Meaning::Clause => is_quiet_clause(task, rule, store),
         _ => false,
     }
 }
