@@ -24,4 +24,5 @@ pub mod Replaced
 pub mod Room
 pub mod Shared
 pub mod Sums
+pub mod ToldLaws
 pub mod Trimmed

@@ -11,3 +11,4 @@ pub mod Memory
 pub mod Quiet
 pub mod Advice
 pub mod Clauses
+pub mod Told

@@ -14,6 +14,7 @@ use crate::equality::is_quiet_equality;
 use crate::items::is_quiet_variable_element;
 use crate::relating::{Relation, is_quiet_by_ends};
 use crate::task::Task;
+use crate::told::is_quiet_truth;
 use fd_store::Store;
 use model_arguments::arguments;
 use qc_model::{Constraint, Meaning, meaning_of};
@@ -49,7 +50,7 @@ pub(crate) fn is_quiet(task: &Task, rule: &Constraint, store: &Store) -> bool
 {
     let row = meaning_of(rule.pred);
     if row.reified {
-        return false;
+        return is_quiet_truth(row.meaning, task, rule, store);
     }
     is_quiet_as(row.meaning, task, rule, store)
 }
