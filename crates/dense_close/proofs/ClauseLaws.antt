@@ -9,7 +9,6 @@ use mir.Val.{of_z}
 use mir.Syntax.{w64}
 use Rattle.qc_model.specs.declared.problem.Arg.{Arg}
 use Rattle.qc_model.specs.Arguments.{fill}
-use Rattle.qc_model.specs.Closed.{refutes_at}
 use Rattle.qc_model.specs.Content.{Rule}
 use Rattle.qc_model.specs.Domains.{Values, Box, values_left, box_at, least_value, greatest_value, is_single}
 use Rattle.qc_model.specs.Left.{Lefts, lefts_at, is_only}

@@ -1,15 +1,14 @@
 -- A comparison with its truth that refutes nothing that it may take.
-use Rattle.std.proofs.Common.{◌≡◌, ◌⊎◌, inl, inr, ℕ, ◌-◌, Bool, true, false, not, ◌&&◌, ◌||◌, List, [], ◌∷◌, map, length, refl, sym, ap, ◌∙◌, subst, arith, ℤ}
+use Rattle.std.proofs.Common.{◌≡◌, ◌⊎◌, inl, inr, ℕ, ◌-◌, Bool, true, false, not, ◌&&◌, ◌||◌, [], ◌∷◌, map, length, refl, sym, ap, ◌∙◌, subst, arith, ℤ}
 use Rattle.std.specs.Prelude.{pos, ◌≤ℤ◌, int_lt, int_le}
 use Rattle.std.specs.Ordering.{int_eq}
 use Rattle.std.proofs.lemmas.Int.{ints}
 use Rattle.qc_model.specs.declared.problem.Arg.{Arg}
-use Rattle.qc_model.specs.declared.problem.Argument.{Argument}
 use Rattle.qc_model.specs.Arguments.{fill, variables_of}
 use Rattle.qc_model.specs.Content.{Rule}
-use Rattle.qc_model.specs.Domains.{Values, Box, least_value, greatest_value, has_value, is_single, misses}
+use Rattle.qc_model.specs.Domains.{Values, Box, least_value, greatest_value, has_value, misses}
 use Rattle.qc_model.specs.Entailed.{entailed_as}
-use Rattle.qc_model.specs.Left.{Lefts, left_at, last_left, are_one_value}
+use Rattle.qc_model.specs.Left.{Lefts, left_at, are_one_value}
 use Rattle.qc_model.specs.Lists.{Distinct}
 use Rattle.qc_model.specs.Meaning.{Meaning, equal, at_most, below, reified, meaning_of}
 use Rattle.qc_model.specs.Refuted.{left_to, refuted_as, refuted_by}

@@ -1,4 +1,4 @@
-use Rattle.std.proofs.Common.{◌∙◌, sym, subst}
+use Rattle.std.proofs.Common.{subst}
 use Rattle.qc_refuter.proofs.Ready.{rule_met}
 use Rattle.dense_close.specs.Clauses.{FoundTells}
 use Rattle.dense_close.specs.Taking.{takes_of}

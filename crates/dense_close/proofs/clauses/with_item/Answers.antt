@@ -2,7 +2,7 @@ use Rattle.std.proofs.Common.{◌≡◌, ap, false, subst, get_or}
 use Rattle.std.specs.Prelude.{pos, slice_get, Some}
 use Rattle.std.specs.Ordering.{int_eq}
 use Rattle.qc_model.specs.declared.problem.Arg.TheVariants.{Var}
-use Rattle.qc_model.specs.Domains.{least_value, greatest_value}
+use Rattle.qc_model.specs.Domains.{greatest_value}
 use Rattle.qc_model.specs.Ranges.{Range}
 use Rattle.qc_model.specs.Refuted.{left_to}
 use Rattle.dense_close.proofs.ClauseLaws.{firm_spares, not_only, not_wrong, apart_ends}

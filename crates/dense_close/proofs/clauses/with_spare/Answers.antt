@@ -1,5 +1,4 @@
-use Rattle.std.proofs.Common.{◌≡◌, ◌∙◌, sym, false, subst}
-use Rattle.model_arguments.specs.Repeats.{same_variable}
+use Rattle.std.proofs.Common.{◌∙◌, sym, subst}
 use Rattle.dense_close.specs.Clauses.{IsSpare, FoundTells}
 use Rattle.dense_close.proofs.ClauseLaws.{two_spare}
 use Rattle.dense_close.proofs.clauses.with_spare.Goals as goal

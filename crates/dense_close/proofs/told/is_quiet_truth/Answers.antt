@@ -3,10 +3,8 @@ use Rattle.std.specs.Prelude.{pos}
 use Rattle.std.proofs.lemmas.Int.{to_z-of_z}
 use mir.Val.{SFits, to_z}
 use mir.Syntax.{w64}
-use Rattle.qc_model.specs.Domains.{least_value, greatest_value}
 use Rattle.qc_model.specs.Ranges.{Range}
 use Rattle.qc_model.specs.RowMeaning.{plain_meaning}
-use Rattle.qc_model.specs.Refuted.{left_to}
 use Rattle.model_arguments.specs.Written.{arg_at}
 use Rattle.qc_refuter.proofs.Ready.{rule_met}
 use Rattle.dense_close.specs.Taking.{takes_of}
