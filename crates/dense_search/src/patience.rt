@@ -2,7 +2,7 @@
 //!
 //! A scope takes fewer lines where a good value bounds it from its beginning on. So where the first scope, one of the player's with a wish
 //! that later scopes decide, takes long and has reached more since it began, it begins again, and goes into the best tuple that was
-//! reached first; each time it may take twice as long. Where the last scope takes long, it begins again below a bound that a free search
+//! reached first; each time it may take twice as long, up to a limit. Where the last scope takes long, it begins again below a bound that a free search
 //! finds (`scouting`).
 use crate::place::after;
 use crate::scouting::may_scout;
@@ -16,6 +16,9 @@ const LONG: u64 = 500;
 
 /// How many turns the first scope takes before it begins again for the first time.
 const FIRST_STRETCH: u64 = 500;
+
+/// After so many turns it doesn't begin again any more, since what that saves is less than what is gone through once more.
+const LAST_STRETCH: u64 = 16_000;
 
 /// When nodes begin again.
 #[derive(Clone, Copy)]
@@ -95,7 +98,7 @@ impl<'p> Search<'p> {
     // The first scope has taken its turns.
     fn look_again(&mut self) -> Result<(), Stop> {
         self.patience.stretch = self.patience.stretch.saturating_mul(2);
-        if self.patience.has_more {
+        if self.patience.has_more && self.patience.stretch <= LAST_STRETCH {
             return Err(Stop::Again);
         }
         self.patience.again = self.turns.checked_sub(self.patience.stretch);
