@@ -1,10 +1,15 @@
 //! What a board tells.
 ghost use Rattle.std.specs.Prelude.{◌≡◌, ◌<◌, ◌≤◌, length, false, IsTrue};
 ghost use Rattle.qc_model.specs.Domains.{has_empty};
+ghost use Rattle.qc_model.specs.Game.{restriction};
+ghost use Rattle.dense_tree.specs.Tuples.{some_fails};
+ghost use Rattle.dense_box.specs.Ends.{needs_restriction_at};
 
 use crate::board::Board;
-use dense_box::{all_entailed, best_left, is_fixed, may_be_barred, may_go_on, some_refuted};
-use fd_store::Store;
+use dense_box::{
+    all_entailed, best_left, may_be_barred, may_go_on, needs_restriction, some_refuted,
+};
+use dense_close::Taking;
 use model_levels::Level;
 use qc_model::{Condition, Fold, Kind, ScopeId, Target, VarId};
 use std::alloc::{AllocError, Global};
@@ -68,6 +73,11 @@ impl<'p> Board<'p> {
         self.freedom.is_free()
     }
 
+    /// Whether the opponent is never stuck from scope i on, or from the goal on, by the tuples that were given.
+    pub fn is_free_from(&self, i: ScopeId) -> bool {
+        self.freedom.is_free_from(i)
+    }
+
     /// Whether the opponent is never stuck at scope i.
     pub fn is_free_at(&self, i: ScopeId) -> bool {
         if !self.is_scope(i) {
@@ -87,21 +97,6 @@ impl<'p> Board<'p> {
                 Some(self.levels.problem.aggregate(a).fold)
             }
         }
-    }
-
-    /// Whether the box is closed for all constraints ahead at once at scope i.
-    pub fn is_joint(&self, i: ScopeId) -> bool {
-        if !self.is_scope(i) {
-            return false;
-        }
-        self.freedom.is_joint(i)
-    }
-
-    /// What is left.
-    pub fn store(&self) -> &Store
-        ensures { result.now ≡ self.now.remains }
-    {
-        self.remains.store()
     }
 
     /// Whether a variable has no value left.
@@ -193,12 +188,18 @@ impl<'p> Board<'p> {
         Ok(tuple)
     }
 
-    /// Whether each variable of scope i has one value left.
-    pub fn is_fixed(&self, i: ScopeId) -> bool {
-        if !self.is_scope(i) {
-            return true;
+    // Whether the box refutes a constraint of scope i, where that counts for going on.
+    fn is_refuted(&self, i: ScopeId) -> bool
+        requires { i.0 < length self.now.levels.problem.now.scopes }
+        ensures { IsTrue (needs_restriction_at self.now.levels.problem.now i.0 self.now.remains.box) → result ≡ some_fails (restriction self.now.levels.problem.now i.0) self.now.remains.box }
+    {
+        if !needs_restriction(&self.levels, i, &self.remains) {
+            return false;
         }
-        is_fixed(self.levels.level(i), self.remains.store())
+        let from = i.0 as usize;
+        let store = self.remains.store();
+        self.closer
+            .has_refuted(&self.levels, store, Taking::Owners, from, from + 1)
     }
 
     /// Whether scope i may go on to the next.
@@ -206,7 +207,7 @@ impl<'p> Board<'p> {
         if !self.is_scope(i) {
             return false;
         }
-        may_go_on(&self.levels, i, &self.remains)
+        may_go_on(&self.levels, i, &self.remains, self.is_refuted(i))
     }
 
     /// Whether the values of scope i are single, and its restriction fails.

@@ -8,6 +8,7 @@ use check_box::Remains;
 use dense_box::{choose, is_tuple, reply, take_tuple};
 use dense_close::Taking;
 use qc_model::{ScopeId, VarId};
+use std::alloc::AllocError;
 
 // Leaves x its value v alone.
 fn keep_value(remains: &mut Remains, x: VarId, v: i64)
@@ -62,6 +63,36 @@ impl<'p> Board<'p> {
         } else {
             Closing::Narrowed
         }
+    }
+
+    // Closes the box for the constraints of the scopes from i to k, whosever values go, and says whether a closed box is left.
+    fn close_up_to(&mut self, i: ScopeId, k: ScopeId) -> bool
+        ensures same { self.new.levels ≡ self.old.levels }
+    {
+        let stop = k.0 as usize + 1;
+        if !self.reaches(i, stop) {
+            return true;
+        }
+        self.closer.close(
+            &self.levels,
+            &mut self.remains,
+            Taking::All,
+            i.0 as usize,
+            stop,
+        )
+    }
+
+    /// Whether no box within is closed for the constraints of the scopes from i to k, whosever values go; the goal has the number of
+    /// scopes. The box stays as it is. It fails only where memory runs out.
+    pub fn none_passes(&mut self, i: ScopeId, k: ScopeId) -> Result<bool, AllocError>
+        ensures same { self.new.levels ≡ self.old.levels }
+    {
+        if !self.save()? {
+            return Ok(true);
+        }
+        let passed = self.close_up_to(i, k);
+        self.restore();
+        Ok(!passed)
     }
 
     /// Leaves x the value alone, where it has it, and says whether it does.

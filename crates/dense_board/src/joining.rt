@@ -97,6 +97,15 @@ impl<'p> Board<'p> {
         self.joins.finish(i, self.values.as_slice())
     }
 
+    /// What scope i comes to, or the goal, where its owner has no move.
+    pub fn finish_stuck(&mut self, i: ScopeId) -> Found {
+        if !self.is_scope(i) {
+            return Found::Lost;
+        }
+        self.clear(i);
+        self.finish(i)
+    }
+
     /// What the goal comes to in this box, where each variable has one value. Where it holds, its vector is handed out.
     pub fn finish_goal(&mut self) -> Found {
         let holds = !self.goal_fails();

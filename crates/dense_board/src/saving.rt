@@ -33,6 +33,11 @@ impl<'p> Board<'p> {
         Ok(true)
     }
 
+    /// How many boxes are saved.
+    pub fn saved_count(&self) -> usize {
+        self.saved.len()
+    }
+
     /// Goes back to the box that was saved last, and forgets it; where none is, nothing happens.
     pub fn restore(&mut self)
         ensures same { self.new.levels ≡ self.old.levels }

@@ -62,12 +62,13 @@ impl<'p> Board<'p> {
         let levels = Levels::new(alloc, problem)?;
         let demands = Demands::new(alloc, problem)?;
         let mut remains = Remains::new(alloc, problem)?;
-        let closer = Closer::new(alloc, problem)?;
         let mut freedom = Freedom::new(alloc, &levels)?;
         let wishes = Wishes::new(alloc, problem)?;
         let joins = Joins::new(alloc, problem)?;
         let likeness = Likeness::new(alloc, &levels)?;
         let values = vec![in alloc; 0; problem.variables()]?;
+        // last, since it has most to let go where a later one fails
+        let closer = Closer::new(alloc, problem)?;
         give_each(&levels, &mut remains, &mut freedom, given);
         Ok(Board {
             levels,

@@ -7,6 +7,10 @@ use Rattle.proof_tree.specs.Place.{is_fixed}
 use Rattle.dense_tree.specs.Free.{is_universal}
 use Rattle.dense_tree.specs.Tuples.{all_hold, some_fails, is_tuple_of, box_taken}
 
+-- something is left, and the scope is the player's, who goes on unless its restriction fails
+abbrev pub needs_restriction_at : Game → ℕ → Box → Bool
+needs_restriction_at g i box = not (has_empty box) && not (is_universal (slice_get g.scopes i))
+
 -- the scope's values are single, and its restriction fails
 abbrev pub is_barred_at : Game → ℕ → Box → Bool
 is_barred_at g i box = not (has_empty box) && is_fixed g i box && some_fails (restriction g i) box

@@ -9,9 +9,9 @@ ghost use Rattle.proof_tree.specs.Place.{is_fixed as is_fixed_in};
 ghost use Rattle.dense_tree.specs.Free.{is_universal, is_unrestricted as is_unrestricted_in};
 ghost use Rattle.dense_tree.specs.InPlace.{barred_placed, next_placed, place_taken, chosen_placed, branch_placed, best_placed, list_best};
 ghost use Rattle.dense_tree.specs.Place.{Setting, Place, is_free_choice as is_free_choice_in};
-ghost use Rattle.dense_tree.specs.Tuples.{all_hold, box_taken};
+ghost use Rattle.dense_tree.specs.Tuples.{all_hold, some_fails, box_taken};
 ghost use Rattle.lemma_reasons.specs.Asked.{IsFullBox};
-ghost use Rattle.dense_box.specs.Ends.{is_barred_at, goes_on_at, is_chosen_at, is_branch_at};
+ghost use Rattle.dense_box.specs.Ends.{is_barred_at, needs_restriction_at, goes_on_at, is_chosen_at, is_branch_at};
 ghost use Rattle.dense_box.specs.Here.{IsHere};
 
 use crate::best::best_left;
@@ -77,10 +77,35 @@ fn is_allowed(levels: &Levels, i: ScopeId, remains: &Remains) -> bool
     is_entailed_throughout(levels, i, remains.store())
 }
 
-// Whether the scope goes on to the next.
-fn goes_on(levels: &Levels, i: ScopeId, remains: &Remains) -> bool
+/// Whether it counts for going on to the next scope whether the box refutes a constraint of this one: it is the player's, and something
+/// is left.
+pub fn needs_restriction(levels: &Levels, i: ScopeId, remains: &Remains) -> bool
+    requires { i.0 < length levels.now.problem.now.scopes }
+    ensures { result ≡ needs_restriction_at levels.now.problem.now i.0 remains.now.box }
+{
+    if remains.is_empty() {
+        return false;
+    }
+    !is_opponents(levels, i)
+}
+
+// Whether the box refutes a constraint of the scope, where that counts.
+fn is_refuted(levels: &Levels, i: ScopeId, remains: &Remains) -> bool
     requires scope { i.0 < length levels.now.problem.now.scopes }
     requires declared { IsTrue (is_box_of levels.now.problem.now remains.now.box) }
+    ensures { IsTrue (needs_restriction_at levels.now.problem.now i.0 remains.now.box) → result ≡ some_fails (restriction levels.now.problem.now i.0) remains.now.box }
+{
+    if !needs_restriction(levels, i, remains) {
+        return false;
+    }
+    some_refuted(levels, i, remains.store())
+}
+
+// Whether the scope goes on to the next.
+fn goes_on(levels: &Levels, i: ScopeId, remains: &Remains, refuted: bool) -> bool
+    requires scope { i.0 < length levels.now.problem.now.scopes }
+    requires declared { IsTrue (is_box_of levels.now.problem.now remains.now.box) }
+    requires refuted { IsTrue (needs_restriction_at levels.now.problem.now i.0 remains.now.box) → refuted ≡ some_fails (restriction levels.now.problem.now i.0) remains.now.box }
     ensures { result ≡ goes_on_at levels.now.problem.now i.0 remains.now.box }
 {
     if remains.is_empty() {
@@ -89,7 +114,7 @@ fn goes_on(levels: &Levels, i: ScopeId, remains: &Remains) -> bool
     if is_opponents(levels, i) {
         return is_allowed(levels, i, remains);
     }
-    !some_refuted(levels, i, remains.store())
+    !refuted
 }
 
 // Whether x is a variable of the scope that has several values left.
@@ -129,7 +154,8 @@ fn take_chosen(levels: &Levels, i: ScopeId, remains: &mut Remains, values: &[i64
     }
     let mark = remains.mark();
     take_tuple(level, remains, values);
-    if goes_on(levels, i, remains) {
+    let refuted = is_refuted(levels, i, remains);
+    if goes_on(levels, i, remains, refuted) {
         return true;
     }
     remains.undo_to(mark);
@@ -146,13 +172,15 @@ pub fn may_be_barred(levels: &Levels, i: ScopeId, remains: &Remains) -> bool
 }
 
 /// Whether a scope may go on to the next: the player's unless its restriction fails, perhaps with several values left; the
-/// opponent's with one tuple, which is allowed throughout the box.
-pub fn may_go_on(levels: &Levels, i: ScopeId, remains: &Remains) -> bool
+/// opponent's with one tuple, which is allowed throughout the box. Where it counts (`needs_restriction`), the caller tells whether the
+/// box refutes a constraint of the scope.
+pub fn may_go_on(levels: &Levels, i: ScopeId, remains: &Remains, refuted: bool) -> bool
     requires scope { i.0 < length levels.now.problem.now.scopes }
     requires declared { IsTrue (is_box_of levels.now.problem.now remains.now.box) }
+    requires refuted { IsTrue (needs_restriction_at levels.now.problem.now i.0 remains.now.box) → refuted ≡ some_fails (restriction levels.now.problem.now i.0) remains.now.box }
     ensures { (s : Setting) (p : Place) → IsHere levels.now.problem.now i.0 remains.now.box s p → result ≡ next_placed s p }
 {
-    goes_on(levels, i, remains)
+    goes_on(levels, i, remains, refuted)
 }
 
 /// Takes the values as a tuple of the scope with which it may go on to the next. Where they are none, or it may not, nothing

@@ -29,7 +29,9 @@ mod wishes;
 pub use best::best_left;
 pub use cases::keep_case;
 pub use constraints::{all_entailed, is_entailed_throughout, some_refuted};
-pub use ends::{best_end, choose, is_free_choice, may_be_barred, may_branch, may_go_on};
+pub use ends::{
+    best_end, choose, is_free_choice, may_be_barred, may_branch, may_go_on, needs_restriction,
+};
 pub use fixed::{is_fixed, is_single};
 pub use freedom::Freedom;
 pub use given::may_give;

@@ -18,10 +18,11 @@ impl<'p> DenseMachine<'p> {
         ensures same { IfOk result (λ m. game_of m ≡ problem.now) }
     {
         let nest = Nest::new(alloc, problem)?;
-        let closer = Closer::new(alloc, problem)?;
         let freedom = Freedom::new(alloc, &nest.levels)?;
         let wishes = Wishes::new(alloc, problem)?;
         let positions = Positions::new(alloc, &nest.levels)?;
+        // last, since it has most to let go where a later one fails
+        let closer = Closer::new(alloc, problem)?;
         Ok(DenseMachine {
             nest,
             closer,

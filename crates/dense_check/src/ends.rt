@@ -1,6 +1,7 @@
 //! The ends of a scope's own tree.
-ghost use Rattle.std.specs.Prelude.{◌≡◌, ◌≤◌, ◌<◌, ◌∷◌, [], ◌&&◌, ◌||◌, suc, true, false, Bool, Some, OnOk, List, ℤ, nat_le, is_none, length};
+ghost use Rattle.std.specs.Prelude.{◌≡◌, ◌≤◌, ◌<◌, ◌∷◌, [], ◌&&◌, ◌||◌, suc, true, false, Bool, Some, OnOk, IsTrue, List, ℤ, nat_le, is_none, length};
 ghost use Rattle.qc_model.specs.Domains.{has_empty};
+ghost use Rattle.qc_model.specs.Game.{restriction};
 ghost use Rattle.qc_model.specs.Verdict.{lost, seen_node};
 ghost use Rattle.model_arguments.specs.Asked.{is_box_of};
 ghost use Rattle.fd_store.specs.Held.{Follows};
@@ -8,6 +9,8 @@ ghost use Rattle.dense_closing.specs.ClosingSteps.{greatest_closed};
 ghost use Rattle.dense_closing.specs.Takes.{takes_all};
 ghost use Rattle.dense_tree.specs.Place.{Setting, place_below, is_players as is_players_at, is_free_choice as is_free_choice_at};
 ghost use Rattle.dense_tree.specs.InPlace.{empty_placed, no_play_placed};
+ghost use Rattle.dense_tree.specs.Tuples.{some_fails};
+ghost use Rattle.dense_box.specs.Ends.{needs_restriction_at};
 ghost use Rattle.dense_nest.specs.declared.place.Due.TheVariants as due_as;
 ghost use Rattle.dense_nest.specs.Places.{IsFull};
 ghost use Rattle.dense_tree.specs.Lines.{empty_line, barred_line, best_line, no_play_line, next_line, chosen_line, branch_line};
@@ -15,7 +18,10 @@ ghost use Rattle.dense_ledger.specs.Ledger.{Ledger as Kept, setting_of, part_lin
 ghost use Rattle.dense_check.specs.Telling.{game_of, here_in, with_remains, with_due, IsPart, InPart, PartGoes, IsSameHeld, IsGathered};
 
 use crate::machine::DenseMachine;
-use dense_box::{best_end, choose, is_fixed, is_free_choice, may_be_barred, may_branch, may_go_on};
+use dense_box::{
+    best_end, choose, is_fixed, is_free_choice, may_be_barred, may_branch, may_go_on,
+    needs_restriction,
+};
 use dense_close::Taking;
 use qc_model::{Kind, ScopeId, VarId};
 use std::alloc::AllocError;
@@ -213,15 +219,32 @@ impl<'p> DenseMachine<'p> {
         self.nest.go_below(bounded, fixed, players, chosen)
     }
 
+    /// Whether the box refutes a constraint of the scope, where that counts for going on.
+    fn is_refuted(&self) -> bool
+        requires part { InPart self.now }
+        ensures { let i = self.now.nest.entry.spot.number in IsTrue (needs_restriction_at (game_of self.now) i self.now.nest.remains.box) → result ≡ some_fails (restriction (game_of self.now) i) self.now.nest.remains.box }
+    {
+        let i = self.nest.scope();
+        let nest = &self.nest;
+        if !needs_restriction(&nest.levels, i, &nest.remains) {
+            return false;
+        }
+        let from = i.0 as usize;
+        let store = nest.remains.store();
+        self.closer
+            .has_refuted(&nest.levels, store, Taking::Owners, from, from + 1)
+    }
+
     /// `n`: on to the next scope.
     pub(crate) fn next_line(&mut self, bounded: bool) -> Result<(), AllocError>
         requires part { InPart self.old }
         ensures goes { OnOk result (PartGoes self.old self.new (λ d. part_line (setting_of (game_of self.old) d) d (here_in self.old bounded) next_line)) }
         ensures same { game_of self.new ≡ game_of self.old }
     {
+        let refuted = self.is_refuted();
         let i = self.nest.scope();
         let nest = &self.nest;
-        if !may_go_on(&nest.levels, i, &nest.remains) {
+        if !may_go_on(&nest.levels, i, &nest.remains, refuted) {
             return self.refuse();
         }
         self.go_below(bounded, false)

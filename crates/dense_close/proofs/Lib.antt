@@ -1,5 +1,6 @@
 pub mod Advised
 pub mod Barred
+pub mod ClauseLaws
 pub mod Cuts
 pub mod Distances
 pub mod EndsCounted
@@ -23,4 +24,5 @@ pub mod Replaced
 pub mod Room
 pub mod Shared
 pub mod Sums
+pub mod ToldLaws
 pub mod Trimmed

@@ -10,3 +10,5 @@ pub mod Answerless
 pub mod Memory
 pub mod Quiet
 pub mod Advice
+pub mod Clauses
+pub mod Told

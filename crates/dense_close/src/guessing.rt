@@ -271,6 +271,19 @@ fn kept_as(meaning: Meaning, args: &[Argument], x: VarId, store: &Store) -> Stre
     }
 }
 
+/// Whether a guess tells anything of the constraint's variables: else it is all numbers.
+pub(crate) fn gives_guess(rule: &Constraint) -> bool {
+    let row = meaning_of(rule.pred);
+    if row.reified {
+        return false;
+    }
+    match row.meaning {
+        Meaning::AtMost | Meaning::Below | Meaning::Equal | Meaning::Plus | Meaning::Times => true,
+        Meaning::Element | Meaning::VariableElement => true,
+        _ => false,
+    }
+}
+
 /// Which values the constraint leaves x, by the ends of what is left to its arguments.
 pub(crate) fn kept_by_ends(problem: &Problem, rule: &Constraint, x: VarId, store: &Store) -> Stretch
     requires { IsAsked problem.now rule.now store.now.box }

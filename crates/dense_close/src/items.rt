@@ -39,8 +39,8 @@ fn item_at(place: i64, items: &[Arg], store: &Store) -> Option<Arg>
     Some(items[k])
 }
 
-// Whether both have a value in common, where their least ones tell.
-fn have_common(one: Arg, other: Arg, store: &Store) -> bool
+/// Whether both have a value in common, where their least ones tell.
+pub(crate) fn have_common(one: Arg, other: Arg, store: &Store) -> bool
     requires one { IsTrue (is_open store.now.box one) }
     requires other { IsTrue (is_open store.now.box other) }
     ensures { IsTrue result → IsFalse (misses (left_to store.now.box one) (left_to store.now.box other)) }

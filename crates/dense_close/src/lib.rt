@@ -18,12 +18,14 @@
 //! some of them fill numbers among which an end of another lies, and then these numbers are what is taken. Comparisons, sums and
 //! products of two numbers and items of arrays are read once as well (`quiet`): where no variable stands twice, the ends of what is
 //! left to their arguments mostly tell that they refute nothing that they may take, and else give a guess (`guessing`) how far each
-//! can go, which the constraint is asked once (`advising`). Other values go by stretches: where a constraint refutes an end, it is
-//! asked of twice as many numbers from there on, as long as it refutes them together.
+//! can go, which the constraint is asked once (`advising`). Clauses (`clauses`) and comparisons with their truth (`told`) are read so
+//! too, but give no guess. Other values go by stretches: where a constraint refutes an end, it is asked of twice as many numbers from
+//! there on, as long as it refutes them together.
 #![tactic(auto)]
 
 mod advising;
 mod answerless;
+mod clauses;
 mod closer;
 mod cutting;
 mod differing;
@@ -45,6 +47,7 @@ mod slack;
 mod summing;
 mod taking;
 mod task;
+mod told;
 mod trimming;
 mod waiting;
 mod waking;

@@ -8,11 +8,13 @@ ghost use Rattle.model_arguments.specs.Asked.{IsAsked};
 ghost use Rattle.dense_close.specs.Slack.{SparesTaken};
 ghost use Rattle.dense_close.specs.Taking.{takes_of};
 
+use crate::clauses::is_quiet_clause;
 use crate::elements::is_quiet_element;
 use crate::equality::is_quiet_equality;
 use crate::items::is_quiet_variable_element;
 use crate::relating::{Relation, is_quiet_by_ends};
 use crate::task::Task;
+use crate::told::is_quiet_truth;
 use fd_store::Store;
 use model_arguments::arguments;
 use qc_model::{Constraint, Meaning, meaning_of};
@@ -34,6 +36,7 @@ fn is_quiet_as(meaning: Meaning, task: &Task, rule: &Constraint, store: &Store) 
         Meaning::Times => is_quiet_by_ends(Relation::Product, task, rule, args, store),
         Meaning::Element => is_quiet_element(task, rule, args, store),
         Meaning::VariableElement => is_quiet_variable_element(task, rule, store),
+        Meaning::Clause => is_quiet_clause(task, rule, store),
         _ => false,
     }
 }
@@ -47,7 +50,7 @@ pub(crate) fn is_quiet(task: &Task, rule: &Constraint, store: &Store) -> bool
 {
     let row = meaning_of(rule.pred);
     if row.reified {
-        return false;
+        return is_quiet_truth(row.meaning, task, rule, store);
     }
     is_quiet_as(row.meaning, task, rule, store)
 }

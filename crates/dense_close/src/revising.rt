@@ -19,6 +19,7 @@ ghost use Rattle.dense_close.specs.declared.cutting.End.TheVariants.{Least, Grea
 use crate::advising::{Advice, cut_advised};
 use crate::cutting::{End, cut_end};
 use crate::differing::{Sight, look};
+use crate::guessing::gives_guess;
 use crate::quiet::is_quiet;
 use crate::slack::{Room, is_short, slack_of};
 use crate::taking::may_take;
@@ -383,6 +384,9 @@ fn revise_by_ends(task: &Task, c: ConId, list: &mut WorkList, remains: &mut Rema
     let rule = task.problem.constraint(c);
     if is_quiet(task, rule, remains.store()) {
         return Revised::Stable;
+    }
+    if !gives_guess(rule) {
+        return revise_each(task, c, list, remains);
     }
     revise_advised(task, c, Advice::Ends, list, remains)
 }

@@ -117,8 +117,8 @@ fn are_near(
     true
 }
 
-/// How far a sum is from its bound, or less: from below, and where they are to be equal from above too. Negative numbers tell
-/// nothing but that they are.
+/// How far a sum is from its bound, or `MOST` where that is less: from below, and where they are to be equal from above too. A
+/// negative number tells that it is past its bound.
 #[derive(Clone, Copy)]
 pub(crate) struct Room {
     pub(crate) under: i64,

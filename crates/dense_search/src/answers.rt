@@ -20,6 +20,8 @@ struct Tally {
     leaf: usize,
     replies: Vec<Option<Reply>>,
     closely: bool,
+    // no part makes the sum worse
+    grows: bool,
 }
 
 #[derive(Clone, Copy, PartialEq, Eq)]
@@ -30,11 +32,12 @@ enum End {
 }
 
 /// Shows that the sum over the opponent's choices is no better than what was reached, whatever the leader chooses. A second look tells
-/// the follower's values apart.
+/// the follower's values apart. A sum that grows is given up as soon as it is better.
 pub(crate) fn bound_by_sum(
     search: &mut Search,
     scope: ScopeId,
     reached: Rival,
+    grows: bool,
 ) -> Result<bool, Stop> {
     let begin = search.lines.len();
     let mut tally = Tally {
@@ -43,6 +46,7 @@ pub(crate) fn bound_by_sum(
         leaf: 0,
         replies: Vec::new(search.alloc),
         closely: false,
+        grows,
     };
     for closely in [false, true] {
         tally.closely = closely;
@@ -114,6 +118,9 @@ fn each_answer(
             break;
         }
     }
+    if tally.end == End::TooGood {
+        return Ok(());
+    }
     if let Some(first) = next {
         let last = search.board.greatest(x);
         put_skipped(search, first, last)?;
@@ -143,6 +150,9 @@ fn answer(
         return Ok(());
     };
     tally.sum = tally.sum.saturating_add(left);
+    if tally.grows && !reached.beats(tally.sum) {
+        tally.end = End::TooGood;
+    }
     Ok(())
 }
 

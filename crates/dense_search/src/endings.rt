@@ -117,14 +117,16 @@ pub(crate) fn keep_alone(
     body: usize,
     begin: usize,
 ) -> Result<(), Stop> {
-    let case = search.lines.take_from(begin)?;
-    search.lines.drop_from(body);
     let before = search.board.previous(x, value.saturating_sub(1));
-    if let Some(last) = before {
-        let first = search.board.least(x);
-        put_skipped(search, first, last)?;
+    if before.is_some() || begin > body {
+        let case = search.lines.take_from(begin)?;
+        search.lines.drop_from(body);
+        if let Some(last) = before {
+            let first = search.board.least(x);
+            put_skipped(search, first, last)?;
+        }
+        search.lines.put(case.as_slice())?;
     }
-    search.lines.put(case.as_slice())?;
     let behind = search.board.next(x, value.saturating_add(1));
     if let Some(first) = behind {
         let last = search.board.greatest(x);

@@ -1,5 +1,5 @@
 //! Nodes that come again.
-use crate::place::Place;
+use crate::place::{Place, Rival};
 use crate::search::Search;
 use crate::stop::Stop;
 use joins::Found;
@@ -11,10 +11,12 @@ const PLACES: usize = 65_536;
 /// How many bytes the lines of a node have at least that is kept.
 const LEAST_BYTES: usize = 16;
 
-/// A node whose lines are kept by themselves: its scope, the least value of each variable where it stood, and what it came to.
+/// A node whose lines are kept by themselves: its scope, the horizon that was in force, the least value of each variable where it
+/// stood, and what it came to.
 #[derive(Drop)]
 pub(crate) struct KnownNode {
     pub(crate) scope: u8,
+    pub(crate) horizon: Option<u8>,
     pub(crate) position: Vec<i64>,
     pub(crate) found: Found,
     pub(crate) vector: Vec<i64>,
@@ -44,6 +46,20 @@ impl KnownNodes {
     }
 }
 
+// Whether what a node came to tells all that counts beside what the scope above has reached. One that was left as of no use there tells
+// nothing where less was reached.
+fn serves(found: Found, rival: Option<Rival>) -> bool {
+    match found {
+        Found::Lost => true,
+        Found::Exact => true,
+        Found::Unknown => false,
+        Found::AtMost(value) => match rival {
+            None => false,
+            Some(rival) => rival.beats(value),
+        },
+    }
+}
+
 fn place_of(number: u64) -> usize {
     (number >> 48) as usize
 }
@@ -69,6 +85,8 @@ impl<'p> Search<'p> {
             return Ok(None);
         };
         if node.scope != place.scope.0
+            || node.horizon != place.horizon
+            || !serves(node.found, place.rival)
             || !self.board.is_like(place.scope, node.position.as_slice())
         {
             return Ok(None);
@@ -98,6 +116,7 @@ impl<'p> Search<'p> {
         }
         let node = KnownNode {
             scope: place.scope.0,
+            horizon: place.horizon,
             position: Vec::from_slice(self.alloc, self.board.position())?,
             found,
             vector: Vec::from_slice(self.alloc, self.board.vector())?,

@@ -5,6 +5,7 @@
 //! leader, and a follower answers (`Worst`); or what follows is summed over the opponent's choices (`Sum`).
 use crate::answers::bound_by_sum;
 use crate::endings::{is_opposed, rival_below};
+use crate::lines::Lines;
 use crate::place::{Rival, after};
 use crate::search::Search;
 use crate::stop::Stop;
@@ -25,6 +26,8 @@ pub(crate) enum Shape {
     Opposed,
     Worst,
     Sum,
+    // a sum that no part makes worse
+    GrowingSum,
 }
 
 /// A tuple that was of use, and what it is worth to the leader.
@@ -123,10 +126,25 @@ fn shape_by_fold(board: &Board, next: ScopeId, first: &Condition) -> Shape {
     }
     match board.fold_of(first.target) {
         None => Shape::No,
-        Some(Fold::Sum) => Shape::Sum,
+        Some(Fold::Sum) => shape_of_sum(board, last, first.sense),
         Some(Fold::Greatest(_)) => worst_for(first.sense, Sense::Min),
         Some(Fold::Least(_)) => worst_for(first.sense, Sense::Max),
     }
+}
+
+// The shape of a sum of what is demanded of the last scope first, by the values that are declared.
+fn shape_of_sum(board: &Board, last: ScopeId, sense: Sense) -> Shape {
+    let Some(first) = board.demanded(last).first() else {
+        return Shape::No;
+    };
+    let Target::Var(x) = first.target else {
+        return Shape::No;
+    };
+    let grows = match sense {
+        Sense::Min => board.greatest(x) <= 0,
+        Sense::Max => board.least(x) >= 0,
+    };
+    if grows { Shape::GrowingSum } else { Shape::Sum }
 }
 
 fn worst_for(sense: Sense, wanted: Sense) -> Shape {
@@ -168,7 +186,8 @@ pub(crate) fn bound_loosely(search: &mut Search, scope: ScopeId) -> Result<bool,
         Shape::No => Ok(false),
         Shape::Opposed => bound_by_reply(search, scope, reached),
         Shape::Worst => bound_by_move(search, scope, reached),
-        Shape::Sum => bound_by_sum(search, scope, reached),
+        Shape::Sum => bound_by_sum(search, scope, reached, false),
+        Shape::GrowingSum => bound_by_sum(search, scope, reached, true),
     }
 }
 
@@ -197,24 +216,30 @@ fn try_reply(
     if !reached.beats(kept.worth) {
         return Ok(false);
     }
-    let tuple = Vec::from_slice(search.alloc, kept.tuple.as_slice())?;
-    search.save()?;
-    let mut bound = None;
-    if search.board.reply(follower, tuple.as_slice()) {
-        bound = search.board.best_left(follower);
-    }
-    search.board.restore();
-    let Some(value) = bound else {
+    let Some(value) = left_after(&mut search.board, follower, kept.tuple.as_slice())? else {
         return Ok(false);
     };
     if !reached.beats(value) {
         return Ok(false);
     }
     search.lines.put(b"n\n")?;
-    search.lines.put_line(b"f", tuple.as_slice())?;
+    search.lines.put_line(b"f", kept.tuple.as_slice())?;
     search.lines.put(b"y\n")?;
     search.board.add_node(scope, Found::AtMost(value));
     Ok(true)
+}
+
+// The best value that a reply leaves to what is demanded of the follower first, where he can count on it.
+fn left_after(board: &mut Board, follower: ScopeId, tuple: &[i64]) -> Result<Option<i64>, Stop> {
+    if !board.save()? {
+        return Err(Stop::Spent);
+    }
+    let mut best = None;
+    if board.reply(follower, tuple) {
+        best = board.best_left(follower);
+    }
+    board.restore();
+    Ok(best)
 }
 
 // A tuple of the opponent after which nothing is better for the leader than what was reached, whatever is chosen.
@@ -236,15 +261,14 @@ fn try_move(
     at: usize,
     reached: Rival,
 ) -> Result<bool, Stop> {
-    let Some(kept) = search.pools.pool(opponent).get(at) else {
-        return Ok(false);
-    };
-    let tuple = Vec::from_slice(search.alloc, kept.tuple.as_slice())?;
-    let begin = search.lines.len();
-    search.lines.put(b"n\n")?;
-    search.lines.put_line(b"w", tuple.as_slice())?;
+    search.spend()?;
     search.save()?;
-    let found = after_move(search, opponent, tuple.as_slice())?;
+    let begin = search.lines.len();
+    let mut found = None;
+    if let Some(kept) = search.pools.pool(opponent).get(at) {
+        let tuple = kept.tuple.as_slice();
+        found = after_move(&mut search.board, &mut search.lines, opponent, tuple)?;
+    }
     search.board.restore();
     match found {
         Some(Found::Lost) => {}
@@ -262,25 +286,27 @@ fn try_move(
 
 // What the follower's node comes to after a tuple of the opponent; None where that may not be taken. It is bounded by what is left.
 fn after_move(
-    search: &mut Search,
+    board: &mut Board,
+    lines: &mut Lines,
     opponent: ScopeId,
     tuple: &[i64],
 ) -> Result<Option<Found>, Stop> {
-    if !search.board.choose(opponent, tuple) {
+    if !board.choose(opponent, tuple) {
         return Ok(None);
     }
-    search.spend()?;
+    lines.put(b"n\n")?;
+    lines.put_line(b"w", tuple)?;
     let follower = after(opponent);
-    match search.board.close(follower) {
+    match board.close(follower) {
         Closing::Lost => {
-            search.lines.put(b"e\n")?;
+            lines.put(b"e\n")?;
             return Ok(Some(Found::Lost));
         }
-        Closing::Narrowed => search.lines.put(b"c\n")?,
+        Closing::Narrowed => lines.put(b"c\n")?,
         Closing::Same => {}
     }
-    search.lines.put(b"y\n")?;
-    match search.board.best_left(follower) {
+    lines.put(b"y\n")?;
+    match board.best_left(follower) {
         None => Ok(None),
         Some(value) => Ok(Some(Found::AtMost(value))),
     }

@@ -4,7 +4,7 @@ ghost use Rattle.std.specs.Prelude.{◌<◌, IfOk};
 use crate::stop::Stop;
 use qc_model::{ScopeId, Sense};
 
-/// How deep the search goes at most: in each scope it goes through two calls, and three for each of its variables.
+/// How deep the search goes at most: in each scope it goes through five calls, and four for each of its variables.
 pub(crate) const DEPTH: u32 = 4_096;
 
 /// What the scope above has reached, so that nothing that is no better counts: a first value, and whether an equal one is no
@@ -16,12 +16,20 @@ pub(crate) struct Rival {
     pub(crate) ties: bool,
 }
 
-/// A scope, what the one above has reached, and whether a bound of the block stands above.
+/// A scope, what the one above has reached, whether a bound of the block stands above, and the number of the horizon in force.
 #[derive(Clone, Copy)]
 pub(crate) struct Place {
     pub(crate) scope: ScopeId,
     pub(crate) rival: Option<Rival>,
     pub(crate) bounded: bool,
+    pub(crate) horizon: Option<u8>,
+}
+
+impl Place {
+    /// Whether nobody passes the scope that begins here.
+    pub(crate) fn is_at_horizon(self) -> bool {
+        self.horizon == Some(self.scope.0)
+    }
 }
 
 impl Rival {

@@ -5,6 +5,7 @@ use crate::hints::Hints;
 use crate::known::KnownNodes;
 use crate::lines::Lines;
 use crate::loose::{Pools, Shape, shapes_of};
+use crate::patience::Patience;
 use crate::place::{DEPTH, Place};
 use crate::stop::Stop;
 use crate::walk::node;
@@ -29,11 +30,11 @@ pub(crate) struct Search<'p> {
     pub(crate) own: Option<i64>,
     // the last scope has shown a value that is of no use to the scope above, so a reply stands for its node
     pub(crate) replied: bool,
+    pub(crate) patience: Patience,
 }
 
-/// The text of a dense certificate for the game, found within so many turns. None comes at once where some scope of the opponent
-/// isn't known to have a tuple that is always allowed, and else where the turns don't suffice, or the search has no lines for
-/// what it meets. Nothing is promised of a text that comes. It fails only where memory runs out.
+/// The text of a dense certificate for the game, found within so many turns. None comes where these don't suffice, or the search has
+/// no lines for what it meets. Nothing is promised of a text that comes. It fails only where memory runs out.
 pub fn certify(
     alloc: Global,
     problem: &Problem,
@@ -42,6 +43,8 @@ pub fn certify(
     match written(alloc, problem, turns) {
         Ok(text) => Ok(text),
         Err(Stop::Spent) => Ok(None),
+        Err(Stop::Slow) => Ok(None),
+        Err(Stop::Again) => Ok(None),
         Err(Stop::Memory) => Err(AllocError),
     }
 }
@@ -53,14 +56,12 @@ fn written(alloc: Global, problem: &Problem, turns: u64) -> Result<Option<Vec<u8
     }
     let given = given_tuples(alloc, problem)?;
     let board = Board::new(alloc, problem, given.as_slice())?;
-    if !board.is_free() {
-        return Ok(None);
-    }
     let mut search = begun(alloc, board, turns)?;
     let root = Place {
         scope: ScopeId(0),
         rival: None,
         bounded: false,
+        horizon: None,
     };
     let found = node(&mut search, DEPTH, root)?;
     text_of(alloc, &search, given.as_slice(), found)
@@ -82,6 +83,7 @@ fn begun<'p>(alloc: Global, board: Board<'p>, turns: u64) -> Result<Search<'p>, 
         turns,
         own: None,
         replied: false,
+        patience: Patience::new(),
     })
 }
 

@@ -1,11 +1,14 @@
 //! Why a search gives up.
 use std::alloc::{AllocError, AllocFailed};
 
-/// No memory was left; or no turn, or the search met what it has no lines for.
+/// No memory was left; or no turn, or the search met what it has no lines for; or a node of the last scope takes long; or the first
+/// scope does, and has reached more since it began.
 #[derive(Clone, Copy, PartialEq, Eq)]
 pub(crate) enum Stop {
     Memory,
     Spent,
+    Slow,
+    Again,
 }
 
 impl From<AllocError> for Stop {

@@ -24,9 +24,8 @@ pub struct Shown {
 
 /// A dense certificate of the game, found within so many turns, that says who wins.
 ///
-/// None comes where the search gives up, which it does at once where some scope of the opponent has no tuple that is known to be
-/// always allowed; where its text isn't believed, or is longer than a certificate's may be; and where memory runs out, or the
-/// numbers of a scope's leaves are larger together than the checker takes.
+/// None comes where the search gives up; where its text isn't believed, or is longer than a certificate's may be; and where memory
+/// runs out, or the numbers of a scope's leaves are larger together than the checker takes.
 pub fn solve_densely(alloc: Global, problem: &Problem, turns: u64) -> Option<Shown>
     ensures { IfSome result (λ it. IsShown problem.now it) }
 {

@@ -1,5 +1,4 @@
 use Rattle.std.proofs.Common.{refl, subst, sym}
-use Rattle.std.specs.Prelude.{⊤}
 use Rattle.fd_store.specs.Held.{Held}
 use Rattle.model_arguments.specs.Asked.{IsAsked}
 use Rattle.dense_close.specs.Slack.{SparesTaken}

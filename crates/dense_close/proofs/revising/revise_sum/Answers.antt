@@ -1,9 +1,5 @@
-use Rattle.std.proofs.Common.{◌≡◌, true, false, ap}
-use Rattle.std.specs.Prelude.{slice_get, Some}
-use Rattle.qc_model.specs.Content.{Rule}
+use Rattle.std.proofs.Common.{◌≡◌, true}
 use Rattle.qc_model.specs.Refuted.{refuted_by}
-use Rattle.dense_close.specs.Advice.{AdviceTells}
-use Rattle.dense_close.specs.declared.advising.Advice.TheVariants.{Room}
 use Rattle.dense_close.proofs.Barred.{short_refuted}
 use Rattle.dense_close.proofs.Looked.{lost_by}
 use Rattle.dense_close.proofs.revising.revise_sum.Goals as goal

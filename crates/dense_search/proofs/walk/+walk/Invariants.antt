@@ -14,3 +14,15 @@ decreases-branch l = l.depth
 
 abbrev pub decreases-case : goal.decreases-case
 decreases-case l = l.depth
+
+abbrev pub decreases-own_tree : goal.decreases-own_tree
+decreases-own_tree l = l.depth
+
+abbrev pub decreases-bounded_tree : goal.decreases-bounded_tree
+decreases-bounded_tree l = l.depth
+
+abbrev pub decreases-rising : goal.decreases-rising
+decreases-rising l = l.depth
+
+abbrev pub decreases-falling : goal.decreases-falling
+decreases-falling l = l.depth
