@@ -33,15 +33,14 @@ The script's status is 1 where something is WRONG.
 --runs     the least time of so many runs of less than a second each; five else
 """
 import argparse
-import multiprocessing
 import os
 import re
 import subprocess
 import tempfile
 
-from measure.ladder import least, problems_of
+from measure.ladder import least
 from measure.rungs import FAMILIES
-from measure.wishes import by, compiled
+from measure.wishes import by, compiled, problems
 from program import Program, add_option
 
 WAYS = {"closing": ["--v3c"], "loose": ["--v3f", "--v3b", "--opp"]}
@@ -50,17 +49,6 @@ TURNS = "10000000"
 TOLD, LONG_FOR_MODEL = 0.01, 0.02
 SLOW = 2
 LINE = "{:26} {:8} {:9} {:>7} s {:>7} s {:>6}  {:>9} bytes {:>4} MB  {}"
-
-
-def games(options):
-    """The ladder's games of each seed. They are made in a process of its own, so that this one stays small."""
-    for seed in range(options.first, options.first + options.seeds):
-        for family in FAMILIES:
-            if options.only in (None, family):
-                with multiprocessing.Pool(1) as pool:
-                    problems = pool.apply(problems_of, (family, seed))
-                for name, text, known, *_ in problems:
-                    yield f"{name} s{seed}", text, known
 
 
 def told(options, words):
@@ -128,5 +116,5 @@ def main(words):
     options.program = Program(options.program, "qdense").path
     with tempfile.TemporaryDirectory() as folder:
         options.model = options.model or compiled(folder)
-        all_well = [line_of(options, folder, *game, ways) for game in games(options) for ways in WAYS]
+        all_well = [line_of(options, folder, *game, ways) for game in problems(options) for ways in WAYS]
     return 0 if all(all_well) else 1

@@ -61,16 +61,20 @@ def compiled(folder):
     return place
 
 
-def games(options):
-    """The ladder's games that have a condition, each seed's. They are made in a process of its own, so that this one stays small."""
+def problems(options):
+    """The ladder's games, each seed's. They are made in a process of its own, so that this one stays small."""
     for seed in range(options.first, options.first + options.seeds):
         for family in FAMILIES:
             if options.only in (None, family):
                 with multiprocessing.Pool(1) as pool:
-                    problems = pool.apply(problems_of, (family, seed))
-                for name, text, known, *_ in problems:
-                    if re.search(r"\b(minimize|maximize)\b", text):
-                        yield f"{name} s{seed}", text, known
+                    made = pool.apply(problems_of, (family, seed))
+                for name, text, known, *_ in made:
+                    yield f"{name} s{seed}", text, known
+
+
+def games(options):
+    """Those that have a condition."""
+    return ((name, text, known) for name, text, known in problems(options) if re.search(r"\b(minimize|maximize)\b", text))
 
 
 def solved(options, problem, certificate):
