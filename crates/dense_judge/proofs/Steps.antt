@@ -1,12 +1,17 @@
 -- What one byte more makes of a reading.
-use Rattle.std.proofs.Common.{◌≡◌, ◌<◌, ◌≤◌, ◌^◌, ◌+◌, ℕ, List, [], ◌∷◌, ◌++◌, length, take, refl, sym, ap, ◌∙◌, subst, arith, length-append, append-nil, append_assoc, Option, Some, None}
+use Rattle.std.proofs.Common.{◌≡◌, ◌<◌, ◌≤◌, ◌^◌, ◌+◌, ◌-◌, true, ℕ, List, [], ◌∷◌, ◌++◌, length, take, refl, sym, ap, ◌∙◌, subst, arith, length-append, append-nil, append_assoc, Option, Some, None}
 use Rattle.std.proofs.lemmas.List.{take-append-le}
 use Rattle.dense_ledger.specs.Ledger.{first_ledger}
 use Rattle.dense_text.specs.declared.piece.Piece.{Piece}
+use Rattle.dense_text.specs.declared.piece.Piece.TheVariants.{Head as HeadPiece, Given, Reply, Chosen, Value, Named, Horizon, Stuck, Goal, Again, NoPlay, Close, Bound, Empty, Barred, BestLeft, Next, Branch, Range, Skip, LeftOpen, Dot}
+use Rattle.dense_text.specs.declared.parts.Due.{Due}
 use Rattle.dense_text.specs.declared.reader.Fed.{Fed}
 use Rattle.dense_text.specs.declared.reader.Fed.TheVariants.{More, Whole, Bad}
 use Rattle.dense_text.specs.Kept.{Held}
 use Rattle.dense_text.specs.Reader.{StandsFor, Says, tell}
+use Rattle.dense_text.specs.Pieces.{piece_text}
+use Rattle.dense_text.specs.Grammar.{at as due_at, allows}
+use Rattle.dense_text.specs.WholeLines.{GoesOver}
 use Rattle.dense_text.specs.Places.{BeginsText, IsFault}
 use Rattle.dense_check.specs.declared.machine.DenseMachine.{DenseMachine}
 use Rattle.dense_check.specs.Telling.{game_of, Tells}
@@ -18,7 +23,7 @@ use Rattle.dense_judge.specs.declared.progress.DenseChecker.{DenseChecker}
 use Rattle.dense_judge.specs.Gathered.{Gathered, no_pieces, gathered, all_gathered}
 use Rattle.dense_judge.specs.Gathering.{Keeps}
 use Rattle.dense_judge.specs.Stated.{first_head, head_told}
-use Rattle.dense_judge.specs.Checking.{HasTaken, IsReading, IsStopped, IsCheckingBy, IsChecking}
+use Rattle.dense_judge.specs.Checking.{HasTaken, IsReading, IsStopped, IsCheckingBy, IsChecking, ReadsOn}
 use Rattle.dense_judge.proofs.Gathers.{gathered_more}
 
 one_more : (n : ℕ) (bytes : List ℕ) (b : ℕ) → n ≡ length bytes → n + 1 ≡ length (bytes ++ b ∷ [])
@@ -105,9 +110,88 @@ pub still_stopped : (s : Stop) (n : ℕ) (bytes next : List ℕ) → IsStopped s
 still_stopped BadStop n bytes next h = λ more. subst (IsFault n) (sym (append_assoc bytes next more)) (h (next ++ more))
 still_stopped Spent n bytes next h = h
 
--- one byte more of some is read
-pub one_further : (bytes front rest : List ℕ) (b : ℕ) (after : List ℕ) → bytes ≡ front ++ rest → rest ≡ b ∷ after → bytes ≡ (front ++ b ∷ []) ++ after
-one_further bytes front rest b after whole cut = whole ∙ ap (λ xs. front ++ xs) cut ∙ sym (append_assoc front (b ∷ []) after)
+-- a line is no head
+not_head : (d : Due) (p : Piece) → allows (due_at d) p ≡ true → (h : Option Head) → first_head h p ≡ h
+not_head d p a (Some h) = refl
+not_head d (HeadPiece o v) a None = absurd (cc)
+not_head d (Given k bare) a None = refl
+not_head d (Reply bare) a None = refl
+not_head d (Chosen bare) a None = refl
+not_head d (Value u v last) a None = refl
+not_head d Named a None = refl
+not_head d (Horizon k) a None = refl
+not_head d Stuck a None = refl
+not_head d Goal a None = refl
+not_head d (Again n) a None = refl
+not_head d (NoPlay k) a None = refl
+not_head d Close a None = refl
+not_head d (Bound x low high) a None = refl
+not_head d Empty a None = refl
+not_head d Barred a None = refl
+not_head d BestLeft a None = refl
+not_head d Next a None = refl
+not_head d (Branch x) a None = refl
+not_head d (Range high) a None = refl
+not_head d Skip a None = refl
+not_head d LeftOpen a None = refl
+not_head d Dot a None = refl
+
+-- the bytes of a line
+line_bytes : (r s : Option Held) (bytes rest : List ℕ) (p : Piece) → GoesOver r s bytes p rest → length bytes ≡ length (piece_text p) + length rest
+line_bytes r s bytes rest p g = ap length g.text ∙ length-append (piece_text p) rest
+
+-- a line that is read at once, and taken
+line_read : (r s : Option Held) (k k2 : Gather) (m m2 : DenseMachine) (h : Option Head) (n : ℕ) (before bytes rest : List ℕ) (p : Piece) → GoesOver r s bytes p rest → n + length bytes ≤ 2 ^ 32 →
+    ((a : Gathered) → HasTaken k m a → HasTaken k2 m2 (gathered a p)) → IsReading r k m h n before → IsReading s k2 m2 h (n + (length bytes - length rest)) (before ++ piece_text p)
+line_read r s k k2 m m2 h n before bytes rest p g room takes i =
+    let e : n ≡ length before = i.counted in
+    let size = line_bytes r s bytes rest p g in
+    let all : length (before ++ piece_text p) ≡ length before + length (piece_text p) = length-append before (piece_text p) in
+    let few : length (before ++ piece_text p) < 2 ^ 64 = omega (arith, e, size, all, room) in
+    record {
+      told = i.told ++ p ∷ [];
+      stands = g.stands before i.told few i.stands;
+      begins = (g.says before i.told few i.stands).0;
+      counted = omega (arith, e, size, all);
+      head_is = sym (not_head g.is_line.0 p g.is_line.1 h) ∙ ap (λ q. first_head q p) i.head_is ∙ sym (head_more None i.told p);
+      taken = subst (HasTaken k2 m2) (sym (gathered_more no_pieces i.told p)) (takes (all_gathered no_pieces i.told) i.taken);
+    }
+
+-- the same of a checker
+pub line_taken : (old new : DenseChecker) (s : Option Held) (bytes rest : List ℕ) (p : Piece) → old.stop ≡ None → GoesOver old.reader s bytes p rest → old.read + length bytes ≤ 2 ^ 32 →
+    new.reader ≡ s → new.read ≡ old.read + (length bytes - length rest) → new.head ≡ old.head → ((a : Gathered) → HasTaken old.gather old.machine a → HasTaken new.gather new.machine (gathered a p)) → new.stop ≡ None →
+    ReadsOn old new bytes rest
+line_taken old new s bytes rest p begun g room reader read head takes going =
+    let size = line_bytes old.reader s bytes rest p g in
+    let shorter = g.shorter in
+    record {
+      front = piece_text p;
+      whole = g.text;
+      some = omega (arith, size, shorter);
+      read = omega (arith, size, shorter, read);
+      checking = λ before h.
+          let i = subst (λ q. IsCheckingBy q old before) begun h in
+          subst (λ q. IsCheckingBy q new (before ++ piece_text p)) (sym going)
+          (subst (λ q. IsReading q new.gather new.machine new.head new.read (before ++ piece_text p)) (sym reader)
+          (subst (λ q. IsReading s new.gather new.machine q new.read (before ++ piece_text p)) (sym head)
+          (subst (λ q. IsReading s new.gather new.machine old.head q (before ++ piece_text p)) (sym read)
+          (line_read old.reader s old.gather new.gather old.machine new.machine old.head old.read before bytes rest p g room takes i))));
+    }
+
+-- a byte is read
+pub byte_read : (old new : DenseChecker) (bytes rest : List ℕ) (b : ℕ) → bytes ≡ b ∷ rest → new.read ≤ old.read + 1 → ((before : List ℕ) → IsChecking old before → IsChecking new (before ++ b ∷ [])) → ReadsOn old new bytes rest
+byte_read old new bytes rest b e read checking = record { front = b ∷ []; whole = e; some = omega arith; read = read; checking = checking }
+
+-- some of the bytes are read, after those before them
+pub read_further : (now later : DenseChecker) (bytes front rest left : List ℕ) → bytes ≡ front ++ rest → (r : ReadsOn now later rest left) → bytes ≡ (front ++ r.front) ++ left
+read_further now later bytes front rest left e r = e ∙ ap (λ xs. front ++ xs) r.whole ∙ sym (append_assoc front r.front left)
+
+-- and fewer are left
+pub fewer_left : (now later : DenseChecker) (bytes rest : List ℕ) → ReadsOn now later bytes rest → length rest < length bytes
+fewer_left now later bytes rest r =
+    let size : length bytes ≡ length r.front + length rest = ap length r.whole ∙ length-append r.front rest in
+    let some = r.some in
+    omega (arith, size, some)
 
 pub all_read : (bytes front rest : List ℕ) → bytes ≡ front ++ rest → rest ≡ [] → bytes ≡ front
 all_read bytes front rest whole none = whole ∙ ap (λ xs. front ++ xs) none ∙ append-nil front

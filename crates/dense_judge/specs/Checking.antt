@@ -1,5 +1,5 @@
 -- What a checker is after some bytes, and what it says of them.
-use Rattle.std.specs.Prelude.{◌≡◌, ⊤, ℕ, List, ◌++◌, length, Option, Some, None, IsTrue, ℤ}
+use Rattle.std.specs.Prelude.{◌≡◌, ◌≤◌, ◌+◌, ⊤, ℕ, List, ◌++◌, length, Option, Some, None, IsTrue, ℤ}
 use Rattle.qc_model.specs.Content.{Game}
 use Rattle.proof_tree.specs.declared.tree.Outcome.{Outcome}
 use Rattle.dense_tree.specs.Tree.{Certificate}
@@ -50,6 +50,14 @@ IsCheckingBy (Some stop) c bytes = IsStopped stop c.read bytes
 -- the checker was given these bytes, and had the memory for them
 abbrev pub IsChecking : DenseChecker → List ℕ → Type 0
 IsChecking c bytes = IsCheckingBy c.stop c bytes
+
+-- a checker that was the one is the other after some of the bytes, and these are left of them
+pub record ReadsOn (old new : DenseChecker) (bytes rest : List ℕ) : Type 0 where
+  pub front : List ℕ
+  pub whole : bytes ≡ front ++ rest
+  pub some : 1 ≤ length front
+  pub read : new.read ≤ old.read + length front
+  pub checking : (before : List ℕ) → IsChecking old before → IsChecking new (before ++ front)
 
 -- memory was refused
 abbrev pub IsSpent : DenseChecker → Type 0

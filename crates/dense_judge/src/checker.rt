@@ -1,10 +1,10 @@
-//! The checker, byte by byte.
+//! The checker. It reads a line at once where all its bytes are there, and else byte by byte.
 ghost use Rattle.std.specs.Prelude.{◌≡◌, ◌≤◌, ◌+◌, ◌^◌, ◌++◌, ◌∷◌, [], None, Some, length, IfOk, OnOk, OnErr, IsErr, ℕ, List};
 ghost use Rattle.qc_model.specs.Content.{Game};
 ghost use Rattle.dense_check.specs.Telling.{game_of, IsReady as IsReadyMachine};
 ghost use Rattle.dense_judge.specs.Stated.{first_head};
 ghost use Rattle.dense_judge.specs.Gathered.{Gathered, gathered};
-ghost use Rattle.dense_judge.specs.Checking.{Comes, HasTaken, IsChecking, IsReady, IsSpent, IsStopped};
+ghost use Rattle.dense_judge.specs.Checking.{Comes, HasTaken, IsChecking, IsReady, IsSpent, IsStopped, ReadsOn};
 
 use crate::finding::Checked;
 use crate::gather::Gather;
@@ -62,6 +62,33 @@ impl<'p> DenseChecker<'p> {
         })
     }
 
+    // Hands a piece on to the line that it is of, and that to the machine where it is whole with it. Where memory is refused, no more
+    // bytes are read.
+    #[inline(always)]
+    fn hand_on(&mut self, piece: Piece) -> Result<(), AllocError>
+        requires ready { IsReadyMachine self.old.machine }
+        requires going { self.old.stop ≡ None }
+        ensures ready { OnOk result (IsReadyMachine self.new.machine) }
+        ensures same { game_of self.new.machine ≡ game_of self.old.machine }
+        ensures reader { self.new.reader ≡ self.old.reader }
+        ensures read { self.new.read ≡ self.old.read }
+        ensures head { self.new.head ≡ self.old.head }
+        ensures taken { OnOk result ((a : Gathered) → HasTaken self.old.gather self.old.machine a → HasTaken self.new.gather self.new.machine (gathered a piece)) }
+        ensures going { OnOk result (self.new.stop ≡ None) }
+        ensures spent { OnErr result (IsSpent self.new) }
+    {
+        let Some(line) = self.gather.take(piece) else {
+            return Ok(());
+        };
+        match self.machine.take(line, self.gather.values.as_slice()) {
+            Ok(()) => Ok(()),
+            Err(error) => {
+                self.stop = Some(Stop::Spent);
+                Err(error)
+            }
+        }
+    }
+
     // Takes a piece. Where memory is refused, no more bytes are read.
     fn take(&mut self, piece: Piece) -> Result<(), AllocError>
         requires ready { IsReadyMachine self.old.machine }
@@ -76,16 +103,7 @@ impl<'p> DenseChecker<'p> {
         ensures spent { OnErr result (IsSpent self.new) }
     {
         self.head = head_after(self.head, piece);
-        let Some(line) = self.gather.take(piece) else {
-            return Ok(());
-        };
-        match self.machine.take(line, self.gather.values.as_slice()) {
-            Ok(()) => Ok(()),
-            Err(error) => {
-                self.stop = Some(Stop::Spent);
-                Err(error)
-            }
-        }
+        self.hand_on(piece)
     }
 
     // Reads the next byte, where none was a fault.
@@ -116,21 +134,75 @@ impl<'p> DenseChecker<'p> {
         }
     }
 
-    // Reads the next byte, where memory sufficed so far, and passes it over after a fault.
-    fn some(&mut self, byte: u8) -> Result<(), AllocError>
-        requires ready { IsReady self.old }
-        requires room { self.old.read + 1 ≤ 2 ^ 32 }
+    // Reads the next line with values, or else the next byte, where none was a fault: the bytes that are left.
+    #[inline(never)]
+    fn next_seldom<'a>(&mut self, bytes: &'a [u8]) -> Result<&'a [u8], AllocError>
+        requires ready { IsReadyMachine self.old.machine }
+        requires room { self.old.read + length bytes.now ≤ 2 ^ 32 }
+        requires some { 1 ≤ length bytes.now }
+        requires going { self.old.stop ≡ None }
         ensures ready { IsReady self.new }
         ensures same { game_of self.new.machine ≡ game_of self.old.machine }
-        ensures read { self.new.read ≤ self.old.read + 1 }
-        ensures checking { OnOk result ((bytes : List ℕ) → IsChecking self.old bytes → IsChecking self.new (bytes ++ byte ∷ [])) }
+        ensures read { self.new.read ≤ self.old.read + length bytes.now }
+        ensures reads { IfOk result (λ rest. ReadsOn self.old self.new bytes.now rest.now) }
+        ensures spent { OnErr result (IsSpent self.new) }
+    {
+        match self.reader.feed_values(bytes) {
+            Some((piece, rest)) => {
+                self.read += (bytes.len() - rest.len()) as u64;
+                self.hand_on(piece)?;
+                Ok(rest)
+            }
+            None => {
+                let Some((byte, rest)) = bytes.split_first() else {
+                    return Ok(bytes);
+                };
+                self.next(*byte)?;
+                Ok(rest)
+            }
+        }
+    }
+
+    // Reads the next line, or else the next byte, where none was a fault: the bytes that are left.
+    #[inline(always)]
+    fn next_some<'a>(&mut self, bytes: &'a [u8]) -> Result<&'a [u8], AllocError>
+        requires ready { IsReadyMachine self.old.machine }
+        requires room { self.old.read + length bytes.now ≤ 2 ^ 32 }
+        requires some { 1 ≤ length bytes.now }
+        requires going { self.old.stop ≡ None }
+        ensures ready { IsReady self.new }
+        ensures same { game_of self.new.machine ≡ game_of self.old.machine }
+        ensures read { self.new.read ≤ self.old.read + length bytes.now }
+        ensures reads { IfOk result (λ rest. ReadsOn self.old self.new bytes.now rest.now) }
+        ensures spent { OnErr result (IsSpent self.new) }
+    {
+        match self.reader.feed_line(bytes) {
+            Some((piece, rest)) => {
+                self.read += (bytes.len() - rest.len()) as u64;
+                self.hand_on(piece)?;
+                Ok(rest)
+            }
+            None => self.next_seldom(bytes),
+        }
+    }
+
+    // Reads on where memory sufficed so far, and passes over all bytes after a fault: the bytes that are left.
+    #[inline(always)]
+    fn some<'a>(&mut self, bytes: &'a [u8]) -> Result<&'a [u8], AllocError>
+        requires ready { IsReady self.old }
+        requires room { self.old.read + length bytes.now ≤ 2 ^ 32 }
+        requires some { 1 ≤ length bytes.now }
+        ensures ready { IsReady self.new }
+        ensures same { game_of self.new.machine ≡ game_of self.old.machine }
+        ensures read { self.new.read ≤ self.old.read + length bytes.now }
+        ensures reads { IfOk result (λ rest. ReadsOn self.old self.new bytes.now rest.now) }
         ensures spent { OnErr result (IsSpent self.new) }
     {
         match self.stop {
-            None => self.next(byte),
+            None => self.next_some(bytes),
             Some(stop) => {
                 pass_over(stop)?;
-                Ok(())
+                Ok(&[])
             }
         }
     }
@@ -146,9 +218,8 @@ impl<'p> DenseChecker<'p> {
         ensures spent { OnErr result (IsSpent self.new) }
     {
         let mut rest = bytes;
-        while let Some((byte, after)) = rest.split_first() {
-            self.some(*byte)?;
-            rest = after;
+        while !rest.is_empty() {
+            rest = self.some(rest)?;
         }
         Ok(())
     }

@@ -29,6 +29,7 @@ impl Gather {
     }
 
     // Hands a line on where it is whole, and else keeps that it has begun.
+    #[inline(always)]
     fn hand_on(&mut self, line: Line, last: bool) -> Option<Line>
         ensures begun { (p : LineSoFar) → line ≡ p.line → IsGathered self.old.values p.tuple → Keeps self.new (turned (Some p) last).begun }
         ensures hands { (p : LineSoFar) → line ≡ p.line → IsGathered self.old.values p.tuple → Hands result self.new.values (turned (Some p) last).whole }
@@ -43,6 +44,7 @@ impl Gather {
     }
 
     // A line begins. One without a tuple, or whose tuple has no value, is whole.
+    #[inline(always)]
     fn begin(&mut self, line: Line, last: bool) -> Option<Line>
         ensures begun { Keeps self.new (turned (Some (bare_line line)) last).begun }
         ensures hands { Hands result self.new.values (turned (Some (bare_line line)) last).whole }
@@ -73,6 +75,7 @@ impl Gather {
     }
 
     /// Takes the next piece, and hands a line on where it is whole with it; its values are those that are kept.
+    #[inline(always)]
     pub(crate) fn take(&mut self, piece: Piece) -> Option<Line>
         ensures begun { (p : Maybe LineSoFar) → Keeps self.old p → Keeps self.new (turn p piece).begun }
         ensures hands { (p : Maybe LineSoFar) → Keeps self.old p → Hands result self.new.values (turn p piece).whole }

@@ -13,4 +13,5 @@ pub mod Faults
 pub mod Telling
 pub mod Saying
 pub mod Apart
+pub mod WholeLines
 mod Worked

@@ -82,7 +82,7 @@ spelling Skip h n = record { f = SkipLine; ws = []; last = true; is = refl; fit 
 spelling LeftOpen h n = record { f = OpenLine; ws = []; last = true; is = refl; fit = refl; ends = refl; goes = λ e. refl }
 spelling Dot h n = record { f = DotLine; ws = []; last = true; is = refl; fit = refl; ends = refl; goes = λ e. refl }
 
-spelled_is : (f : Form) (ws : List ℤ) (e : ℕ) (rest : List ℕ) → is_value f ≡ false → spelled f ws e ++ rest ≡ stem f ++ (after_stem ws e ++ rest)
+pub spelled_is : (f : Form) (ws : List ℤ) (e : ℕ) (rest : List ℕ) → is_value f ≡ false → spelled f ws e ++ rest ≡ stem f ++ (after_stem ws e ++ rest)
 spelled_is f [] e rest h = append_assoc (stem f) (e ∷ []) rest
 spelled_is f (w ∷ ws) e rest h =
     ap (λ (t : Bool). (cond t [] (stem f ++ 32 ∷ []) ++ tied (w ∷ ws) e) ++ rest) h

@@ -1,23 +1,30 @@
 -- From the pieces that a reader keeps and tells to the bytes that it was given.
-use Rattle.std.proofs.Common.{◌≡◌, inl, inr, refl, sym, ap, ◌∙◌, subst, ℕ, ◌+◌, ◌<◌, ◌^◌, List, [], ◌∷◌, ◌++◌, length, true, false, Option, Some, None, arith}
-use Rattle.std.specs.Prelude.{flat_map}
+use Rattle.std.proofs.Common.{◌≡◌, inl, inr, refl, sym, ap, ◌∙◌, subst, ℕ, suc, ◌+◌, ◌<◌, ◌≤◌, ◌^◌, List, [], ◌∷◌, ◌++◌, length, true, false, Option, Some, None, arith, length-append}
+use Rattle.std.specs.Prelude.{flat_map, codes}
+use Rattle.std.specs.Fmt.{signed_decimal}
 use Rattle.std.specs.List.{list_all}
 use Rattle.std.proofs.lemmas.Bool.{and_parts, cases_lt}
 use Rattle.std.proofs.lemmas.List.{append-nil, take_at, take_all, length_push}
 use Rattle.std.proofs.lemmas.List.Folds.{list_all-append}
+use Rattle.proof_tree.specs.Text.{place_text, range_text}
+use Rattle.lemma_text.specs.Items.{end_text}
 use Rattle.dense_text.specs.declared.piece.Piece.{Piece}
+use Rattle.dense_text.specs.declared.piece.Piece.TheVariants.{Head, Given, Reply, Chosen, Value, Named, Horizon, Stuck, Goal, Again, NoPlay, Close, Bound, Empty, Barred, BestLeft, Next, Branch, Range, Skip, LeftOpen, Dot}
+use Rattle.dense_text.specs.declared.parts.Due.{Due}
 use Rattle.dense_text.specs.declared.reader.Fed.{Fed}
 use Rattle.dense_text.specs.declared.reader.Fed.TheVariants.{More, Whole, Bad}
 use Rattle.dense_text.specs.declared.reader.End.TheVariants.{Whole as WholeEnd, CutShort, Bad as BadEnd}
 use Rattle.dense_text.specs.Kept.{Held, held}
 use Rattle.dense_text.specs.Pieces.{piece_text, piece_fits}
-use Rattle.dense_text.specs.Grammar.{at_start, place_after}
-use Rattle.dense_text.specs.States.{state_at}
-use Rattle.dense_text.specs.Standing.{Standing, no_text, next_standing, standing}
+use Rattle.dense_text.specs.Grammar.{at_start, at, allows, open_after, place_after}
+use Rattle.dense_text.specs.States.{State, due, state_at}
+use Rattle.dense_text.specs.Standing.{Standing, going, no_text, next_standing, standing_from, standing}
 use Rattle.dense_text.specs.Places.{BeginsText, IsFault}
 use Rattle.dense_text.specs.Telling.{is_ended, Tells}
-use Rattle.dense_text.specs.Reader.{tell, standing_of, StandsFor, HasRoom, HasStopped, Says, IsTold, Ends, Goes}
-use Rattle.dense_text.proofs.OneText.{told_of, text_stands}
+use Rattle.dense_text.specs.Reader.{tell, standing_of, StandsFor, HasRoom, HasStopped, Says, SaysWhole, IsTold, Ends, Goes}
+use Rattle.dense_text.specs.WholeLines.{BeginsWith, IsDue, held_after, GoesOver}
+use Rattle.dense_text.proofs.OneText.{told_of, text_stands, append_standing}
+use Rattle.dense_text.proofs.PiecesRead.{piece_read}
 use Rattle.dense_text.proofs.Faults.{standing_next, nothing_pending, no_earlier}
 use Rattle.dense_text.proofs.Telling.{all_told}
 
@@ -104,3 +111,76 @@ short_for old k e w bytes told h = ended_short k bytes told w (subst (λ (x : Op
 
 pub bad_for : (old : Option Held) → None ≡ old → (bytes : List ℕ) (told : List Piece) → StandsFor old bytes told → Ends bytes told BadEnd
 bad_for old e bytes told h = (subst (λ (k : Option Held). StandsFor k bytes told) (sym e) h).1
+
+-- a piece that may come where a line begins has a first byte
+begins_somehow : (d : Due) (i : Piece) → allows (at d) i ≡ true → (b : ℕ) × (w : List ℕ) × (piece_text i ≡ b ∷ w)
+begins_somehow d (Head o v) a = absurd (cc)
+begins_somehow d (Given k bare) a = (117, 32 ∷ (place_text k.0 ++ end_text bare), refl)
+begins_somehow d (Reply bare) a = (102, end_text bare, refl)
+begins_somehow d (Chosen bare) a = (119, end_text bare, refl)
+begins_somehow d (Value u v last) a = absurd (cc)
+begins_somehow d Named a = (109, codes "\n", refl)
+begins_somehow d (Horizon k) a = (104, 32 ∷ (place_text k.0 ++ codes "\n"), refl)
+begins_somehow d Stuck a = (116, codes "\n", refl)
+begins_somehow d Goal a = (103, codes "\n", refl)
+begins_somehow d (Again n) a = (97, 32 ∷ (place_text n ++ codes "\n"), refl)
+begins_somehow d (NoPlay k) a = (108, 32 ∷ (place_text k.0 ++ codes "\n"), refl)
+begins_somehow d Close a = (99, codes "\n", refl)
+begins_somehow d (Bound x low high) a = (98, 32 ∷ (place_text x.0 ++ (codes " " ++ (range_text low high ++ codes "\n"))), refl)
+begins_somehow d Empty a = (101, codes "\n", refl)
+begins_somehow d Barred a = (120, codes "\n", refl)
+begins_somehow d BestLeft a = (121, codes "\n", refl)
+begins_somehow d Next a = (110, codes "\n", refl)
+begins_somehow d (Branch x) a = (118, 32 ∷ (place_text x.0 ++ codes "\n"), refl)
+begins_somehow d (Range high) a = (114, 32 ∷ (signed_decimal high ++ codes "\n"), refl)
+begins_somehow d Skip a = (115, codes "\n", refl)
+begins_somehow d LeftOpen a = (111, codes "\n", refl)
+begins_somehow d Dot a = (46, codes "\n", refl)
+
+-- a reader before a line goes over the piece with which the bytes begin
+module _ (d : Due) (bytes : List ℕ) (i : Piece) (rest : List ℕ) (b : BeginsWith d i bytes rest) where
+  text_goes : (n : ℕ) (before : List ℕ) (told : List Piece) → standing before ≡ going told n (due d) → standing (before ++ piece_text i) ≡ standing_of (told ++ i ∷ []) (held_after (Some (held n (due d))) i)
+  text_goes n before told h =
+      append_standing (going [] 0 (state_at at_start)) before (piece_text i)
+      ∙ ap (λ (x : Standing). standing_from x (piece_text i)) h
+      ∙ ap (standing_from (going told n (due d))) (sym (append-nil (piece_text i)))
+      ∙ piece_read (at d) i told n [] b.allowed b.fits
+
+  many : (before : List ℕ) → length before + 1 ≤ length (before ++ piece_text i)
+  many before =
+      let w = begins_somehow d i b.allowed in
+      let e : length (before ++ piece_text i) ≡ length before + length (piece_text i) = length-append before (piece_text i) in
+      let one : length (piece_text i) ≡ suc (length w.1) = ap length w.2 in
+      omega (arith, e, one)
+
+  shorter : length rest < length bytes
+  shorter =
+      let w = begins_somehow d i b.allowed in
+      let whole : length bytes ≡ length (piece_text i) + length rest = ap length b.text ∙ length-append (piece_text i) rest in
+      let one : length (piece_text i) ≡ suc (length w.1) = ap length w.2 in
+      omega (arith, whole, one)
+
+  line_goes : (n : ℕ) (new : Option Held) → (n + 1 < 2 ^ 64 → new ≡ held_after (Some (held n (due d))) i) → (before : List ℕ) (told : List Piece) → length (before ++ piece_text i) < 2 ^ 64 → StandsFor (Some (held n (due d))) before told
+      → StandsFor new (before ++ piece_text i) (told ++ i ∷ []) × SaysWhole (before ++ piece_text i) (told ++ i ∷ []) i
+  line_goes n new to before told l h =
+      let few = h.1.few in
+      let size = many before in
+      let after : Option Held = held_after (Some (held n (due d))) i in
+      let s : StandsFor after (before ++ piece_text i) (told ++ i ∷ []) = stood after (before ++ piece_text i) (told ++ i ∷ []) (text_goes n before told h.0) in
+      let r = s.1 in
+      let text = r.text ∙ ap (λ (u : List ℕ). flat_map piece_text (told ++ i ∷ []) ++ u) (nothing_pending (place_after (open_after n i) i)) ∙ append-nil (flat_map piece_text (told ++ i ∷ [])) in
+      (subst (λ (k : Option Held). StandsFor k (before ++ piece_text i) (told ++ i ∷ [])) (sym (to (omega (arith, few, size, l)))) s, (r.begins, text, b.fits, r.accepted))
+
+  from_due : (n : ℕ) (s : State) (new : Option Held) → s ≡ due d → (HasRoom (Some (held n s)) → new ≡ held_after (Some (held n s)) i) → GoesOver (Some (held n s)) new bytes i rest
+  from_due n s new e to =
+      subst (λ (t : State). GoesOver (Some (held n t)) new bytes i rest) (sym e) (record {
+        text = b.text;
+        shorter = shorter;
+        is_line = (d, b.allowed);
+        stands = λ before told l h. (line_goes n new to before told l h).0;
+        says = λ before told l h. (line_goes n new to before told l h).1;
+      })
+
+  pub goes_over : (old new : Option Held) → IsDue old d → ((c : Due) → IsDue old c → HasRoom old → new ≡ held_after old i) → GoesOver old new bytes i rest
+  goes_over None new e to = absurd e
+  goes_over (Some h) new e to = from_due h.branches h.state new e (λ room. to d e room)

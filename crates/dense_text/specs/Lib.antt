@@ -9,3 +9,4 @@ pub mod Telling
 pub mod Asked
 pub mod Kept
 pub mod Reader
+pub mod WholeLines

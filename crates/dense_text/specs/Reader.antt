@@ -52,11 +52,14 @@ pub record HasStopped (bytes : List ℕ) (b : ℕ) : Type 0 where
   pub is : IsFault place (bytes ++ b ∷ [])
   pub here : BeginsText bytes → place ≡ length bytes
 
+-- what the last of these pieces says of the bytes, with which it ends
+abbrev pub SaysWhole : List ℕ → List Piece → Piece → Type 0
+SaysWhole bytes told piece = BeginsText bytes × (bytes ≡ flat_map piece_text told) × IsTrue (piece_fits piece) × IsTrue (accepts at_start 0 told)
+
 -- what an answer says of a byte, after the bytes before it and the pieces that they told
 abbrev pub Says : List ℕ → List Piece → ℕ → Fed → Type 0
 Says bytes told b More = BeginsText (bytes ++ b ∷ [])
-Says bytes told b (Whole piece) =
-    BeginsText (bytes ++ b ∷ []) × (bytes ++ b ∷ [] ≡ flat_map piece_text (told ++ piece ∷ [])) × IsTrue (piece_fits piece) × IsTrue (accepts at_start 0 (told ++ piece ∷ []))
+Says bytes told b (Whole piece) = SaysWhole (bytes ++ b ∷ []) (told ++ piece ∷ []) piece
 Says bytes told b Bad = HasStopped bytes b
 
 -- the bytes are the text of a certificate, and its pieces were told

@@ -7,6 +7,8 @@
 //! of a tuple by itself, and every other line. Which pieces may come depends on the piece before, and where a part of a tree ends
 //! on whether a branch is open: its next case comes then, and else the text has ended (`specs/Grammar`). So the branches that are
 //! open are counted, and nothing more is kept of them.
+//!
+//! Text is read byte by byte, and a line of a tree at once where all its bytes are there (`whole_line`).
 #![tactic(auto)]
 
 mod laws;
@@ -16,6 +18,7 @@ mod parts;
 mod piece;
 mod reader;
 mod slot;
+mod whole_line;
 
 pub use laws::{
     bytes_are_one_certificate_or_have_one_fault, each_standing_is_right,

@@ -1,14 +1,16 @@
-//! Reading the text of a dense certificate byte by byte.
-ghost use Rattle.std.specs.Prelude.{◌≡◌, ◌∷◌, [], ◌++◌, ◌+◌, ◌<◌, ◌^◌, length, List, ℕ};
+//! Reading the text of a dense certificate byte by byte, or a line at once.
+ghost use Rattle.std.specs.Prelude.{◌≡◌, ◌∷◌, [], ◌++◌, ◌+◌, ◌<◌, ◌^◌, length, List, ℕ, IfNone, IfSome};
 ghost use Rattle.dense_text.specs.declared.piece.Piece.{Piece};
 ghost use Rattle.dense_text.specs.Grammar.{open_after as open_then};
-ghost use Rattle.dense_text.specs.Reader.{StandsFor, Says, Ends, Goes, tell};
+ghost use Rattle.dense_text.specs.Reader.{StandsFor, Says, Ends, Goes, HasRoom, tell};
 ghost use Rattle.dense_text.specs.Kept.{state_of, kept, FitsKept};
 ghost use Rattle.dense_text.specs.Telling.{is_ended as has_ended, is_last as ends_text};
+ghost use Rattle.dense_text.specs.WholeLines.{GoesOver, IsDue, held_after};
 
 use crate::part::{Part, PartNext, next_part, part_after};
 use crate::parts::{Due, Word};
 use crate::piece::Piece;
+use crate::whole_line::{line_with_values, whole_line};
 use std::marker::Model;
 
 /// What became of the text with a byte.
@@ -76,6 +78,65 @@ impl DenseReader {
         self.part = part;
         self.branches = branches;
         fed
+    }
+
+    // Which lines may come here, where one begins.
+    #[inline(always)]
+    fn due(&self) -> Option<Due>
+        ensures { IfSome result (λ d. IsDue self.now d) }
+    {
+        let Some(part) = self.part else {
+            return None;
+        };
+        match part {
+            Part::Line(due) => Some(due),
+            Part::Word { .. }
+            | Part::Outcome
+            | Part::Won
+            | Part::Lettered(_)
+            | Part::Number { .. } => None,
+        }
+    }
+
+    // Goes over a whole piece.
+    #[inline(always)]
+    fn go_over(&mut self, piece: Piece)
+        ensures { (d : Due) → IsDue self.old d → HasRoom self.old → self.new ≡ held_after self.old piece }
+    {
+        self.branches = open_after(self.branches, piece);
+        self.part = Some(part_after(self.branches, piece));
+    }
+
+    /// Reads a line at once, where the bytes begin with all of one that may come and that is a letter, or a letter and a number that
+    /// counts something: its piece, and the bytes after it. Else nothing changes.
+    #[inline(always)]
+    pub fn feed_line<'a>(&mut self, bytes: &'a [u8]) -> Option<(Piece, &'a [u8])>
+        ensures none { IfNone result (self.new ≡ self.old) }
+        ensures line { IfSome result (λ r. GoesOver self.old self.new bytes.now r.0 r.1.now) }
+    {
+        let Some(due) = self.due() else {
+            return None;
+        };
+        let Some((piece, rest)) = whole_line(due, bytes) else {
+            return None;
+        };
+        self.go_over(piece);
+        Some((piece, rest))
+    }
+
+    /// The same for a line with values.
+    pub fn feed_values<'a>(&mut self, bytes: &'a [u8]) -> Option<(Piece, &'a [u8])>
+        ensures none { IfNone result (self.new ≡ self.old) }
+        ensures line { IfSome result (λ r. GoesOver self.old self.new bytes.now r.0 r.1.now) }
+    {
+        let Some(due) = self.due() else {
+            return None;
+        };
+        let Some((piece, rest)) = line_with_values(due, bytes) else {
+            return None;
+        };
+        self.go_over(piece);
+        Some((piece, rest))
     }
 
     /// What the bytes so far are, where no more come.

@@ -1,5 +1,5 @@
 use Rattle.dense_judge.proofs.Gathers.{none_whole, one_whole}
-use Rattle.dense_judge.proofs.progress.DenseChecker.take.Goals as goal
+use Rattle.dense_judge.proofs.progress.DenseChecker.hand_on.Goals as goal
 
 pub returns-in_default-clause-taken : goal.returns-in_default-clause-taken
 returns-in_default-clause-taken c = λ a h.
