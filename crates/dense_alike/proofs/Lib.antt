@@ -7,3 +7,5 @@ pub mod LaidOut
 pub mod Viewing
 pub mod Looking
 pub mod Filled
+pub mod Entailing
+pub mod Satisfying

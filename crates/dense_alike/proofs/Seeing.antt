@@ -1,10 +1,15 @@
 -- Whether values are the same, part by part.
-use Rattle.std.proofs.Common.{◌≡◌, ◌∙◌, ◌+◌, ◌<◌, ℕ, suc, Bool, true, false, ◌&&◌, List, [], ◌∷◌, ◌++◌, length, drop, refl, sym, ap, arith, ℤ}
+use Rattle.std.proofs.Common.{◌≡◌, ◌∙◌, ◌+◌, ◌<◌, ℕ, suc, Bool, true, false, ◌&&◌, List, [], ◌∷◌, ◌++◌, ◌==◌, inl, inr, length, drop, map, refl, sym, ap, subst, arith, ℤ}
 use Rattle.std.specs.Prelude.{flat_map, get_or, slice_index_or, pos}
 use Rattle.std.specs.Ordering.{int_eq}
+use Rattle.std.proofs.lemmas.Bool.Decides.{nat_tests}
+use Rattle.std.proofs.lemmas.Int.{ints}
 use Rattle.std.proofs.lemmas.List.{at_drop_more, map-append}
 use Rattle.qc_model.specs.Domains.{Values, is_single, least_value}
 use Rattle.qc_model.specs.Lists.{same_values}
+use Rattle.qc_model.proofs.Conjunctions.{first, second, together}
+use Rattle.proof_alike.specs.Alike.{is_among}
+use Rattle.proof_alike.proofs.Boxes.{either}
 use Rattle.likeness.specs.Seeing.{values_of}
 
 pub same_append : (us vs xs ys : List ℤ) → length us ≡ length vs → same_values (us ++ xs) (vs ++ ys) ≡ (same_values us vs && same_values xs ys)
@@ -60,3 +65,38 @@ single_same (v ∷ []) [] h k = cc
 single_same (v ∷ []) (w ∷ []) h k = one_same v w
 single_same (v ∷ []) (w ∷ x ∷ e) h k = cc
 single_same (v ∷ w ∷ d) e h k = cc
+
+-- lists that are the same
+pub same_lists : (us vs : List ℤ) → same_values us vs ≡ true → us ≡ vs
+same_lists [] [] e = refl
+same_lists [] (v ∷ vs) e = cc
+same_lists (u ∷ us) [] e = cc
+same_lists (u ∷ us) (v ∷ vs) e =
+    ap (λ z. z ∷ us) (equal u v (first (int_eq u v) (same_values us vs) e)) ∙ ap (λ zs. v ∷ zs) (same_lists us vs (second (int_eq u v) (same_values us vs) e))
+  where
+    equal : (m n : ℤ) → int_eq m n ≡ true → m ≡ n
+    equal m n e = grind (arith, ints)
+
+pub same_itself : (us : List ℤ) → same_values us us ≡ true
+same_itself [] = refl
+same_itself (u ∷ us) = together (int_eq u u) (same_values us us) (equal u) (same_itself us)
+  where
+    equal : (n : ℤ) → int_eq n n ≡ true
+    equal n = grind (arith, ints)
+
+-- two functions that do the same at each of the numbers
+pub same_at : (f h : ℕ → ℤ) (xs : List ℕ) (x : ℕ) → map f xs ≡ map h xs → is_among xs x ≡ true → f x ≡ h x
+same_at f h [] x e m = cc
+same_at f h (y ∷ xs) x e m = elim (either (y == x) (is_among xs x) m) [
+  | inl q ↦ subst (λ z. f z ≡ h z) (equal_numbers y x q) (front (f y) (h y) (map f xs) (map h xs) e)
+  | inr n ↦ same_at f h xs x (rest (f y) (h y) (map f xs) (map h xs) e) n
+]
+  where
+    equal_numbers : (j k : ℕ) → (j == k) ≡ true → j ≡ k
+    equal_numbers j k e = grind (arith, nat_tests)
+
+    front : (p q : ℤ) (ps qs : List ℤ) → p ∷ ps ≡ q ∷ qs → p ≡ q
+    front p q ps qs e = cc
+
+    rest : (p q : ℤ) (ps qs : List ℤ) → p ∷ ps ≡ q ∷ qs → ps ≡ qs
+    rest p q ps qs e = cc

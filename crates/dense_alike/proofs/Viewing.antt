@@ -33,6 +33,13 @@ abbrev pub same_view : Game → ℕ → List ℤ → List ℤ → Rule → Bool
 same_view g i here there c =
     not (is_from i c) || same_values (viewed g i here (entailed_by c (laid g here)) c) (viewed g i there (entailed_by c (laid g there)) c)
 
+-- the constraint is of an earlier scope, or sees the same of both positions, whether it holds after them or not
+abbrev pub seen_same : Game → ℕ → List ℤ → List ℤ → Rule → Bool
+seen_same g i here there c = not (is_from i c) || same_values (sees g i here c) (sees g i there c)
+
+pub seen_other : (g : Game) (i : ℕ) (here there : List ℤ) (c : Rule) → is_from i c ≡ false → seen_same g i here there c ≡ true
+seen_other g i here there c e = ap (λ b. not b || same_values (sees g i here c) (sees g i there c)) e
+
 -- from item to item
 pub all_step : {X : Type 0} (p : X → Bool) (xs : List X) (k : ℕ) (x : X) → slice_get xs k ≡ Some x → list_all p (drop k xs) ≡ (p x && list_all p (drop (k + 1) xs))
 all_step {X} p xs k x e = go xs k e ∙ ap (λ n. p x && list_all p (drop n xs)) (sym (add-one k))
@@ -57,7 +64,7 @@ answer_at {X} f xs hs k x h e s i = i ∙ (ap (λ us. get_or us k false) e ∙ g
     go (y ∷ xs) zero s = ap f (inside y s)
     go (y ∷ xs) (suc k) s = go xs k s
 
-no_sight : (g : Game) (i : ℕ) (vs : List ℤ) (c : Rule) (h : Bool) → tells c ≡ false → viewed g i vs h c ≡ []
+pub no_sight : (g : Game) (i : ℕ) (vs : List ℤ) (c : Rule) (h : Bool) → tells c ≡ false → viewed g i vs h c ≡ []
 no_sight g i vs c h e = none h (sees g i vs c) (nothing (reading c) e)
   where
     nothing : (r : Reading) → is_telling r ≡ false → seen_as r (λ x. not (is_looked_at g i x)) vs c ≡ []
@@ -95,7 +102,7 @@ pub view_other : (g : Game) (i : ℕ) (here there : List ℤ) (c : Rule) → is_
 view_other g i here there c e = ap (λ b. not b || same_values (viewed g i here (entailed_by c (laid g here)) c) (viewed g i there (entailed_by c (laid g there)) c)) e
 
 -- a constraint is entailed alike where its variables have the same left
-entailed_same : (c : Rule) (a b : Box) → ((x : ℕ) → is_among (variables_of c.args) x ≡ true → values_left a x ≡ values_left b x) → entailed_by c a ≡ entailed_by c b
+pub entailed_same : (c : Rule) (a b : Box) → ((x : ℕ) → is_among (variables_of c.args) x ≡ true → values_left a x ≡ values_left b x) → entailed_by c a ≡ entailed_by c b
 entailed_same c a b h = ap (is_entailed (meaning_of c.pred)) (fill_all (left_to a) (left_to b) c.args (record { number = λ n. refl; variable = λ x m. h x.0 m }))
 
 -- the least value of an earlier variable stands at its place
@@ -228,17 +235,18 @@ held_at g i start vs hs k r a l s =
     inside (c ∷ cs) (suc k) r s = omega (arith, inside cs k r s)
 
 -- nothing is asked of the constraints before a place, which are of earlier scopes
-pub views_from : (g : Game) (i start : ℕ) (here there : List ℤ) → IsStart g i start → list_all (same_view g i here there) (drop start g.constraints) ≡ list_all (same_view g i here there) g.constraints
-views_from g i start here there h = go g.constraints start h
+pub all_from : (g : Game) (i start : ℕ) (p : Rule → Bool) → ((c : Rule) → is_from i c ≡ false → p c ≡ true) → IsStart g i start → list_all p (drop start g.constraints) ≡ list_all p g.constraints
+all_from g i start p other h = go g.constraints start h
   where
-    go : (cs : List Rule) (n : ℕ) → ((k : ℕ) (c : Rule) → k < n → slice_get cs k ≡ Some c → is_from i c ≡ false) → list_all (same_view g i here there) (drop n cs) ≡ list_all (same_view g i here there) cs
+    go : (cs : List Rule) (n : ℕ) → ((k : ℕ) (c : Rule) → k < n → slice_get cs k ≡ Some c → is_from i c ≡ false) → list_all p (drop n cs) ≡ list_all p cs
     go cs zero f = refl
     go [] (suc n) f = refl
-    go (c ∷ cs) (suc n) f =
-        go cs n (λ k d l s. f (suc k) d (omega (arith, l)) s)
-        ∙ sym (ap (λ b. b && list_all (same_view g i here there) cs) (view_other g i here there c (f 0 c (omega arith) refl)))
+    go (c ∷ cs) (suc n) f = go cs n (λ k d l s. f (suc k) d (omega (arith, l)) s) ∙ sym (ap (λ b. b && list_all p cs) (other c (f 0 c (omega arith) refl)))
 
 -- what is seen in the game that is known
 pub seen_in : (g reads : Game) (i : ℕ) (here there : List ℤ) (r : Rule) (h k b : Bool) → reads ≡ g → b ≡ (not (is_from i r) || same_values (viewed reads i here h r) (viewed reads i there k r)) →
     b ≡ (not (is_from i r) || same_values (viewed g i here h r) (viewed g i there k r))
 seen_in g reads i here there r h k b e q = q ∙ ap (λ (z : Game). not (is_from i r) || same_values (viewed z i here h r) (viewed z i there k r)) e
+
+pub seen_alike_in : (g reads : Game) (i : ℕ) (here there : List ℤ) (r : Rule) (b : Bool) → reads ≡ g → b ≡ seen_same reads i here there r → b ≡ seen_same g i here there r
+seen_alike_in g reads i here there r b e q = q ∙ ap (λ (z : Game). seen_same z i here there r) e

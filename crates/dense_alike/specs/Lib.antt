@@ -5,3 +5,4 @@ pub mod Kept
 pub mod Seeing
 pub mod Comparing
 pub mod Starts
+pub mod Unseen

@@ -1,7 +1,7 @@
 -- Boxes as ranges of values that stand in a row.
-use Rattle.std.specs.Prelude.{◌≡◌, ◌≤◌, ℕ, zero, suc, ◌+◌, ◌-◌, List, [], ◌∷◌, ◌++◌, take, drop, length, flat_map, ℤ, ◌-ℤ◌, ◌≤ℤ◌, nat_abs, true}
+use Rattle.std.specs.Prelude.{◌≡◌, ◌≤◌, ◌<◌, ℕ, zero, suc, ◌+◌, ◌-◌, List, [], ◌∷◌, ◌++◌, take, drop, length, flat_map, ℤ, ◌-ℤ◌, ◌≤ℤ◌, nat_abs, true}
 use Rattle.qc_model.specs.Lists.{numbers_from}
-use Rattle.qc_model.specs.Domains.{Box, Values, box_values, greatest_value, has_value, least_value}
+use Rattle.qc_model.specs.Domains.{Box, Values, box_values, greatest_value, has_value, is_single, least_value, values_left}
 use Rattle.dense_alike.specs.declared.range.Range.{Range}
 
 -- the values from first to last
@@ -31,10 +31,15 @@ start_of from es zero = from
 start_of from [] (suc x) = from
 start_of from (e ∷ es) (suc x) = start_of e es x
 
--- ranges, where those of each variable end, and the least value of each
-pub record AreKept (rs : List Range) (ends : List ℕ) (least : List ℤ) : Type 0 where
+-- each of the first n variables has one value
+abbrev pub AreSingle : Box → ℕ → Type 0
+AreSingle box n = (x : ℕ) → x < n → is_single (values_left box x) ≡ true
+
+-- ranges, where those of each variable end, the least value of each, and how many from the first on have one value
+pub record AreKept (rs : List Range) (ends : List ℕ) (least : List ℤ) (fixed : ℕ) : Type 0 where
   pub rises : Rises 0 ends (length rs)
   pub values : least ≡ box_values (domains rs 0 ends)
+  pub first : AreSingle (domains rs 0 ends) fixed
 
 -- the ranges of these values were appended
 pub record AddsValues (old new : List Range) (vs : Values) : Type 0 where

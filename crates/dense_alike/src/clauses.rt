@@ -1,5 +1,5 @@
 //! What clauses see.
-ghost use Rattle.std.specs.Prelude.{◌≡◌, not, map, slice_get};
+ghost use Rattle.std.specs.Prelude.{◌≡◌, ℕ, Bool, true, not, map, slice_get, IsTrue};
 ghost use Rattle.std.specs.List.{list_any};
 ghost use Rattle.qc_model.specs.Lists.{same_values};
 ghost use Rattle.proof_alike.specs.Alike.{is_looked_at};
@@ -62,6 +62,16 @@ pub(crate) fn clause_sees_nothing(
     is_satisfied(reads, i, rule, values) || have_no_variables(arguments(rule))
 }
 
+/// Whether each of the clause's own variables has the same value in both, or none in both, so that the clause sees the same.
+fn has_same_values(rule: &Constraint, here: &[i64], there: &[i64]) -> bool
+    ensures { IsTrue result → (known : ℕ → Bool) → same_values (seen_as as_clause known here.now rule.now) (seen_as as_clause known there.now rule.now) ≡ true }
+{
+    if here.len() != there.len() {
+        return false;
+    }
+    are_values_same(arguments(rule), here, there)
+}
+
 /// Whether the clause sees the same of both values: it is satisfied by both, or by neither and each of its own variables
 /// has the same value.
 pub(crate) fn are_clauses_same(
@@ -73,6 +83,10 @@ pub(crate) fn are_clauses_same(
 ) -> bool
     ensures { result ≡ same_values (seen_as as_clause (λ x. not (is_looked_at reads.now i.0 x)) here.now rule.now) (seen_as as_clause (λ x. not (is_looked_at reads.now i.0 x)) there.now rule.now) }
 {
+    // the commonest case, and the cheapest to find
+    if has_same_values(rule, here, there) {
+        return true;
+    }
     if is_satisfied(reads, i, rule, here) {
         return clause_sees_nothing(reads, i, rule, there);
     }

@@ -8,6 +8,7 @@ use crate::kept_box::KeptBox;
 use crate::leasts::{first_of, is_kept_once, is_read_once, is_seen_same, read_least};
 use crate::reads::Reads;
 use crate::starts::starts_of;
+use crate::unseen::unseen_of;
 use crate::views::are_positions_same;
 use check_box::Remains;
 use fd_store::Store;
@@ -23,6 +24,8 @@ pub(crate) struct Comparer<'p> {
     reads: Reads<'p>,
     /// For each scope, and the goal, a place before which constraints are of earlier scopes.
     starts: Vec<usize>,
+    /// For each scope, and the goal, whether no earlier variable is seen one by one from there on.
+    unseen: Vec<bool>,
     /// The declared box, in which values of the first variables are laid for a while.
     declared: Remains,
     /// The least value left to each variable, those of the variables before the scope.
@@ -40,7 +43,7 @@ impl<'p> Model for Comparer<'p> {
 
     ghost view = { λ c. c.problem.now };
 
-    ghost invariant = { λ c. CanCompare c.problem.now c.reads c.starts.items c.declared c.here.items c.holds_here.items c.holds_there.items };
+    ghost invariant = { λ c. CanCompare c.problem.now c.reads c.starts.items c.unseen.items c.declared c.here.items c.holds_here.items c.holds_there.items };
 }
 
 impl<'p> Comparer<'p> {
@@ -51,6 +54,7 @@ impl<'p> Comparer<'p> {
         let problem = levels.problem;
         let reads = Reads::new(alloc, levels)?;
         let starts = starts_of(alloc, problem)?;
+        let unseen = unseen_of(alloc, problem, &reads)?;
         let declared = Remains::new(alloc, problem)?;
         let here = vec![in alloc; 0i64; problem.variables()]?;
         let holds_here = vec![in alloc; false; problem.constraints()]?;
@@ -59,6 +63,7 @@ impl<'p> Comparer<'p> {
             problem,
             reads,
             starts,
+            unseen,
             declared,
             here,
             holds_here,
@@ -94,7 +99,8 @@ impl<'p> Comparer<'p> {
         read_least(store, first, &mut self.here);
         let here = first_of(&self.here, first);
         let there = first_of(kept.values(), first);
-        if !is_seen_same(&self.reads, i, first, here, there) {
+        let unseen = self.unseen[i.0 as usize];
+        if !is_seen_same(&self.reads, i, first, unseen, here, there) {
             return false;
         }
         are_positions_same(

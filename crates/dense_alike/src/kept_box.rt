@@ -2,7 +2,7 @@
 ghost use Rattle.std.specs.Prelude.{◌≡◌, ◌<◌, ◌≤◌, ◌-◌, length, take, drop, IfOk};
 ghost use Rattle.qc_model.specs.Domains.{box_values, is_single, least_value, values_left};
 ghost use Rattle.qc_model.specs.Lists.{same_values};
-ghost use Rattle.dense_alike.specs.Ranges.{domains, start_of, values_of, Rises};
+ghost use Rattle.dense_alike.specs.Ranges.{domains, start_of, values_of, AreSingle, Rises};
 
 use crate::range::Range;
 use crate::runs::{has_ranges, push_left};
@@ -20,6 +20,8 @@ pub(crate) struct KeptBox {
     ends: Vec<usize>,
     /// The least value of each variable, 0 where none was left.
     least: Vec<i64>,
+    /// How many variables from the first on had one value each.
+    fixed: usize,
 }
 
 impl Model for KeptBox {
@@ -30,7 +32,7 @@ impl Model for KeptBox {
 
     ghost view = { λ k. domains k.ranges.items 0 k.ends.items };
 
-    ghost invariant = { λ k. AreKept k.ranges.items k.ends.items k.least.items };
+    ghost invariant = { λ k. AreKept k.ranges.items k.ends.items k.least.items k.fixed };
 }
 
 /// The least value left to x, or 0 where there is none.
@@ -40,6 +42,19 @@ fn least_left(store: &Store, x: VarId) -> i64
 {
     store.known(x);
     if store.size(x) == 0 { 0 } else { store.min(x) }
+}
+
+/// How many variables from the first on have one value each.
+fn count_fixed(store: &Store) -> usize
+    requires { length store.now.box ≤ 500 }
+    ensures { AreSingle store.now.box result }
+{
+    for x in 0..store.count() {
+        if !store.is_fixed(VarId(x as u16)) {
+            return x;
+        }
+    }
+    store.count()
 }
 
 /// Whether the ranges have one value.
@@ -100,7 +115,15 @@ impl KeptBox {
             ranges,
             ends,
             least,
+            fixed: count_fixed(store),
         })
+    }
+
+    /// How many variables from the first on have one value each.
+    pub(crate) fn fixed(&self) -> usize
+        ensures { AreSingle self.now result }
+    {
+        self.fixed
     }
 
     /// The least value of each variable.

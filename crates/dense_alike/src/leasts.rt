@@ -1,10 +1,11 @@
 //! What two boxes leave to the variables before a scope.
-ghost use Rattle.std.specs.Prelude.{◌≡◌, ◌≤◌, ◌||◌, not, length, take, pos, slice_index_or, IsFalse};
+ghost use Rattle.std.specs.Prelude.{◌≡◌, ◌≤◌, ◌||◌, not, length, take, pos, slice_index_or, IsFalse, IsTrue};
 ghost use Rattle.std.specs.Ordering.{int_eq};
 ghost use Rattle.qc_model.specs.Domains.{box_values, has_empty};
 ghost use Rattle.qc_model.specs.Game.{before};
 ghost use Rattle.proof_alike.specs.Alike.{is_seen};
 ghost use Rattle.dense_tree.specs.Alike.{each_below, reads_one_position};
+ghost use Rattle.dense_alike.specs.Unseen.{SeesNone};
 
 use crate::kept_box::KeptBox;
 use crate::reads::Reads;
@@ -22,7 +23,7 @@ pub(crate) fn is_read_once(reads: &Reads, i: ScopeId, first: usize, store: &Stor
 {
     for k in 0..first {
         let x = VarId(k as u16);
-        if reads.is_read(i, x) && !store.is_fixed(x) {
+        if !store.is_fixed(x) && reads.is_read(i, x) {
             return false;
         }
     }
@@ -37,6 +38,9 @@ pub(crate) fn is_kept_once(reads: &Reads, i: ScopeId, first: usize, kept: &KeptB
     requires few { length kept.now ≤ 500 }
     ensures { result ≡ reads_one_position reads.now i.0 kept.now }
 {
+    if first <= kept.fixed() {
+        return true;
+    }
     for k in 0..first {
         if reads.is_read(i, VarId(k as u16)) && !kept.is_single(k) {
             return false;
@@ -45,19 +49,25 @@ pub(crate) fn is_kept_once(reads: &Reads, i: ScopeId, first: usize, kept: &KeptB
     true
 }
 
-/// Whether each variable before scope i that is seen from it on has the same value in both positions.
+/// Whether each variable before scope i that is seen from it on has the same value in both positions. It may be known that there is
+/// none.
 pub(crate) fn is_seen_same(
     reads: &Reads,
     i: ScopeId,
     first: usize,
+    unseen: bool,
     here: &[i64],
     there: &[i64],
 ) -> bool
     requires scope { i.0 ≤ length reads.now.scopes }
     requires first { first ≡ before reads.now i.0 }
     requires few { first ≤ 500 }
+    requires unseen { IsTrue unseen → SeesNone reads.now i.0 }
     ensures { result ≡ each_below first (λ x. not (is_seen reads.now i.0 x) || int_eq (slice_index_or here.now x (pos 0)) (slice_index_or there.now x (pos 0))) }
 {
+    if unseen {
+        return true;
+    }
     for k in 0..first {
         let x = VarId(k as u16);
         if reads.is_seen(i, x) && !is_value_same(x, here, there) {

@@ -6,7 +6,8 @@
 //!
 //! `KeptBox` is a box as ranges of values, `Reads` knows which earlier variables constraints read from each scope on, and `Comparer`
 //! has a box of its own, in which it lays the values of the earlier variables among the declared values of the others, to ask which
-//! constraints hold whatever comes.
+//! constraints hold whatever comes. Where all constraints see the same of both positions it needn't ask: each holds whatever comes
+//! after both, or after neither.
 #![tactic(auto)]
 
 mod clauses;
@@ -24,6 +25,7 @@ mod runs;
 mod seen;
 mod starts;
 mod sums;
+mod unseen;
 mod values;
 mod views;
 

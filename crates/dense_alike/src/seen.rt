@@ -40,6 +40,21 @@ fn sees_same(reads: &Reads, i: ScopeId, rule: &Constraint, here: &[i64], there: 
     }
 }
 
+/// Whether the constraint is of a scope before i, or sees the same of both values.
+pub(crate) fn is_seen_alike(
+    reads: &Reads,
+    i: ScopeId,
+    rule: &Constraint,
+    here: &[i64],
+    there: &[i64],
+) -> bool
+    requires here { IsTrue (are_readable here.now rule.now.args) }
+    requires there { IsTrue (are_readable there.now rule.now.args) }
+    ensures { result ≡ (not (is_from i.0 rule.now) || same_values (sees reads.now i.0 here.now rule.now) (sees reads.now i.0 there.now rule.now)) }
+{
+    rule.owner.0 < i.0 || sees_same(reads, i, rule, here, there)
+}
+
 /// Whether the constraint sees the same of both positions, where it sees nothing of one after which it holds whatever comes.
 fn is_view_same(
     reads: &Reads,

@@ -4,19 +4,20 @@ ghost use Rattle.std.specs.List.{list_all};
 ghost use Rattle.qc_model.specs.Domains.{declared_box};
 ghost use Rattle.qc_model.specs.Lists.{same_values};
 ghost use Rattle.lemma_list.specs.Entailment.{entailed_by};
+ghost use Rattle.proof_alike.specs.Alike.{sees};
 ghost use Rattle.dense_tree.specs.Alike.{is_from};
 ghost use Rattle.dense_alike.specs.Starts.{IsStart};
 ghost use Rattle.dense_alike.specs.Laid.{holding, laid, viewed, AgreeFrom, AreValuesOf};
 
 use crate::laying::read_holding;
 use crate::reads::Reads;
-use crate::seen::is_rule_same;
+use crate::seen::{is_rule_same, is_seen_alike};
 use check_box::Remains;
 use qc_model::{ConId, Problem, ScopeId};
 
 /// Whether each constraint of a scope from i on, or of the goal, sees the same of both positions, but nothing of one after which
-/// it holds whatever comes. Those before a place are of earlier scopes. In the declared box, which stays, the positions are laid for
-/// a while.
+/// it holds whatever comes. Those before a place are of earlier scopes. Where some see different values, the positions are laid for
+/// a while in the declared box, which stays.
 pub(crate) fn are_positions_same(
     reads: &Reads,
     problem: &Problem,
@@ -42,6 +43,11 @@ pub(crate) fn are_positions_same(
     ensures others { length holds_there.new ≡ length problem.now.constraints }
     ensures same { result ≡ list_all (λ c. not (is_from i.0 c) || same_values (viewed problem.now i.0 here.now (entailed_by c (laid problem.now here.now)) c) (viewed problem.now i.0 there.now (entailed_by c (laid problem.now there.now)) c)) problem.now.constraints }
 {
+    problem.known();
+    // Where all see the same of both, each holds whatever comes after both or after neither.
+    if see_same(reads, problem, i, start, here, there) {
+        return true;
+    }
     read_holding(declared, problem, i, start, here, holds_here);
     read_holding(declared, problem, i, start, there, holds_there);
     are_views_same(
@@ -54,6 +60,31 @@ pub(crate) fn are_positions_same(
         there,
         holds_there,
     )
+}
+
+/// Whether each constraint of a scope from i on, or of the goal, sees the same of both positions. Those before a place are of earlier
+/// scopes.
+fn see_same(
+    reads: &Reads,
+    problem: &Problem,
+    i: ScopeId,
+    start: usize,
+    here: &[i64],
+    there: &[i64],
+) -> bool
+    requires game { reads.now ≡ problem.now }
+    requires start { IsStart problem.now i.0 start }
+    requires here { AreValuesOf problem.now i.0 here.now }
+    requires there { AreValuesOf problem.now i.0 there.now }
+    ensures { result ≡ list_all (λ c. not (is_from i.0 c) || same_values (sees problem.now i.0 here.now c) (sees problem.now i.0 there.now c)) problem.now.constraints }
+{
+    problem.known();
+    for k in start..problem.constraints() {
+        if !is_seen_alike(reads, i, problem.constraint(ConId(k as u16)), here, there) {
+            return false;
+        }
+    }
+    true
 }
 
 /// Whether each constraint of a scope from i on, or of the goal, sees the same of both positions. Those before a place are

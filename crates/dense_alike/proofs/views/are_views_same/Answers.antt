@@ -3,7 +3,7 @@ use Rattle.std.specs.Prelude.{get_or}
 use Rattle.qc_model.specs.Valid.{is_constraint}
 use Rattle.model_evaluation.proofs.Readable.{constraint_readable, passes_at}
 use Rattle.dense_alike.proofs.Seeing.{first_holds, first_fails}
-use Rattle.dense_alike.proofs.Viewing.{same_view, all_step, held_at, seen_in, view_told, views_from}
+use Rattle.dense_alike.proofs.Viewing.{same_view, all_step, held_at, seen_in, view_told, all_from, view_other}
 use Rattle.dense_alike.proofs.views.are_views_same.Goals as goal
 
 pub is_rule_same-requires-clause-here : goal.is_rule_same-requires-clause-here
@@ -49,4 +49,9 @@ loop-k-preserved c =
     sym (first_holds _ _ _ step (sym (seen_in g c.args.reads.now i here there r (get_or c.args.holds_here.now k false) (get_or c.args.holds_there.now k false) c.is_rule_same.result c.requires.game c.is_rule_same.ensures ∙ told) ∙ c.if-not-is_rule_same.false)) ∙ c.loop-k.invariant
 
 pub loop-k-init : goal.loop-k-init
-loop-k-init c = views_from c.args.problem.now c.args.i.0 c.args.start c.args.here.now c.args.there.now c.requires.start
+loop-k-init c =
+    let g = c.args.problem.now in
+    let i = c.args.i.0 in
+    let here = c.args.here.now in
+    let there = c.args.there.now in
+    all_from g i c.args.start (same_view g i here there) (view_other g i here there) c.requires.start
