@@ -9,3 +9,4 @@ pub mod Casing
 pub mod Small
 pub mod Turning
 pub mod Repeated
+pub mod Apart

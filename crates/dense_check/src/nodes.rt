@@ -219,7 +219,7 @@ impl<'p> DenseMachine<'p> {
         self.nest.stop(e)
     }
 
-    /// What the box says of the goal.
+    /// What the box says of the goal. What it entails, as mostly, it doesn't refute.
     fn reached(&self, e: Entry) -> Reached
         requires goal { e.spot.number ≡ length (game_of self.now).scopes }
         requires full { IsFull (game_of self.now) self.now.nest.remains.box }
@@ -228,11 +228,12 @@ impl<'p> DenseMachine<'p> {
         let goal = ScopeId(e.spot.number);
         let nest = &self.nest;
         let store = nest.remains.store();
-        if some_refuted(&nest.levels, goal, store) {
-            return Reached::Fails;
-        }
+        nest.levels.problem.known();
         if is_entailed_throughout(&nest.levels, goal, store) {
             return Reached::Holds;
+        }
+        if some_refuted(&nest.levels, goal, store) {
+            return Reached::Fails;
         }
         Reached::Open
     }
