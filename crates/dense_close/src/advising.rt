@@ -1,8 +1,8 @@
 //! What was seen of a constraint that isn't quiet, and the ends that go by it.
 //!
-//! One reading tells how far each of a constraint's variables can go. For sums that is so by a law (`trimming`); for all others it's a
-//! guess, and the values past it go where the constraint refutes them together, which it is asked once. So no end is sought step by
-//! step.
+//! One reading tells how far each of a constraint's variables can go. For sums that is so by a law (`trimming`); of others it's a
+//! guess, where there is one (`guessing`), and the values past it go where the constraint refutes them together, which it is asked once.
+//! So few ends are sought step by step.
 ghost use Rattle.std.specs.Prelude.{◌≡◌, ◌≢◌, ◌<◌, pos, length, slice_get, Some, IsTrue, IsFalse};
 ghost use Rattle.qc_model.specs.Content.{Rule};
 ghost use Rattle.qc_model.specs.Domains.{has_empty};
@@ -19,8 +19,8 @@ use crate::trimming::{cut_by_room, factor_at};
 use check_box::Remains;
 use qc_model::{ConId, Problem, VarId};
 
-/// What was seen of a constraint: the room of a sum; numbers that some items fill where all are to differ; or nothing but the ends of
-/// what is left to its arguments.
+/// What was seen of a constraint: the room of a sum; numbers that some items fill where all are to differ; or nothing that a guess by
+/// its arguments wouldn't tell.
 #[derive(Clone, Copy)]
 pub(crate) enum Advice {
     Room(Room),

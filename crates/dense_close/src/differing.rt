@@ -15,17 +15,17 @@ ghost use Rattle.qc_model.specs.Lists.{Distinct};
 ghost use Rattle.qc_model.specs.Left.{has_crowd};
 ghost use Rattle.qc_model.specs.Refuted.{left_to, refuted_by};
 ghost use Rattle.model_arguments.specs.Asked.{IsAsked};
-ghost use Rattle.model_arguments.specs.Written.{args_at};
 ghost use Rattle.qc_refuter.specs.Full.{first_sum, AreWidest};
-ghost use Rattle.qc_refuter.specs.Met.{is_open, are_met};
+ghost use Rattle.qc_refuter.specs.Met.{is_open};
 ghost use Rattle.dense_closing.specs.Takes.{Takes};
 ghost use Rattle.dense_close.specs.Differing.{StandsFor, AreEndsOf, HaveEnds, ends_at, IsLeftAlone, IsQuiet, AllQuiet, IsRoom, AreRooms, Tells};
 ghost use Rattle.dense_close.specs.Slack.{SparesTaken};
 
 use crate::cutting::Stretch;
+use crate::reading::items_met;
 use fd_store::Store;
 use model_arguments::{arguments, width};
-use qc_model::{Arg, Argument, Constraint, Pred, Problem};
+use qc_model::{Arg, Constraint, Pred, Problem};
 
 /// Up to so many items have buffers of their own, since all places of a buffer are filled before it is used.
 const FEW_ITEMS: usize = 64;
@@ -311,19 +311,6 @@ fn sight_of_items(items: &[Arg], store: &Store) -> Sight
     }
 }
 
-// The items that are to differ.
-fn items_met<'a>(args: &'a [Argument], store: &Store) -> &'a [Arg]
-    requires { IsTrue (are_met store.now.box args.now) }
-    ensures is { result.now ≡ args_at args.now 0 }
-    ensures few { length result.now ≤ 1000 }
-    ensures open { IsTrue (list_all (is_open store.now.box) result.now) }
-{
-    match args.get(0) {
-        Some(Argument::Many(items)) => items.items(),
-        _ => &[],
-    }
-}
-
 // What is seen of a constraint by which all items differ.
 fn look_at_items(problem: &Problem, rule: &Constraint, store: &Store) -> Sight
     requires asked { IsAsked problem.now rule.now store.now.box }
@@ -332,7 +319,7 @@ fn look_at_items(problem: &Problem, rule: &Constraint, store: &Store) -> Sight
     ensures { Tells result ((takes : Takes) → SparesTaken takes rule.now store.now.box) (IsTrue (refuted_by rule.now store.now.box)) }
 {
     problem.known();
-    sight_of_items(items_met(arguments(rule), store), store)
+    sight_of_items(items_met(arguments(rule), 0, store), store)
 }
 
 /// What is seen of a constraint in which no variable stands twice. Where it is quiet, the constraint refutes neither the box nor an end

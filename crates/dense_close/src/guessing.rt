@@ -1,4 +1,4 @@
-//! Which values a constraint leaves a variable, by a guess from the ends of what is left to its arguments.
+//! Which values a constraint leaves a variable, by a guess: mostly from the ends of what is left to its arguments.
 //!
 //! Nothing is promised of a guess: what lies outside it goes only where the constraint refutes it.
 ghost use Rattle.std.specs.Prelude.{◌<◌, length, IsTrue, IsFalse};
@@ -9,10 +9,9 @@ ghost use Rattle.qc_refuter.specs.Met.{are_met, is_open};
 
 use crate::cutting::Stretch;
 use crate::ends::Ends;
-use crate::reading::{arg_met, ends_of, has};
-use crate::slack::items_met;
+use crate::reading::{arg_met, ends_of, has, items_met};
 use fd_store::Store;
-use model_arguments::{arguments, numbers_at};
+use model_arguments::{arguments, items_at, numbers_at};
 use qc_model::{Arg, Argument, Constraint, Meaning, Problem, VarId, meaning_of};
 
 // All numbers that a variable can have.
@@ -91,27 +90,6 @@ fn of_order(a: Arg, b: Arg, gap: i64, x: VarId, store: &Store) -> Stretch
         s.low = ends_of(a, store).least.saturating_add(gap);
     }
     s
-}
-
-// What both have in common.
-fn of_equal(a: Arg, b: Arg, store: &Store) -> Stretch
-    requires a { IsTrue (is_open store.now.box a) }
-    requires b { IsTrue (is_open store.now.box b) }
-{
-    let one = ends_of(a, store);
-    let other = ends_of(b, store);
-    Stretch {
-        low: if one.least < other.least {
-            other.least
-        } else {
-            one.least
-        },
-        high: if one.greatest < other.greatest {
-            one.greatest
-        } else {
-            other.greatest
-        },
-    }
 }
 
 // The numbers of c without those of a.
@@ -252,6 +230,20 @@ fn of_item(b: Arg, items: &[Arg], c: Arg, x: VarId, store: &Store) -> Stretch
     found
 }
 
+// Of a clause whose other literals fail: 1 to an item of the first array, and 0 to one of the second. The ends aren't looked at, since
+// a clause is held against its variables only where at most one of its literals may hold (`clauses`).
+fn of_clause(args: &[Argument], x: VarId) -> Stretch {
+    let mut s = all_numbers();
+    for item in items_at(args, 0) {
+        if is_variable(*item, x) {
+            s.low = 1;
+            return s;
+        }
+    }
+    s.high = 0;
+    s
+}
+
 // The same of a constraint with this meaning and these arguments.
 fn kept_as(meaning: Meaning, args: &[Argument], x: VarId, store: &Store) -> Stretch
     requires { IsTrue (are_met store.now.box args.now) }
@@ -262,11 +254,12 @@ fn kept_as(meaning: Meaning, args: &[Argument], x: VarId, store: &Store) -> Stre
     match meaning {
         Meaning::AtMost => of_order(a, b, 0, x, store),
         Meaning::Below => of_order(a, b, 1, x, store),
-        Meaning::Equal => of_equal(a, b, store),
+        Meaning::Equal => shared(ends_of(a, store), ends_of(b, store)),
         Meaning::Plus => of_sum(a, b, c, x, store),
         Meaning::Times => of_product(a, b, c, x, store),
         Meaning::Element => of_element(a, numbers_at(args, 1), c, x, store),
-        Meaning::VariableElement => of_item(a, items_met(args, store), c, x, store),
+        Meaning::VariableElement => of_item(a, items_met(args, 1, store), c, x, store),
+        Meaning::Clause => of_clause(args, x),
         _ => all_numbers(),
     }
 }
@@ -279,7 +272,7 @@ pub(crate) fn gives_guess(rule: &Constraint) -> bool {
     }
     match row.meaning {
         Meaning::AtMost | Meaning::Below | Meaning::Equal | Meaning::Plus | Meaning::Times => true,
-        Meaning::Element | Meaning::VariableElement => true,
+        Meaning::Element | Meaning::VariableElement | Meaning::Clause => true,
         _ => false,
     }
 }

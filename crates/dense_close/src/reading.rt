@@ -1,5 +1,5 @@
 //! What is left to the arguments of a constraint.
-ghost use Rattle.std.specs.Prelude.{◌≡◌, IsTrue};
+ghost use Rattle.std.specs.Prelude.{◌≡◌, ◌≤◌, IsTrue, length};
 ghost use Rattle.std.specs.List.{list_all};
 ghost use Rattle.qc_model.specs.declared.problem.Arg.TheVariants.{Var};
 ghost use Rattle.qc_model.specs.Domains.{values_left, has_value};
@@ -61,6 +61,7 @@ fn ends_of_variable(x: VarId, store: &Store) -> Ends
 pub(crate) fn items_met<'a>(args: &'a [Argument], place: usize, store: &Store) -> &'a [Arg]
     requires { IsTrue (are_met store.now.box args.now) }
     ensures is { result.now ≡ args_at args.now place }
+    ensures few { length result.now ≤ 1000 }
     ensures open { IsTrue (list_all (is_open store.now.box) result.now) }
 {
     match args.get(place) {

@@ -4,7 +4,7 @@
 //! Where the ends of each term are nearer to each other than the sum is to its bound, it refutes none, which one reading tells.
 //! Terms whose variables the sum may not take don't count. Where there isn't such room, the same reading tells how far each variable
 //! can go (`trimming`). It speaks of sums in which no variable stands twice.
-ghost use Rattle.std.specs.Prelude.{◌≡◌, ◌⊎◌, ◌≤◌, ◌^◌, IsTrue, IsFalse, false, cond, length, pos, ◌*ℤ◌, ◌+ℤ◌, ◌≤ℤ◌, ◌<ℤ◌, unsigned_abs};
+ghost use Rattle.std.specs.Prelude.{◌≡◌, ◌⊎◌, ◌≤◌, ◌^◌, IsTrue, IsFalse, false, cond, pos, ◌*ℤ◌, ◌+ℤ◌, ◌≤ℤ◌, ◌<ℤ◌, unsigned_abs};
 ghost use Rattle.std.specs.List.{list_all};
 ghost use Rattle.qc_model.specs.declared.problem.Arg.TheVariants.{Num};
 ghost use Rattle.qc_model.specs.declared.problem.Pred.TheVariants.{IntLinEq, IntLinLe};
@@ -13,12 +13,12 @@ ghost use Rattle.qc_model.specs.Lists.{Distinct};
 ghost use Rattle.qc_model.specs.Refuted.{left_to};
 ghost use Rattle.qc_model.specs.Valid.{is_number};
 ghost use Rattle.model_arguments.specs.Asked.{IsAsked};
-ghost use Rattle.model_arguments.specs.Written.{arg_at, args_at, ints_at};
+ghost use Rattle.model_arguments.specs.Written.{arg_at, ints_at};
 ghost use Rattle.qc_refuter.specs.Met.{is_open, are_met};
 ghost use Rattle.dense_close.specs.Slack.{IsNear, is_taken, AreNear, AllNear, SparesTaken, most_room, RoomTells, IsLong};
 ghost use Rattle.dense_close.specs.Taking.{takes_of};
 
-use crate::reading::may_take_item;
+use crate::reading::{items_met, may_take_item};
 use crate::summing::{product, read_sum};
 use crate::taking::Taking;
 use crate::task::Task;
@@ -30,20 +30,7 @@ use qc_refuter::Extent;
 /// As much room as is told at most.
 const MOST: i64 = 4_000_000_000_000_000_000;
 
-/// The items of a sum, or of an array of variables.
-pub(crate) fn items_met<'a>(args: &'a [Argument], store: &Store) -> &'a [Arg]
-    requires { IsTrue (are_met store.now.box args.now) }
-    ensures is { result.now ≡ args_at args.now 1 }
-    ensures few { length result.now ≤ 1000 }
-    ensures open { IsTrue (list_all (is_open store.now.box) result.now) }
-{
-    match args.get(1) {
-        Some(Argument::Many(items)) => items.items(),
-        _ => &[],
-    }
-}
-
-// Its factors.
+// The factors of a sum.
 fn factors_met<'a>(args: &'a [Argument], store: &Store) -> &'a [i64]
     requires { IsTrue (are_met store.now.box args.now) }
     ensures is { result.now ≡ ints_at args.now 0 }
@@ -258,7 +245,7 @@ fn slack_below(task: &Task, rule: &Constraint, is_equal: bool, bound: i64, store
     task.problem.known();
     let args = arguments(rule);
     let factors = factors_met(args, store);
-    let items = items_met(args, store);
+    let items = items_met(args, 1, store);
     let reading = read_sum(factors, items, store);
     let room = room_of(is_equal, bound, reading.extent);
     Slack {
