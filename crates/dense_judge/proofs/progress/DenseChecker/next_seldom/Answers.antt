@@ -13,7 +13,7 @@ returns-in_ok-hand_on-in-Some-clause-reads c =
 pub returns-in_ok-next-in-None-clause-reads : goal.returns-in_ok-next-in-None-clause-reads
 returns-in_ok-next-in-None-clause-reads c =
     let old = c.args.self.now in
-    let first = c.in-Some in
+    let first = c.in-Some-split_first in
     byte_read old c.next.new.self c.args.bytes.now first.rest.now first.byte.now first.ensures.cases.0 c.next.ensures.read
     (λ before h.
     let k = subst (λ s. IsCheckingBy s old before) c.requires.going h in
