@@ -9,7 +9,7 @@ use crate::board::Board;
 use dense_box::{
     all_entailed, best_left, may_be_barred, may_go_on, needs_restriction, some_refuted,
 };
-use dense_close::Taking;
+use dense_quiet::Taking;
 use model_levels::Level;
 use qc_model::{Condition, Fold, Kind, ScopeId, Target, VarId};
 use std::alloc::{AllocError, Global};

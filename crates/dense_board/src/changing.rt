@@ -6,7 +6,7 @@ ghost use Rattle.fd_store.specs.Held.{Follows};
 use crate::board::{Board, Closing};
 use check_box::Remains;
 use dense_box::{choose, is_tuple, reply, take_tuple};
-use dense_close::Taking;
+use dense_quiet::Taking;
 use qc_model::{ScopeId, VarId};
 use std::alloc::AllocError;
 

@@ -22,7 +22,7 @@ use dense_box::{
     best_end, choose, is_fixed, is_free_choice, may_be_barred, may_branch, may_go_on,
     needs_restriction,
 };
-use dense_close::Taking;
+use dense_quiet::Taking;
 use qc_model::{Kind, ScopeId, VarId};
 use std::alloc::AllocError;
 

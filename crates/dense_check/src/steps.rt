@@ -9,7 +9,7 @@ ghost use Rattle.dense_check.specs.Telling.{game_of, here_in, with_remains, with
 
 use crate::machine::DenseMachine;
 use dense_box::reply;
-use dense_close::Taking;
+use dense_quiet::Taking;
 use qc_model::VarId;
 
 impl<'p> DenseMachine<'p> {

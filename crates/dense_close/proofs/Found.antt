@@ -24,9 +24,9 @@ use Rattle.dense_closing.specs.Takes.{keeps_at, keeps_box, is_closed_by, NoneClo
 use Rattle.dense_closing.proofs.Closing.{closing_finds}
 use Rattle.dense_closing.proofs.Keeping.{closed_full, Placed, placed}
 use Rattle.dense_closing.proofs.Within.{sub_self, sub_same, sub_empty}
-use Rattle.dense_close.specs.declared.taking.Taking.{Taking}
+use Rattle.dense_quiet.specs.declared.taking.Taking.{Taking}
 use Rattle.dense_close.specs.Narrowing.{IsNarrowed, IsLost, IsSettled, AreSettled}
-use Rattle.dense_close.specs.Taking.{takes_of}
+use Rattle.dense_quiet.specs.Taking.{takes_of}
 use Rattle.dense_close.specs.Waiting.{Waiting, is_marked, stands_in, MarkedWait}
 use Rattle.dense_close.proofs.Looked.{one_rule}
 use Rattle.dense_close.proofs.Narrowed.{between_of}

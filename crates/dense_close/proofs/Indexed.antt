@@ -9,6 +9,7 @@ use Rattle.qc_model.specs.Arguments.{variables_of}
 use Rattle.qc_model.specs.Content.{Game, Rule}
 use Rattle.qc_model.proofs.Readable.{first, second, together}
 use Rattle.model_arguments.specs.Written.{variable_numbers}
+use Rattle.dense_quiet.proofs.Sums.{last_or_before}
 use Rattle.dense_close.specs.Index.{Having, Index, own, has_it, HasGrown, IsIndexTo}
 
 pub grown_more : (a b c : Having) → HasGrown a b → HasGrown b c → HasGrown a c
@@ -60,12 +61,6 @@ whole p xs i l h = ap (λ ys. list_all p (variable_numbers ys)) (sym (all xs i l
     all (x ∷ xs) (suc i) l = ap (λ ys. x ∷ ys) (all xs i (omega arith))
 
 -- one more constraint
-pub last_or_before : (k n : ℕ) → k < n + 1 → (k < n) ⊎ (k ≡ n)
-last_or_before zero zero h = inr refl
-last_or_before zero (suc n) h = inl (omega arith)
-last_or_before (suc k) zero h = absurd (omega arith)
-last_or_before (suc k) (suc n) h = elim (last_or_before k n (omega arith)) [ inl m ↦ inl (omega arith) | inr m ↦ inr (ap suc m) ]
-
 own_before : (os : List (List VarId)) (items : List VarId) (k : ℕ) → k < length os → own (os ++ items ∷ []) k ≡ own os k
 own_before [] items k l = absurd (omega arith)
 own_before (o ∷ os) items zero l = refl

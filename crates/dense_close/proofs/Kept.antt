@@ -2,7 +2,7 @@
 use Rattle.std.proofs.Common.{◌≡◌, ℕ, zero, suc, ◌<◌, ◌⊎◌, inl, inr, List, [], ◌∷◌, ◌++◌, length, set, get_or, refl, sym, ◌∙◌, subst, arith}
 use Rattle.qc_model.specs.Content.{Game}
 use Rattle.qc_model.specs.Lists.{Among}
-use Rattle.dense_close.specs.declared.taking.Taking.{Taking}
+use Rattle.dense_quiet.specs.declared.taking.Taking.{Taking}
 use Rattle.dense_close.specs.Memory.{Memory, IsMemory, Memories, IsOneOf, AreMemories, ComeFrom, IsAlike}
 
 among_last : {X : Type 0} (x y : X) (xs : List X) → Among x (xs ++ (y ∷ [])) → Among x xs ⊎ (x ≡ y)

@@ -29,12 +29,12 @@ use Rattle.dense_closing.proofs.Keeping.{box_stands, closed_full}
 use Rattle.qc_model.specs.Block.{is_owned_within, constraints_within}
 use Rattle.dense_close.specs.declared.cutting.End.TheVariants.{Least, Greatest}
 use Rattle.dense_close.specs.declared.revising.Look.{Look}
-use Rattle.dense_close.specs.declared.taking.Taking.{Taking}
+use Rattle.dense_quiet.specs.declared.taking.Taking.{Taking}
 use Rattle.dense_close.specs.Cutting.{SparesEnd}
 use Rattle.dense_close.specs.Index.{Index, has_it, IsIndexOf}
 use Rattle.dense_close.specs.Narrowing.{IsLost, IsSettled, AreSettled, OthersSettled, spares, HasLooked}
-use Rattle.dense_close.specs.Slack.{SparesTaken}
-use Rattle.dense_close.specs.Taking.{takes_of}
+use Rattle.dense_quiet.specs.Slack.{SparesTaken}
+use Rattle.dense_quiet.specs.Taking.{takes_of}
 use Rattle.dense_close.proofs.Own.{all_if}
 use Rattle.dense_close.specs.Waiting.{Waiting, is_marked}
 use Rattle.dense_close.proofs.Indexed.{all_more}

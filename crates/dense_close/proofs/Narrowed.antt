@@ -25,11 +25,11 @@ use Rattle.proof_alike.proofs.Filling.{same_number}
 use Rattle.dense_closing.specs.Takes.{Takes, keeps_at, keeps_box}
 use Rattle.dense_closing.proofs.Own.{own_of, rule_below}
 use Rattle.dense_closing.proofs.Within.{sub_self, sub_set}
-use Rattle.dense_close.specs.declared.taking.Taking.{Taking}
+use Rattle.dense_quiet.specs.declared.taking.Taking.{Taking}
 use Rattle.dense_close.specs.Cutting.{IsCut}
 use Rattle.dense_close.specs.Index.{Index, has_it, IsIndexOf}
 use Rattle.dense_close.specs.Narrowing.{IsNarrowed, OthersSettled, spares}
-use Rattle.dense_close.specs.Taking.{takes_of}
+use Rattle.dense_quiet.specs.Taking.{takes_of}
 use Rattle.dense_close.specs.Waiting.{Waiting, is_marked}
 use Rattle.dense_close.proofs.Own.{all_if}
 

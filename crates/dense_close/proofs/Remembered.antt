@@ -36,13 +36,13 @@ use Rattle.dense_closing.proofs.Keeping.{box_stands}
 use Rattle.dense_closing.proofs.Own.{own_of}
 use Rattle.dense_closing.proofs.Within.{sub_self}
 use Rattle.dense_close.specs.declared.memory.Sight.{Sight}
-use Rattle.dense_close.specs.declared.taking.Taking.{Taking}
+use Rattle.dense_quiet.specs.declared.taking.Taking.{Taking}
 use Rattle.dense_close.specs.Index.{Index, has_it, IsIndexOf}
 use Rattle.dense_close.specs.Memory.{Memory, nothing, seen_of, is_pending, TellsOf, IsSeen, IsMemory, HasSeen, IsAsSeen}
 use Rattle.dense_close.specs.Narrowing.{AreSettled}
-use Rattle.dense_close.specs.Taking.{takes_of}
+use Rattle.dense_quiet.specs.Taking.{takes_of}
 use Rattle.dense_close.specs.Waiting.{Waiting, is_marked}
-use Rattle.dense_close.proofs.Indexed.{last_or_before}
+use Rattle.dense_quiet.proofs.Sums.{last_or_before}
 use Rattle.dense_close.proofs.Narrowed.{keeps_same, owned_by}
 use Rattle.dense_close.proofs.Own.{own_within}
 

@@ -13,7 +13,7 @@ use Rattle.fd_store.specs.Held.{count_left}
 use Rattle.dense_close.specs.declared.revising.Look.{Look}
 use Rattle.dense_close.specs.declared.revising.Revised.{Revised}
 use Rattle.dense_close.specs.declared.revising.Revised.TheVariants.{Changed}
-use Rattle.dense_close.specs.declared.taking.Taking.{Taking}
+use Rattle.dense_quiet.specs.declared.taking.Taking.{Taking}
 use Rattle.dense_close.specs.Index.{Index, has_it, IsIndexOf}
 use Rattle.dense_close.specs.Narrowing.{IsRevised, OthersSettled, HasLooked}
 use Rattle.dense_close.specs.Waiting.{Waiting, is_marked}

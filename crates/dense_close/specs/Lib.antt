@@ -1,14 +1,7 @@
 pub mod Waiting
 pub mod Index
 pub mod Ready
-pub mod Taking
 pub mod Cutting
 pub mod Narrowing
-pub mod Slack
-pub mod Differing
 pub mod Answerless
 pub mod Memory
-pub mod Quiet
-pub mod Advice
-pub mod Clauses
-pub mod Told

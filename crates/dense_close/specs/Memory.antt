@@ -6,9 +6,9 @@ use Rattle.qc_model.specs.Domains.{Values, Box, values_left}
 use Rattle.qc_model.specs.Lists.{Among, numbers_from}
 use Rattle.dense_closing.specs.Takes.{keeps_box}
 use Rattle.dense_close.specs.declared.memory.Sight.{Sight}
-use Rattle.dense_close.specs.declared.taking.Taking.{Taking}
+use Rattle.dense_quiet.specs.declared.taking.Taking.{Taking}
 use Rattle.dense_close.specs.Index.{Having, has_it}
-use Rattle.dense_close.specs.Taking.{takes_of}
+use Rattle.dense_quiet.specs.Taking.{takes_of}
 
 -- with the trail's length when it was settled
 pub record Memory : Type 0 where

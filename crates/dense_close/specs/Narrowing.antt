@@ -9,11 +9,11 @@ use Rattle.qc_model.specs.Refuted.{refuted_by}
 use Rattle.model_levels.specs.Spans.{is_between}
 use Rattle.fd_store.specs.Held.{count_left}
 use Rattle.dense_closing.specs.Takes.{Takes, keeps_box, is_closed_by, NoneClosedBy}
-use Rattle.dense_close.specs.declared.taking.Taking.{Taking}
+use Rattle.dense_quiet.specs.declared.taking.Taking.{Taking}
 use Rattle.dense_close.specs.declared.revising.Look.{Look}
 use Rattle.dense_close.specs.declared.revising.Revised.{Revised}
 use Rattle.dense_close.specs.declared.revising.Revised.TheVariants.{Lost, Stable, Changed}
-use Rattle.dense_close.specs.Taking.{takes_of}
+use Rattle.dense_quiet.specs.Taking.{takes_of}
 use Rattle.dense_close.specs.Waiting.{Waiting, is_marked, MarkedWait, all_waiting}
 
 -- values went from a box, but none that a closed box within it has: such a box lies within what is left

@@ -1,7 +1,7 @@
 -- What a closer keeps between its calls.
 use Rattle.std.specs.Prelude.{◌≡◌, [], length}
 use Rattle.qc_model.specs.Content.{Game}
-use Rattle.dense_close.specs.declared.taking.Taking.TheVariants.{All, Owners}
+use Rattle.dense_quiet.specs.declared.taking.Taking.TheVariants.{All, Owners}
 use Rattle.dense_close.specs.Index.{Index, IsIndexOf}
 use Rattle.dense_close.specs.Memory.{Memories, AreMemories}
 use Rattle.dense_close.specs.Waiting.{Waiting, MarkedWait}

@@ -1,32 +1,22 @@
-//! What was seen of a constraint that isn't quiet, and the ends that go by it.
+//! The ends that go by what was seen of a constraint.
 //!
 //! One reading tells how far each of a constraint's variables can go. For sums that is so by a law (`trimming`); of others it's a
-//! guess, where there is one (`guessing`), and the values past it go where the constraint refutes them together, which it is asked once.
-//! So few ends are sought step by step.
+//! guess, where there is one, and the values past it go where the constraint refutes them together, which it is asked once. So few ends
+//! are sought step by step.
 ghost use Rattle.std.specs.Prelude.{◌≡◌, ◌≢◌, ◌<◌, pos, length, slice_get, Some, IsTrue, IsFalse};
 ghost use Rattle.qc_model.specs.Content.{Rule};
 ghost use Rattle.qc_model.specs.Domains.{has_empty};
 ghost use Rattle.model_arguments.specs.Asked.{is_box_of};
 ghost use Rattle.fd_store.specs.Held.{Follows};
-ghost use Rattle.dense_close.specs.Advice.{AdviceTells};
+ghost use Rattle.dense_quiet.specs.Advice.{AdviceTells};
 ghost use Rattle.dense_close.specs.Cutting.{IsCut, HasCut};
-ghost use Rattle.dense_close.specs.Slack.{RoomTells, IsLong};
+ghost use Rattle.dense_quiet.specs.Slack.{RoomTells, IsLong};
 
-use crate::cutting::{End, Stretch, cut_refuted};
-use crate::guessing::{kept_beside, kept_by_ends};
-use crate::slack::Room;
-use crate::trimming::{cut_by_room, factor_at};
+use crate::cutting::{End, cut_refuted};
+use crate::trimming::cut_by_room;
 use check_box::Remains;
+use dense_quiet::{Advice, Room, Stretch, factor_at, kept_beside, kept_by_ends};
 use qc_model::{ConId, Problem, VarId};
-
-/// What was seen of a constraint: the room of a sum; numbers that some items fill where all are to differ; or nothing that a guess by
-/// its arguments wouldn't tell.
-#[derive(Clone, Copy)]
-pub(crate) enum Advice {
-    Room(Room),
-    Filled(Stretch),
-    Ends,
-}
 
 // Takes the values of x below the stretch, where the constraint c refutes them together. Whether some went.
 fn cut_below(problem: &Problem, c: ConId, x: VarId, s: Stretch, remains: &mut Remains) -> bool

@@ -10,7 +10,7 @@ ghost use Rattle.dense_close.specs.Index.{IsIndexOf};
 
 use crate::cutting::{End, refutes_end};
 use crate::index::Index;
-use crate::taking::{is_universal, owner_of};
+use dense_quiet::{is_universal, owner_of};
 use fd_store::Store;
 use model_arguments::Span;
 use model_levels::Levels;

@@ -10,6 +10,7 @@ ghost use Rattle.fd_store.specs.Held.{Follows};
 ghost use Rattle.dense_close.specs.Cutting.{IsInside, IsStretch, IsBarred, IsCut, HasCut, SparesEnd, end_of as end_in};
 
 use check_box::Remains;
+use dense_quiet::Stretch;
 use fd_store::Store;
 use qc_model::{ConId, Problem, VarId};
 use qc_refuter::refutes_in;
@@ -25,13 +26,6 @@ const DOUBLINGS: usize = 20;
 pub(crate) enum End {
     Least,
     Greatest,
-}
-
-/// The numbers from low to high.
-#[derive(Clone, Copy)]
-pub(crate) struct Stretch {
-    pub(crate) low: i64,
-    pub(crate) high: i64,
 }
 
 // The value at the end.

@@ -13,45 +13,25 @@
 //! choices, and what was settled by one tells nothing of the other: for each, up to 32 memories are kept, of the closings on the way to
 //! the box, and a closing begins with the last of them (`memories`).
 //!
-//! Whether a linear constraint refutes any end that it may take is first asked by one reading of its sum (`slack`), since to ask of
-//! each end takes the square of that. Where it may, that reading tells by a division how far each variable can go (`trimming`), and
-//! what lies past it goes. Items that are to differ are asked together too (`differing`): the constraint refutes no end of any unless
-//! some of them fill numbers among which an end of another lies, and then these numbers are what is taken. Comparisons, sums and
-//! products of two numbers and items of arrays are read once as well (`quiet`): where no variable stands twice, the ends of what is
-//! left to their arguments mostly tell that they refute nothing that they may take, and else give a guess (`guessing`) how far each
-//! can go, which the constraint is asked once (`advising`). So are clauses (`clauses`), where the guess is that their last literal
-//! holds. Comparisons with their truth (`told`) are read so too, but give no guess. Other values go by stretches: where a constraint
-//! refutes an end, it is asked of twice as many numbers from there on, as long as it refutes them together.
+//! A constraint in which no variable stands twice is first read as a whole (`dense_quiet`). Mostly that tells that it refutes nothing
+//! that it may take, or how far each variable can go, and what lies past that goes (`advising`): for sums without a further question
+//! (`trimming`), else where the constraint, asked once, refutes it. Other values go by stretches (`cutting`): where a constraint refutes
+//! an end, it is asked of twice as many numbers from there on, as long as it refutes them together.
 #![tactic(auto)]
 
 mod advising;
 mod answerless;
-mod clauses;
 mod closer;
 mod cutting;
-mod differing;
-mod elements;
-mod ends;
-mod equality;
-mod guessing;
 mod having;
 mod index;
-mod items;
 mod memories;
 mod memory;
-mod quiet;
-mod reading;
 mod refuting;
-mod relating;
 mod revising;
-mod slack;
-mod summing;
-mod taking;
 mod task;
-mod told;
 mod trimming;
 mod waiting;
 mod waking;
 
 pub use closer::Closer;
-pub use taking::Taking;

@@ -6,9 +6,9 @@ ghost use Rattle.qc_model.specs.Lists.{Among};
 ghost use Rattle.model_arguments.specs.Asked.{is_box_of};
 ghost use Rattle.model_levels.specs.Spans.{is_between};
 ghost use Rattle.dense_closing.specs.Takes.{keeps_box};
-ghost use Rattle.dense_close.specs.declared.taking.Taking.{Taking};
+ghost use Rattle.dense_quiet.specs.declared.taking.Taking.{Taking};
 ghost use Rattle.dense_close.specs.Memory.{Memory, IsOneOf, AreMemories, ComeFrom, IsAlike, IsAsSeen};
-ghost use Rattle.dense_close.specs.Taking.{takes_of};
+ghost use Rattle.dense_quiet.specs.Taking.{takes_of};
 
 use crate::memory::Memory;
 use crate::task::Task;

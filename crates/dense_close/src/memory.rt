@@ -6,9 +6,9 @@ ghost use Rattle.qc_model.specs.Lists.{numbers_from};
 ghost use Rattle.model_arguments.specs.Asked.{is_box_of};
 ghost use Rattle.model_levels.specs.Spans.{is_between};
 ghost use Rattle.dense_closing.specs.Takes.{keeps_box};
-ghost use Rattle.dense_close.specs.declared.taking.Taking.{Taking};
+ghost use Rattle.dense_quiet.specs.declared.taking.Taking.{Taking};
 ghost use Rattle.dense_close.specs.Memory.{TellsOf, IsSeen, IsMemory, HasSeen, IsAsSeen, IsAlike, seen_of, is_pending as is_pending_in};
-ghost use Rattle.dense_close.specs.Taking.{takes_of};
+ghost use Rattle.dense_quiet.specs.Taking.{takes_of};
 ghost use Rattle.dense_close.specs.Waiting.{stands_in};
 
 use crate::index::Index;

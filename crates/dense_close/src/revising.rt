@@ -1,5 +1,5 @@
 //! One constraint held against the box.
-ghost use Rattle.std.specs.Prelude.{◌≡◌, ◌≢◌, pos, ◌<◌, ◌∷◌, [], ◌||◌, true, false, length, IsTrue, IsFalse, slice_get, Some};
+ghost use Rattle.std.specs.Prelude.{◌≡◌, ◌<◌, ◌∷◌, [], ◌||◌, true, false, length, IsTrue, IsFalse, slice_get, Some};
 ghost use Rattle.qc_model.specs.Arguments.{variables_of};
 ghost use Rattle.qc_model.specs.Content.{Rule};
 ghost use Rattle.qc_model.specs.Domains.{Box, has_empty};
@@ -9,24 +9,19 @@ ghost use Rattle.model_arguments.specs.Asked.{is_box_of};
 ghost use Rattle.model_levels.specs.Spans.{is_between};
 ghost use Rattle.fd_store.specs.Held.{Follows};
 ghost use Rattle.dense_close.specs.Cutting.{IsCut, HasCut, SparesEnd};
-ghost use Rattle.dense_close.specs.Advice.{AdviceTells};
-ghost use Rattle.dense_close.specs.Slack.{RoomTells};
-ghost use Rattle.dense_close.specs.Taking.{takes_of};
+ghost use Rattle.dense_quiet.specs.Advice.{AdviceTells};
+ghost use Rattle.dense_quiet.specs.Taking.{takes_of};
 ghost use Rattle.dense_close.specs.Waiting.{Waiting};
 ghost use Rattle.dense_close.specs.Narrowing.{IsNarrowed, IsListOf, OthersSettled, HasLooked, IsRevised};
 ghost use Rattle.dense_close.specs.declared.cutting.End.TheVariants.{Least, Greatest};
 
-use crate::advising::{Advice, cut_advised};
+use crate::advising::cut_advised;
 use crate::cutting::{End, cut_end};
-use crate::differing::{Sight, look};
-use crate::guessing::gives_guess;
-use crate::quiet::is_quiet;
-use crate::slack::{Room, is_short, slack_of};
-use crate::taking::may_take;
 use crate::task::Task;
 use crate::waiting::WorkList;
 use crate::waking::wake;
 use check_box::Remains;
+use dense_quiet::{Advice, Seen, may_take, see};
 use fd_store::Store;
 use qc_model::{ConId, Problem, VarId};
 use qc_refuter::refutes;
@@ -336,86 +331,6 @@ fn revise_advised(
     revise_each(task, c, list, remains)
 }
 
-// The same for a sum with this room.
-fn revise_sum(
-    task: &Task,
-    c: ConId,
-    room: Room,
-    list: &mut WorkList,
-    remains: &mut Remains,
-) -> Revised
-    requires c { c.0 < length task.now.problem.now.constraints }
-    requires some { (rule : Rule) → slice_get task.now.problem.now.constraints c.0 ≡ Some rule → IsFalse (is_none_of (variables_of rule.args)) }
-    requires inside { IsTrue (is_between task.now.span.first task.now.span.end c.0) }
-    requires declared { IsTrue (is_box_of task.now.problem.now remains.old.box) }
-    requires full { IsFalse (has_empty remains.old.box) }
-    requires list { IsListOf task.now.problem.now task.now.span.first task.now.span.end list.old }
-    requires others { OthersSettled c.0 task.now.taking task.now.problem.now task.now.span.first task.now.span.end list.old remains.old.box }
-    requires tells { (rule : Rule) → slice_get task.now.problem.now.constraints c.0 ≡ Some rule → RoomTells rule room remains.old.box }
-    ensures narrowed { IsNarrowed task.now.taking task.now.problem.now task.now.from task.now.stop remains.old.box remains.new.box }
-    ensures past { Follows remains.old remains.new }
-    ensures list { IsListOf task.now.problem.now task.now.span.first task.now.span.end list.new }
-    ensures answer { IsRevised result task.now.taking task.now.problem.now task.now.from task.now.stop task.now.span.first task.now.span.end list.old list.new remains.old.box remains.new.box }
-{
-    task.problem.known();
-    let _ = task.problem.constraint(c);
-    if is_short(room) {
-        return Revised::Lost;
-    }
-    revise_advised(task, c, Advice::Room(room), list, remains)
-}
-
-// The same for a constraint in which no variable stands twice, by the ends of what is left to its arguments.
-fn revise_by_ends(task: &Task, c: ConId, list: &mut WorkList, remains: &mut Remains) -> Revised
-    requires c { c.0 < length task.now.problem.now.constraints }
-    requires some { (rule : Rule) → slice_get task.now.problem.now.constraints c.0 ≡ Some rule → IsFalse (is_none_of (variables_of rule.args)) }
-    requires apart { (rule : Rule) → slice_get task.now.problem.now.constraints c.0 ≡ Some rule → Distinct (variables_of rule.args) }
-    requires inside { IsTrue (is_between task.now.span.first task.now.span.end c.0) }
-    requires declared { IsTrue (is_box_of task.now.problem.now remains.old.box) }
-    requires full { IsFalse (has_empty remains.old.box) }
-    requires list { IsListOf task.now.problem.now task.now.span.first task.now.span.end list.old }
-    requires others { OthersSettled c.0 task.now.taking task.now.problem.now task.now.span.first task.now.span.end list.old remains.old.box }
-    ensures narrowed { IsNarrowed task.now.taking task.now.problem.now task.now.from task.now.stop remains.old.box remains.new.box }
-    ensures past { Follows remains.old remains.new }
-    ensures list { IsListOf task.now.problem.now task.now.span.first task.now.span.end list.new }
-    ensures answer { IsRevised result task.now.taking task.now.problem.now task.now.from task.now.stop task.now.span.first task.now.span.end list.old list.new remains.old.box remains.new.box }
-{
-    task.problem.known();
-    let rule = task.problem.constraint(c);
-    if is_quiet(task, rule, remains.store()) {
-        return Revised::Stable;
-    }
-    if !gives_guess(rule) {
-        return revise_each(task, c, list, remains);
-    }
-    revise_advised(task, c, Advice::Ends, list, remains)
-}
-
-// The same where that is no sum.
-fn revise_other(task: &Task, c: ConId, list: &mut WorkList, remains: &mut Remains) -> Revised
-    requires c { c.0 < length task.now.problem.now.constraints }
-    requires some { (rule : Rule) → slice_get task.now.problem.now.constraints c.0 ≡ Some rule → IsFalse (is_none_of (variables_of rule.args)) }
-    requires apart { (rule : Rule) → slice_get task.now.problem.now.constraints c.0 ≡ Some rule → Distinct (variables_of rule.args) }
-    requires inside { IsTrue (is_between task.now.span.first task.now.span.end c.0) }
-    requires declared { IsTrue (is_box_of task.now.problem.now remains.old.box) }
-    requires full { IsFalse (has_empty remains.old.box) }
-    requires list { IsListOf task.now.problem.now task.now.span.first task.now.span.end list.old }
-    requires others { OthersSettled c.0 task.now.taking task.now.problem.now task.now.span.first task.now.span.end list.old remains.old.box }
-    ensures narrowed { IsNarrowed task.now.taking task.now.problem.now task.now.from task.now.stop remains.old.box remains.new.box }
-    ensures past { Follows remains.old remains.new }
-    ensures list { IsListOf task.now.problem.now task.now.span.first task.now.span.end list.new }
-    ensures answer { IsRevised result task.now.taking task.now.problem.now task.now.from task.now.stop task.now.span.first task.now.span.end list.old list.new remains.old.box remains.new.box }
-{
-    task.problem.known();
-    let rule = task.problem.constraint(c);
-    match look(task.problem, rule, remains.store()) {
-        Sight::Quiet => Revised::Stable,
-        Sight::Crowded => Revised::Lost,
-        Sight::Filled(s) => revise_advised(task, c, Advice::Filled(s), list, remains),
-        Sight::Unknown => revise_by_ends(task, c, list, remains),
-    }
-}
-
 // The same for a constraint in which no variable stands twice.
 fn revise_apart(task: &Task, c: ConId, list: &mut WorkList, remains: &mut Remains) -> Revised
     requires c { c.0 < length task.now.problem.now.constraints }
@@ -433,14 +348,12 @@ fn revise_apart(task: &Task, c: ConId, list: &mut WorkList, remains: &mut Remain
 {
     task.problem.known();
     let rule = task.problem.constraint(c);
-    let slack = slack_of(task, rule, remains.store());
-    if slack.roomy {
-        return Revised::Stable;
+    match see(task.problem, task.taking, rule, remains.store()) {
+        Seen::Quiet => Revised::Stable,
+        Seen::Refuted => Revised::Lost,
+        Seen::Advised(advice) => revise_advised(task, c, advice, list, remains),
+        Seen::Nothing => revise_each(task, c, list, remains),
     }
-    if slack.sum {
-        return revise_sum(task, c, slack.room, list, remains);
-    }
-    revise_other(task, c, list, remains)
 }
 
 /// Takes the ends that the constraint c of the span refutes and may take, each of its variables once. Where values went, all

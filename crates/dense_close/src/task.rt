@@ -3,7 +3,7 @@ ghost use Rattle.model_levels.specs.Spans.{IsSpanOf};
 ghost use Rattle.dense_close.specs.Index.{IsIndexOf};
 
 use crate::index::Index;
-use crate::taking::Taking;
+use dense_quiet::Taking;
 use model_arguments::Span;
 use qc_model::Problem;
 

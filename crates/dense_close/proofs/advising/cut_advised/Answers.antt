@@ -1,7 +1,7 @@
 use Rattle.std.proofs.Common.{subst, sym}
 use Rattle.fd_store.specs.Held.{Held}
 use Rattle.model_arguments.specs.Asked.{IsAsked}
-use Rattle.dense_close.specs.Advice.{AdviceTells}
+use Rattle.dense_quiet.specs.Advice.{AdviceTells}
 use Rattle.dense_close.proofs.Cuts.{asked}
 use Rattle.dense_close.proofs.Indexed.{some_at}
 use Rattle.dense_close.proofs.advising.cut_advised.Goals as goal

@@ -2,7 +2,8 @@ use Rattle.std.proofs.Common.{◌≡◌, ◌∙◌, inl, inr, sym, subst, arith}
 use Rattle.std.specs.Prelude.{slice_get, Some}
 use Rattle.qc_model.specs.Content.{Rule}
 use Rattle.qc_model.specs.Refuted.{refuted_by}
-use Rattle.dense_close.proofs.Indexed.{last_or_before, some_at}
+use Rattle.dense_close.proofs.Indexed.{some_at}
+use Rattle.dense_quiet.proofs.Sums.{last_or_before}
 use Rattle.dense_close.proofs.OpenMoves.{none_between, any_between}
 use Rattle.dense_close.proofs.refuting.some_refuted.Goals as goal
 

@@ -4,7 +4,7 @@ use Rattle.model_arguments.specs.Asked.{is_box_of}
 use Rattle.qc_model.specs.Content.{Rule}
 use Rattle.qc_model.specs.Domains.{has_empty}
 use Rattle.fd_store.specs.Held.{Follows}
-use Rattle.dense_close.specs.Advice.{AdviceTells}
+use Rattle.dense_quiet.specs.Advice.{AdviceTells}
 use Rattle.dense_close.specs.Narrowing.{IsNarrowed, IsListOf, OthersSettled, HasLooked}
 use Rattle.dense_close.proofs.revising.trim.Given as goal
 

@@ -4,7 +4,7 @@ use mir.Val.{SFits}
 use mir.Syntax.{w64}
 use Rattle.fd_store.specs.Held.{Held}
 use Rattle.qc_model.specs.Domains.{values_left, least_value, greatest_value}
-use Rattle.dense_close.specs.Slack.{IsMeasured, IsPast}
+use Rattle.dense_quiet.specs.Slack.{IsMeasured, IsPast}
 use Rattle.dense_close.proofs.Barred.{measured, barred_over, barred_under, barred_after}
 use Rattle.dense_close.proofs.trimming.cut_by_room.Goals as goal
 

@@ -1,5 +1,5 @@
 use Rattle.std.proofs.Common.{◌∙◌, sym, subst}
-use Rattle.dense_close.specs.declared.taking.Taking.TheVariants.{All, Owners}
+use Rattle.dense_quiet.specs.declared.taking.Taking.TheVariants.{All, Owners}
 use Rattle.dense_close.specs.Index.{IsIndexOf}
 use Rattle.dense_close.proofs.closer.Closer.new.Goals as goal
 

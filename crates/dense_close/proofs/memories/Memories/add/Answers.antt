@@ -1,5 +1,5 @@
 use Rattle.std.proofs.Common.{sym, subst, List}
-use Rattle.dense_close.specs.declared.taking.Taking.{Taking}
+use Rattle.dense_quiet.specs.declared.taking.Taking.{Taking}
 use Rattle.dense_close.specs.Memory.{Memory, Memories, AreMemories}
 use Rattle.dense_close.proofs.Kept.{kept_more}
 use Rattle.dense_close.proofs.memories.Memories.add.Goals as goal

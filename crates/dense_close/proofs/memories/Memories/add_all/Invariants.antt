@@ -1,4 +1,4 @@
-use Rattle.dense_close.specs.declared.taking.Taking.{Taking}
+use Rattle.dense_quiet.specs.declared.taking.Taking.{Taking}
 use Rattle.dense_close.specs.Memory.{AreMemories}
 use Rattle.dense_close.proofs.memories.Memories.add_all.Given as goal
 

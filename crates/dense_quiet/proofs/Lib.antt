@@ -1,0 +1,16 @@
+pub mod ClauseLaws
+pub mod Distances
+pub mod EndsCounted
+pub mod FullRanges
+pub mod ItemLaws
+pub mod ItemPlaces
+pub mod LeftAlone
+pub mod OneEnd
+pub mod PastRoom
+pub mod Placed
+pub mod Places
+pub mod Related
+pub mod Replaced
+pub mod Shared
+pub mod Sums
+pub mod ToldLaws

@@ -1,0 +1,290 @@
+//! Which values a constraint leaves a variable, by a guess: mostly from the ends of what is left to its arguments.
+//!
+//! Nothing is promised of a guess: what lies outside it goes only where the constraint refutes it.
+ghost use Rattle.std.specs.Prelude.{◌<◌, length, IsTrue, IsFalse};
+ghost use Rattle.std.specs.List.{list_all};
+ghost use Rattle.qc_model.specs.Domains.{has_empty};
+ghost use Rattle.model_arguments.specs.Asked.{IsAsked};
+ghost use Rattle.qc_refuter.specs.Met.{are_met, is_open};
+
+use crate::ends::Ends;
+use crate::reading::{arg_met, ends_of, has, items_met};
+use crate::stretch::Stretch;
+use fd_store::Store;
+use model_arguments::{arguments, items_at, numbers_at};
+use qc_model::{Arg, Argument, Constraint, Meaning, Problem, VarId, meaning_of};
+
+// All numbers that a variable can have.
+fn all_numbers() -> Stretch {
+    Stretch {
+        low: -1_000_000_000,
+        high: 1_000_000_000,
+    }
+}
+
+// No number.
+fn no_number() -> Stretch {
+    Stretch {
+        low: 1_000_000_000,
+        high: -1_000_000_000,
+    }
+}
+
+// The numbers of the stretch, and this one.
+#[inline(always)]
+fn joined(s: Stretch, n: i64) -> Stretch {
+    Stretch {
+        low: if n < s.low { n } else { s.low },
+        high: if s.high < n { n } else { s.high },
+    }
+}
+
+#[inline(always)]
+fn is_variable(arg: Arg, x: VarId) -> bool {
+    match arg {
+        Arg::Num(_) => false,
+        Arg::Var(y) => x.0 == y.0,
+    }
+}
+
+// Whether the number is one of the stretch.
+fn is_within(n: i64, s: Stretch) -> bool {
+    s.low <= n && n <= s.high
+}
+
+/// Which values numbers that some items fill leave x, another item or one of these: all of them where both its ends are among the
+/// numbers, since then it may be one of those items.
+pub fn kept_beside(filled: Stretch, x: VarId, store: &Store) -> Stretch
+    requires x { x.0 < length store.now.box }
+    requires full { IsFalse (has_empty store.now.box) }
+{
+    let low = store.min(x);
+    let high = store.max(x);
+    let begins = is_within(low, filled);
+    let ends = is_within(high, filled);
+    if begins == ends {
+        return Stretch { low, high };
+    }
+    if begins {
+        Stretch {
+            low: filled.high.saturating_add(1),
+            high,
+        }
+    } else {
+        Stretch {
+            low,
+            high: filled.low.saturating_sub(1),
+        }
+    }
+}
+
+// Of a to be at most b, or below it where the gap is 1.
+fn of_order(a: Arg, b: Arg, gap: i64, x: VarId, store: &Store) -> Stretch
+    requires a { IsTrue (is_open store.now.box a) }
+    requires b { IsTrue (is_open store.now.box b) }
+{
+    let mut s = all_numbers();
+    if is_variable(a, x) {
+        s.high = ends_of(b, store).greatest.saturating_sub(gap);
+    } else {
+        s.low = ends_of(a, store).least.saturating_add(gap);
+    }
+    s
+}
+
+// The numbers of c without those of a.
+fn difference(c: Ends, a: Ends) -> Stretch {
+    Stretch {
+        low: c.least.saturating_sub(a.greatest),
+        high: c.greatest.saturating_sub(a.least),
+    }
+}
+
+// Of a sum of a and b to be c.
+fn of_sum(a: Arg, b: Arg, c: Arg, x: VarId, store: &Store) -> Stretch
+    requires a { IsTrue (is_open store.now.box a) }
+    requires b { IsTrue (is_open store.now.box b) }
+    requires c { IsTrue (is_open store.now.box c) }
+{
+    let one = ends_of(a, store);
+    let other = ends_of(b, store);
+    let sum = ends_of(c, store);
+    if is_variable(a, x) {
+        return difference(sum, other);
+    }
+    if is_variable(b, x) {
+        return difference(sum, one);
+    }
+    Stretch {
+        low: one.least.saturating_add(other.least),
+        high: one.greatest.saturating_add(other.greatest),
+    }
+}
+
+// A factor of products from low to high, where the other factor is a number above 0.
+fn factor_of(other: Ends, product: Ends) -> Stretch {
+    let n = other.least;
+    if n <= 0 || other.greatest != n || product.least < 0 {
+        return all_numbers();
+    }
+    let below = product.least / n;
+    let is_whole = product.least % n == 0;
+    Stretch {
+        low: if is_whole {
+            below
+        } else {
+            below.saturating_add(1)
+        },
+        high: product.greatest / n,
+    }
+}
+
+// Of a product of a and b to be c.
+fn of_product(a: Arg, b: Arg, c: Arg, x: VarId, store: &Store) -> Stretch
+    requires a { IsTrue (is_open store.now.box a) }
+    requires b { IsTrue (is_open store.now.box b) }
+    requires c { IsTrue (is_open store.now.box c) }
+{
+    let one = ends_of(a, store);
+    let other = ends_of(b, store);
+    let product = ends_of(c, store);
+    if is_variable(a, x) {
+        return factor_of(other, product);
+    }
+    if is_variable(b, x) {
+        return factor_of(one, product);
+    }
+    let least = joined(no_number(), one.least.saturating_mul(other.least));
+    let more = joined(least, one.least.saturating_mul(other.greatest));
+    let most = joined(more, one.greatest.saturating_mul(other.least));
+    joined(most, one.greatest.saturating_mul(other.greatest))
+}
+
+// Of the number at place b to be c: the places, or the numbers, that are left together.
+fn of_element(b: Arg, numbers: &[i64], c: Arg, x: VarId, store: &Store) -> Stretch
+    requires b { IsTrue (is_open store.now.box b) }
+    requires c { IsTrue (is_open store.now.box c) }
+{
+    let is_place = is_variable(b, x);
+    let mut found = no_number();
+    let mut place: i64 = 0;
+    for number in numbers {
+        place = place.saturating_add(1);
+        if has(b, place, store) && has(c, *number, store) {
+            found = joined(found, if is_place { place } else { *number });
+        }
+    }
+    found
+}
+
+// The numbers that both may have, by their ends.
+fn shared(one: Ends, other: Ends) -> Stretch {
+    Stretch {
+        low: if one.least < other.least {
+            other.least
+        } else {
+            one.least
+        },
+        high: if one.greatest < other.greatest {
+            one.greatest
+        } else {
+            other.greatest
+        },
+    }
+}
+
+// The same of an item at place b.
+fn of_item(b: Arg, items: &[Arg], c: Arg, x: VarId, store: &Store) -> Stretch
+    requires b { IsTrue (is_open store.now.box b) }
+    requires c { IsTrue (is_open store.now.box c) }
+    requires items { IsTrue (list_all (is_open store.now.box) items.now) }
+{
+    let is_place = is_variable(b, x);
+    let left = ends_of(c, store);
+    let places = ends_of(b, store);
+    if !is_place && !is_variable(c, x) {
+        // an item: it is c only where no other may be
+        if places.least != places.greatest {
+            return all_numbers();
+        }
+        return Stretch {
+            low: left.least,
+            high: left.greatest,
+        };
+    }
+    let mut found = no_number();
+    let mut place: i64 = 0;
+    for k in 0..items.len() {
+        place = place.saturating_add(1);
+        if has(b, place, store) {
+            let both = shared(ends_of(items[k], store), left);
+            if both.low <= both.high {
+                found = if is_place {
+                    joined(found, place)
+                } else {
+                    joined(joined(found, both.low), both.high)
+                };
+            }
+        }
+    }
+    found
+}
+
+// Of a clause whose other literals fail: 1 to an item of the first array, and 0 to one of the second. The ends aren't looked at, since
+// a clause is held against its variables only where at most one of its literals may hold (`clauses`).
+fn of_clause(args: &[Argument], x: VarId) -> Stretch {
+    let mut s = all_numbers();
+    for item in items_at(args, 0) {
+        if is_variable(*item, x) {
+            s.low = 1;
+            return s;
+        }
+    }
+    s.high = 0;
+    s
+}
+
+// The same of a constraint with this meaning and these arguments.
+fn kept_as(meaning: Meaning, args: &[Argument], x: VarId, store: &Store) -> Stretch
+    requires { IsTrue (are_met store.now.box args.now) }
+{
+    let a = arg_met(args, 0, store);
+    let b = arg_met(args, 1, store);
+    let c = arg_met(args, 2, store);
+    match meaning {
+        Meaning::AtMost => of_order(a, b, 0, x, store),
+        Meaning::Below => of_order(a, b, 1, x, store),
+        Meaning::Equal => shared(ends_of(a, store), ends_of(b, store)),
+        Meaning::Plus => of_sum(a, b, c, x, store),
+        Meaning::Times => of_product(a, b, c, x, store),
+        Meaning::Element => of_element(a, numbers_at(args, 1), c, x, store),
+        Meaning::VariableElement => of_item(a, items_met(args, 1, store), c, x, store),
+        Meaning::Clause => of_clause(args, x),
+        _ => all_numbers(),
+    }
+}
+
+/// Whether a guess tells anything of the constraint's variables: else it is all numbers.
+pub(crate) fn gives_guess(rule: &Constraint) -> bool {
+    let row = meaning_of(rule.pred);
+    if row.reified {
+        return false;
+    }
+    match row.meaning {
+        Meaning::AtMost | Meaning::Below | Meaning::Equal | Meaning::Plus | Meaning::Times => true,
+        Meaning::Element | Meaning::VariableElement | Meaning::Clause => true,
+        _ => false,
+    }
+}
+
+/// Which values the constraint leaves x, by the ends of what is left to its arguments.
+pub fn kept_by_ends(problem: &Problem, rule: &Constraint, x: VarId, store: &Store) -> Stretch
+    requires { IsAsked problem.now rule.now store.now.box }
+{
+    problem.known();
+    let row = meaning_of(rule.pred);
+    if row.reified {
+        return all_numbers();
+    }
+    kept_as(row.meaning, arguments(rule), x, store)
+}
