@@ -29,7 +29,9 @@ pub(crate) struct Patience {
     again: Option<u64>,
     // how many the first scope takes before it looks
     stretch: u64,
-    // the first scope has reached more since it began
+    // what the first scope had reached when it began
+    reached: Option<i64>,
+    // it has reached more since then
     has_more: bool,
     // the first scope is on its way to the best tuple that was reached
     goes_back: bool,
@@ -41,6 +43,7 @@ impl Patience {
             slow: None,
             again: None,
             stretch: FIRST_STRETCH,
+            reached: None,
             has_more: false,
             goes_back: false,
         }
@@ -76,6 +79,7 @@ impl<'p> Search<'p> {
         self.unwatch();
         self.replied = false;
         self.patience.goes_back = true;
+        self.patience.reached = self.board.incumbent(ScopeId(0));
     }
 
     /// Whether the scope is on its way to the best tuple that it has reached.
@@ -89,9 +93,13 @@ impl<'p> Search<'p> {
             return;
         }
         self.patience.goes_back = false;
-        if self.board.incumbent(scope) != before {
+        let now = self.board.incumbent(scope);
+        if now == before {
+            return;
+        }
+        self.hints.note(&self.board, scope);
+        if now != self.patience.reached {
             self.patience.has_more = true;
-            self.hints.note(&self.board, scope);
         }
     }
 
