@@ -1,9 +1,9 @@
 //! Nodes that take long, and begin again.
 //!
 //! A scope takes fewer lines where a good value bounds it from its beginning on. So where the first scope, one of the player's with a wish
-//! that later scopes decide, takes long and has reached more since it began, it begins again, and goes into the best tuple that was
-//! reached first; each time it may take twice as long, up to a limit. Where the last scope takes long, it begins again below a bound that a free search
-//! finds (`scouting`).
+//! that later scopes decide, reaches more after many turns, it begins again at once, and goes into the tuple that reached it first. What
+//! it went through before is lost, so next it takes twice as many turns at least; and after a limit it doesn't begin again. Where the
+//! last scope takes long, it begins again below a bound that a free search finds (`scouting`).
 use crate::place::after;
 use crate::scouting::may_scout;
 use crate::search::Search;
@@ -14,25 +14,23 @@ use qc_model::ScopeId;
 /// How many turns a node of the last scope takes before it is said to take long.
 const LONG: u64 = 500;
 
-/// How many turns the first scope takes before it begins again for the first time.
+/// How many turns the first scope takes at least before it begins again for the first time.
 const FIRST_STRETCH: u64 = 500;
 
 /// After so many turns it doesn't begin again any more, since what that saves is less than what is gone through once more.
-const LAST_STRETCH: u64 = 16_000;
+const LAST_STRETCH: u64 = 8_000;
 
 /// When nodes begin again.
 #[derive(Clone, Copy)]
 pub(crate) struct Patience {
     // how many turns are left where the node of the last scope is said to take long
     slow: Option<u64>,
-    // how many are left where the first scope looks whether it has reached more
-    again: Option<u64>,
-    // how many the first scope takes before it looks
+    // how many were left when the first scope began
+    begun: u64,
+    // how many the first scope takes at least before it begins again
     stretch: u64,
-    // what the first scope had reached when it began
+    // what it had reached when it began
     reached: Option<i64>,
-    // it has reached more since then
-    has_more: bool,
     // the first scope is on its way to the best tuple that was reached
     goes_back: bool,
 }
@@ -41,10 +39,9 @@ impl Patience {
     pub(crate) fn new() -> Patience {
         Patience {
             slow: None,
-            again: None,
+            begun: 0,
             stretch: FIRST_STRETCH,
             reached: None,
-            has_more: false,
             goes_back: false,
         }
     }
@@ -63,9 +60,8 @@ impl<'p> Search<'p> {
         if may_scout(&self.board, scope) {
             self.patience.slow = self.turns.checked_sub(LONG);
         }
-        if scope.0 == 0 && is_leader(&self.board, scope) {
-            self.patience.has_more = false;
-            self.patience.again = self.turns.checked_sub(self.patience.stretch);
+        if scope.0 == 0 {
+            self.patience.begun = self.turns;
         }
     }
 
@@ -87,30 +83,24 @@ impl<'p> Search<'p> {
         scope.0 == 0 && self.patience.goes_back
     }
 
-    /// A leaf of the scope was found, which had reached so much before. Where that is more now, its tuple is kept.
-    pub(crate) fn note_reached(&mut self, scope: ScopeId, before: Option<i64>) {
+    /// A leaf of the scope was found, which had reached so much before. Where that is more now, its tuple is kept, and the first scope may
+    /// begin again.
+    pub(crate) fn note_reached(&mut self, scope: ScopeId, before: Option<i64>) -> Result<(), Stop> {
         if scope.0 > 0 || !is_leader(&self.board, scope) {
-            return;
+            return Ok(());
         }
         self.patience.goes_back = false;
         let now = self.board.incumbent(scope);
         if now == before {
-            return;
+            return Ok(());
         }
         self.hints.note(&self.board, scope);
-        if now != self.patience.reached {
-            self.patience.has_more = true;
+        let taken = self.patience.begun.saturating_sub(self.turns);
+        if now == self.patience.reached || taken < self.patience.stretch || taken > LAST_STRETCH {
+            return Ok(());
         }
-    }
-
-    // The first scope has taken its turns.
-    fn look_again(&mut self) -> Result<(), Stop> {
-        self.patience.stretch = self.patience.stretch.saturating_mul(2);
-        if self.patience.has_more && self.patience.stretch <= LAST_STRETCH {
-            return Err(Stop::Again);
-        }
-        self.patience.again = self.turns.checked_sub(self.patience.stretch);
-        Ok(())
+        self.patience.stretch = taken.saturating_mul(2);
+        Err(Stop::Again)
     }
 
     /// Takes a turn.
@@ -121,9 +111,6 @@ impl<'p> Search<'p> {
         self.turns -= 1;
         if self.patience.slow == Some(self.turns) {
             return Err(Stop::Slow);
-        }
-        if self.patience.again == Some(self.turns) {
-            return self.look_again();
         }
         Ok(())
     }

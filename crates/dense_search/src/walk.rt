@@ -154,7 +154,7 @@ fn leaf(search: &mut Search, depth: u32, place: Place) -> Result<bool, Stop> {
     let found = node(search, depth, next)?;
     let before = search.board.incumbent(place.scope);
     search.board.add_node(place.scope, found);
-    search.note_reached(place.scope, before);
+    search.note_reached(place.scope, before)?;
     let settled = is_settled(search, place);
     search.note_leaf(place.scope, settled, found)?;
     Ok(settled)
