@@ -248,8 +248,11 @@ fn falling(search: &mut Search, depth: u32, place: Place, cases: &mut Cases) -> 
             keep_alone(search, place.scope, cases.x, value, cases.body, cases.body)?;
             return Ok(true);
         }
-        done.push(search.lines.take_from(cases.body)?)?;
         next = search.board.previous(cases.x, value.saturating_sub(1));
+        // the least value's lines come first, so they stay
+        if next.is_some() {
+            done.push(search.lines.take_from(cases.body)?)?;
+        }
     }
     put_latest_first(&mut search.lines, done)?;
     Ok(false)
