@@ -4,12 +4,15 @@
 //! that later scopes decide, reaches more after many turns, it begins again at once, and goes into the tuple that reached it first. What
 //! it went through before is lost, so next it takes twice as many turns at least; and after a limit it doesn't begin again. Where the
 //! last scope takes long, it begins again below a bound that a free search finds (`scouting`).
+//!
+//! A leader who wants much goes through the greatest values first. That isn't always best, so after some turns the first scope tries the
+//! other order for as many, and then keeps to that which reached more.
 use crate::place::after;
 use crate::scouting::may_scout;
 use crate::search::Search;
 use crate::stop::Stop;
 use dense_board::Board;
-use qc_model::ScopeId;
+use qc_model::{ScopeId, Sense};
 
 /// How many turns a node of the last scope takes before it is said to take long.
 const LONG: u64 = 500;
@@ -19,6 +22,17 @@ const FIRST_STRETCH: u64 = 500;
 
 /// After so many turns it doesn't begin again any more, since what that saves is less than what is gone through once more.
 const LAST_STRETCH: u64 = 8_000;
+
+/// How many turns the first scope takes for each order that it tries.
+const TRY: u64 = 500;
+
+/// Which orders of its values the first scope has tried.
+#[derive(Clone, Copy, PartialEq, Eq)]
+enum Tried {
+    Nothing,
+    Falling,
+    Both,
+}
 
 /// When nodes begin again.
 #[derive(Clone, Copy)]
@@ -31,6 +45,11 @@ pub(crate) struct Patience {
     stretch: u64,
     // what it had reached when it began
     reached: Option<i64>,
+    tried: Tried,
+    // how many turns are left where its try ends
+    try_ends: Option<u64>,
+    // it goes through the least values first, though it wants much
+    rises: bool,
     // the first scope is on its way to the best tuple that was reached
     goes_back: bool,
 }
@@ -42,6 +61,9 @@ impl Patience {
             begun: 0,
             stretch: FIRST_STRETCH,
             reached: None,
+            tried: Tried::Nothing,
+            try_ends: None,
+            rises: false,
             goes_back: false,
         }
     }
@@ -54,6 +76,15 @@ pub(crate) fn is_leader(board: &Board, scope: ScopeId) -> bool {
         && !board.demanded(after(scope)).is_empty()
 }
 
+/// Whether it is such a scope, and more is better.
+pub(crate) fn wants_much(board: &Board, scope: ScopeId) -> bool {
+    is_leader(board, scope)
+        && match board.demanded(after(scope)).first() {
+            None => false,
+            Some(first) => first.sense == Sense::Max,
+        }
+}
+
 impl<'p> Search<'p> {
     /// A node of the scope begins.
     pub(crate) fn watch(&mut self, scope: ScopeId) {
@@ -62,7 +93,21 @@ impl<'p> Search<'p> {
         }
         if scope.0 == 0 {
             self.patience.begun = self.turns;
+            self.patience.try_ends = self.end_of_try();
         }
+    }
+
+    // How many turns are left where the try of the first scope ends that begins, if it is one.
+    fn end_of_try(&self) -> Option<u64> {
+        if self.patience.tried == Tried::Both || !wants_much(&self.board, ScopeId(0)) {
+            return None;
+        }
+        self.turns.checked_sub(TRY)
+    }
+
+    /// Whether the scope goes through the least values first, though it wants much.
+    pub(crate) fn rises(&self, scope: ScopeId) -> bool {
+        scope.0 == 0 && self.patience.rises
     }
 
     /// A node of the last scope ends, or begins again.
@@ -103,6 +148,22 @@ impl<'p> Search<'p> {
         Err(Stop::Again)
     }
 
+    // A try of the first scope is over. After the second, the order is that which reached more.
+    fn end_try(&mut self) -> Stop {
+        match self.patience.tried {
+            Tried::Nothing => {
+                self.patience.tried = Tried::Falling;
+                self.patience.rises = true;
+            }
+            Tried::Falling => {
+                self.patience.tried = Tried::Both;
+                self.patience.rises = self.board.incumbent(ScopeId(0)) != self.patience.reached;
+            }
+            Tried::Both => {}
+        }
+        Stop::Again
+    }
+
     /// Takes a turn.
     pub(crate) fn spend(&mut self) -> Result<(), Stop> {
         if self.turns == 0 {
@@ -111,6 +172,9 @@ impl<'p> Search<'p> {
         self.turns -= 1;
         if self.patience.slow == Some(self.turns) {
             return Err(Stop::Slow);
+        }
+        if self.patience.try_ends == Some(self.turns) {
+            return Err(self.end_try());
         }
         Ok(())
     }
