@@ -1,4 +1,4 @@
-"""Measures the program on the ladder: 62 problems in nine families, each with its known answer (rungs.py).
+"""Measures the program on the ladder: 78 problems in nine families, each with its known answer (rungs.py).
 
     bench/run ladder [--list] [--only FAMILY] [--seed S] [--program PATH] [--seconds N] [--texts FOLDER]
                      [--save FILE] [--compare FILE] [--model PATH] [--runs N]
@@ -18,7 +18,7 @@ A line ends with what is to be looked at: WRONG where the outcome is settled and
 expected. The script's status is 1 where something is WRONG or UNCHECKED.
 
 --list     says which problems there are, and their known answers
---only     one family: pricing, interdiction, shop, knapsack, nim, boards, formulas or puzzles
+--only     one family: pricing, interdiction, shop, knapsack, nim, boards, formulas, long_formulas or puzzles
 --seed     makes other problems of the same sizes; times of different seeds aren't to be compared
 --runs     takes the least time of N runs, each less than a second; a busy machine makes single ones longer
 --texts    keeps the problem texts there

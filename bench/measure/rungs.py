@@ -3,7 +3,8 @@
 A known answer never comes from the program. It is found here by a plain method that shares nothing with a search over
 constraints: going over all choices, shortest ways, largest flows, tables of dynamic programming, theory, or a published
 table. Each family is one function: it gets the source of chance, and yields (name, text, known) and, where today's search
-doesn't settle the problem within the ladder's limits, `hard`.
+doesn't settle the problem within the ladder's limits, `hard`. A new size is drawn after all others of its family, so that
+these stay the problems that were measured before.
 """
 from functools import cache
 from itertools import combinations, permutations, product
@@ -52,7 +53,7 @@ def true_where(holds):
 
 
 def pricing(pick):
-    for tolls, most, customers in (3, 10, 3), (3, 15, 5), (3, 25, 6), (4, 8, 6), (4, 10, 10):
+    for tolls, most, customers in (3, 10, 3), (3, 15, 5), (3, 25, 6), (4, 8, 6), (4, 10, 10), (5, 6, 6), (5, 8, 8):
         base = [[*(pick.randint(1, 9) for _ in range(tolls)), pick.randint(7, 14)] for _ in range(customers)]
         cars = [pick.randint(1, 3) for _ in range(customers)]
         known = f"true {best_income(base, cars, most)}"
@@ -94,19 +95,30 @@ def pricing_text(base, cars, most):
 
 def interdiction(pick):
     for layers, height, cuts, *hard in (3, 4, 2), (4, 4, 2), (4, 5, 3, HARD):
-        net = Layers(pick, layers, height)
-        known = max(way for way in net.shortest_ways(cuts) if way is not None)
-        yield f"shortest way {layers}-{height}-{cuts}", net.way_text(cuts), f"true {known}", *hard
+        yield *shortest_way(pick, layers, height, cuts), *hard
     net = Layers(pick, 4, 4)
     longest = max(net.shortest_ways(2))
     yield "all ways long 4-4-2", net.every_way_text(2, longest), "true"
     yield "all ways longer 4-4-2", net.every_way_text(2, longest + 1), "false"
     for first, second, cuts in (3, 4, 2), (4, 4, 2):
-        links = [(1, 2 + j) for j in range(first)] + [(2 + j, 2 + first + k) for j in range(first) for k in range(second)]
-        links += [(2 + first + k, 2 + first + second) for k in range(second)]
-        room = [pick.randint(1, 4) for _ in links]
-        known = min(largest_flow(links, without(room, gone)) for gone in some(len(links), cuts))
-        yield f"flow {first}-{second}-{cuts}", flow_text(links, room, cuts), f"true {known}"
+        yield flow(pick, first, second, cuts)
+    for layers, height, cuts in (4, 5, 2), (4, 4, 3):
+        yield shortest_way(pick, layers, height, cuts)
+    yield flow(pick, 3, 5, 2)
+
+
+def shortest_way(pick, layers, height, cuts):
+    net = Layers(pick, layers, height)
+    known = max(way for way in net.shortest_ways(cuts) if way is not None)
+    return f"shortest way {layers}-{height}-{cuts}", net.way_text(cuts), f"true {known}"
+
+
+def flow(pick, first, second, cuts):
+    links = [(1, 2 + j) for j in range(first)] + [(2 + j, 2 + first + k) for j in range(first) for k in range(second)]
+    links += [(2 + first + k, 2 + first + second) for k in range(second)]
+    room = [pick.randint(1, 4) for _ in links]
+    known = min(largest_flow(links, without(room, gone)) for gone in some(len(links), cuts))
+    return f"flow {first}-{second}-{cuts}", flow_text(links, room, cuts), f"true {known}"
 
 
 def some(count, most):
@@ -211,7 +223,7 @@ def flow_text(links, room, cuts):
 
 
 def shop(pick):
-    for jobs, delays, *hard in (5, 3), (6, 1), (6, 2), (7, 1), (8, 2, HARD):
+    for jobs, delays, *hard in (5, 3), (6, 1), (6, 2), (7, 1), (8, 2, HARD), (7, 2):
         first, second = ([pick.randint(1, 6) for _ in range(jobs)] for _ in range(2))
         late = pick.randint(2, 4)
         orders = permutations(range(jobs))
@@ -256,17 +268,31 @@ def shop_text(first, second, late, delays):
 
 def knapsack(pick):
     for items, gone, *hard in (12, 2), (14, 2), (16, 2), (16, 3, HARD):
-        weights, values = ([pick.randint(3, 15) for _ in range(items)] for _ in range(2))
-        room = sum(weights) // 2
-        filled = lambda forbidden: fullest([k for k in range(items) if k not in forbidden], weights, values, room)
-        known = min(map(filled, some(items, gone)))
-        yield f"knapsack {items}-{gone}", knapsack_text(weights, values, room, gone), f"true {known}", *hard
+        yield *interdicted(pick, items, gone), *hard
     for items, gone in (11, 2), (14, 2):
-        weights, values = ([pick.randint(3, 15) for _ in range(items)] for _ in range(2))
-        room = sum(weights) // 2
-        packs = (pack for pack in some(items, items) if sum(weights[k] for k in pack) <= room)
-        known = max(sum(sorted((values[k] for k in pack), reverse=True)[gone:]) for pack in packs)
-        yield f"robbed knapsack {items}-{gone}", robbed_text(weights, values, room, gone), f"true {known}"
+        yield robbed(pick, items, gone)
+    yield interdicted(pick, 14, 3)
+    yield robbed(pick, 13, 2)
+
+
+def some_items(pick, items):
+    """Weights, values, and the room of the knapsack."""
+    weights, values = ([pick.randint(3, 15) for _ in range(items)] for _ in range(2))
+    return weights, values, sum(weights) // 2
+
+
+def interdicted(pick, items, gone):
+    weights, values, room = some_items(pick, items)
+    filled = lambda forbidden: fullest([k for k in range(items) if k not in forbidden], weights, values, room)
+    known = min(map(filled, some(items, gone)))
+    return f"knapsack {items}-{gone}", knapsack_text(weights, values, room, gone), f"true {known}"
+
+
+def robbed(pick, items, gone):
+    weights, values, room = some_items(pick, items)
+    packs = (pack for pack in some(items, items) if sum(weights[k] for k in pack) <= room)
+    known = max(sum(sorted((values[k] for k in pack), reverse=True)[gone:]) for pack in packs)
+    return f"robbed knapsack {items}-{gone}", robbed_text(weights, values, room, gone), f"true {known}"
 
 
 def fullest(allowed, weights, values, room):
@@ -535,6 +561,14 @@ def long_formulas(pick):
         ((6, 8, 8, 8), 44),
         ((6, 8, 8, 8), 52),
         ((6, 8, 8, 8), 60),
+        ((6, 7, 7), 45),
+        ((6, 7, 7), 75),
+        ((5, 5, 5, 5), 20),
+        ((5, 5, 5, 5), 32),
+        ((8, 8, 9), 55),
+        ((8, 8, 9), 90),
+        ((6, 6, 6, 7), 28),
+        ((6, 6, 6, 7), 44),
     ):
         blocks, last = [], 0
         for k, size in enumerate(sizes):

@@ -36,6 +36,8 @@ pub struct Board<'p> {
     pub(crate) likeness: Likeness<'p>,
     // room for a position: one value for each variable
     pub(crate) values: Vec<i64>,
+    // from this number on no scope is one of the opponent without a restriction
+    pub(crate) moves_end: usize,
     // places of the trail, the last one saved at the end
     pub(crate) saved: Vec<Mark>,
     ghost declared: { is_box_of levels.problem.now remains.box ≡ true },

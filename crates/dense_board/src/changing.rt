@@ -52,10 +52,7 @@ impl<'p> Board<'p> {
         ) {
             return Closing::Lost;
         }
-        if self
-            .closer
-            .has_answerless(&self.levels, self.remains.store(), i.0 as usize, stop)
-        {
+        if self.has_answerless(i, stop) {
             return Closing::Lost;
         }
         if self.remains.mark().at == before {
@@ -63,6 +60,15 @@ impl<'p> Board<'p> {
         } else {
             Closing::Narrowed
         }
+    }
+
+    // Whether a move of the opponent from scope i on has no answer by the constraints before the number `stop`.
+    fn has_answerless(&self, i: ScopeId, stop: usize) -> bool {
+        if i.0 as usize >= self.moves_end || !self.reaches(i, stop) || self.remains.is_empty() {
+            return false;
+        }
+        self.closer
+            .has_answerless(&self.levels, self.remains.store(), i.0 as usize, stop)
     }
 
     // Closes the box for the constraints of the scopes from i to k, whosever values go, and says whether a closed box is left.

@@ -10,9 +10,11 @@
 mod asking;
 mod board;
 mod changing;
+mod hindering;
 mod joining;
 mod saving;
 mod starting;
 
 pub use board::{Board, Closing};
+pub use hindering::Hindrance;
 pub use starting::Given;

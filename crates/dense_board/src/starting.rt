@@ -10,7 +10,7 @@ use dense_close::Closer;
 use joins::{Demands, Joins};
 use likeness::Likeness;
 use model_levels::Levels;
-use qc_model::{Problem, ScopeId};
+use qc_model::{Kind, Problem, ScopeId};
 use std::alloc::{AllocError, Global};
 
 /// A tuple that the opponent may always take in a scope of his.
@@ -48,6 +48,19 @@ fn give_each(levels: &Levels, remains: &mut Remains, freedom: &mut Freedom, give
     }
 }
 
+// The number behind that of the last scope of the opponent without a restriction, or 0.
+fn end_of_moves(levels: &Levels) -> usize {
+    levels.problem.known();
+    let mut end = 0;
+    for k in 0..levels.problem.scopes() {
+        let level = levels.level(ScopeId(k as u8));
+        if level.kind == Kind::Forall && level.rules.is_empty() {
+            end = k + 1;
+        }
+    }
+    end
+}
+
 impl<'p> Board<'p> {
     /// The board of a game with its declared domains. Tuples are given in their order, each where it may be given. It fails only
     /// where memory runs out.
@@ -66,6 +79,7 @@ impl<'p> Board<'p> {
         let wishes = Wishes::new(alloc, problem)?;
         let joins = Joins::new(alloc, problem)?;
         let likeness = Likeness::new(alloc, &levels)?;
+        let moves_end = end_of_moves(&levels);
         let values = vec![in alloc; 0; problem.variables()]?;
         // last, since it has most to let go where a later one fails
         let closer = Closer::new(alloc, problem)?;
@@ -80,6 +94,7 @@ impl<'p> Board<'p> {
             joins,
             likeness,
             values,
+            moves_end,
             saved: Vec::new(alloc),
         })
     }

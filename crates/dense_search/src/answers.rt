@@ -2,7 +2,7 @@
 use crate::closing::{close_here, is_open_move};
 use crate::endings::put_skipped;
 use crate::place::{DEPTH, Rival, after, one_less};
-use crate::replies::{Reply, follow};
+use crate::replies::{Reply, Sought, follow};
 use crate::search::Search;
 use crate::stop::Stop;
 use joins::Found;
@@ -142,8 +142,11 @@ fn answer(
         return search.lines.put(b"x\n");
     }
     search.lines.put(b"n\n")?;
-    let known = known_reply(tally);
-    let (left, reply) = follow(search, after(opponent), tally.closely, known)?;
+    let sought = sought_at(search, tally);
+    let (left, reply) = follow(search, after(opponent), tally.closely, sought)?;
+    if let Some(reply) = &reply {
+        search.leads.note(tally.leaf, reply)?;
+    }
     keep_reply(tally, reply)?;
     let Some(left) = left else {
         tally.end = End::Lost;
@@ -156,11 +159,11 @@ fn answer(
     Ok(())
 }
 
-// The reply that was found at this answer before.
-fn known_reply(tally: &mut Tally) -> Option<Reply> {
+// What is known of the reply at this answer.
+fn sought_at(search: &Search, tally: &mut Tally) -> Sought {
     match tally.replies.get_mut(tally.leaf) {
-        None => None,
-        Some(place) => place.take(),
+        None => Sought::Not(search.leads.at(tally.leaf)),
+        Some(place) => Sought::Found(place.take()),
     }
 }
 

@@ -9,7 +9,7 @@ use crate::lines::Lines;
 use crate::place::{Rival, after};
 use crate::search::Search;
 use crate::stop::Stop;
-use dense_board::{Board, Closing};
+use dense_board::{Board, Closing, Hindrance};
 use joins::Found;
 use qc_model::{Condition, Fold, ScopeId, Sense, Target};
 use std::alloc::{AllocError, Global};
@@ -30,11 +30,13 @@ pub(crate) enum Shape {
     GrowingSum,
 }
 
-/// A tuple that was of use, and what it is worth to the leader.
+/// A tuple that was of use, what it is worth to the leader, and of a reply what kept the follower from counting on it when it was last
+/// looked at closely, if anything did.
 #[derive(Drop)]
-pub(crate) struct Move {
-    pub(crate) tuple: Vec<i64>,
-    pub(crate) worth: i64,
+struct Move {
+    tuple: Vec<i64>,
+    worth: i64,
+    hindrance: Option<Hindrance>,
 }
 
 /// For each scope tuples of it that were of use, the latest first.
@@ -57,6 +59,10 @@ impl Pools {
             None => &[],
             Some(pool) => pool.as_slice(),
         }
+    }
+
+    fn at_mut(&mut self, scope: ScopeId, at: usize) -> Option<&mut Move> {
+        self.pools.get_mut(scope.0 as usize)?.get_mut(at)
     }
 
     // Keeps a tuple as the latest, where it isn't there.
@@ -213,11 +219,11 @@ fn try_reply(
     let Some(kept) = search.pools.pool(follower).get(at) else {
         return Ok(false);
     };
-    if !reached.beats(kept.worth) {
+    if !reached.beats(kept.worth) || is_still_hindered(&mut search.board, follower, kept)? {
         return Ok(false);
     }
     let Some(value) = left_after(&mut search.board, follower, kept.tuple.as_slice())? else {
-        return Ok(false);
+        return note_hindrance(search, follower, at);
     };
     if !reached.beats(value) {
         return Ok(false);
@@ -227,6 +233,24 @@ fn try_reply(
     search.lines.put(b"y\n")?;
     search.board.add_node(scope, Found::AtMost(value));
     Ok(true)
+}
+
+// Whether what kept the follower from counting on the reply does so here.
+fn is_still_hindered(board: &mut Board, follower: ScopeId, kept: &Move) -> Result<bool, Stop> {
+    match &kept.hindrance {
+        None => Ok(false),
+        Some(by) => Ok(board.is_hindered(follower, kept.tuple.as_slice(), by)?),
+    }
+}
+
+// Keeps with a reply what keeps the follower from counting on it. It doesn't serve here.
+fn note_hindrance(search: &mut Search, follower: ScopeId, at: usize) -> Result<bool, Stop> {
+    if let Some(kept) = search.pools.at_mut(follower, at) {
+        kept.hindrance = search
+            .board
+            .hindrance(search.alloc, follower, kept.tuple.as_slice())?;
+    }
+    Ok(false)
 }
 
 // The best value that a reply leaves to what is demanded of the follower first, where he can count on it.
@@ -344,8 +368,12 @@ impl<'p> Search<'p> {
         let Some(tuple) = self.hinted_tuple(opponent)? else {
             return Ok(());
         };
-        self.pools
-            .add(opponent, Move { tuple, worth: 0 }, MOST_MOVES)
+        let kept = Move {
+            tuple,
+            worth: 0,
+            hindrance: None,
+        };
+        self.pools.add(opponent, kept, MOST_MOVES)
     }
 
     // Keeps the tuple of the last scope that is here, with the first value that it comes to.
@@ -355,8 +383,12 @@ impl<'p> Search<'p> {
         };
         let worth = *worth;
         let tuple = self.board.tuple(self.alloc, follower)?;
-        self.pools
-            .add(follower, Move { tuple, worth }, MOST_REPLIES)
+        let kept = Move {
+            tuple,
+            worth,
+            hindrance: None,
+        };
+        self.pools.add(follower, kept, MOST_REPLIES)
     }
 }
 

@@ -7,6 +7,7 @@ use crate::lines::Lines;
 use crate::loose::{Pools, Shape, shapes_of};
 use crate::patience::Patience;
 use crate::place::{DEPTH, Place};
+use crate::replies::Leads;
 use crate::stop::Stop;
 use crate::walk::node;
 use dense_board::{Board, Given};
@@ -25,6 +26,7 @@ pub(crate) struct Search<'p> {
     // for each scope how its choices are bounded while they are open
     pub(crate) shapes: Vec<Shape>,
     pub(crate) pools: Pools,
+    pub(crate) leads: Leads,
     pub(crate) turns: u64,
     // the value of the first scope's condition
     pub(crate) own: Option<i64>,
@@ -80,6 +82,7 @@ fn begun<'p>(alloc: Global, board: Board<'p>, turns: u64) -> Result<Search<'p>, 
         known,
         shapes,
         pools,
+        leads: Leads::new(alloc),
         turns,
         own: None,
         replied: false,

@@ -5,12 +5,11 @@ use crate::closing::close_here;
 use crate::endings::{is_opposed, is_settled, keep_alone, node_over, rival_below};
 use crate::lines::Lines;
 use crate::loose::bound_loosely;
-use crate::patience::is_leader;
+use crate::patience::wants_much;
 use crate::place::{Place, after, one_less};
 use crate::scouting::found_freely;
 use crate::search::Search;
 use crate::stop::Stop;
-use dense_board::Board;
 use joins::Found;
 use qc_model::{ScopeId, Sense, VarId};
 
@@ -154,7 +153,7 @@ fn leaf(search: &mut Search, depth: u32, place: Place) -> Result<bool, Stop> {
     let found = node(search, depth, next)?;
     let before = search.board.incumbent(place.scope);
     search.board.add_node(place.scope, found);
-    search.note_reached(place.scope, before);
+    search.note_reached(place.scope, before)?;
     let settled = is_settled(search, place);
     search.note_leaf(place.scope, settled, found)?;
     Ok(settled)
@@ -198,7 +197,7 @@ fn branch(search: &mut Search, depth: u32, place: Place, x: VarId) -> Result<boo
         }
         cases.aside = Some(search.lines.take_from(cases.body)?);
     }
-    let settled = if falls(&search.board, place.scope) {
+    let settled = if falls(search, place.scope) {
         falling(search, depth, place, &mut cases)?
     } else {
         rising(search, depth, place, &mut cases)?
@@ -248,8 +247,11 @@ fn falling(search: &mut Search, depth: u32, place: Place, cases: &mut Cases) -> 
             keep_alone(search, place.scope, cases.x, value, cases.body, cases.body)?;
             return Ok(true);
         }
-        done.push(search.lines.take_from(cases.body)?)?;
         next = search.board.previous(cases.x, value.saturating_sub(1));
+        // the least value's lines come first, so they stay
+        if next.is_some() {
+            done.push(search.lines.take_from(cases.body)?)?;
+        }
     }
     put_latest_first(&mut search.lines, done)?;
     Ok(false)
@@ -270,7 +272,7 @@ fn case(search: &mut Search, depth: u32, place: Place, x: VarId, value: i64) -> 
 // The value to go into first, where another one comes first by itself.
 fn value_ahead(search: &Search, scope: ScopeId, x: VarId) -> Option<i64> {
     let value = wanted_value(search, scope, x)?;
-    let first = if falls(&search.board, scope) {
+    let first = if falls(search, scope) {
         search.board.greatest(x)
     } else {
         search.board.least(x)
@@ -299,12 +301,8 @@ fn wanted_value(search: &Search, scope: ScopeId, x: VarId) -> Option<i64> {
 }
 
 // Whether values are gone through from the greatest on: a leader who wants much mostly has it by large values.
-fn falls(board: &Board, scope: ScopeId) -> bool {
-    is_leader(board, scope)
-        && match board.demanded(after(scope)).first() {
-            None => false,
-            Some(first) => first.sense == Sense::Max,
-        }
+fn falls(search: &Search, scope: ScopeId) -> bool {
+    wants_much(&search.board, scope) && !search.rises(scope)
 }
 
 // The end of a variable's values that is likely to serve a wish: the greatest where more is better.
