@@ -24,7 +24,7 @@ const FIRST_STRETCH: u64 = 500;
 const LAST_STRETCH: u64 = 8_000;
 
 /// How many turns the first scope takes for each order that it tries.
-const TRY: u64 = 500;
+const TRY: u64 = 1_000;
 
 /// Which orders of its values the first scope has tried.
 #[derive(Clone, Copy, PartialEq, Eq)]
