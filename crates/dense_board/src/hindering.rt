@@ -74,10 +74,12 @@ impl<'p> Board<'p> {
         if !self.is_scope(i) {
             return None;
         }
+        self.levels.problem.known();
         let span = self
             .levels
             .constraints_between(i, ScopeId(i.0.saturating_add(1)));
-        for k in span.first..span.end {
+        let end = span.end.min(self.levels.problem.constraints());
+        for k in span.first..end {
             if !self.holds(ConId(k as u16)) {
                 return Some(ConId(k as u16));
             }
