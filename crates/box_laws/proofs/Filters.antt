@@ -2,8 +2,9 @@
 use Rattle.std.proofs.Common.{◌≡◌, ℕ, zero, suc, Bool, true, false, not, ◌&&◌, cond, List, [], ◌∷◌, take, drop, refl, ap, ◌∙◌, ℤ}
 use Rattle.std.specs.Prelude.{filter}
 use Rattle.std.specs.List.{list_all}
+use Rattle.std.proofs.lemmas.Bool.{and_from}
 use Rattle.qc_model.specs.Domains.{Values}
-use Rattle.qc_model.proofs.Readable.{first, second, together}
+use Rattle.qc_model.proofs.Readable.{first, second}
 
 -- twice in a row
 pub filter_two : (p q : ℤ → Bool) (vs : Values) → filter q (filter p vs) ≡ filter (λ v. p v && q v) vs
@@ -43,7 +44,7 @@ filter_all p (v ∷ vs) h = ap (λ b. cond b (v ∷ filter p vs) (filter p vs)) 
 
 pub all_weaker : (p q : ℤ → Bool) → ((v : ℤ) → p v ≡ true → q v ≡ true) → (vs : Values) → list_all p vs ≡ true → list_all q vs ≡ true
 all_weaker p q f [] h = refl
-all_weaker p q f (v ∷ vs) h = together (q v) (list_all q vs) (f v (first (p v) (list_all p vs) h)) (all_weaker p q f vs (second (p v) (list_all p vs) h))
+all_weaker p q f (v ∷ vs) h = and_from (q v) (list_all q vs) (f v (first (p v) (list_all p vs) h)) (all_weaker p q f vs (second (p v) (list_all p vs) h))
 
 -- some of the items that all pass
 pub all_filter : {X : Type 0} (p q : X → Bool) (xs : List X) → list_all p xs ≡ true → list_all p (filter q xs) ≡ true
@@ -51,13 +52,13 @@ all_filter p q [] h = refl
 all_filter p q (x ∷ xs) h = by (q x) (all_filter p q xs (second (p x) (list_all p xs) h))
   where
     by : (b : Bool) → list_all p (filter q xs) ≡ true → list_all p (cond b (x ∷ filter q xs) (filter q xs)) ≡ true
-    by true k = together (p x) (list_all p (filter q xs)) (first (p x) (list_all p xs) h) k
+    by true k = and_from (p x) (list_all p (filter q xs)) (first (p x) (list_all p xs) h) k
     by false k = k
 
 pub all_take : {X : Type 0} (p : X → Bool) (n : ℕ) (xs : List X) → list_all p xs ≡ true → list_all p (take n xs) ≡ true
 all_take p zero xs h = refl
 all_take p (suc n) [] h = refl
-all_take p (suc n) (x ∷ xs) h = together (p x) (list_all p (take n xs)) (first (p x) (list_all p xs) h) (all_take p n xs (second (p x) (list_all p xs) h))
+all_take p (suc n) (x ∷ xs) h = and_from (p x) (list_all p (take n xs)) (first (p x) (list_all p xs) h) (all_take p n xs (second (p x) (list_all p xs) h))
 
 pub all_drop : {X : Type 0} (p : X → Bool) (n : ℕ) (xs : List X) → list_all p xs ≡ true → list_all p (drop n xs) ≡ true
 all_drop p zero xs h = h

@@ -5,9 +5,10 @@ use Rattle.std.specs.List.{list_all}
 use Rattle.std.specs.Ordering.{int_eq}
 use Rattle.std.proofs.lemmas.Int.{ints}
 use Rattle.std.proofs.lemmas.Bool.Decides.{nat_tests, Decides-int_eq}
+use Rattle.std.proofs.lemmas.Bool.{and_from}
 use Rattle.qc_model.specs.Domains.{Values, has_value, least_from, is_ascending}
 use Rattle.qc_model.specs.Valid.{is_number}
-use Rattle.qc_model.proofs.Readable.{first, second, together}
+use Rattle.qc_model.proofs.Readable.{first, second}
 use Rattle.model_arguments.proofs.Values.{above_first, ascending_rest, value_passes}
 use Rattle.fd_store.specs.Held.{values_from}
 use Rattle.box_laws.proofs.Filters.{filter_all, all_weaker}
@@ -23,7 +24,7 @@ gt_not_le v w h = grind (arith, ints)
 
 -- from the first of ascending values on there are all
 pub from_itself : (v : ℤ) (vs : Values) → is_ascending (v ∷ vs) ≡ true → values_from v (v ∷ vs) ≡ v ∷ vs
-from_itself v vs a = filter_all (int_le v) (v ∷ vs) (together (int_le v v) (list_all (int_le v) vs) (self_le v) (all_weaker (int_lt v) (int_le v) (lt_le v) vs (above_first v vs a)))
+from_itself v vs a = filter_all (int_le v) (v ∷ vs) (and_from (int_le v v) (list_all (int_le v) vs) (self_le v) (all_weaker (int_lt v) (int_le v) (lt_le v) vs (above_first v vs a)))
 
 -- one before it is left aside
 pub from_later : (v w : ℤ) (vs : Values) → is_ascending (w ∷ vs) ≡ true → has_value vs v ≡ true → values_from v (w ∷ vs) ≡ values_from v vs

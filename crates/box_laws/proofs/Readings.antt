@@ -3,11 +3,12 @@ use Rattle.std.proofs.Common.{◌≡◌, ℕ, zero, suc, ◌<◌, Bool, true, fa
 use Rattle.std.specs.Prelude.{◌==◌, int_lt}
 use Rattle.std.specs.List.{list_all}
 use Rattle.std.proofs.lemmas.List.{length-map}
+use Rattle.std.proofs.lemmas.Bool.{and_from}
 use Rattle.qc_model.specs.Content.{Game}
 use Rattle.qc_model.specs.Domains.{Values, Box, values_left, values_within, box_values, is_none_left, has_empty, least_from, least_value, declared_box, domain_values}
 use Rattle.qc_model.specs.Game.{restriction}
 use Rattle.qc_model.specs.Valid.{is_number, is_constraint, is_domain}
-use Rattle.qc_model.proofs.Readable.{first, second, together}
+use Rattle.qc_model.proofs.Readable.{first, second}
 use Rattle.model_arguments.specs.Asked.{is_box_of}
 use Rattle.model_arguments.proofs.Boxes.{sub_length, left_small}
 use Rattle.box_laws.proofs.Filters.{all_filter}
@@ -38,7 +39,7 @@ read_numbers g box n valid d full = go box n full (λ y. left_small g box y vali
     go (vs ∷ box) zero full f = refl
     go ([] ∷ box) (suc n) full f = cc
     go ((v ∷ vs) ∷ box) (suc n) full f =
-        together (is_number (least_value (v ∷ vs))) (list_all is_number (box_values (take n box))) (least_number (v ∷ vs) refl (f 0)) (go box n full (λ y. f (suc y)))
+        and_from (is_number (least_value (v ∷ vs))) (list_all is_number (box_values (take n box))) (least_number (v ∷ vs) refl (f 0)) (go box n full (λ y. f (suc y)))
 
 pub rules_valid : (g : Game) (i : ℕ) → list_all (is_constraint g.variables) g.constraints ≡ true → list_all (is_constraint g.variables) (restriction g i) ≡ true
 rules_valid g i h = all_filter (is_constraint g.variables) (λ c. c.owner.0 == i) g.constraints h

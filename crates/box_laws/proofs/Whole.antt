@@ -4,11 +4,12 @@ use Rattle.std.specs.Prelude.{slice_get, int_lt, Some}
 use Rattle.std.specs.List.{list_all}
 use Rattle.std.specs.Ordering.{int_eq}
 use Rattle.std.proofs.lemmas.Int.{ints}
+use Rattle.std.proofs.lemmas.Bool.{and_from}
 use Rattle.qc_model.specs.declared.problem.Variable.{Variable}
 use Rattle.qc_model.specs.Content.{Game}
 use Rattle.qc_model.specs.Domains.{Values, Box, domain_values, declared_box, values_left, has_value, is_ascending, is_sub_box}
 use Rattle.qc_model.specs.Valid.{is_domain}
-use Rattle.qc_model.proofs.Readable.{first, second, together}
+use Rattle.qc_model.proofs.Readable.{first, second}
 use Rattle.model_arguments.proofs.Values.{above_first, ascending_rest}
 use Rattle.model_levels.proofs.Ascends.{domain_ascends}
 
@@ -24,13 +25,13 @@ is_same d e h = grind (arith, ints)
 all_up : (x y : ℤ) (vs : Values) → int_lt x y ≡ true → list_all (int_lt y) vs ≡ true → list_all (int_lt x) vs ≡ true
 all_up x y [] l h = refl
 all_up x y (v ∷ vs) l h =
-    together (int_lt x v) (list_all (int_lt x) vs) (up x y v l (first (int_lt y v) (list_all (int_lt y) vs) h)) (all_up x y vs l (second (int_lt y v) (list_all (int_lt y) vs) h))
+    and_from (int_lt x v) (list_all (int_lt x) vs) (up x y v l (first (int_lt y v) (list_all (int_lt y) vs) h)) (all_up x y vs l (second (int_lt y v) (list_all (int_lt y) vs) h))
 
 -- values above the first are among the others
 past : (e : ℤ) (es us : Values) → list_all (int_lt e) us ≡ true → list_all (has_value (e ∷ es)) us ≡ true → list_all (has_value es) us ≡ true
 past e es [] l h = refl
 past e es (v ∷ us) l h =
-    together (has_value es v) (list_all (has_value es) us)
+    and_from (has_value es v) (list_all (has_value es) us)
     (skip (int_eq v e) (has_value es v) (apart e v (first (int_lt e v) (list_all (int_lt e) us) l)) (first (has_value (e ∷ es) v) (list_all (has_value (e ∷ es)) us) h))
     (past e es us (second (int_lt e v) (list_all (int_lt e) us) l) (second (has_value (e ∷ es) v) (list_all (has_value (e ∷ es)) us) h))
   where
@@ -66,7 +67,7 @@ module _ (d e : ℤ) (ds es : Values) (a : is_ascending (d ∷ ds) ≡ true) (b 
   all_in : int_eq d e ≡ false → list_all (has_value es) (d ∷ ds) ≡ true
   all_in n =
       let l = later d e es n b (first (has_value (e ∷ es) d) (list_all (has_value (e ∷ es)) ds) h) in
-      past e es (d ∷ ds) (together (int_lt e d) (list_all (int_lt e) ds) l (all_up e d ds l (above_first d ds a))) h
+      past e es (d ∷ ds) (and_from (int_lt e d) (list_all (int_lt e) ds) l (all_up e d ds l (above_first d ds a))) h
 
 -- ascending values that are among others are no more than those
 no_more : (ds es : Values) → is_ascending ds ≡ true → is_ascending es ≡ true → list_all (has_value es) ds ≡ true → length ds ≤ length es

@@ -2,7 +2,7 @@
 use Rattle.std.proofs.Common.{◌≡◌, ℕ, zero, suc, ◌<◌, ◌+◌, true, ◌&&◌, List, [], ◌∷◌, ◌++◌, length, drop, get_or, refl, sym, ap, ◌∙◌, arith, append_assoc}
 use Rattle.std.specs.Prelude.{◌≤◌, min, ◌==◌, nat_lt, ℤ, flat_map, slice_get}
 use Rattle.std.specs.List.{list_all}
-use Rattle.std.proofs.lemmas.Bool.{lt-ltb, ltb-true}
+use Rattle.std.proofs.lemmas.Bool.{lt-ltb, ltb-true, and_from}
 use Rattle.std.proofs.lemmas.List.{drop_more, drop_all}
 use Rattle.std.proofs.lemmas.List.Folds.{list_all-append}
 use Rattle.qc_model.specs.declared.problem.Arg.{Arg}
@@ -16,7 +16,7 @@ use Rattle.qc_model.specs.Content.{Rule}
 use Rattle.qc_model.specs.Meaning.{meaning_of}
 use Rattle.qc_model.specs.Signature.{arg_kinds_of}
 use Rattle.qc_model.specs.Valid.{is_declared_by, arg_sees, argument_sees, are_of_sorts, have_lengths, is_constraint}
-use Rattle.qc_model.proofs.Readable.{first, second, together}
+use Rattle.qc_model.proofs.Readable.{first, second}
 use Rattle.model_arguments.specs.Repeats.{has_place}
 use Rattle.model_arguments.specs.Written.{args_at, variable_numbers}
 use Rattle.check_assignment.specs.Terms.{Terms, terms_at, term_if, item_terms}
@@ -65,11 +65,11 @@ seen_place xs i (Var x) h = lt-ltb x.0 (length xs) (within xs x.0 h)
 seen_places : (xs : List Variable) (i : ℕ) (items : List Arg) → list_all (arg_sees xs i) items ≡ true → list_all (has_place (length xs)) items ≡ true
 seen_places xs i [] h = refl
 seen_places xs i (a ∷ items) h =
-    together (has_place (length xs) a) (list_all (has_place (length xs)) items) (seen_place xs i a (first (arg_sees xs i a) (list_all (arg_sees xs i) items) h)) (seen_places xs i items (second (arg_sees xs i a) (list_all (arg_sees xs i) items) h))
+    and_from (has_place (length xs) a) (list_all (has_place (length xs)) items) (seen_place xs i a (first (arg_sees xs i a) (list_all (arg_sees xs i) items) h)) (seen_places xs i items (second (arg_sees xs i a) (list_all (arg_sees xs i) items) h))
 
 placed_items : (n : ℕ) (items : List Arg) → list_all (has_place n) items ≡ true → list_all (λ x. nat_lt x n) (flat_map arg_variables items) ≡ true
 placed_items n [] h = refl
-placed_items n (Var x ∷ items) h = together (nat_lt x.0 n) (list_all (λ y. nat_lt y n) (flat_map arg_variables items)) (first (nat_lt x.0 n) (list_all (has_place n) items) h) (placed_items n items (second (nat_lt x.0 n) (list_all (has_place n) items) h))
+placed_items n (Var x ∷ items) h = and_from (nat_lt x.0 n) (list_all (λ y. nat_lt y n) (flat_map arg_variables items)) (first (nat_lt x.0 n) (list_all (has_place n) items) h) (placed_items n items (second (nat_lt x.0 n) (list_all (has_place n) items) h))
 placed_items n (Num m ∷ items) h = placed_items n items h
 
 -- all that the arguments see
@@ -80,7 +80,7 @@ pub own_below : (xs : List Variable) (c : Rule) → is_constraint xs c ≡ true 
 own_below xs c h = all c.args (seen xs c h)
   where
     one : (a : Argument) → argument_sees xs c.owner.0 a ≡ true → list_all (λ x. nat_lt x (length xs)) (argument_variables a) ≡ true
-    one (One (Var x)) e = together (nat_lt x.0 (length xs)) true (seen_place xs c.owner.0 (Var x) e) refl
+    one (One (Var x)) e = and_from (nat_lt x.0 (length xs)) true (seen_place xs c.owner.0 (Var x) e) refl
     one (One (Num m)) e = refl
     one (Many items) e = placed_items (length xs) items (seen_places xs c.owner.0 items e)
     one (Numbers ns) e = refl
@@ -90,7 +90,7 @@ own_below xs c h = all c.args (seen xs c h)
     all [] e = refl
     all (a ∷ args) e =
         list_all-append (λ x. nat_lt x (length xs)) (argument_variables a) (variables_of args)
-        ∙ together (list_all (λ x. nat_lt x (length xs)) (argument_variables a)) (list_all (λ x. nat_lt x (length xs)) (variables_of args)) (one a (first (argument_sees xs c.owner.0 a) (list_all (argument_sees xs c.owner.0) args) e)) (all args (second (argument_sees xs c.owner.0 a) (list_all (argument_sees xs c.owner.0) args) e))
+        ∙ and_from (list_all (λ x. nat_lt x (length xs)) (argument_variables a)) (list_all (λ x. nat_lt x (length xs)) (variables_of args)) (one a (first (argument_sees xs c.owner.0 a) (list_all (argument_sees xs c.owner.0) args) e)) (all args (second (argument_sees xs c.owner.0 a) (list_all (argument_sees xs c.owner.0) args) e))
 
 pub items_below : (xs : List Variable) (c : Rule) (k : ℕ) → is_constraint xs c ≡ true → list_all (has_place (length xs)) (args_at c.args k) ≡ true
 items_below xs c k h = at c.args k (seen xs c h)

@@ -6,9 +6,9 @@ use Rattle.std.proofs.Math.IntN.{+ℤ_idl, +ℤ_idr}
 use Rattle.std.proofs.lemmas.List.{length-append, length-replicate}
 use Rattle.std.proofs.lemmas.List.Folds.{list_all-append}
 use Rattle.std.proofs.lemmas.Option.{same_Some, slice_get_within}
+use Rattle.std.proofs.lemmas.Bool.{and_from}
 use Rattle.qc_model.specs.Content.{Rule, Game}
 use Rattle.qc_model.specs.Valid.{is_number, is_constraint}
-use Rattle.qc_model.proofs.Readable.{together}
 use Rattle.check_assignment.specs.declared.standing.Standing.{Standing}
 use Rattle.check_assignment.specs.Balance.{test_of, slope_of}
 use Rattle.check_assignment.specs.Keeping.{Stands, Keeps}
@@ -86,7 +86,7 @@ module _ (g : Game) (n : ℕ) (c : Rule) (ts us : Terms) (t : Termed g n ts) (h 
     each = λ x.
         ap (list_all (is_term (length g.constraints))) (e x)
         ∙ list_all-append (is_term (length g.constraints)) (terms_at ts x) (rule_terms n c x)
-        ∙ together (list_all (is_term (length g.constraints)) (terms_at ts x)) (list_all (is_term (length g.constraints)) (rule_terms n c x))
+        ∙ and_from (list_all (is_term (length g.constraints)) (terms_at ts x)) (list_all (is_term (length g.constraints)) (rule_terms n c x))
         (t.each x)
         (rule_each g.variables c (length g.constraints) n x h (slice_get_within g.constraints n c s));
     sums = λ x k r m q.

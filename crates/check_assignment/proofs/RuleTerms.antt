@@ -3,7 +3,7 @@ use Rattle.std.proofs.Common.{◌≡◌, ◌≢◌, ℕ, ◌<◌, Bool, true, fa
 use Rattle.std.specs.Prelude.{◌==◌, nat_lt, pos, ◌+ℤ◌, flat_map}
 use Rattle.std.specs.List.{list_any, list_all}
 use Rattle.std.proofs.Math.IntN.{+ℤ_idl, +ℤ_idr}
-use Rattle.std.proofs.lemmas.Bool.{lt-ltb}
+use Rattle.std.proofs.lemmas.Bool.{lt-ltb, and_from}
 use Rattle.std.proofs.lemmas.Bool.Decides.{nat_tests}
 use Rattle.std.proofs.lemmas.List.Folds.{list_all-append}
 use Rattle.qc_model.specs.declared.problem.Arg.{Arg}
@@ -12,7 +12,7 @@ use Rattle.qc_model.specs.declared.problem.Variable.{Variable}
 use Rattle.qc_model.specs.Arguments.{arg_variables, variables_of}
 use Rattle.qc_model.specs.Content.{Rule}
 use Rattle.qc_model.specs.Valid.{is_number, is_constraint}
-use Rattle.qc_model.proofs.Readable.{first, second, together}
+use Rattle.qc_model.proofs.Readable.{first, second}
 use Rattle.model_arguments.specs.Written.{args_at, ints_at}
 use Rattle.check_assignment.specs.declared.test.Test.{Test}
 use Rattle.check_assignment.specs.declared.test.Test.TheVariants.{Equal, Different, AtMost, Other}
@@ -41,7 +41,7 @@ if_names true k f = ap (λ b. b || false) (same_number k)
 if_names false k f = refl
 
 if_each : (n : ℕ) (b : Bool) (k : ℕ) (f : ℤ) → k < n → is_number f ≡ true → list_all (is_term n) (term_if b k f) ≡ true
-if_each n true k f l h = together (is_term n (record { rule = k; factor = f })) true (together (nat_lt k n) (is_number f) (lt-ltb k n l) h) refl
+if_each n true k f l h = and_from (is_term n (record { rule = k; factor = f })) true (and_from (nat_lt k n) (is_number f) (lt-ltb k n l) h) refl
 if_each n false k f l h = refl
 
 -- the terms of items
@@ -79,7 +79,7 @@ item_each n k x [] items l h = refl
 item_each n k x (f ∷ fs) [] l h = refl
 item_each n k x (f ∷ fs) (Var y ∷ items) l h =
     list_all-append (is_term n) (term_if (y.0 == x) k f) (item_terms k x fs items)
-    ∙ together (list_all (is_term n) (term_if (y.0 == x) k f)) (list_all (is_term n) (item_terms k x fs items))
+    ∙ and_from (list_all (is_term n) (term_if (y.0 == x) k f)) (list_all (is_term n) (item_terms k x fs items))
     (if_each n (y.0 == x) k f l (first (is_number f) (list_all is_number fs) h))
     (item_each n k x fs items l (second (is_number f) (list_all is_number fs) h))
 item_each n k x (f ∷ fs) (Num m ∷ items) l h = item_each n k x fs items l (second (is_number f) (list_all is_number fs) h)
@@ -121,7 +121,7 @@ zero_each n k x [] l = refl
 zero_each n k x (y ∷ ys) l =
     ap (list_all (is_term n)) (zero_next k x y ys)
     ∙ list_all-append (is_term n) (term_if (y == x) k (pos 0)) (zero_terms k x ys)
-    ∙ together (list_all (is_term n) (term_if (y == x) k (pos 0))) (list_all (is_term n) (zero_terms k x ys)) (if_each n (y == x) k (pos 0) l refl) (zero_each n k x ys l)
+    ∙ and_from (list_all (is_term n) (term_if (y == x) k (pos 0))) (list_all (is_term n) (zero_terms k x ys)) (if_each n (y == x) k (pos 0) l refl) (zero_each n k x ys l)
 
 -- whatever the test
 tested_sum : (t : Test) (k x : ℕ) (c : Rule) → factor_sum k (tested_terms t k c x) ≡ slope_of t x c

@@ -2,7 +2,7 @@
 use Rattle.std.proofs.Common.{◌≡◌, ◌==◌, ◌≤◌, Bool, true, false, ◌&&◌, List, [], ◌∷◌, length, refl, sym, ap, ◌∙◌, ℤ}
 use Rattle.std.specs.Prelude.{nat_le}
 use Rattle.std.specs.List.{list_all}
-use Rattle.std.proofs.lemmas.Bool.{leb-true, eqb-true}
+use Rattle.std.proofs.lemmas.Bool.{leb-true, eqb-true, and_from}
 use Rattle.qc_model.specs.declared.problem.Arg.{Arg}
 use Rattle.qc_model.specs.declared.problem.Arg.TheVariants.{Var, Num}
 use Rattle.qc_model.specs.declared.problem.Argument.{Argument}
@@ -15,7 +15,7 @@ use Rattle.qc_model.specs.Content.{Rule}
 use Rattle.qc_model.specs.Meaning.{meaning_of}
 use Rattle.qc_model.specs.Signature.{arg_kinds_of}
 use Rattle.qc_model.specs.Valid.{is_number, is_integer, are_of_sorts, have_lengths, is_sum, argument_sees, is_constraint}
-use Rattle.qc_model.proofs.Conjunctions.{first, second, together}
+use Rattle.qc_model.proofs.Conjunctions.{first, second}
 use Rattle.model_arguments.specs.Written.{arg_at}
 use Rattle.check_assignment.specs.declared.test.Test.TheVariants.{Other}
 use Rattle.check_assignment.specs.Balance.{tested, test_of}
@@ -40,7 +40,7 @@ literals_small : (xs : List Variable) (items : List Arg) → list_all (is_intege
 literals_small xs [] h = refl
 literals_small xs (Var x ∷ items) h = literals_small xs items (second (is_integer xs (Var x)) (list_all (is_integer xs) items) h)
 literals_small xs (Num n ∷ items) h =
-    together (is_number n) (list_all is_number_item items)
+    and_from (is_number n) (list_all is_number_item items)
     (first (is_number n) (list_all (is_integer xs) items) h)
     (literals_small xs items (second (is_number n) (list_all (is_integer xs) items) h))
 

@@ -1,7 +1,7 @@
 -- Balances where each variable is 0.
 use Rattle.std.proofs.Common.{◌≡◌, ℕ, zero, suc, ◌≤◌, ◌<◌, ◌+◌, ◌*◌, ◌^◌, true, List, [], ◌∷◌, length, map, drop, get_or, replicate, refl, sym, ap, ◌∙◌, subst, arith, ℤ}
 use Rattle.std.specs.Prelude.{min, pos, ◌+ℤ◌, ◌-ℤ◌, ◌*ℤ◌, unsigned_abs, slice_index_or}
-use Rattle.std.proofs.lemmas.Bool.{leb-true}
+use Rattle.std.proofs.lemmas.Bool.{leb-true, and_from}
 use Rattle.std.proofs.lemmas.Int.{ints}
 use Rattle.std.proofs.lemmas.List.{drop_more, drop_all}
 use Rattle.std.specs.List.{list_all}
@@ -11,7 +11,7 @@ use Rattle.qc_model.specs.Arguments.{fill}
 use Rattle.qc_model.specs.Content.{Rule}
 use Rattle.qc_model.specs.Holds.{arg_value, sum_of_products, value_at, values_at}
 use Rattle.qc_model.specs.Valid.{is_number}
-use Rattle.qc_model.proofs.Readable.{first, second, together}
+use Rattle.qc_model.proofs.Readable.{first, second}
 use Rattle.model_arguments.specs.Written.{arg_at, args_at, ints_at}
 use Rattle.model_arguments.proofs.Written.{one_fill, many_fill, numbers_fill}
 use Rattle.model_evaluation.proofs.Items.{small_product, abs_sum}
@@ -86,7 +86,7 @@ value_at_small (a ∷ items) (suc k) d h l = value_at_small items k d (second (i
 pub values_small : (items : List Arg) → list_all is_number_item items ≡ true → list_all is_number (map (arg_value []) items) ≡ true
 values_small [] h = refl
 values_small (Var x ∷ items) h = values_small items h
-values_small (Num n ∷ items) h = together (is_number n) (list_all is_number (map (arg_value []) items)) (first (is_number n) (list_all is_number_item items) h) (values_small items (second (is_number n) (list_all is_number_item items) h))
+values_small (Num n ∷ items) h = and_from (is_number n) (list_all is_number (map (arg_value []) items)) (first (is_number n) (list_all is_number_item items) h) (values_small items (second (is_number n) (list_all is_number_item items) h))
 
 -- one product more
 pub sum_more : (total next f v rest left all : ℤ) → next ≡ total +ℤ (f *ℤ v) → left ≡ (f *ℤ v) +ℤ rest → total +ℤ left ≡ all → next +ℤ rest ≡ all

@@ -2,11 +2,12 @@
 use Rattle.std.proofs.Common.{◌≡◌, ℕ, zero, suc, ◌<◌, ◌≤◌, ◌+◌, Bool, true, false, ◌||◌, cond, List, [], ◌∷◌, length, take, drop, map, set, replicate, refl, sym, ap, ◌∙◌, subst, arith, ℤ, add-one}
 use Rattle.std.specs.Prelude.{filter, pos}
 use Rattle.std.specs.List.{list_all}
+use Rattle.std.proofs.lemmas.Bool.{or_from, and_from}
 use Rattle.qc_model.specs.Content.{Game}
 use Rattle.qc_model.specs.Domains.{Values, Box, values_left, is_none_left, has_empty, is_single, least_value, box_values}
 use Rattle.qc_model.specs.Game.{before}
 use Rattle.qc_model.specs.Valid.{is_number}
-use Rattle.qc_model.proofs.Readable.{first, second, together}
+use Rattle.qc_model.proofs.Readable.{first, second}
 use Rattle.proof_tree.specs.Place.{position}
 use Rattle.check_box.specs.Placed.{only, values_to, IsAt}
 
@@ -57,13 +58,13 @@ kept_after (u ∷ vs) (suc stop) (suc k) v h = kept_after vs stop k v (omega ari
 
 pub numbers_set : (vs : List ℤ) (k : ℕ) (v : ℤ) → list_all is_number vs ≡ true → is_number v ≡ true → list_all is_number (set vs k v) ≡ true
 numbers_set [] k v h e = refl
-numbers_set (u ∷ vs) zero v h e = together (is_number v) (list_all is_number vs) e (second (is_number u) (list_all is_number vs) h)
-numbers_set (u ∷ vs) (suc k) v h e = together (is_number u) (list_all is_number (set vs k v)) (first (is_number u) (list_all is_number vs) h) (numbers_set vs k v (second (is_number u) (list_all is_number vs) h) e)
+numbers_set (u ∷ vs) zero v h e = and_from (is_number v) (list_all is_number vs) e (second (is_number u) (list_all is_number vs) h)
+numbers_set (u ∷ vs) (suc k) v h e = and_from (is_number u) (list_all is_number (set vs k v)) (first (is_number u) (list_all is_number vs) h) (numbers_set vs k v (second (is_number u) (list_all is_number vs) h) e)
 
 pub numbers_to : (n : ℕ) (vs : List ℤ) → list_all is_number vs ≡ true → list_all is_number (take n vs) ≡ true
 numbers_to zero vs h = refl
 numbers_to (suc n) [] h = refl
-numbers_to (suc n) (v ∷ vs) h = together (is_number v) (list_all is_number (take n vs)) (first (is_number v) (list_all is_number vs) h) (numbers_to n vs (second (is_number v) (list_all is_number vs) h))
+numbers_to (suc n) (v ∷ vs) h = and_from (is_number v) (list_all is_number (take n vs)) (first (is_number v) (list_all is_number vs) h) (numbers_to n vs (second (is_number v) (list_all is_number vs) h))
 
 -- as many numbers as there are places
 pub numbers_none : (n : ℕ) → list_all is_number (replicate n (pos 0)) ≡ true
@@ -87,14 +88,11 @@ pub or_second : (a b : Bool) → (a || b) ≡ false → b ≡ false
 or_second true b e = cc
 or_second false b e = e
 
-neither : (a b : Bool) → a ≡ false → b ≡ false → (a || b) ≡ false
-neither a b e f = ap (λ c. c || b) e ∙ f
-
 pub full_before : (p : ℤ → Bool) (box : Box) (x : ℕ) → has_empty (set box x (filter p (values_left box x))) ≡ false → has_empty box ≡ false
 full_before p [] x f = f
 full_before p ([] ∷ box) zero f = or_first true (has_empty box) f
 full_before p ((v ∷ d) ∷ box) zero f = or_second (is_none_left (filter p (v ∷ d))) (has_empty box) f
-full_before p (d ∷ box) (suc x) f = neither (is_none_left d) (has_empty box) (or_first (is_none_left d) _ f) (full_before p box x (or_second (is_none_left d) (has_empty (set box x (filter p (values_left box x)))) f))
+full_before p (d ∷ box) (suc x) f = or_from (is_none_left d) (has_empty box) (or_first (is_none_left d) _ f) (full_before p box x (or_second (is_none_left d) (has_empty (set box x (filter p (values_left box x)))) f))
 
 placed_filtered : (p : ℤ → Bool) (box : Box) (x n : ℕ) (ws : List ℤ) → has_empty (set box x (filter p (values_left box x))) ≡ false → take n box ≡ map only ws → take n (set box x (filter p (values_left box x))) ≡ map only ws
 placed_filtered p [] x n ws f e = e

@@ -3,6 +3,7 @@ use Rattle.std.proofs.Common.{◌≡◌, ◌≤◌, ◌<◌, ◌+◌, ◌-◌, �
 use Rattle.std.specs.Prelude.{unsigned_abs, nat_le}
 use Rattle.std.specs.List.{list_all}
 use Rattle.std.proofs.lemmas.List.{length-map}
+use Rattle.std.proofs.lemmas.Bool.{and_parts}
 use Rattle.qc_model.specs.Content.{Game}
 use Rattle.qc_model.specs.Demands.{demands}
 use Rattle.qc_model.specs.Domains.{Values, Box, values_left, values_outside, domain_values, has_empty, is_none_left, declared_box}
@@ -27,7 +28,6 @@ use Rattle.check_lines.specs.Ledger.{Ledger, Entry, next_entry, branch_entry, pa
 use Rattle.check_lines.specs.LedgerHeld.{first_ledger, goes_through}
 use Rattle.check_lines.specs.LedgerSizes.{HasNumbers, VerdictLaws, ScopeKeeps, EntriesKeep, PartKeeps, NodeKeeps, EndKeeps, AwaitedKeeps, KeepsSizes, KeepsSizesAt}
 use Rattle.check_lines.specs.EndSizes.{ends_after, ends_through, IsWide, EntriesEnds, PartEnds, HasTried, CaseEnds, AwaitedEnds, EndsSoFar, EndsAt}
-use Rattle.check_lines.proofs.Facts.{both}
 use Rattle.check_lines.proofs.Parts.{branch_inside, branch_full}
 use Rattle.check_lines.proofs.LedgerSizes.{all_set, left_numbers, step_numbers, position_numbers, OneMark, one_mark, sized_more, keeps_one}
 use Rattle.box_laws.proofs.Filters.{all_take, all_drop}
@@ -136,7 +136,7 @@ module _ (g : Game) (valid : IsValid g) where
 
     splits : (x : ℕ) → EndsAt g e (cond (may_branch g d.number x d.box && space_left d) (Some (record d { entries = branch_entry (fork_on x d.box) ∷ d.entries; awaited = case_awaited })) None)
     splits x = only_if e (may_branch g d.number x d.box && space_left d) _ (λ may.
-        let m = (both (may_branch g d.number x d.box) (space_left d) may).0 in
+        let m = (and_parts (may_branch g d.number x d.box) (space_left d) may).0 in
         let inside = branch_inside g d.number x d.box m in
         record {
           wide = w;

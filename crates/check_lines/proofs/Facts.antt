@@ -6,10 +6,6 @@ use Rattle.qc_model.specs.declared.problem.Scope.{Scope}
 use Rattle.proof_tree.specs.Place.{is_goal, next_scopes}
 use Rattle.check_lines.specs.Tally.{Tally}
 
-pub both : (a b : Bool) → (a && b) ≡ true → (a ≡ true) × (b ≡ true)
-both true b e = (refl, e)
-both false b e = cc
-
 and_false : (b : Bool) → (b && false) ≡ false
 and_false true = refl
 and_false false = refl

@@ -1,11 +1,11 @@
 -- What the machine tells after a line where a case of a branch is due.
 use Rattle.std.proofs.Common.{◌≡◌, ◌≢◌, ℕ, suc, ◌<◌, Bool, true, false, ◌&&◌, ◌||◌, cond, List, [], ◌∷◌, ◌++◌, length, set, append-nil, refl, sym, ap, ◌∙◌, subst, arith, ℤ, Option, Some, None}
 use Rattle.std.specs.Prelude.{nat_lt, pos, ◌+ℤ◌, is_some}
+use Rattle.std.proofs.lemmas.Bool.{and_from}
 use Rattle.qc_model.specs.declared.problem.VarId.{VarId}
 use Rattle.qc_model.specs.Domains.{Box, Values, values_left, box_within, is_within, values_within, is_none_left}
 use Rattle.qc_model.specs.Valid.{is_number}
 use Rattle.qc_model.specs.Verdict.{Seen, seen_skipped}
-use Rattle.qc_model.proofs.Readable.{together}
 use Rattle.model_arguments.specs.Asked.{is_box_of}
 use Rattle.joins.specs.Joins.{game_of as game_joined, StandsAt, KeepsOthers}
 use Rattle.joins.specs.declared.joins.Joins.{Joins}
@@ -118,7 +118,7 @@ module _ (m : Machine) (x : VarId) (mark : Mark) (from : ℤ) (more : List Open)
     -- it is
     pub take_yes : (new : Box) → new ≡ box_within m.remains.box x.0 start end → length (values_left new x.0) ≢ length (values_left m.remains.box x.0) → may_take upto last ≡ true
     take_yes new e n =
-        together (is_cover upto (values_from from (values_left (past_box m.remains mark.at) x.0))) _ there.is
+        and_from (is_cover upto (values_from from (values_left (past_box m.remains mark.at) x.0))) _ there.is
         (ap (λ vs. nat_lt (length vs) (length (values_left (past_box m.remains mark.at) x.0))) there.covers
         ∙ subst (λ b. nat_lt (length (values_within start end (values_left b x.0))) (length (values_left b x.0)) ≡ true) is_back (fewer m.remains.box new x.0 start end variable_inside e n))
 

@@ -3,6 +3,7 @@ use Rattle.std.proofs.Common.{◌≡◌, ◌≤◌, ◌<◌, ◌+◌, ◌-◌, �
 use Rattle.std.specs.Prelude.{unsigned_abs, filter, int_lt, nat_le}
 use Rattle.std.specs.List.{list_all}
 use Rattle.std.proofs.lemmas.Bool.Decides.{nat_tests}
+use Rattle.std.proofs.lemmas.Bool.{and_parts, and_from}
 use Rattle.qc_model.specs.declared.problem.Sense.{Sense}
 use Rattle.qc_model.specs.declared.problem.Sense.TheVariants.{Min, Max}
 use Rattle.qc_model.specs.Content.{Game}
@@ -31,23 +32,18 @@ use Rattle.check_lines.specs.LedgerSizes.{HasNumbers, VerdictLaws, ScopeKeeps, E
 use Rattle.model_arguments.proofs.Boxes.{left_small}
 use Rattle.box_laws.proofs.Filters.{all_filter, all_take, all_drop}
 use Rattle.box_laws.proofs.Readings.{least_number}
-use Rattle.check_lines.proofs.Facts.{both}
 use Rattle.box_laws.proofs.Declared.{declared_is}
-
--- numbers
-two : (a b : Bool) → a ≡ true → b ≡ true → (a && b) ≡ true
-two a b e f = ap (λ c. c && b) e ∙ f
 
 pub all_set : {X : Type 0} (p : X → Bool) (xs : List X) (n : ℕ) (x : X) → list_all p xs ≡ true → p x ≡ true → list_all p (set xs n x) ≡ true
 all_set p [] n x h e = refl
-all_set p (y ∷ xs) zero x h e = two (p x) (list_all p xs) e (both (p y) (list_all p xs) h).1
-all_set p (y ∷ xs) (suc n) x h e = let r = both (p y) (list_all p xs) h in two (p y) (list_all p (set xs n x)) r.0 (all_set p xs n x r.1 e)
+all_set p (y ∷ xs) zero x h e = and_from (p x) (list_all p xs) e (and_parts (p y) (list_all p xs) h).1
+all_set p (y ∷ xs) (suc n) x h e = let r = and_parts (p y) (list_all p xs) h in and_from (p y) (list_all p (set xs n x)) r.0 (all_set p xs n x r.1 e)
 
 pub left_numbers : (box : Box) (x : ℕ) → HasNumbers box → AreNumbers (values_left box x)
 left_numbers [] zero h = refl
 left_numbers [] (suc x) h = refl
-left_numbers (vs ∷ box) zero h = (both (list_all is_number vs) (list_all (list_all is_number) box) h).0
-left_numbers (vs ∷ box) (suc x) h = left_numbers box x (both (list_all is_number vs) (list_all (list_all is_number) box) h).1
+left_numbers (vs ∷ box) zero h = (and_parts (list_all is_number vs) (list_all (list_all is_number) box) h).0
+left_numbers (vs ∷ box) (suc x) h = left_numbers box x (and_parts (list_all is_number vs) (list_all (list_all is_number) box) h).1
 
 without_numbers : (box : Box) (x : ℕ) (low high : ℤ) → HasNumbers box → HasNumbers (box_without box x low high)
 without_numbers box x low high h =
@@ -59,7 +55,7 @@ step_numbers (BoundStep x low high) box h = without_numbers box x.0 low high h
 
 greatest_number : (n : ℤ) (vs : Values) → is_number n ≡ true → AreNumbers vs → is_number (greatest_from n vs) ≡ true
 greatest_number n [] e h = e
-greatest_number n (v ∷ vs) e h = let r = both (is_number v) (list_all is_number vs) h in greatest_number (cond (int_lt n v) v n) vs (one (int_lt n v) r.0) r.1
+greatest_number n (v ∷ vs) e h = let r = and_parts (is_number v) (list_all is_number vs) h in greatest_number (cond (int_lt n v) v n) vs (one (int_lt n v) r.0) r.1
   where
     one : (b : Bool) → is_number v ≡ true → is_number (cond b v n) ≡ true
     one true f = f
@@ -72,13 +68,13 @@ least_is (v ∷ vs) h = least_number (v ∷ vs) refl h
 best_is : (s : Sense) (vs : Values) → AreNumbers vs → is_number (best_value s vs) ≡ true
 best_is Min vs h = least_is vs h
 best_is Max [] h = refl
-best_is Max (v ∷ vs) h = let r = both (is_number v) (list_all is_number vs) h in greatest_number v vs r.0 r.1
+best_is Max (v ∷ vs) h = let r = and_parts (is_number v) (list_all is_number vs) h in greatest_number v vs r.0 r.1
 
 box_numbers : (box : Box) → HasNumbers box → AreNumbers (box_values box)
 box_numbers [] h = refl
 box_numbers (vs ∷ box) h =
-    let r = both (list_all is_number vs) (list_all (list_all is_number) box) h in
-    two (is_number (least_value vs)) (list_all is_number (box_values box)) (least_is vs r.0) (box_numbers box r.1)
+    let r = and_parts (list_all is_number vs) (list_all (list_all is_number) box) h in
+    and_from (is_number (least_value vs)) (list_all is_number (box_values box)) (least_is vs r.0) (box_numbers box r.1)
 
 pub position_numbers : (g : Game) (i : ℕ) (box : Box) → HasNumbers box → AreNumbers (position g i box)
 position_numbers g i box h = box_numbers (take (before g i) box) (all_take (list_all is_number) (before g i) box h)
@@ -255,7 +251,7 @@ module _ (g : Game) where
             here = 0;
             above = n;
             all = omega arith;
-            scope = record { inside = more (length g.scopes) d.number (both (not (sees_horizon d)) (not (no_scope_left g d)) e).1; values = position_numbers g d.number d.box b; long = tt; sizes = λ k. omega arith };
+            scope = record { inside = more (length g.scopes) d.number (and_parts (not (sees_horizon d)) (not (no_scope_left g d)) e).1; values = position_numbers g d.number d.box b; long = tt; sizes = λ k. omega arith };
             entries = h.entries;
           })
         where
@@ -404,7 +400,7 @@ verdict_laws g valid = record {
 -- before the first line
 all_left : (box : Box) → ((y : ℕ) → AreNumbers (values_left box y)) → HasNumbers box
 all_left [] h = refl
-all_left (vs ∷ box) h = two (list_all is_number vs) (list_all (list_all is_number) box) (h 0) (all_left box (λ y. h (suc y)))
+all_left (vs ∷ box) h = and_from (list_all is_number vs) (list_all (list_all is_number) box) (h 0) (all_left box (λ y. h (suc y)))
 
 pub first_keeps : (g : Game) → list_all (λ x. is_domain x.domain) g.variables ≡ true → KeepsSizes g 0 (first_ledger g)
 first_keeps g d = record {

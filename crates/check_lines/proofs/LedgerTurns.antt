@@ -2,6 +2,7 @@
 use Rattle.std.proofs.Common.{◌≡◌, ℕ, zero, suc, ◌<◌, ◌-◌, ◌+◌, ◌^◌, min, Bool, true, false, not, ◌&&◌, cond, List, [], ◌∷◌, ◌++◌, length, map, take, drop, refl, sym, ap, ◌∙◌, subst, arith, ℤ, Some, None, Option, inl, inr, add-one, append-nil}
 use Rattle.std.specs.Prelude.{nat_lt, nat_le}
 use Rattle.std.proofs.lemmas.Bool.Decides.{nat_tests}
+use Rattle.std.proofs.lemmas.Bool.{and_parts}
 use Rattle.qc_model.specs.declared.problem.VarId.{VarId}
 use Rattle.qc_model.specs.declared.problem.Condition.{Condition}
 use Rattle.qc_model.specs.declared.problem.Scope.{Scope}
@@ -32,7 +33,7 @@ use Rattle.joins.specs.Verdicts.{stuck_of}
 use Rattle.check_lines.specs.Ledger.{Ledger, Entry, next_entry, branch_entry, place_at, part_close, node_close, spot_on, space_left, no_scope_left, sees_horizon, marks_of, ledger_end, may_begin, begun, ledger_body, ledger_node, ledger_prune, passed_over, gone_into, ledger_case, ledger_fork, at_entry, goes_at, goes}
 use Rattle.check_lines.specs.LedgerHeld.{IsOwnOf, AboveIs, WithinIs, Counts, NodeIs, PartIs, CaseIs, Tells, Leads}
 use Rattle.check_lines.proofs.Offs.{node_flag, part_flag, end_off}
-use Rattle.check_lines.proofs.Facts.{both, goal_at, next_drop, failed, too_deep, or_false, or_true, some_open, one_later}
+use Rattle.check_lines.proofs.Facts.{goal_at, next_drop, failed, too_deep, or_false, or_true, some_open, one_later}
 use Rattle.check_lines.proofs.LedgerClosing.{own_also, node_leads, part_leads}
 
 pub demands_step : (g : Game) (ss : List Scope) (i : ℕ) (d : List Condition) → i < length ss → list_after g (drop i ss) (demands_from g (take i ss) d) ≡ demands_from g (take (suc i) ss) d
@@ -204,7 +205,7 @@ module _ (g : Game) where
         record {
           tally = record { in_place = t.in_place; turns = t.turns; opens = t.opens };
           frames = h.frames;
-          own = record { place = h.place; inside = more (length g.scopes) d.number (both (not (sees_horizon d)) (not (no_scope_left g d)) e).1; values = before_is; all = refl };
+          own = record { place = h.place; inside = more (length g.scopes) d.number (and_parts (not (sees_horizon d)) (not (no_scope_left g d)) e).1; values = before_is; all = refl };
         } l
       where
         not_true : (b : Bool) → not b ≡ true → b ≡ false

@@ -11,7 +11,7 @@ use Rattle.qc_model.specs.Content.{Game, Rule}
 use Rattle.qc_model.specs.Domains.{Values, Box, values_left, values_within, box_within, box_values, is_none_left, is_single, has_empty, least_from, least_value, declared_box, domain_values}
 use Rattle.qc_model.specs.Refuted.{refuted_by}
 use Rattle.qc_model.specs.Valid.{is_number, is_constraint, is_domain}
-use Rattle.qc_model.proofs.Readable.{first, second, together}
+use Rattle.qc_model.proofs.Readable.{first, second}
 use Rattle.qc_model.specs.Game.{restriction}
 use Rattle.model_arguments.proofs.Boxes.{sub_length, left_small}
 use Rattle.model_arguments.specs.Asked.{IsAsked, is_box_of}

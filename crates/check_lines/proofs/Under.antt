@@ -2,6 +2,7 @@
 use Rattle.std.proofs.Common.{◌≡◌, ◌≤◌, ◌<◌, ℕ, suc, ◌+◌, ◌-◌, ◌^◌, min, Bool, true, false, ◌&&◌, List, [], ◌∷◌, ◌++◌, length, map, refl, sym, ap, ◌∙◌, subst, Option, Some, None, arith, append-nil}
 use Rattle.std.specs.Prelude.{nat_lt}
 use Rattle.std.proofs.lemmas.Bool.Decides.{nat_tests}
+use Rattle.std.proofs.lemmas.Bool.{and_parts}
 use Rattle.qc_model.specs.Content.{Game}
 use Rattle.qc_model.specs.Verdict.{Seen, seen_node}
 use Rattle.proof_tree.specs.Tree.{Tree}
@@ -17,7 +18,6 @@ use Rattle.check_lines.specs.Nests.{nests, nests_above}
 use Rattle.check_lines.specs.Ledger.{Ledger, place_at, goes}
 use Rattle.check_lines.specs.LedgerHeld.{Counts, Tells, Leads, goes_through}
 use Rattle.check_lines.specs.Under.{alone, is_over, IsUnder, EndsUnder}
-use Rattle.check_lines.proofs.Facts.{both}
 use Rattle.check_lines.proofs.Leaves.{seen-append}
 use Rattle.check_lines.proofs.Sums.{same_tally}
 use Rattle.check_lines.proofs.Runs.{tree_tally}
@@ -153,7 +153,7 @@ module _ (g : Game) where
         record {
           tree = t;
           lines = is;
-          placed = (both n.in_place count.in_place c.in_place).1;
+          placed = (and_parts n.in_place count.in_place c.in_place).1;
           turns = summed n.turns (turns_of t) d.turns e.turns stands.2.tally.turns c.turns;
           opens = λ z. none_open n.opens (opens_of t) (sym z ∙ c.opens);
           shallow = omega (arith, height, deep);

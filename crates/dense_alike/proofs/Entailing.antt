@@ -5,6 +5,7 @@ use Rattle.std.specs.List.{list_any, list_all}
 use Rattle.std.proofs.lemmas.Bool.Decides.{nat_tests}
 use Rattle.std.proofs.lemmas.Int.{ints}
 use Rattle.std.proofs.lemmas.List.{get_or_append_left, get_or-append_right, get_or-map, get_or_past, length-map}
+use Rattle.std.proofs.lemmas.Bool.{or_left, or_right, or_cases, and_from}
 use Rattle.qc_model.specs.declared.problem.Arg.{Arg}
 use Rattle.qc_model.specs.declared.problem.Arg.TheVariants.{Var, Num}
 use Rattle.qc_model.specs.declared.problem.Argument.{Argument}
@@ -21,13 +22,11 @@ use Rattle.qc_model.specs.Ranges.{Range, range_of, point, is_point, ranges_miss,
 use Rattle.qc_model.specs.Refuted.{left_to, refuted_as}
 use Rattle.qc_model.specs.Valid.{are_of_sorts, argument_sees, have_lengths, is_constraint, is_literal, is_sum, item_count}
 use Rattle.qc_model.specs.Signature.{arg_kinds_of}
-use Rattle.qc_model.proofs.Conjunctions.{first, second, together}
-use Rattle.model_arguments.proofs.Bools.{or_left, or_right}
+use Rattle.qc_model.proofs.Conjunctions.{first, second}
 use Rattle.lemma_list.specs.Entailment.{is_settled, entailed_by_index, is_entailed, entailed_by}
 use Rattle.proof_alike.specs.Alike.{is_among, is_looked_at, sees}
 use Rattle.proof_alike.specs.Reading.{Reading, as_sum, as_plus, as_clause, by_value, reading, reading_of, left_sum, left_over, known_sum, known_plus, known_value, is_known_as, is_satisfied, own_values, seen_as}
 use Rattle.proof_alike.proofs.Arrays.{items_of, numbers_of, many_filled, numbers_same}
-use Rattle.proof_alike.proofs.Boxes.{either}
 use Rattle.proof_alike.proofs.Terms.{total, products_total, range_total, balance, cancel, one_product}
 use Rattle.likeness.specs.Seeing.{is_telling, tells}
 use Rattle.dense_alike.specs.Laid.{laid, viewed}
@@ -255,8 +254,8 @@ module _ (g : Game) (here there : List ℤ) (size : length here ≡ length there
         at f one (Members y ∷ ys) zero = refl
         at f one (y ∷ ys) (suc j) = at f one ys j
 
-        together : (f h : Values → ℤ) → ((z : ℤ) → f (z ∷ []) ≡ z) → ((z : ℤ) → h (z ∷ []) ≡ z) → IsShifted (f (left_at us 0) +ℤ f (left_at us 1)) (f (left_at bs 0) +ℤ f (left_at bs 1)) (h (left_at us 2)) (h (left_at bs 2))
-        together f h one two =
+        and_from : (f h : Values → ℤ) → ((z : ℤ) → f (z ∷ []) ≡ z) → ((z : ℤ) → h (z ∷ []) ≡ z) → IsShifted (f (left_at us 0) +ℤ f (left_at us 1)) (f (left_at bs 0) +ℤ f (left_at bs 1)) (h (left_at us 2)) (h (left_at bs 2))
+        and_from f h one two =
             sum_shifted (f (left_at us 0)) (f (left_at us 1)) (h (left_at us 2)) (f (left_at bs 0)) (f (left_at bs 1)) (h (left_at bs 2))
             (value_at (map (fill (arg_value here)) args) 0) (value_at (map (fill (arg_value here)) args) 1) (value_at (map (fill (arg_value here)) args) 2)
             (value_at (map (fill (arg_value there)) args) 0) (value_at (map (fill (arg_value there)) args) 1) (value_at (map (fill (arg_value there)) args) 2)
@@ -265,12 +264,12 @@ module _ (g : Game) (here there : List ℤ) (size : length here ≡ length there
         below : int_lt (greatest_value (left_at us 0) +ℤ greatest_value (left_at us 1)) (least_value (left_at us 2)) ≡ int_lt (greatest_value (left_at bs 0) +ℤ greatest_value (left_at bs 1)) (least_value (left_at bs 2))
         below =
             less_shifted (greatest_value (left_at us 0) +ℤ greatest_value (left_at us 1)) (greatest_value (left_at bs 0) +ℤ greatest_value (left_at bs 1)) (least_value (left_at us 2)) (least_value (left_at bs 2))
-            (together greatest_value least_value (λ z. refl) (λ z. refl))
+            (and_from greatest_value least_value (λ z. refl) (λ z. refl))
 
         above : int_lt (greatest_value (left_at us 2)) (least_value (left_at us 0) +ℤ least_value (left_at us 1)) ≡ int_lt (greatest_value (left_at bs 2)) (least_value (left_at bs 0) +ℤ least_value (left_at bs 1))
         above =
             more_shifted (least_value (left_at us 0) +ℤ least_value (left_at us 1)) (least_value (left_at bs 0) +ℤ least_value (left_at bs 1)) (greatest_value (left_at us 2)) (greatest_value (left_at bs 2))
-            (together least_value greatest_value (λ z. refl) (λ z. refl))
+            (and_from least_value greatest_value (λ z. refl) (λ z. refl))
 
         missing : refuted_as plus us ≡ refuted_as plus bs
         missing =
@@ -304,7 +303,7 @@ module _ (g : Game) (p : ℕ → Bool) (vs : List ℤ) where
 
   some_only : (n : ℤ) (xs : List Arg) → list_any (is_known_as n) (map (known_value p vs) xs) ≡ true → list_any (is_only n) (map (left_to (laid g vs)) xs) ≡ true
   some_only n [] h = cc
-  some_only n (x ∷ xs) h = elim (either (is_known_as n (known_value p vs x)) (list_any (is_known_as n) (map (known_value p vs) xs)) h) [
+  some_only n (x ∷ xs) h = elim (or_cases (is_known_as n (known_value p vs x)) (list_any (is_known_as n) (map (known_value p vs) xs)) h) [
     | inl k ↦ or_left (is_only n (left_to (laid g vs) x)) (list_any (is_only n) (map (left_to (laid g vs)) xs)) (known_only n x k)
     | inr k ↦ or_right (is_only n (left_to (laid g vs) x)) (list_any (is_only n) (map (left_to (laid g vs)) xs)) (some_only n xs k)
   ]
@@ -319,7 +318,7 @@ module _ (g : Game) (p : ℕ → Bool) (vs : List ℤ) where
       let us : Lefts = map (fill (left_to (laid g vs))) c.args in
       ap (λ m. is_entailed m us) e
       ∙ or_left (entailed_as clause us || false) (list_all is_settled us && not (refuted_as clause us))
-      (or_left (entailed_as clause us) false (elim (either (list_any (is_known_as (pos 1)) (many (map (fill (known_value p vs)) c.args) 0)) (list_any (is_known_as (pos 0)) (many (map (fill (known_value p vs)) c.args) 1)) h) [
+      (or_left (entailed_as clause us) false (elim (or_cases (list_any (is_known_as (pos 1)) (many (map (fill (known_value p vs)) c.args) 0)) (list_any (is_known_as (pos 0)) (many (map (fill (known_value p vs)) c.args) 1)) h) [
         | inl k ↦ or_left (list_any (is_only (pos 1)) (many us 0)) (list_any (is_only (pos 0)) (many us 1)) (array_only (pos 1) c.args 0 k)
         | inr k ↦ or_right (list_any (is_only (pos 1)) (many us 0)) (list_any (is_only (pos 0)) (many us 1)) (array_only (pos 0) c.args 1 k)
       ]))
@@ -399,7 +398,7 @@ module _ (g : Game) (i : ℕ) (here there : List ℤ) (size : length here ≡ le
   all_seen : (cs : List Rule) → list_all (is_constraint g.variables) cs ≡ true → list_all (seen_same g i here there) cs ≡ true → list_all (same_view g i here there) cs ≡ true
   all_seen [] v h = refl
   all_seen (c ∷ cs) v h =
-      together (same_view g i here there c) (list_all (same_view g i here there) cs)
+      and_from (same_view g i here there c) (list_all (same_view g i here there) cs)
       (view_seen c (first (is_constraint g.variables c) (list_all (is_constraint g.variables) cs) v) (first (seen_same g i here there c) (list_all (seen_same g i here there) cs) h))
       (all_seen cs (second (is_constraint g.variables c) (list_all (is_constraint g.variables) cs) v) (second (seen_same g i here there c) (list_all (seen_same g i here there) cs) h))
 

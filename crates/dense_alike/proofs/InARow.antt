@@ -8,10 +8,11 @@ use Rattle.std.specs.Ordering.{int_eq}
 use Rattle.std.proofs.lemmas.Int.{ints}
 use Rattle.std.proofs.lemmas.List.{append-nil, append_assoc, flat_map_more, at_drop_more, at_drop_all}
 use Rattle.std.proofs.lemmas.Bool.Decides.{Decides-int_eq, nat_tests}
+use Rattle.std.proofs.lemmas.Bool.{and_from}
 use Rattle.qc_model.specs.Domains.{Values, has_value, is_ascending, least_from}
 use Rattle.qc_model.specs.Lists.{numbers_from, same_values}
 use Rattle.qc_model.specs.Valid.{is_number}
-use Rattle.qc_model.proofs.Readable.{first, second, together}
+use Rattle.qc_model.proofs.Readable.{first, second}
 use Rattle.model_arguments.proofs.Values.{above_first, ascending_rest, ascending_kept, value_passes}
 use Rattle.fd_store.specs.Held.{values_from, least_of}
 use Rattle.box_laws.proofs.Filters.{filter_agree}
@@ -129,7 +130,7 @@ range_rises u v h = le u v (second (is_number u && is_number v) (int_le u v) h)
     le u v h = grind (arith, ints)
 
 pub range_is : (u v : ℤ) → is_number u ≡ true → is_number v ≡ true → u ≤ℤ v → is_range u v ≡ true
-range_is u v a b h = together (is_number u && is_number v) (int_le u v) (together (is_number u) (is_number v) a b) (le u v h)
+range_is u v a b h = and_from (is_number u && is_number v) (int_le u v) (and_from (is_number u) (is_number v) a b) (le u v h)
   where
     le : (u v : ℤ) → u ≤ℤ v → int_le u v ≡ true
     le u v h = grind (arith, ints)

@@ -14,9 +14,9 @@ use Rattle.model_arguments.proofs.Bools.{not_false}
 use Rattle.model_arguments.proofs.Kept.{among_of}
 use Rattle.model_arguments.proofs.Values.{has_least, value_passes}
 use Rattle.proof_alike.specs.Alike.{is_seen}
-use Rattle.proof_alike.proofs.Boxes.{both}
 use Rattle.proof_tree.specs.Place.{position}
 use Rattle.std.proofs.lemmas.List.{drop_all, get_or_default, length-map, take-map}
+use Rattle.std.proofs.lemmas.Bool.{and_parts}
 use Rattle.dense_tree.specs.Alike.{each_below, is_from, reads_one_position, look_same, same_left, views}
 use Rattle.dense_alike.specs.Laid.{is_full_box, AreValuesOf}
 use Rattle.dense_alike.proofs.Marking.{before_most}
@@ -24,10 +24,10 @@ use Rattle.dense_alike.proofs.Viewing.{same_view, position_size, views_are, seen
 
 -- a full box
 pub full_declared : (g : Game) (b : Box) → is_full_box g b ≡ true → is_box_of g b ≡ true
-full_declared g b e = (both (is_box_of g b) (not (has_empty b)) e).0
+full_declared g b e = (and_parts (is_box_of g b) (not (has_empty b)) e).0
 
 pub full_left : (g : Game) (b : Box) → is_full_box g b ≡ true → has_empty b ≡ false
-full_left g b e = not_false (has_empty b) (both (is_box_of g b) (not (has_empty b)) e).1
+full_left g b e = not_false (has_empty b) (and_parts (is_box_of g b) (not (has_empty b)) e).1
 
 pub full_size : (g : Game) (b : Box) → is_full_box g b ≡ true → length b ≡ length g.variables
 full_size g b e = box_size g b (full_declared g b e)
@@ -43,8 +43,8 @@ values_lie b e zero h k = tt
 values_lie [] e (suc n) h k = tt
 values_lie (d ∷ b) [] (suc n) h k = cc
 values_lie (d ∷ b) (e ∷ es) (suc n) h k =
-    let p = both (is_ascending d && list_all (has_value e) d) (is_sub_box b es) h in
-    let q = both (is_ascending d) (list_all (has_value e) d) p.0 in
+    let p = and_parts (is_ascending d && list_all (has_value e) d) (is_sub_box b es) h in
+    let q = and_parts (is_ascending d) (list_all (has_value e) d) p.0 in
     (among_of (least_value d) e (value_passes (has_value e) d (least_value d) q.1 (has_least d (first (is_none_left d) (has_empty b) k))), values_lie b es n p.1 (second (is_none_left d) (has_empty b) k))
   where
     first : (a c : Bool) → (a || c) ≡ false → a ≡ false
@@ -108,8 +108,8 @@ left_end ds es k e l = ap (λ us. same_left us (drop k es)) (drop_all k ds l) �
 -- each of the kept boxes is full
 pub kept_full : (g : Game) (bs : List Box) (n : ℕ) → list_all (is_full_box g) bs ≡ true → n < length bs → is_full_box g (get_or bs n []) ≡ true
 kept_full g [] n e l = absurd (omega arith)
-kept_full g (b ∷ bs) zero e l = (both (is_full_box g b) (list_all (is_full_box g) bs) e).0
-kept_full g (b ∷ bs) (suc n) e l = kept_full g bs n (both (is_full_box g b) (list_all (is_full_box g) bs) e).1 (omega (arith, l))
+kept_full g (b ∷ bs) zero e l = (and_parts (is_full_box g b) (list_all (is_full_box g) bs) e).0
+kept_full g (b ∷ bs) (suc n) e l = kept_full g bs n (and_parts (is_full_box g b) (list_all (is_full_box g) bs) e).1 (omega (arith, l))
 
 pub first_kept : (g : Game) (b : Box) (i n : ℕ) (vs : List ℤ) → n ≡ before g i → is_full_box g b ≡ true → vs ≡ box_values b → n ≤ length vs
 first_kept g b i n vs q e f = omega (arith, full_before g b i n q e, ap length f, length-map b least_value)

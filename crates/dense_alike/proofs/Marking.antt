@@ -9,11 +9,10 @@ use Rattle.qc_model.specs.Content.{Game, Rule}
 use Rattle.qc_model.specs.Game.{before}
 use Rattle.proof_alike.specs.Alike.{is_among, constrains, is_named, is_seen, is_looked_at}
 use Rattle.proof_alike.specs.Reading.{Reading, as_sum, as_plus, as_clause, by_value, reading, read_alone, variables_by_value}
-use Rattle.proof_alike.proofs.Boxes.{both, join, either}
 use Rattle.std.proofs.lemmas.List.{get_or_default}
 use Rattle.std.proofs.lemmas.List.Sums.{count_by-le-length}
 use Rattle.std.proofs.lemmas.List.Folds.{list_any-append}
-use Rattle.model_arguments.proofs.Bools.{or_left, or_right}
+use Rattle.std.proofs.lemmas.Bool.{or_left, or_right, and_parts, and_from, or_cases}
 use Rattle.dense_tree.specs.Alike.{is_from, is_read}
 use Rattle.dense_alike.specs.Marked.{is_marked, has_from, AddsMarks, AreMarksOf}
 
@@ -46,12 +45,12 @@ read_among args by_value x e = e
 
 seen_among : (i x : ℕ) (cs : List Rule) → list_any (constrains i x) cs ≡ true → list_any (has_from i x) cs ≡ true
 seen_among i x [] e = e
-seen_among i x (c ∷ cs) e = by (either (constrains i x c) (list_any (constrains i x) cs) e) (λ k. seen_among i x cs k)
+seen_among i x (c ∷ cs) e = by (or_cases (constrains i x c) (list_any (constrains i x) cs) e) (λ k. seen_among i x cs k)
   where
     by : ((constrains i x c ≡ true) ⊎ (list_any (constrains i x) cs ≡ true)) → (list_any (constrains i x) cs ≡ true → list_any (has_from i x) cs ≡ true) → list_any (has_from i x) (c ∷ cs) ≡ true
     by (inl k) f =
-        let p = both (nat_le i c.owner.0) (is_among (read_alone c) x) k in
-        or_left (has_from i x c) (list_any (has_from i x) cs) (join (is_from i c) (is_among (variables_of c.args) x) p.0 (read_among c.args (reading c) x p.1))
+        let p = and_parts (nat_le i c.owner.0) (is_among (read_alone c) x) k in
+        or_left (has_from i x c) (list_any (has_from i x) cs) (and_from (is_from i c) (is_among (variables_of c.args) x) p.0 (read_among c.args (reading c) x p.1))
     by (inr k) f = or_right (has_from i x c) (list_any (has_from i x) cs) (f k)
 
 -- so a variable is read where some constraint has it, or where it is seen

@@ -5,11 +5,11 @@ use Rattle.std.specs.Ordering.{int_eq}
 use Rattle.std.proofs.lemmas.Bool.Decides.{nat_tests}
 use Rattle.std.proofs.lemmas.Int.{ints}
 use Rattle.std.proofs.lemmas.List.{at_drop_more, map-append}
+use Rattle.std.proofs.lemmas.Bool.{or_cases, and_from}
 use Rattle.qc_model.specs.Domains.{Values, is_single, least_value}
 use Rattle.qc_model.specs.Lists.{same_values}
-use Rattle.qc_model.proofs.Conjunctions.{first, second, together}
+use Rattle.qc_model.proofs.Conjunctions.{first, second}
 use Rattle.proof_alike.specs.Alike.{is_among}
-use Rattle.proof_alike.proofs.Boxes.{either}
 use Rattle.likeness.specs.Seeing.{values_of}
 
 pub same_append : (us vs xs ys : List ℤ) → length us ≡ length vs → same_values (us ++ xs) (vs ++ ys) ≡ (same_values us vs && same_values xs ys)
@@ -79,7 +79,7 @@ same_lists (u ∷ us) (v ∷ vs) e =
 
 pub same_itself : (us : List ℤ) → same_values us us ≡ true
 same_itself [] = refl
-same_itself (u ∷ us) = together (int_eq u u) (same_values us us) (equal u) (same_itself us)
+same_itself (u ∷ us) = and_from (int_eq u u) (same_values us us) (equal u) (same_itself us)
   where
     equal : (n : ℤ) → int_eq n n ≡ true
     equal n = grind (arith, ints)
@@ -87,7 +87,7 @@ same_itself (u ∷ us) = together (int_eq u u) (same_values us us) (equal u) (sa
 -- two functions that do the same at each of the numbers
 pub same_at : (f h : ℕ → ℤ) (xs : List ℕ) (x : ℕ) → map f xs ≡ map h xs → is_among xs x ≡ true → f x ≡ h x
 same_at f h [] x e m = cc
-same_at f h (y ∷ xs) x e m = elim (either (y == x) (is_among xs x) m) [
+same_at f h (y ∷ xs) x e m = elim (or_cases (y == x) (is_among xs x) m) [
   | inl q ↦ subst (λ z. f z ≡ h z) (equal_numbers y x q) (front (f y) (h y) (map f xs) (map h xs) e)
   | inr n ↦ same_at f h xs x (rest (f y) (h y) (map f xs) (map h xs) e) n
 ]

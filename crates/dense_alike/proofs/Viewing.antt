@@ -5,6 +5,7 @@ use Rattle.std.specs.List.{list_all, list_any}
 use Rattle.std.specs.Ordering.{int_eq}
 use Rattle.std.proofs.lemmas.Bool.Decides.{nat_tests}
 use Rattle.std.proofs.lemmas.List.{get_or-set_same, get_or-set_other, get_or_append_left, get_or-append_right, get_or-take, get_or-map, length-map, length-take-le}
+use Rattle.std.proofs.lemmas.Bool.{or_left, and_from}
 use Rattle.qc_model.specs.Arguments.{variables_of}
 use Rattle.qc_model.specs.Content.{Game, Rule}
 use Rattle.qc_model.specs.Domains.{Box, declared_box, values_left, is_single, least_value}
@@ -16,10 +17,8 @@ use Rattle.check_box.proofs.Placing.{single_only}
 use Rattle.proof_alike.specs.Alike.{is_among, is_looked_at, is_named, is_seen, sees}
 use Rattle.proof_alike.specs.Reading.{Reading, as_sum, as_plus, as_clause, by_value, reading, seen_as}
 use Rattle.likeness.specs.Seeing.{is_telling, tells}
-use Rattle.proof_alike.proofs.Boxes.{join}
 use Rattle.proof_alike.proofs.Filling.{fill_all, any_of}
 use Rattle.proof_tree.specs.Place.{position}
-use Rattle.model_arguments.proofs.Bools.{or_left}
 use Rattle.lemma_list.specs.Entailment.{is_entailed, entailed_by}
 use Rattle.dense_tree.specs.Alike.{each_below, is_from, is_read, reads_one_position, declared_from, views}
 use Rattle.dense_alike.specs.Starts.{IsStart}
@@ -156,7 +155,7 @@ module _ (g : Game) (i : ℕ) (a : Box) (m : before g i ≤ length a) (once : re
       read : is_read g i x ≡ true
       read =
           or_left (list_any (λ d. is_from i d && is_among (variables_of d.args) x) g.constraints) (is_named g x)
-          (any_of (λ d. is_from i d && is_among (variables_of d.args) x) g.constraints c k (join (is_from i c) (is_among (variables_of c.args) x) f e))
+          (any_of (λ d. is_from i d && is_among (variables_of d.args) x) g.constraints c k (and_from (is_from i c) (is_among (variables_of c.args) x) f e))
 
       by : (b : Bool) → nat_lt x (before g i) ≡ b → values_left (laid g (position g i a)) x ≡ values_left (declared_from g i a) x
       by true h =

@@ -2,6 +2,7 @@
 use Rattle.std.proofs.Common.{◌≡◌, refl, subst, sym, ℕ, Bool, true, false, ◌&&◌, List, [], ◌∷◌, inl, inr}
 use Rattle.std.specs.Prelude.{◌==◌, cond}
 use Rattle.std.specs.List.{list_all}
+use Rattle.std.proofs.lemmas.Bool.{or_from, or_parts, false_from_ne_true}
 use Rattle.qc_model.specs.Content.{Game, Rule}
 use Rattle.qc_model.specs.Domains.{Box, box_values, declared_box, has_empty, has_value, is_ascending, is_none_left, is_sub_box, least_value}
 use Rattle.qc_model.specs.Game.{restriction}
@@ -12,7 +13,6 @@ use Rattle.qc_model.specs.Verdict.{Verdict, lost, unknown}
 use Rattle.qc_model.proofs.Conjunctions.{first, second}
 use Rattle.qc_model.proofs.Moves.{of_filter}
 use Rattle.model_arguments.specs.Asked.{is_box_of}
-use Rattle.model_arguments.proofs.Bools.{neither, never, or_none}
 use Rattle.model_arguments.proofs.Kept.{among_of}
 use Rattle.model_arguments.proofs.Values.{has_least, value_passes}
 use Rattle.model_table.proofs.Valid.{valid_table_sound}
@@ -34,7 +34,7 @@ least_lie [] (e ∷ es) h k = cc
 least_lie (d ∷ b) [] h k = cc
 least_lie (d ∷ b) (e ∷ es) h k =
     let ordered = is_ascending d && list_all (has_value e) d in
-    let some = neither (is_none_left d) (has_empty b) k in
+    let some = or_parts (is_none_left d) (has_empty b) k in
     let least = has_least d some.0 in
     let among = second (is_ascending d) (list_all (has_value e) d) (first ordered (is_sub_box b es) h) in
     let rest = least_lie b es (second ordered (is_sub_box b es) h) some.1 in
@@ -44,7 +44,7 @@ none_fails : (box : Box) (cs : List Rule) → ((c : Rule) → Among c cs → ent
 none_fails box [] f h = refl
 none_fails box (c ∷ cs) f h =
     let rest = all_hold cs box in
-    or_none (refuted_by c box) (some_fails cs box) (f c (inl refl) (first (entailed_by c box) rest h)) (none_fails box cs (λ d m. f d (inr m)) (second (entailed_by c box) rest h))
+    or_from (refuted_by c box) (some_fails cs box) (f c (inl refl) (first (entailed_by c box) rest h)) (none_fails box cs (λ d m. f d (inr m)) (second (entailed_by c box) rest h))
 
 module _ (g : Game) (valid : IsValid g) (box : Box) (declared : is_box_of g box ≡ true) (full : has_empty box ≡ false) where
   one_apart : (c : Rule) → Among c g.constraints → entailed_by c box ≡ true → refuted_by c box ≡ false
@@ -55,7 +55,7 @@ module _ (g : Game) (valid : IsValid g) (box : Box) (declared : is_box_of g box 
       let sees = visible g valid at.0 c w at.1 lie.1 in
       let inside = lies_in_box w box lie.0 in
       let wide = lies_in_box w (declared_box g) lie.1 in
-      never (refuted_by c box) (λ r. valid_table_sound g valid at.0 c box w at.1 sees wide r inside (entailed_holds g valid at.0 c w box at.1 sees wide inside h))
+      false_from_ne_true (refuted_by c box) (λ r. valid_table_sound g valid at.0 c box w at.1 sees wide r inside (entailed_holds g valid at.0 c w box at.1 sees wide inside h))
 
   pub entailed_apart : (i : ℕ) → all_hold (restriction g i) box ≡ true → some_fails (restriction g i) box ≡ false
   entailed_apart i h = none_fails box (restriction g i) (λ c m. one_apart c (of_filter (λ (x : Rule). x.owner.0 == i) c g.constraints m).0) h

@@ -140,10 +140,5 @@ no_play_at m bounded d k i a b n e h ea eb en =
     no_play_part m bounded d k a b n h (subst (λ j. a ≡ is_free_from g d.given (drop j g.scopes) j) e ea) (subst (λ j. b ≡ (nat_le j k.0 && nat_le k.0 (length g.scopes))) e eb)
     (subst (λ j. n ≡ is_none (greatest_closed takes_all g j (suc k.0) m.nest.remains.box)) e en)
 
--- a test that holds by its parts
-pub both_hold : (a b : Bool) → (a && b) ≡ true → (a ≡ true) × (b ≡ true)
-both_hold true b e = (refl, e)
-both_hold false b e = cc
-
 pub le_of : (a b : ℕ) → nat_le a b ≡ true → a ≤ b
 le_of a b e = grind (arith, nat_tests)

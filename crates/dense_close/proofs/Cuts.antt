@@ -8,6 +8,7 @@ use mir.Syntax.{w64}
 use Rattle.std.proofs.lemmas.List.{length-set, get_or-set_other}
 use Rattle.std.proofs.lemmas.List.Filters.{length-filter_both}
 use Rattle.std.proofs.lemmas.List.Sums.{sum_by-set}
+use Rattle.std.proofs.lemmas.Bool.{or_left, or_right, not_from_false, and_from}
 use Rattle.qc_model.specs.Arguments.{variables_of}
 use Rattle.qc_model.specs.Block.{is_owned_within}
 use Rattle.qc_model.specs.Closed.{refutes_at}
@@ -17,9 +18,7 @@ use Rattle.qc_model.specs.Lists.{Among}
 use Rattle.qc_model.specs.Refuted.{refuted_by}
 use Rattle.qc_model.specs.Valid.{IsValid}
 use Rattle.qc_model.specs.Verdict.{is_none_of}
-use Rattle.qc_model.proofs.Readable.{together}
 use Rattle.model_arguments.specs.Asked.{is_box_of, IsAsked}
-use Rattle.model_arguments.proofs.Bools.{or_left, or_right, not_true}
 use Rattle.model_arguments.proofs.Boxes.{some_left, sub_ascending, sub_without}
 use Rattle.model_arguments.proofs.Kept.{over_low, under_high, low_end, high_end, some_of, keeps, inside, through}
 use Rattle.qc_model.specs.Valid.{is_number}
@@ -109,7 +108,7 @@ all_own p [] = refl
 all_own p (v ∷ vs) = by (p v) refl (all_own p vs)
   where
     by : (b : Bool) → p v ≡ b → list_all p (filter p vs) ≡ true → list_all p (cond b (v ∷ filter p vs) (filter p vs)) ≡ true
-    by true e h = together (p v) (list_all p (filter p vs)) e h
+    by true e h = and_from (p v) (list_all p (filter p vs)) e h
     by false e h = h
 
 pub stretch_barred : (e : End) (g : Game) (k : ℕ) (box : Box) (x : ℕ) (low high v : ℤ) → x < length box → has_empty box ≡ false → v ≡ end_of e box x → low ≤ℤ v → v ≤ℤ high → IsBarred g k x box low high → IsStretch g k x box low high
@@ -164,20 +163,20 @@ cut_step g v k x box low high now d f s e = record {
   fewer = λ large h. subst (λ b. is_sub_box b large ≡ true) (sym e) (sub_without box large x low high h);
   around = λ takes i stop c there owned own taken small within closed.
       subst (λ b. is_sub_box small b ≡ true) (sym e)
-      (steps_keep takes g v i stop (Prune (record { 0 = x }) low high (record { 0 = k }) ∷ []) box small d (together (is_end_step takes g i stop (Prune (record { 0 = x }) low high (record { 0 = k })) box) true (step takes i stop c there owned own taken) refl) within closed);
+      (steps_keep takes g v i stop (Prune (record { 0 = x }) low high (record { 0 = k }) ∷ []) box small d (and_from (is_end_step takes g i stop (Prune (record { 0 = x }) low high (record { 0 = k })) box) true (step takes i stop c there owned own taken) refl) within closed);
 }
   where
     rest : (takes : Takes) (c : Rule) → Among x (variables_of c.args) → takes c x ≡ true → may_take takes (Some c) x ≡ true
-    rest takes c own taken = together (takes c x) (not (is_none_of (variables_of c.args))) taken (some_of_own (variables_of c.args) x own)
+    rest takes c own taken = and_from (takes c x) (not (is_none_of (variables_of c.args))) taken (some_of_own (variables_of c.args) x own)
 
     step : (takes : Takes) (i stop : ℕ) (c : Rule) → slice_get g.constraints k ≡ Some c → is_owned_within i stop c ≡ true → Among x (variables_of c.args) → takes c x ≡ true →
         is_end_step takes g i stop (Prune (record { 0 = x }) low high (record { 0 = k })) box ≡ true
     step takes i stop c there owned own taken =
-        together (removes_some box x low high && is_refuted_within i stop (slice_get g.constraints k) (box_within box x low high)) (is_end low high (values_left box x) && may_take takes (slice_get g.constraints k) x)
-        (together (removes_some box x low high) (is_refuted_within i stop (slice_get g.constraints k) (box_within box x low high))
-        (together (not (has_empty box)) (not (is_none_left (values_within low high (values_left box x)))) (not_true (has_empty box) f) (not_true (is_none_left (values_within low high (values_left box x))) s.some))
-        (subst (λ o. is_refuted_within i stop o (box_within box x low high) ≡ true) (sym there) (together (is_owned_within i stop c) (refuted_by c (box_within box x low high)) owned (s.refuted c there))))
-        (together (is_end low high (values_left box x)) (may_take takes (slice_get g.constraints k) x) s.end (subst (λ o. may_take takes o x ≡ true) (sym there) (rest takes c own taken)))
+        and_from (removes_some box x low high && is_refuted_within i stop (slice_get g.constraints k) (box_within box x low high)) (is_end low high (values_left box x) && may_take takes (slice_get g.constraints k) x)
+        (and_from (removes_some box x low high) (is_refuted_within i stop (slice_get g.constraints k) (box_within box x low high))
+        (and_from (not (has_empty box)) (not (is_none_left (values_within low high (values_left box x)))) (not_from_false (has_empty box) f) (not_from_false (is_none_left (values_within low high (values_left box x))) s.some))
+        (subst (λ o. is_refuted_within i stop o (box_within box x low high) ≡ true) (sym there) (and_from (is_owned_within i stop c) (refuted_by c (box_within box x low high)) owned (s.refuted c there))))
+        (and_from (is_end low high (values_left box x)) (may_take takes (slice_get g.constraints k) x) s.end (subst (λ o. may_take takes o x ≡ true) (sym there) (rest takes c own taken)))
 
 pub cut_more : (g : Game) (k x : ℕ) (a b c : Box) → IsCut g k x a b → IsCut g k x b c → IsCut g k x a c
 cut_more g k x a b c p q = record {

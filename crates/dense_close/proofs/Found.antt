@@ -3,6 +3,7 @@ use Rattle.std.proofs.Common.{◌≡◌, inl, inr, ℕ, zero, suc, ◌<◌, ◌�
 use Rattle.std.specs.Prelude.{slice_get, nat_lt, nat_le, MatchOption, IfNone}
 use Rattle.std.specs.List.{list_all}
 use Rattle.std.proofs.lemmas.Bool.Decides.{nat_tests}
+use Rattle.std.proofs.lemmas.Bool.{not_from_false, false_from_ne_true, and_from}
 use Rattle.qc_model.specs.declared.problem.ConId.{ConId}
 use Rattle.qc_model.specs.declared.problem.VarId.{VarId}
 use Rattle.qc_model.specs.Arguments.{variables_of}
@@ -13,10 +14,10 @@ use Rattle.qc_model.specs.Lists.{Among}
 use Rattle.qc_model.specs.Valid.{IsValid}
 use Rattle.qc_model.specs.Verdict.{is_none_of}
 use Rattle.qc_model.proofs.Moves.{of_filter}
-use Rattle.qc_model.proofs.Readable.{first, second, together}
+use Rattle.qc_model.proofs.Readable.{first, second}
 use Rattle.model_arguments.specs.Asked.{is_box_of}
 use Rattle.model_arguments.specs.Written.{variable_numbers}
-use Rattle.model_arguments.proofs.Bools.{clash, never, not_true}
+use Rattle.model_arguments.proofs.Bools.{clash}
 use Rattle.model_levels.specs.Spans.{is_between, is_rule_within, IsSpanOf}
 use Rattle.dense_closing.specs.Closing.{IsGreatestClosed}
 use Rattle.dense_closing.specs.ClosingSteps.{greatest_closed}
@@ -35,12 +36,12 @@ use Rattle.dense_close.proofs.Own.{all_if}
 -- a box with an empty domain has no closed one within
 pub lost_empty : (t : Taking) (g : Game) (i stop : ℕ) (box : Box) → has_empty box ≡ true → IsLost t g i stop box
 lost_empty t g i stop box e small within =
-    never (is_closed_by (takes_of t g) (constraints_within g i stop) small) (λ h. clash (has_empty small) (sub_empty small box within e) (closed_full (takes_of t g) (constraints_within g i stop) small h))
+    false_from_ne_true (is_closed_by (takes_of t g) (constraints_within g i stop) small) (λ h. clash (has_empty small) (sub_empty small box within e) (closed_full (takes_of t g) (constraints_within g i stop) small h))
 
 -- nor has an earlier one
 pub lost_earlier : (t : Taking) (g : Game) (i stop : ℕ) (box now : Box) → IsNarrowed t g i stop box now → IsLost t g i stop now → IsLost t g i stop box
 lost_earlier t g i stop box now n l small within =
-    never (is_closed_by (takes_of t g) (constraints_within g i stop) small) (λ h. clash (is_closed_by (takes_of t g) (constraints_within g i stop) small) h (l small (n.around small within h)))
+    false_from_ne_true (is_closed_by (takes_of t g) (constraints_within g i stop) small) (λ h. clash (is_closed_by (takes_of t g) (constraints_within g i stop) small) h (l small (n.around small within h)))
 
 pub found_none : (t : Taking) (g : Game) → IsValid g → (i stop : ℕ) (box : Box) → is_box_of g box ≡ true → IsLost t g i stop box → greatest_closed (takes_of t g) g i stop box ≡ None
 found_none t g v i stop box d l = by (greatest_closed (takes_of t g) g i stop box) refl
@@ -74,11 +75,11 @@ found_some t g v i stop box now d n closed = sym (by (greatest_closed (takes_of 
 -- where nothing waits, the box is closed
 pub closed_now : (t : Taking) (g : Game) (i stop first end : ℕ) (w : Waiting) (box : Box) → IsSpanOf g i stop first end → has_empty box ≡ false → MarkedWait w → w.queue ≡ [] → AreSettled t g first end w box → is_closed_by (takes_of t g) (constraints_within g i stop) box ≡ true
 closed_now t g i stop first end w box s full m none settled =
-    together (not (has_empty box)) (list_all (keeps_box (takes_of t g) box) (constraints_within g i stop)) (not_true (has_empty box) full)
+    and_from (not (has_empty box)) (list_all (keeps_box (takes_of t g) box) (constraints_within g i stop)) (not_from_false (has_empty box) full)
     (all_if (keeps_box (takes_of t g) box) (constraints_within g i stop) (λ c a. (let f = of_filter (is_owned_within i stop) c g.constraints a in at c f.1 (placed g.constraints c f.0))))
   where
     unmarked : (k : ℕ) → is_marked w k ≡ false
-    unmarked k = never (is_marked w k) (λ h. (let q = subst (λ cs. stands_in cs k ≡ true) none (m k h) in nothing q))
+    unmarked k = false_from_ne_true (is_marked w k) (λ h. (let q = subst (λ cs. stands_in cs k ≡ true) none (m k h) in nothing q))
       where
         nothing : stands_in [] k ≡ true → ⊥
         nothing q = cc
@@ -90,7 +91,7 @@ closed_now t g i stop first end w box s full m none settled =
 pub inside_exist : (first end n : ℕ) (cs : List ConId) → end ≤ n → list_all (λ c. is_between first end c.0) cs ≡ true → list_all (λ c. nat_lt c.0 n) cs ≡ true
 inside_exist first end n [] l h = refl
 inside_exist first end n (c ∷ cs) l h =
-    together (nat_lt c.0 n) (list_all (λ d. nat_lt d.0 n) cs) (less c.0 (here (is_between first end c.0) (list_all (λ d. is_between first end d.0) cs) h)) (inside_exist first end n cs l (second (is_between first end c.0) (list_all (λ d. is_between first end d.0) cs) h))
+    and_from (nat_lt c.0 n) (list_all (λ d. nat_lt d.0 n) cs) (less c.0 (here (is_between first end c.0) (list_all (λ d. is_between first end d.0) cs) h)) (inside_exist first end n cs l (second (is_between first end c.0) (list_all (λ d. is_between first end d.0) cs) h))
   where
     here : (a b : Bool) → (a && b) ≡ true → a ≡ true
     here true b q = refl

@@ -5,9 +5,10 @@ use Rattle.std.specs.List.{list_all}
 use Rattle.std.proofs.lemmas.Bool.Decides.{nat_tests}
 use Rattle.qc_model.specs.declared.problem.VarId.{VarId}
 use Rattle.std.proofs.lemmas.Option.{same_Some}
+use Rattle.std.proofs.lemmas.Bool.{and_from}
 use Rattle.qc_model.specs.Arguments.{variables_of}
 use Rattle.qc_model.specs.Content.{Game, Rule}
-use Rattle.qc_model.proofs.Readable.{first, second, together}
+use Rattle.qc_model.proofs.Readable.{first, second}
 use Rattle.model_arguments.specs.Written.{variable_numbers}
 use Rattle.dense_quiet.proofs.Sums.{last_or_before}
 use Rattle.dense_close.specs.Index.{Having, Index, own, has_it, HasGrown, IsIndexTo}
@@ -17,7 +18,7 @@ grown_more a b c p q = record { count = q.count ∙ p.count; kept = λ k x h. q.
 
 pub all_weaker : {X : Type 0} (p q : X → Bool) (xs : List X) → ((x : X) → p x ≡ true → q x ≡ true) → list_all p xs ≡ true → list_all q xs ≡ true
 all_weaker p q [] f h = refl
-all_weaker p q (x ∷ xs) f h = together (q x) (list_all q xs) (f x (first (p x) (list_all p xs) h)) (all_weaker p q xs f (second (p x) (list_all p xs) h))
+all_weaker p q (x ∷ xs) f h = and_from (q x) (list_all q xs) (f x (first (p x) (list_all p xs) h)) (all_weaker p q xs f (second (p x) (list_all p xs) h))
 
 -- one more of the variables
 pub all_more : (p : ℕ → Bool) (xs : List VarId) (i : ℕ) (d : VarId) → i < length xs → list_all p (variable_numbers (take i xs)) ≡ true → p (get_or xs i d).0 ≡ true → list_all p (variable_numbers (take (i + 1) xs)) ≡ true
@@ -28,9 +29,9 @@ all_more p xs i d l h e = ap (λ n. list_all p (variable_numbers (take n xs))) (
 
     go : (xs : List VarId) (i : ℕ) → i < length xs → list_all p (variable_numbers (take i xs)) ≡ true → p (get_or xs i d).0 ≡ true → list_all p (variable_numbers (take (suc i) xs)) ≡ true
     go [] i l h e = absurd (omega arith)
-    go (x ∷ xs) zero l h e = together (p x.0) true e refl
+    go (x ∷ xs) zero l h e = and_from (p x.0) true e refl
     go (x ∷ xs) (suc i) l h e =
-        together (p x.0) (list_all p (variable_numbers (take (suc i) xs))) (first (p x.0) (list_all p (variable_numbers (take i xs))) h) (go xs i (omega arith) (second (p x.0) (list_all p (variable_numbers (take i xs))) h) e)
+        and_from (p x.0) (list_all p (variable_numbers (take (suc i) xs))) (first (p x.0) (list_all p (variable_numbers (take i xs))) h) (go xs i (omega arith) (second (p x.0) (list_all p (variable_numbers (take i xs))) h) e)
 
 pub added_more : (own : List VarId) (i : ℕ) (d : VarId) (k : ℕ) (hs then : Having) → i < length own → HasGrown hs then → list_all (has_it hs k) (variable_numbers (take i own)) ≡ true → has_it then k (get_or own i d).0 ≡ true →
     list_all (has_it then k) (variable_numbers (take (i + 1) own)) ≡ true

@@ -4,6 +4,7 @@ use Rattle.std.specs.Prelude.{slice_get, Some}
 use Rattle.std.specs.List.{list_all}
 use Rattle.std.proofs.lemmas.Bool.Decides.{nat_tests}
 use Rattle.std.proofs.lemmas.Option.{same_Some}
+use Rattle.std.proofs.lemmas.Bool.{or_right, or_parts, not_from_false, false_from_ne_true, or_cases, and_from}
 use Rattle.qc_model.specs.declared.problem.VarId.{VarId}
 use Rattle.qc_model.specs.Arguments.{variables_of}
 use Rattle.qc_model.specs.Closed.{refutes_at}
@@ -14,14 +15,14 @@ use Rattle.qc_model.specs.Refuted.{refuted_by}
 use Rattle.qc_model.specs.Valid.{IsValid}
 use Rattle.qc_model.specs.Verdict.{is_none_of}
 use Rattle.qc_model.proofs.Moves.{among_filter}
-use Rattle.qc_model.proofs.Readable.{first, second, together}
+use Rattle.qc_model.proofs.Readable.{first, second}
 use Rattle.model_arguments.specs.Asked.{is_box_of}
 use Rattle.model_arguments.specs.Written.{variable_numbers}
-use Rattle.model_arguments.proofs.Bools.{clash, never, not_true, or_right, neither}
+use Rattle.model_arguments.proofs.Bools.{clash}
 use Rattle.model_arguments.proofs.Boxes.{some_left}
 use Rattle.model_arguments.proofs.Values.{has_least}
 use Rattle.model_levels.specs.Spans.{is_between, IsSpanOf}
-use Rattle.model_table.proofs.Fits.{or_cases, all_at}
+use Rattle.model_table.proofs.Fits.{all_at}
 use Rattle.fd_store.specs.Held.{count_left}
 use Rattle.proof_alike.proofs.Filling.{get_among}
 use Rattle.dense_closing.specs.Takes.{keeps_box, is_closed_by, keeps_at}
@@ -59,10 +60,10 @@ looked_spared t g v k x w box now d full l e low high = record {
   listed = λ a. refl;
   spared = λ a c q.
       (let ends = not (refutes_at c now x (least_value (values_left now x))) && not (refutes_at c now x (greatest_value (values_left now x))) in
-      together (spares (takes_of t g) now c x) true
+      and_from (spares (takes_of t g) now c x) true
       (or_right (not (takes_of t g c x)) (is_single (values_left now x) || ends) (or_right (is_single (values_left now x)) ends
-      (together (not (refutes_at c now x (least_value (values_left now x)))) (not (refutes_at c now x (greatest_value (values_left now x))))
-      (not_true (refutes_at c now x (least_value (values_left now x))) (low c q)) (not_true (refutes_at c now x (greatest_value (values_left now x))) (high c q)))))
+      (and_from (not (refutes_at c now x (least_value (values_left now x)))) (not (refutes_at c now x (greatest_value (values_left now x))))
+      (not_from_false (refutes_at c now x (least_value (values_left now x))) (low c q)) (not_from_false (refutes_at c now x (greatest_value (values_left now x))) (high c q)))))
       refl);
   stands = λ s a c q. stands_by g v k c now x (least_value (values_left now x)) q d full (has_least (values_left now x) (some_left now x full l)) (low c q);
 }
@@ -88,14 +89,14 @@ looked_more t g k own i v l m n was mid then box left now b c s p q = record {
   kept = λ j h. q.kept j (p.kept j h);
   less = λ a. less (or_cases l.changed m.changed (sym c ∙ a)) (l.changed) refl (m.changed) refl;
   woken = λ a. elim (or_cases l.changed m.changed (sym c ∙ a)) [ inl h ↦ q.kept k (p.woken h) | inr h ↦ q.woken h ];
-  same = λ a. (let both = neither l.changed m.changed (sym c ∙ a) in q.same both.1 ∙ p.same both.0);
-  listed = λ a. (let both = neither l.changed m.changed (sym c ∙ a) in q.listed both.1 ∙ p.listed both.0);
+  same = λ a. (let both = or_parts l.changed m.changed (sym c ∙ a) in q.same both.1 ∙ p.same both.0);
+  listed = λ a. (let both = or_parts l.changed m.changed (sym c ∙ a) in q.listed both.1 ∙ p.listed both.0);
   spared = λ a r e.
-      (let both = neither l.changed m.changed (sym c ∙ a) in
+      (let both = or_parts l.changed m.changed (sym c ∙ a) in
       all_more (spares (takes_of t g) now r) own i v b (subst (λ z. list_all (spares (takes_of t g) z r) (variable_numbers (take i own)) ≡ true) (sym (q.same both.1)) (p.spared both.0 r e))
       (first (spares (takes_of t g) now r (get_or own i v).0) true (q.spared both.1 r e)));
   stands = λ h a r e.
-      (let both = neither l.changed m.changed (sym c ∙ a) in
+      (let both = or_parts l.changed m.changed (sym c ∙ a) in
       elim (or_cases l.seen m.seen (sym s ∙ h)) [ inl z ↦ subst (λ z. refuted_by r z ≡ false) (sym (q.same both.1)) (p.stands z both.0 r e) | inr z ↦ q.stands z both.1 r e ]);
 }
   where
@@ -130,7 +131,7 @@ settled_stable t g k r w box e s f u = one_rule g k r e (λ c. keeps_box (takes_
 pub lost_by : (t : Taking) (g : Game) → IsValid g → (i stop first end k : ℕ) (c : Rule) (box : Box) → IsSpanOf g i stop first end → is_between first end k ≡ true → slice_get g.constraints k ≡ Some c → is_box_of g box ≡ true →
     is_none_of (variables_of c.args) ≡ false → refuted_by c box ≡ true → IsLost t g i stop box
 lost_by t g v i stop first end k c box s b e d some r small within =
-    never (is_closed_by (takes_of t g) rules small) (λ h.
+    false_from_ne_true (is_closed_by (takes_of t g) rules small) (λ h.
     box_stands g v k c e small box d within (closed_full (takes_of t g) rules small h) (takes_of t g)
     (all_at (keeps_box (takes_of t g) small) rules c (second (not (has_empty small)) (list_all (keeps_box (takes_of t g) small) rules) h)
     (among_filter (is_owned_within i stop) c g.constraints (get_among g.constraints k c e) (owned_by g i stop first end k c s b e))) some r)
@@ -148,6 +149,6 @@ settled_roomy t g k r w box e s u = one_rule g k r e (λ c. keeps_box (takes_of 
     at : (x : ℕ) → Among x (variables_of r.args) → (b : Bool) → takes_of t g r x ≡ b → keeps_at (takes_of t g) box r x ≡ true
     at x m true q =
         subst (λ b. test x b ≡ true) (sym q)
-        (together (not (refutes_at r box x (least_value (values_left box x)))) (not (refutes_at r box x (greatest_value (values_left box x))))
-        (not_true (refutes_at r box x (least_value (values_left box x))) (s.least x m q)) (not_true (refutes_at r box x (greatest_value (values_left box x))) (s.greatest x m q)))
-    at x m false q = subst (λ b. test x b ≡ true) (sym q) (not_true (refuted_by r box) s.whole)
+        (and_from (not (refutes_at r box x (least_value (values_left box x)))) (not (refutes_at r box x (greatest_value (values_left box x))))
+        (not_from_false (refutes_at r box x (least_value (values_left box x))) (s.least x m q)) (not_from_false (refutes_at r box x (greatest_value (values_left box x))) (s.greatest x m q)))
+    at x m false q = subst (λ b. test x b ≡ true) (sym q) (not_from_false (refuted_by r box) s.whole)

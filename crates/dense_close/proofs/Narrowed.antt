@@ -3,6 +3,7 @@ use Rattle.std.proofs.Common.{◌≡◌, ℕ, zero, suc, ◌==◌, Bool, true, f
 use Rattle.std.specs.Prelude.{slice_get, Some}
 use Rattle.std.specs.List.{list_all}
 use Rattle.std.proofs.lemmas.List.{length-set}
+use Rattle.std.proofs.lemmas.Bool.{not_from_false, false_from_ne_true, and_from}
 use Rattle.qc_model.specs.Arguments.{variables_of}
 use Rattle.qc_model.specs.Block.{is_owned_within}
 use Rattle.qc_model.specs.Closed.{refutes_at}
@@ -12,9 +13,9 @@ use Rattle.qc_model.specs.Lists.{Among}
 use Rattle.qc_model.specs.Refuted.{refuted_by}
 use Rattle.qc_model.specs.Valid.{IsValid}
 use Rattle.qc_model.specs.Visible.{ArgumentsBelow}
-use Rattle.qc_model.proofs.Readable.{first, together}
+use Rattle.qc_model.proofs.Readable.{first}
 use Rattle.model_arguments.specs.Asked.{is_box_of}
-use Rattle.model_arguments.proofs.Bools.{clash, never, not_true}
+use Rattle.model_arguments.proofs.Bools.{clash}
 use Rattle.model_arguments.proofs.Boxes.{set_full, set_same}
 use Rattle.model_levels.specs.Spans.{is_between, is_rule_within, IsSpanOf}
 use Rattle.model_table.proofs.Fits.{all_at, any_from}
@@ -78,7 +79,7 @@ module _ (g : Game) (c : Rule) (b d : Box) (l : length b ≡ length d) (h : (y :
       ∙ all_at (keeps_at takes d c) (variables_of c.args) x k m))
 
 pub less_marked : (was then : Waiting) (k : ℕ) → ((j : ℕ) → is_marked was j ≡ true → is_marked then j ≡ true) → is_marked then k ≡ false → is_marked was k ≡ false
-less_marked was then k f u = never (is_marked was k) (λ m. clash (is_marked then k) (f k m) u)
+less_marked was then k f u = false_from_ne_true (is_marked was k) (λ m. clash (is_marked then k) (f k m) u)
 
 -- after one constraint took values of x, and those that have x wait, the others are settled as before
 pub others_woken : (t : Taking) (g : Game) (ix : Index) (first end own x : ℕ) (was then : Waiting) (box now : Box) → IsIndexOf g ix → IsCut g own x box now → ((j : ℕ) → is_marked was j ≡ true → is_marked then j ≡ true) →
@@ -94,14 +95,14 @@ others_woken t g ix first end own x was then box now i h kept woken old k b n u 
 -- where it doesn't refute the box with one value of x, it doesn't refute the box
 pub stands_by : (g : Game) → IsValid g → (k : ℕ) (c : Rule) (box : Box) (x : ℕ) (v : ℤ) → slice_get g.constraints k ≡ Some c → is_box_of g box ≡ true → has_empty box ≡ false → has_value (values_left box x) v ≡ true → refutes_at c box x v ≡ false → refuted_by c box ≡ false
 stands_by g valid k c box x v e d full m f =
-    never (refuted_by c box) (λ r.
+    false_from_ne_true (refuted_by c box) (λ r.
     clash (refutes_at c box x v)
     (valid_smaller g valid k c (box_at box x v) box e (subst (λ n. ArgumentsBelow n c.args) (sym (length-set box x (v ∷ []))) (rule_below g valid box d k c e)) smaller (set_full box x (v ∷ []) full refl) r) f)
   where
     smaller : is_sub_box (box_at box x v) box ≡ true
     smaller =
         subst (λ b. is_sub_box (box_at box x v) b ≡ true) (set_same box x (values_left box x) refl)
-        (sub_set box box x (v ∷ []) (values_left box x) (sub_self box (declared_box g) d) refl (together (has_value (values_left box x) v) true m refl))
+        (sub_set box box x (v ∷ []) (values_left box x) (sub_self box (declared_box g) d) refl (and_from (has_value (values_left box x) v) true m refl))
 
 -- one that spares all its variables and doesn't refute the box keeps it
 single_is : (vs : Values) → is_single vs ≡ true → (least_value vs ∷ [] ≡ vs) × (greatest_value vs ∷ [] ≡ vs)
@@ -118,13 +119,13 @@ keeps_all takes box c s r = all_if (keeps_at takes box c) (variables_of c.args) 
     either : (x : ℕ) (b : Bool) → is_single (values_left box x) ≡ b → (b || ends x) ≡ true → ends x ≡ true
     either x true q h =
         let one = single_is (values_left box x) q in
-        together (not (refutes_at c box x (least_value (values_left box x)))) (not (refutes_at c box x (greatest_value (values_left box x))))
-        (not_true (refutes_at c box x (least_value (values_left box x))) (ap (refuted_by c) (set_same box x (least_value (values_left box x) ∷ []) one.0) ∙ r))
-        (not_true (refutes_at c box x (greatest_value (values_left box x))) (ap (refuted_by c) (set_same box x (greatest_value (values_left box x) ∷ []) one.1) ∙ r))
+        and_from (not (refutes_at c box x (least_value (values_left box x)))) (not (refutes_at c box x (greatest_value (values_left box x))))
+        (not_from_false (refutes_at c box x (least_value (values_left box x))) (ap (refuted_by c) (set_same box x (least_value (values_left box x) ∷ []) one.0) ∙ r))
+        (not_from_false (refutes_at c box x (greatest_value (values_left box x))) (ap (refuted_by c) (set_same box x (greatest_value (values_left box x) ∷ []) one.1) ∙ r))
     either x false q h = h
 
     at : (x : ℕ) (b : Bool) → takes c x ≡ b → (not (takes c x) || (is_single (values_left box x) || ends x)) ≡ true → keeps_at takes box c x ≡ true
     at x true t h =
         subst (λ b. cond b (ends x) (not (refuted_by c box)) ≡ true) (sym t)
         (either x (is_single (values_left box x)) refl (subst (λ b. (not b || (is_single (values_left box x) || ends x)) ≡ true) t h))
-    at x false t h = subst (λ b. cond b (ends x) (not (refuted_by c box)) ≡ true) (sym t) (not_true (refuted_by c box) r)
+    at x false t h = subst (λ b. cond b (ends x) (not (refuted_by c box)) ≡ true) (sym t) (not_from_false (refuted_by c box) r)

@@ -3,20 +3,20 @@ use Rattle.std.proofs.Common.{◌≡◌, ◌<◌, ℕ, Bool, true, List, [], ◌
 use Rattle.std.specs.Prelude.{nat_lt, slice_get, Some}
 use Rattle.std.specs.List.{list_all}
 use Rattle.std.proofs.lemmas.Bool.Decides.{nat_tests}
+use Rattle.std.proofs.lemmas.Bool.{and_from}
 use Rattle.qc_model.specs.declared.problem.Variable.{Variable}
 use Rattle.qc_model.specs.Arguments.{variables_of}
 use Rattle.qc_model.specs.Content.{Game, Rule}
 use Rattle.qc_model.specs.Domains.{Box, domain_values, declared_box}
 use Rattle.qc_model.specs.Lists.{Among}
 use Rattle.qc_model.specs.Valid.{IsValid}
-use Rattle.qc_model.proofs.Readable.{together}
 use Rattle.model_arguments.specs.Asked.{is_box_of}
 use Rattle.box_laws.proofs.Declared.{declared_is}
 use Rattle.dense_closing.proofs.Own.{own_place, rule_below}
 
 pub all_if : {X : Type 0} (p : X → Bool) (xs : List X) → ((x : X) → Among x xs → p x ≡ true) → list_all p xs ≡ true
 all_if p [] f = refl
-all_if p (x ∷ xs) f = together (p x) (list_all p xs) (f x (inl refl)) (all_if p xs (λ y m. f y (inr m)))
+all_if p (x ∷ xs) f = and_from (p x) (list_all p xs) (f x (inl refl)) (all_if p xs (λ y m. f y (inr m)))
 
 -- its variables have places in each box of the game
 pub own_within : (g : Game) → IsValid g → (k : ℕ) (c : Rule) (box : Box) → slice_get g.constraints k ≡ Some c → is_box_of g box ≡ true → (x : ℕ) → Among x (variables_of c.args) → x < length box

@@ -8,6 +8,7 @@ use Rattle.std.specs.List.{list_all}
 use Rattle.std.proofs.lemmas.Bool.Decides.{nat_tests}
 use Rattle.std.proofs.lemmas.Int.{ints, to_z_pos}
 use Rattle.std.proofs.lemmas.List.{get_or_past}
+use Rattle.std.proofs.lemmas.Bool.{false_from_ne_true}
 use Rattle.qc_model.specs.Arguments.{variables_of}
 use Rattle.qc_model.specs.Block.{is_owned_within, constraints_within}
 use Rattle.qc_model.specs.Content.{Game, Rule}
@@ -19,7 +20,7 @@ use Rattle.qc_model.specs.Valid.{IsValid, is_number}
 use Rattle.qc_model.proofs.Moves.{among_filter}
 use Rattle.qc_model.proofs.Readable.{first, second}
 use Rattle.model_arguments.specs.Asked.{is_box_of}
-use Rattle.model_arguments.proofs.Bools.{clash, never}
+use Rattle.model_arguments.proofs.Bools.{clash}
 use Rattle.model_arguments.proofs.Kept.{over_low, under_high}
 use Rattle.model_arguments.proofs.Values.{above_first, has_least, has_greatest, value_passes}
 use Rattle.model_levels.specs.Spans.{is_between, IsSpanOf}
@@ -127,7 +128,7 @@ seen_anew t g ix i x s was then box p h tells = record {
 }
   where
     before : (k : ℕ) → is_pending then k ≡ false → is_pending was k ≡ false
-    before k u = never (is_pending was k) (λ m. clash (is_pending then k) (h.kept k m) u)
+    before k u = false_from_ne_true (is_pending was k) (λ m. clash (is_pending then k) (h.kept k m) u)
 
     other : (k : ℕ) (c : Rule) → slice_get g.constraints k ≡ Some c → is_pending then k ≡ false → (y : ℕ) → Among y (variables_of c.args) → y ≢ x
     other k c e u y m q = clash (is_pending then k) (h.told k (all_at (has_it ix.having k) (variables_of c.args) x (i.told k c e) (subst (λ z. Among z (variables_of c.args)) q m))) u
@@ -170,7 +171,7 @@ settled_here t g v m box d p k c e u = p.memory.settled k c box e u (box_size g 
 -- so all of the span are settled once those that are pending wait
 pub settled_awake : (t : Taking) (g : Game) → IsValid g → (first end : ℕ) (m : Memory) (w : Waiting) (box : Box) → is_box_of g box ≡ true → IsAsSeen (length g.variables) t g m box →
     ((k : ℕ) → is_between first end k ≡ true → is_pending m k ≡ true → is_marked w k ≡ true) → AreSettled t g first end w box
-settled_awake t g v first end m w box d p woken k b u c e = settled_here t g v m box d p k c e (never (is_pending m k) (λ q. clash (is_marked w k) (woken k b q) u))
+settled_awake t g v first end m w box d p woken k b u c e = settled_here t g v m box d p k c e (false_from_ne_true (is_pending m k) (λ q. clash (is_marked w k) (woken k b q) u))
 
 -- constraints that keep a box that is as it was seen are settled as it was seen
 pub settled_more : (t : Taking) (g : Game) → IsValid g → (first end : ℕ) (was now : Memory) (box : Box) → is_box_of g box ≡ true → IsAsSeen (length g.variables) t g was box →
@@ -220,7 +221,7 @@ seen_unchanged t g n m s u a b f p q h seen = subst (λ box. IsAsSeen n t g m bo
 -- a constraint that keeps the box and has a variable doesn't refute it
 pub kept_stands : (t : Taking) (g : Game) → IsValid g → (k : ℕ) (c : Rule) (box : Box) → slice_get g.constraints k ≡ Some c → is_box_of g box ≡ true → has_empty box ≡ false → keeps_box (takes_of t g) box c ≡ true → is_none_of (variables_of c.args) ≡ false →
     refuted_by c box ≡ false
-kept_stands t g v k c box e d full kept some = never (refuted_by c box) (box_stands g v k c e box box d (sub_self box (declared_box g) d) full (takes_of t g) kept some)
+kept_stands t g v k c box e d full kept some = false_from_ne_true (refuted_by c box) (box_stands g v k c e box box d (sub_self box (declared_box g) d) full (takes_of t g) kept some)
 
 -- so one that was settled with what is left doesn't
 pub settled_stands : (t : Taking) (g : Game) → IsValid g → (m : Memory) (box : Box) → is_box_of g box ≡ true → has_empty box ≡ false → IsAsSeen (length g.variables) t g m box → (k : ℕ) (c : Rule) → slice_get g.constraints k ≡ Some c → is_pending m k ≡ false →

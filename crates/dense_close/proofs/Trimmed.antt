@@ -1,14 +1,15 @@
 -- What a sum's room took of the ends of its variables.
 use Rattle.std.proofs.Common.{◌≡◌, ◌⊎◌, inl, inr, ℕ, ◌<◌, Bool, true, false, ◌||◌, [], refl, sym, ◌∙◌, subst, arith}
 use Rattle.std.specs.Prelude.{slice_get, Some}
+use Rattle.std.proofs.lemmas.Bool.{or_parts, or_cases}
 use Rattle.qc_model.specs.Arguments.{variables_of}
 use Rattle.qc_model.specs.Content.{Game, Rule}
 use Rattle.qc_model.specs.Domains.{Box, has_empty}
 use Rattle.qc_model.specs.Lists.{Among}
 use Rattle.qc_model.specs.Refuted.{refuted_by}
-use Rattle.model_arguments.proofs.Bools.{clash, neither}
+use Rattle.model_arguments.proofs.Bools.{clash}
 use Rattle.model_levels.specs.Spans.{is_between}
-use Rattle.model_table.proofs.Fits.{or_cases, all_at}
+use Rattle.model_table.proofs.Fits.{all_at}
 use Rattle.fd_store.specs.Held.{count_left}
 use Rattle.dense_close.specs.declared.revising.Look.{Look}
 use Rattle.dense_close.specs.declared.revising.Revised.{Revised}
@@ -55,11 +56,11 @@ trimmed_more t g k l m n was mid then box left now c s p q = record {
   kept = λ j h. q.kept j (p.kept j h);
   less = λ a. less (or_cases l.changed m.changed (sym c ∙ a)) (l.changed) refl (m.changed) refl;
   woken = λ a. elim (or_cases l.changed m.changed (sym c ∙ a)) [ inl h ↦ q.kept k (p.woken h) | inr h ↦ q.woken h ];
-  same = λ a. (let both = neither l.changed m.changed (sym c ∙ a) in q.same both.1 ∙ p.same both.0);
-  listed = λ a. (let both = neither l.changed m.changed (sym c ∙ a) in q.listed both.1 ∙ p.listed both.0);
+  same = λ a. (let both = or_parts l.changed m.changed (sym c ∙ a) in q.same both.1 ∙ p.same both.0);
+  listed = λ a. (let both = or_parts l.changed m.changed (sym c ∙ a) in q.listed both.1 ∙ p.listed both.0);
   spared = λ a r e. refl;
   stands = λ h a r e.
-      (let both = neither l.changed m.changed (sym c ∙ a) in
+      (let both = or_parts l.changed m.changed (sym c ∙ a) in
       elim (or_cases l.seen m.seen (sym s ∙ h)) [ inl z ↦ subst (λ z. refuted_by r z ≡ false) (sym (q.same both.1)) (p.stands z both.0 r e) | inr z ↦ q.stands z both.1 r e ]);
 }
   where

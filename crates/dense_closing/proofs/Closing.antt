@@ -4,6 +4,7 @@ use Rattle.std.specs.Prelude.{int_le, slice_get, flat_map, MatchOption}
 use Rattle.std.specs.List.{list_all, list_any}
 use Rattle.std.proofs.lemmas.Int.{ints}
 use Rattle.std.proofs.lemmas.List.Filters.{length-filter_both}
+use Rattle.std.proofs.lemmas.Bool.{or_left, or_right, or_from, or_parts, not_from_false, false_from_ne_true, or_cases, and_from}
 use Rattle.qc_model.specs.Arguments.{variables_of}
 use Rattle.qc_model.specs.Block.{is_owned_within, constraints_within}
 use Rattle.qc_model.specs.Closed.{refutes_at}
@@ -14,12 +15,11 @@ use Rattle.qc_model.specs.Refuted.{refuted_by}
 use Rattle.qc_model.specs.Valid.{IsValid}
 use Rattle.qc_model.specs.Verdict.{is_none_of}
 use Rattle.qc_model.proofs.Moves.{among_left, among_right, among_either, among_flat_map, of_flat_map, of_filter, among_filter}
-use Rattle.qc_model.proofs.Readable.{first, second, together}
+use Rattle.qc_model.proofs.Readable.{first, second}
 use Rattle.model_arguments.specs.Asked.{is_box_of}
-use Rattle.model_arguments.proofs.Bools.{or_left, or_right, or_none, neither, clash, not_true, not_false, never}
+use Rattle.model_arguments.proofs.Bools.{clash, not_false}
 use Rattle.model_arguments.proofs.Boxes.{some_left, sub_ascending, sub_without}
 use Rattle.model_arguments.proofs.Values.{has_least, has_greatest, only_within}
-use Rattle.model_table.proofs.Fits.{or_cases}
 use Rattle.proof_tree.specs.declared.tree.Step.{Step}
 use Rattle.proof_tree.specs.Steps.{after_step, after_steps, is_legal, removes_some, is_refuted_within}
 use Rattle.dense_closing.specs.Closing.{IsGreatestClosed}
@@ -90,7 +90,7 @@ some_of_own (y ∷ xs) x m = refl
 
 may_take_is : (takes : Takes) (r : Option Rule) (c : Rule) (x : ℕ) → r ≡ Some c → takes c x ≡ true → Among x (variables_of c.args) → may_take takes r x ≡ true
 may_take_is takes r c x e t own =
-    subst (λ o. may_take takes o x ≡ true) (sym e) (together (takes c x) (not (is_none_of (variables_of c.args))) t (some_of_own (variables_of c.args) x own))
+    subst (λ o. may_take takes o x ≡ true) (sym e) (and_from (takes c x) (not (is_none_of (variables_of c.args))) t (some_of_own (variables_of c.args) x own))
 
 at_most_itself : (v w : ℤ) → v ≡ w → int_le v w ≡ true
 at_most_itself v w e = grind (arith, ints)
@@ -102,12 +102,12 @@ is_at_end vs v (inr e) = or_right (int_le v (least_value vs)) (int_le (greatest_
 pub end_may_go : (takes : Takes) (g : Game) → IsValid g → (i stop k : ℕ) (c : Rule) (x : ℕ) (v : ℤ) (box : Box) → is_box_of g box ≡ true → has_empty box ≡ false → slice_get g.constraints k ≡ Some c → is_owned_within i stop c ≡ true →
     Among x (variables_of c.args) → takes c x ≡ true → (v ≡ least_value (values_left box x)) ⊎ (v ≡ greatest_value (values_left box x)) → refutes_at c box x v ≡ true → is_end_step takes g i stop (removal k x v) box ≡ true
 end_may_go takes g valid i stop k c x v box d full there owned own taken end r =
-    together (is_legal g i stop None (removal k x v) box) (is_end v v vs && may_take takes (slice_get g.constraints k) x)
-    (together (removes_some box x v v) (is_refuted_within i stop (slice_get g.constraints k) (box_within box x v v))
-    (together (not (has_empty box)) (not (is_none_left (values_within v v vs))) (not_true (has_empty box) full) (not_true (is_none_left (values_within v v vs)) (ap is_none_left alone)))
+    and_from (is_legal g i stop None (removal k x v) box) (is_end v v vs && may_take takes (slice_get g.constraints k) x)
+    (and_from (removes_some box x v v) (is_refuted_within i stop (slice_get g.constraints k) (box_within box x v v))
+    (and_from (not (has_empty box)) (not (is_none_left (values_within v v vs))) (not_from_false (has_empty box) full) (not_from_false (is_none_left (values_within v v vs)) (ap is_none_left alone)))
     (subst (λ o. is_refuted_within i stop o (box_within box x v v) ≡ true) (sym there)
-    (together (is_owned_within i stop c) (refuted_by c (box_within box x v v)) owned (ap (λ us. refuted_by c (set box x us)) alone ∙ r))))
-    (together (is_end v v vs) (may_take takes (slice_get g.constraints k) x) (is_at_end vs v end) (may_take_is takes (slice_get g.constraints k) c x there taken own))
+    (and_from (is_owned_within i stop c) (refuted_by c (box_within box x v v)) owned (ap (λ us. refuted_by c (set box x us)) alone ∙ r))))
+    (and_from (is_end v v vs) (may_take takes (slice_get g.constraints k) x) (is_at_end vs v end) (may_take_is takes (slice_get g.constraints k) c x there taken own))
   where
     vs : Values
     vs = values_left box x
@@ -148,7 +148,7 @@ none_there x xs e m = let n : Among x [] = subst (λ ys. Among x ys) e m in absu
 
 all_if : {X : Type 0} (p : X → Bool) (xs : List X) → ((x : X) → Among x xs → p x ≡ true) → list_all p xs ≡ true
 all_if p [] f = refl
-all_if p (x ∷ xs) f = together (p x) (list_all p xs) (f x (inl refl)) (all_if p xs (λ y m. f y (inr m)))
+all_if p (x ∷ xs) f = and_from (p x) (list_all p xs) (f x (inl refl)) (all_if p xs (λ y m. f y (inr m)))
 
 -- where all may be taken, no box is hopeless
 none_spared : (xs : List ℕ) → list_any (λ x. false) xs ≡ false
@@ -157,7 +157,7 @@ none_spared (x ∷ xs) = none_spared xs
 
 pub never_hopeless : (cs : List Rule) (box : Box) → is_hopeless takes_all cs box ≡ false
 never_hopeless [] box = refl
-never_hopeless (c ∷ cs) box = or_none (refuted_by c box && list_any (λ x. false) (variables_of c.args)) (is_hopeless takes_all cs box) (never_both (refuted_by c box) (list_any (λ x. false) (variables_of c.args)) (none_spared (variables_of c.args))) (never_hopeless cs box)
+never_hopeless (c ∷ cs) box = or_from (refuted_by c box && list_any (λ x. false) (variables_of c.args)) (is_hopeless takes_all cs box) (never_both (refuted_by c box) (list_any (λ x. false) (variables_of c.args)) (none_spared (variables_of c.args))) (never_hopeless cs box)
   where
     never_both : (a b : Bool) → b ≡ false → (a && b) ≡ false
     never_both true b h = h
@@ -170,10 +170,10 @@ any_if p (y ∷ xs) x (inl q) e = or_left (p y) (list_any p xs) (subst (λ z. p 
 any_if p (y ∷ xs) x (inr m) e = or_right (p y) (list_any p xs) (any_if p xs x m e)
 
 spared_stands : (takes : Takes) (cs : List Rule) (box : Box) (c : Rule) (x : ℕ) → is_hopeless takes cs box ≡ false → Among c cs → Among x (variables_of c.args) → takes c x ≡ false → refuted_by c box ≡ false
-spared_stands takes cs box c x h m o t = never (refuted_by c box) (λ r.
+spared_stands takes cs box c x h m o t = false_from_ne_true (refuted_by c box) (λ r.
     clash (is_hopeless takes cs box)
     (any_if (λ c. refuted_by c box && list_any (λ x. not (takes c x)) (variables_of c.args)) cs c m
-    (together (refuted_by c box) (list_any (λ x. not (takes c x)) (variables_of c.args)) r (any_if (λ x. not (takes c x)) (variables_of c.args) x o (not_true (takes c x) t)))) h)
+    (and_from (refuted_by c box) (list_any (λ x. not (takes c x)) (variables_of c.args)) r (any_if (λ x. not (takes c x)) (variables_of c.args) x o (not_from_false (takes c x) t)))) h)
 
 module _ (takes : Takes) (g : Game) (valid : IsValid g) (i stop : ℕ) where
   abbrev rules : List Rule
@@ -182,12 +182,12 @@ module _ (takes : Takes) (g : Game) (valid : IsValid g) (i stop : ℕ) where
   -- where no end is refuted, the box is closed, or hopeless
   closed_then : (box : Box) → is_box_of g box ≡ true → has_empty box ≡ false → is_hopeless takes rules box ≡ false → refuted_ends takes g i stop box ≡ [] → is_closed_by takes rules box ≡ true
   closed_then box d full hope none =
-      together (not (has_empty box)) (list_all (keeps_box takes box) rules) (not_true (has_empty box) full)
+      and_from (not (has_empty box)) (list_all (keeps_box takes box) rules) (not_from_false (has_empty box) full)
       (all_if (keeps_box takes box) rules (λ c m. (let f = of_filter (is_owned_within i stop) c g.constraints m in
       all_if (keeps_at takes box c) (variables_of c.args) (λ x o. at c (placed g.constraints c f.0) f.1 m x o (takes c x) refl))))
     where
       kept : (c : Rule) → Placed g.constraints c → is_owned_within i stop c ≡ true → (x : ℕ) → Among x (variables_of c.args) → takes c x ≡ true → (v : ℤ) → IsEndOf box x v → refutes_at c box x v ≡ false
-      kept c p o x m t v e = never (refutes_at c box x v) (λ r.
+      kept c p o x m t v e = false_from_ne_true (refutes_at c box x v) (λ r.
           none_there (removal p.place x v) (refuted_ends takes g i stop box) none
           (among_filter (λ s. is_legal g i stop None s box) (removal p.place x v) (own_ends takes 0 g.constraints box)
           (own_end_in takes 0 g.constraints box p.place c x v p.there m t e p.place (omega arith))
@@ -196,12 +196,12 @@ module _ (takes : Takes) (g : Game) (valid : IsValid g) (i stop : ℕ) where
       at : (c : Rule) → Placed g.constraints c → is_owned_within i stop c ≡ true → Among c rules → (x : ℕ) → Among x (variables_of c.args) → (b : Bool) → takes c x ≡ b → keeps_at takes box c x ≡ true
       at c p o m x k true t =
           subst (λ b. cond b (not (refutes_at c box x (least_value (values_left box x))) && not (refutes_at c box x (greatest_value (values_left box x)))) (not (refuted_by c box)) ≡ true) (sym t)
-          (together (not (refutes_at c box x (least_value (values_left box x)))) (not (refutes_at c box x (greatest_value (values_left box x))))
-          (not_true (refutes_at c box x (least_value (values_left box x))) (kept c p o x k t (least_value (values_left box x)) (inl refl)))
-          (not_true (refutes_at c box x (greatest_value (values_left box x))) (kept c p o x k t (greatest_value (values_left box x)) (inr refl))))
+          (and_from (not (refutes_at c box x (least_value (values_left box x)))) (not (refutes_at c box x (greatest_value (values_left box x))))
+          (not_from_false (refutes_at c box x (least_value (values_left box x))) (kept c p o x k t (least_value (values_left box x)) (inl refl)))
+          (not_from_false (refutes_at c box x (greatest_value (values_left box x))) (kept c p o x k t (greatest_value (values_left box x)) (inr refl))))
       at c p o m x k false t =
           subst (λ b. cond b (not (refutes_at c box x (least_value (values_left box x))) && not (refutes_at c box x (greatest_value (values_left box x)))) (not (refuted_by c box)) ≡ true) (sym t)
-          (not_true (refuted_by c box) (spared_stands takes rules box c x hope m k t))
+          (not_from_false (refuted_by c box) (spared_stands takes rules box c x hope m k t))
 
   -- steps that take ends until a domain is empty or no end is refuted
   record EndsWell (box : Box) (steps : List Step) : Type 0 where
@@ -226,8 +226,8 @@ module _ (takes : Takes) (g : Game) (valid : IsValid g) (i stop : ℕ) where
           let same : place ≡ k = omega arith in
           let some = first (removes_some box x v v) (is_refuted_within i stop (slice_get g.constraints k) (box_within box x v v)) legal in
           record {
-            end = together (is_legal g i stop None (removal k x v) box) (takes_end takes g (removal k x v) box) legal
-                (together (is_end v v (values_left box x)) (may_take takes (slice_get g.constraints k) x) (is_at_end (values_left box x) v end)
+            end = and_from (is_legal g i stop None (removal k x v) box) (takes_end takes g (removal k x v) box) legal
+                (and_from (is_end v v (values_left box x)) (may_take takes (slice_get g.constraints k) x) (is_at_end (values_left box x) v end)
                 (may_take_is takes (slice_get g.constraints k) c x (subst (λ j. slice_get g.constraints j ≡ Some c) same there) taken own));
             less = shrinks box k x v some;
             declared = sub_without box (declared_box g) x v v d;
@@ -242,7 +242,7 @@ module _ (takes : Takes) (g : Game) (valid : IsValid g) (i stop : ℕ) where
       by (s ∷ ss) q more =
           let f = first_is box s d (subst (λ ts. Among s ts) (sym q) (inl refl)) in
           let r = more (after_step s box) f.declared (let m = f.less in omega arith) in
-          record { ends = together (is_end_step takes g i stop s box) (are_end_steps takes g i stop (steps_by n takes g i stop (after_step s box)) (after_step s box)) f.end r.ends; declared = r.declared; last = r.last }
+          record { ends = and_from (is_end_step takes g i stop s box) (are_end_steps takes g i stop (steps_by n takes g i stop (after_step s box)) (after_step s box)) f.end r.ends; declared = r.declared; last = r.last }
 
   closing_ends : (box : Box) → is_box_of g box ≡ true → EndsWell box (closing_steps takes g i stop box)
   closing_ends box d = run (suc (total box)) box d (omega arith)
@@ -269,7 +269,7 @@ module _ (takes : Takes) (g : Game) (valid : IsValid g) (i stop : ℕ) where
           | inr n ↦ show_hopeless takes g valid i stop steps box d well.ends n
         ]
     left_is false e =
-        let n = neither (has_empty left) (is_hopeless takes rules left) e in
+        let n = or_parts (has_empty left) (is_hopeless takes rules left) e in
         elim well.last [
           | inl q ↦ absurd (clash (has_empty left) q n.0)
           | inr q ↦ reach takes g valid i stop steps box d well.ends (closed_then left well.declared n.0 n.1 q)
@@ -300,5 +300,5 @@ module _ (g : Game) (valid : IsValid g) (i stop : ℕ) (box : Box) (d : is_box_o
       by : (b : Bool) → has_empty all_gone ≡ b → b ≡ true
       by true e = refl
       by false e =
-          let m = left_is takes_all g valid i stop box d false (or_none (has_empty all_gone) (is_hopeless takes_all (constraints_within g i stop) all_gone) e (never_hopeless (constraints_within g i stop) all_gone)) in
+          let m = left_is takes_all g valid i stop box d false (or_from (has_empty all_gone) (is_hopeless takes_all (constraints_within g i stop) all_gone) e (never_hopeless (constraints_within g i stop) all_gone)) in
           absurd (clash (is_closed_by takes_all (constraints_within g i stop) all_gone) m.closed (h all_gone m.within))

@@ -4,6 +4,7 @@ use Rattle.std.specs.Prelude.{int_le, ◌≤ℤ◌, slice_get}
 use Rattle.std.specs.List.{list_all, list_any}
 use Rattle.std.proofs.lemmas.Int.{ints}
 use Rattle.std.proofs.lemmas.List.{length-set}
+use Rattle.std.proofs.lemmas.Bool.{not_from_false, false_from_ne_true, or_cases, and_from}
 use Rattle.qc_model.specs.Arguments.{variables_of}
 use Rattle.qc_model.specs.Block.{is_owned_within, constraints_within}
 use Rattle.qc_model.specs.Closed.{refutes_at}
@@ -15,13 +16,13 @@ use Rattle.qc_model.specs.Valid.{IsValid}
 use Rattle.qc_model.specs.Verdict.{is_none_of}
 use Rattle.qc_model.specs.Visible.{ArgumentsBelow}
 use Rattle.qc_model.proofs.Moves.{among_filter, of_filter}
-use Rattle.qc_model.proofs.Readable.{first, second, together}
+use Rattle.qc_model.proofs.Readable.{first, second}
 use Rattle.model_arguments.specs.Asked.{is_box_of}
-use Rattle.model_arguments.proofs.Bools.{clash, not_true, not_false, never}
+use Rattle.model_arguments.proofs.Bools.{clash, not_false}
 use Rattle.model_arguments.proofs.Boxes.{some_left, sub_ascending, sub_without, set_full, set_same}
 use Rattle.model_arguments.proofs.Kept.{low_end, high_end, some_of, keeps, inside, at_least, at_most, through}
 use Rattle.model_arguments.proofs.Values.{has_least, has_greatest, value_passes}
-use Rattle.model_table.proofs.Fits.{or_cases, all_at, any_at}
+use Rattle.model_table.proofs.Fits.{all_at, any_at}
 use Rattle.model_table.proofs.Smaller.{valid_smaller}
 use Rattle.proof_alike.specs.Alike.{is_among}
 use Rattle.proof_alike.proofs.Filling.{get_among}
@@ -118,12 +119,12 @@ module _ (g : Game) (valid : IsValid g) (k : ℕ) (c : Rule) (e : slice_get g.co
   at_refuted : (x : ℕ) (us : Values) (v : ℤ) → has_value us v ≡ true → refuted_by c (set box x us) ≡ true → refutes_at c small x v ≡ true
   at_refuted x us v m r =
       valid_smaller g valid k c (box_at small x v) (set box x us) e (subst (λ n. ArgumentsBelow n c.args) (sym (length-set small x (v ∷ []))) below)
-      (sub_set small box x (v ∷ []) us s refl (together (has_value us v) true m refl)) (set_full small x (v ∷ []) full refl) r
+      (sub_set small box x (v ∷ []) us s refl (and_from (has_value us v) true m refl)) (set_full small x (v ∷ []) full refl) r
 
   module _ (takes : Takes) (kept : keeps_box takes small c ≡ true) where
     -- so none of the values is left there, where they are at an end of x, and x is its own, which it may take
     end_gone : (x : ℕ) (low high : ℤ) → is_end low high (values_left box x) ≡ true → Among x (variables_of c.args) → takes c x ≡ true → refuted_by c (box_within box x low high) ≡ true → (v : ℤ) → has_value (values_left small x) v ≡ true → is_within low high v ≡ false
-    end_gone x low high n own t r v m = never (is_within low high v) (λ w. by w (or_cases (int_le low (least_value (values_left box x))) (int_le (greatest_value (values_left box x)) high) n))
+    end_gone x low high n own t r v m = false_from_ne_true (is_within low high v) (λ w. by w (or_cases (int_le low (least_value (values_left box x))) (int_le (greatest_value (values_left box x)) high) n))
       where
         l : ℤ
         l = least_value (values_left small x)
@@ -177,7 +178,7 @@ outside_sub small box x low high s f =
     (all_from (has_value (values_outside low high (values_left box x))) (values_left small x) (λ v m. stays v (f v m) (value_passes (has_value (values_left box x)) (values_left small x) v (sub_values small box x s) m))))
   where
     stays : (v : ℤ) → is_within low high v ≡ false → has_value (values_left box x) v ≡ true → has_value (values_outside low high (values_left box x)) v ≡ true
-    stays v n m = keeps (λ u. not (is_within low high u)) (values_left box x) v (not_true (is_within low high v) n) m
+    stays v n m = keeps (λ u. not (is_within low high u)) (values_left box x) v (not_from_false (is_within low high v) n) m
 
 -- what is left lies within the box
 after_within : (st : Step) (box large : Box) → is_sub_box box large ≡ true → is_sub_box (after_step st box) large ≡ true
@@ -231,11 +232,11 @@ module _ (takes : Takes) (g : Game) (valid : IsValid g) (i stop : ℕ) where
 
   pub show_none : (steps : List Step) (box : Box) → is_box_of g box ≡ true → are_end_steps takes g i stop steps box ≡ true → has_empty (after_steps steps box) ≡ true → NoneClosedBy takes rules box
   show_none steps box d h n b s =
-      never (is_closed_by takes rules b) (λ k. clash (has_empty b) (sub_empty b (after_steps steps box) (steps_keep steps box b d h s k) n) (closed_full takes rules b k))
+      false_from_ne_true (is_closed_by takes rules b) (λ k. clash (has_empty b) (sub_empty b (after_steps steps box) (steps_keep steps box b d h s k) n) (closed_full takes rules b k))
 
   -- a constraint that refutes the box that is left, and may not take one of its variables
   hopeless_none : (box : Box) → is_box_of g box ≡ true → is_hopeless takes rules box ≡ true → NoneClosedBy takes rules box
-  hopeless_none box d h b s = never (is_closed_by takes rules b) (λ k. (let f = any_at fails rules h in by f.0 f.1 (of_filter (is_owned_within i stop) f.0 g.constraints f.1) f.2 k))
+  hopeless_none box d h b s = false_from_ne_true (is_closed_by takes rules b) (λ k. (let f = any_at fails rules h in by f.0 f.1 (of_filter (is_owned_within i stop) f.0 g.constraints f.1) f.2 k))
     where
       fails : Rule → Bool
       fails c = refuted_by c box && list_any (λ x. not (takes c x)) (variables_of c.args)
@@ -249,5 +250,5 @@ module _ (takes : Takes) (g : Game) (valid : IsValid g) (i stop : ℕ) where
           (box_kept takes c b kept spared.0 spared.1 (not_false (takes c spared.0) spared.2))
 
   pub show_hopeless : (steps : List Step) (box : Box) → is_box_of g box ≡ true → are_end_steps takes g i stop steps box ≡ true → is_hopeless takes rules (after_steps steps box) ≡ true → NoneClosedBy takes rules box
-  show_hopeless steps box d h n b s = never (is_closed_by takes rules b) (λ k.
+  show_hopeless steps box d h n b s = false_from_ne_true (is_closed_by takes rules b) (λ k.
       clash (is_closed_by takes rules b) k (hopeless_none (after_steps steps box) (steps_within steps box (declared_box g) d) n b (steps_keep steps box b d h s k)))

@@ -1,11 +1,12 @@
 -- Steps that take ends are legal: what they keep of boxes, and what they show of horizons.
 use Rattle.std.proofs.Common.{◌≡◌, ℕ, suc, Bool, true, false, not, List, [], ◌∷◌, drop, refl, sym, subst, ℤ, Option, Some, None}
+use Rattle.std.proofs.lemmas.Bool.{and_from}
 use Rattle.qc_model.specs.declared.problem.Scope.{Scope}
 use Rattle.qc_model.specs.Block.{force_stop, constraints_within, constraints_in_force}
 use Rattle.qc_model.specs.Content.{Game}
 use Rattle.qc_model.specs.Domains.{Box, declared_box, values_left, values_within, has_empty, is_none_left}
 use Rattle.qc_model.specs.Valid.{IsValid}
-use Rattle.qc_model.proofs.Readable.{first, second, together}
+use Rattle.qc_model.proofs.Readable.{first, second}
 use Rattle.model_arguments.specs.Asked.{is_box_of}
 use Rattle.model_arguments.proofs.Bools.{not_false}
 use Rattle.proof_tree.specs.declared.tree.Step.{Step}
@@ -43,7 +44,7 @@ step_legal takes g i stop t (Bound x low high) box h = absurd (no_end (is_legal 
 pub ends_legal : (takes : Takes) (g : Game) (i stop : ℕ) (t : Option Tracked) (steps : List Step) (box : Box) → are_end_steps takes g i stop steps box ≡ true → are_legal g i stop t steps box ≡ true
 ends_legal takes g i stop t [] box h = refl
 ends_legal takes g i stop t (s ∷ steps) box h =
-    together (is_legal g i stop t s box) (are_legal g i stop t steps (after_step s box)) (step_legal takes g i stop t s box (here takes g i stop s steps box h)) (ends_legal takes g i stop t steps (after_step s box) (later takes g i stop s steps box h))
+    and_from (is_legal g i stop t s box) (are_legal g i stop t steps (after_step s box)) (step_legal takes g i stop t s box (here takes g i stop s steps box h)) (ends_legal takes g i stop t steps (after_step s box) (later takes g i stop s steps box h))
 
 pub ends_unmarked : (takes : Takes) (g : Game) (i stop : ℕ) (t : Option Tracked) (steps : List Step) (box : Box) → are_end_steps takes g i stop steps box ≡ true → step_marks t steps box ≡ []
 ends_unmarked takes g i stop t [] box h = refl

@@ -5,9 +5,9 @@ use Rattle.std.specs.List.{list_all}
 use Rattle.std.specs.Ordering.{int_eq}
 use Rattle.std.proofs.lemmas.Int.{ints}
 use Rattle.std.proofs.lemmas.Bool.Decides.{Decides-int_eq}
+use Rattle.std.proofs.lemmas.Bool.{or_right, and_from}
 use Rattle.qc_model.specs.Domains.{Values, Box, values_left, has_value, has_empty, is_ascending, is_sub_box}
-use Rattle.qc_model.proofs.Readable.{first, second, together}
-use Rattle.model_arguments.proofs.Bools.{or_right}
+use Rattle.qc_model.proofs.Readable.{first, second}
 use Rattle.model_arguments.proofs.Values.{value_passes, has_first, above_first, ascending_rest}
 
 pub has_later : (v w : ℤ) (vs : Values) → has_value vs w ≡ true → has_value (v ∷ vs) w ≡ true
@@ -15,7 +15,7 @@ has_later v w vs h = or_right (int_eq w v) (has_value vs w) h
 
 pub all_from : (p : ℤ → Bool) (vs : Values) → ((v : ℤ) → has_value vs v ≡ true → p v ≡ true) → list_all p vs ≡ true
 all_from p [] f = refl
-all_from p (v ∷ vs) f = together (p v) (list_all p vs) (f v (has_first v vs)) (all_from p vs (λ w h. f w (has_later v w vs h)))
+all_from p (v ∷ vs) f = and_from (p v) (list_all p vs) (f v (has_first v vs)) (all_from p vs (λ w h. f w (has_later v w vs h)))
 
 pub all_own : (vs : Values) → list_all (has_value vs) vs ≡ true
 all_own vs = all_from (has_value vs) vs (λ v h. h)
@@ -35,17 +35,17 @@ sub_set [] [] x d e h a k = refl
 sub_set [] (f ∷ fs) x d e h a k = cc
 sub_set (c ∷ cs) [] x d e h a k = cc
 sub_set (c ∷ cs) (f ∷ fs) zero d e h a k =
-    together (is_ascending d && list_all (has_value e) d) (is_sub_box cs fs) (together (is_ascending d) (list_all (has_value e) d) a k) (second (is_ascending c && list_all (has_value f) c) (is_sub_box cs fs) h)
+    and_from (is_ascending d && list_all (has_value e) d) (is_sub_box cs fs) (and_from (is_ascending d) (list_all (has_value e) d) a k) (second (is_ascending c && list_all (has_value f) c) (is_sub_box cs fs) h)
 sub_set (c ∷ cs) (f ∷ fs) (suc x) d e h a k =
-    together (is_ascending c && list_all (has_value f) c) (is_sub_box (set cs x d) (set fs x e)) (first (is_ascending c && list_all (has_value f) c) (is_sub_box cs fs) h)
+    and_from (is_ascending c && list_all (has_value f) c) (is_sub_box (set cs x d) (set fs x e)) (first (is_ascending c && list_all (has_value f) c) (is_sub_box cs fs) h)
     (sub_set cs fs x d e (second (is_ascending c && list_all (has_value f) c) (is_sub_box cs fs) h) a k)
 
 pub sub_self : (box large : Box) → is_sub_box box large ≡ true → is_sub_box box box ≡ true
 sub_self [] large h = refl
 sub_self (d ∷ ds) [] h = cc
 sub_self (d ∷ ds) (e ∷ es) h =
-    together (is_ascending d && list_all (has_value d) d) (is_sub_box ds ds)
-    (together (is_ascending d) (list_all (has_value d) d) (first (is_ascending d) (list_all (has_value e) d) (first (is_ascending d && list_all (has_value e) d) (is_sub_box ds es) h)) (all_own d))
+    and_from (is_ascending d && list_all (has_value d) d) (is_sub_box ds ds)
+    (and_from (is_ascending d) (list_all (has_value d) d) (first (is_ascending d) (list_all (has_value e) d) (first (is_ascending d && list_all (has_value e) d) (is_sub_box ds es) h)) (all_own d))
     (sub_self ds es (second (is_ascending d && list_all (has_value e) d) (is_sub_box ds es) h))
 
 pub sub_through : (a b c : Box) → is_sub_box a b ≡ true → is_sub_box b c ≡ true → is_sub_box a c ≡ true
@@ -56,8 +56,8 @@ sub_through (d ∷ ds) (e ∷ es) [] h k = cc
 sub_through (d ∷ ds) (e ∷ es) (f ∷ fs) h k =
     let p = first (is_ascending d && list_all (has_value e) d) (is_sub_box ds es) h in
     let q = first (is_ascending e && list_all (has_value f) e) (is_sub_box es fs) k in
-    together (is_ascending d && list_all (has_value f) d) (is_sub_box ds fs)
-    (together (is_ascending d) (list_all (has_value f) d) (first (is_ascending d) (list_all (has_value e) d) p)
+    and_from (is_ascending d && list_all (has_value f) d) (is_sub_box ds fs)
+    (and_from (is_ascending d) (list_all (has_value f) d) (first (is_ascending d) (list_all (has_value e) d) p)
     (all_through d e f (second (is_ascending d) (list_all (has_value e) d) p) (second (is_ascending e) (list_all (has_value f) e) q)))
     (sub_through ds es fs (second (is_ascending d && list_all (has_value e) d) (is_sub_box ds es) h) (second (is_ascending e && list_all (has_value f) e) (is_sub_box es fs) k))
 

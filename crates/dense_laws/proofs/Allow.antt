@@ -5,6 +5,7 @@ use Rattle.std.specs.Ordering.{int_eq}
 use Rattle.std.specs.Prelude.{int_le, ⊤}
 use Rattle.std.proofs.lemmas.Int.{ints}
 use Rattle.std.proofs.lemmas.Bool.Decides.{nat_tests}
+use Rattle.std.proofs.lemmas.Bool.{or_left, or_right}
 use Rattle.qc_model.specs.declared.problem.Arg.{Arg}
 use Rattle.qc_model.specs.declared.problem.Arg.TheVariants.{Var, Num}
 use Rattle.qc_model.specs.declared.problem.Argument.{Argument}
@@ -21,22 +22,14 @@ use Rattle.proof_alike.proofs.Arrays.{items_of, numbers_of, many_filled, numbers
 use Rattle.proof_alike.proofs.Filling.{fill_all}
 use Rattle.dense_laws.proofs.Small.{any_left}
 
-or_first : (a b : Bool) → a ≡ true → (a || b) ≡ true
-or_first true b h = refl
-or_first false b h = cc
-
-or_second : (a b : Bool) → b ≡ true → (a || b) ≡ true
-or_second true b h = refl
-or_second false b h = h
-
 to_same : (n : ℕ) → (n == n) ≡ true
 to_same n = grind (arith, nat_tests)
 
 among_first : (xs ys : List ℕ) (x : ℕ) → is_among xs x ≡ true → is_among (xs ++ ys) x ≡ true
-among_first xs ys x h = any_left (λ y. y == x) xs ys ∙ or_first (is_among xs x) (is_among ys x) h
+among_first xs ys x h = any_left (λ y. y == x) xs ys ∙ or_left (is_among xs x) (is_among ys x) h
 
 pub among_second : (xs ys : List ℕ) (x : ℕ) → is_among ys x ≡ true → is_among (xs ++ ys) x ≡ true
-among_second xs ys x h = any_left (λ y. y == x) xs ys ∙ or_second (is_among xs x) (is_among ys x) h
+among_second xs ys x h = any_left (λ y. y == x) xs ys ∙ or_right (is_among xs x) (is_among ys x) h
 
 -- what is so of each variable is so of each argument
 abbrev pub OfArg : (ℕ → Type 0) → Arg → Type 0
@@ -52,7 +45,7 @@ args_of P [] f = tt
 args_of P (x ∷ xs) f = (one x (λ y m. f y (among_first (arg_variables x) (flat_map arg_variables xs) y m)), args_of P xs (λ y m. f y (among_second (arg_variables x) (flat_map arg_variables xs) y m)))
   where
     one : (x : Arg) → ((y : ℕ) → is_among (arg_variables x) y ≡ true → P y) → OfArg P x
-    one (Var z) g = g z.0 (or_first (z.0 == z.0) false (to_same z.0))
+    one (Var z) g = g z.0 (or_left (z.0 == z.0) false (to_same z.0))
     one (Num n) g = tt
 
 pub items_are : (P : ℕ → Type 0) (args : List Argument) (k : ℕ) → ((x : ℕ) → is_among (variables_of args) x ≡ true → P x) → OfArgs P (items_of (slice_get args k))
@@ -72,7 +65,7 @@ argument_is P [] k f = tt
 argument_is P (a ∷ args) zero f = one a (λ y m. f y (among_first (argument_variables a) (variables_of args) y m))
   where
     single : (x : Arg) → ((y : ℕ) → is_among (arg_variables x) y ≡ true → P y) → OfArg P x
-    single (Var z) g = g z.0 (or_first (z.0 == z.0) false (to_same z.0))
+    single (Var z) g = g z.0 (or_left (z.0 == z.0) false (to_same z.0))
     single (Num n) g = tt
 
     one : (a : Argument) → ((y : ℕ) → is_among (argument_variables a) y ≡ true → P y) → OfArg P (arg_at (a ∷ args) 0)

@@ -5,6 +5,7 @@ use Rattle.std.specs.Ordering.{int_eq}
 use Rattle.std.specs.List.{list_any, list_all}
 use Rattle.std.proofs.lemmas.Bool.Decides.{nat_tests}
 use Rattle.std.proofs.lemmas.List.{length-take, length-map, length-append}
+use Rattle.std.proofs.lemmas.Bool.{or_right, cases_lt, and_parts, and_from, or_cases}
 use Rattle.qc_model.specs.declared.problem.Arg.{Arg}
 use Rattle.qc_model.specs.declared.problem.Arg.TheVariants.{Var, Num}
 use Rattle.qc_model.specs.declared.problem.Argument.{Argument}
@@ -37,8 +38,8 @@ use Rattle.dense_tree.specs.Place.{Setting, Place}
 use Rattle.dense_laws.specs.Stands.{StandsNode}
 use Rattle.dense_laws.proofs.Allow.{OfArg, OfArgs, among_second, items_are, Changes, sum_same, plus_same, values_hold}
 use Rattle.dense_laws.proofs.FreeGames.{in_fronts}
-use Rattle.dense_laws.proofs.Looks.{below_is, not_or, or_right, single_value, past_both, front_value, seven, AlikeAllow}
-use Rattle.dense_laws.proofs.Small.{both, either, or_below, same_number, together}
+use Rattle.dense_laws.proofs.Looks.{below_is, not_or, single_value, past_both, front_value, seven, AlikeAllow}
+use Rattle.dense_laws.proofs.Small.{same_number}
 
 to_le : (x y : ℕ) → x ≤ y → nat_le x y ≡ true
 to_le x y l = grind (arith, nat_tests)
@@ -85,7 +86,7 @@ module _ (c : Rule) (test : ℕ → Bool) (known w : List ℤ) (kept : (x : ℕ)
 
   some_literal : (n : ℤ) (xs : List Arg) → OfArgs Kept xs → list_any (is_known_as n) (map (known_value test known) xs) ≡ true → list_any (λ z. int_eq z n) (map (arg_value w) xs) ≡ true
   some_literal n [] h e = cc
-  some_literal n (x ∷ xs) h e = elim (either (is_known_as n (known_value test known x)) (list_any (is_known_as n) (map (known_value test known) xs)) e) [
+  some_literal n (x ∷ xs) h e = elim (or_cases (is_known_as n (known_value test known x)) (list_any (is_known_as n) (map (known_value test known) xs)) e) [
     | inl q ↦ or_left (int_eq (arg_value w x) n) (list_any (λ z. int_eq z n) (map (arg_value w) xs)) (literal n x h.0 q)
     | inr q ↦ or_right (int_eq (arg_value w x) n) (list_any (λ z. int_eq z n) (map (arg_value w) xs)) (some_literal n xs h.1 q)
   ]
@@ -99,7 +100,7 @@ module _ (c : Rule) (test : ℕ → Bool) (known w : List ℤ) (kept : (x : ℕ)
       subst (λ m. holds_as m (map (fill (arg_value w)) c.args) ≡ true) (sym e)
       (ap (λ xs. list_any is_one xs || list_any is_zero (many (map (fill (arg_value w)) c.args) 1)) (many_filled (arg_value w) c.args 0)
       ∙ ap (λ xs. list_any is_one (map (arg_value w) (items_of (slice_get c.args 0))) || list_any is_zero xs) (many_filled (arg_value w) c.args 1)
-      ∙ elim (either (list_any (is_known_as (pos 1)) (map (known_value test known) (items_of (slice_get c.args 0)))) (list_any (is_known_as (pos 0)) (map (known_value test known) (items_of (slice_get c.args 1)))) (sym is ∙ s)) [
+      ∙ elim (or_cases (list_any (is_known_as (pos 1)) (map (known_value test known) (items_of (slice_get c.args 0)))) (list_any (is_known_as (pos 0)) (map (known_value test known) (items_of (slice_get c.args 1)))) (sym is ∙ s)) [
         | inl q ↦ or_one (list_any is_one (map (arg_value w) (items_of (slice_get c.args 0)))) (list_any is_zero (map (arg_value w) (items_of (slice_get c.args 1)))) (some_literal (pos 1) (items_of (slice_get c.args 0)) (items_are Kept c.args 0 kept) q)
         | inr q ↦ or_right (list_any is_one (map (arg_value w) (items_of (slice_get c.args 0)))) (list_any is_zero (map (arg_value w) (items_of (slice_get c.args 1)))) (some_literal (pos 0) (items_of (slice_get c.args 1)) (items_are Kept c.args 1 kept) q)
       ])
@@ -119,7 +120,7 @@ clause_only m e = cc
 
 same_at : (f h : ℕ → ℤ) (xs : List ℕ) (x : ℕ) → map f xs ≡ map h xs → is_among xs x ≡ true → f x ≡ h x
 same_at f h [] x e m = cc
-same_at f h (y ∷ xs) x e m = elim (either (y == x) (is_among xs x) m) [
+same_at f h (y ∷ xs) x e m = elim (or_cases (y == x) (is_among xs x) m) [
   | inl q ↦ subst (λ z. f z ≡ h z) (same_number y x q) (first_same (f y) (h y) (map f xs) (map h xs) e)
   | inr n ↦ same_at f h xs x (rest_same (f y) (h y) (map f xs) (map h xs) e) n
 ]
@@ -196,7 +197,7 @@ module _ (s : Setting) (valid : IsValid s.game) (p q : Place) (sp : StandsNode s
     read_single box r x m l =
         not_or (is_read s.game p.number x) (is_single (values_left box x)) (below_is (before s.game p.number) (λ y. not (is_read s.game p.number y) || is_single (values_left box y)) r x l)
         (or_first (list_any (λ d. is_from p.number d && is_among (variables_of d.args) x) s.game.constraints) (is_named s.game x)
-        (any_of (λ d. is_from p.number d && is_among (variables_of d.args) x) s.game.constraints c (get_among s.game.constraints place c there) (together (is_from p.number c) (is_among (variables_of c.args) x) from m)))
+        (any_of (λ d. is_from p.number d && is_among (variables_of d.args) x) s.game.constraints c (get_among s.game.constraints place c there) (and_from (is_from p.number c) (is_among (variables_of c.args) x) from m)))
       where
         or_first : (y z : Bool) → y ≡ true → (y || z) ≡ true
         or_first true z h = refl
@@ -214,7 +215,7 @@ module _ (s : Setting) (valid : IsValid s.game) (p q : Place) (sp : StandsNode s
     short box = omega (arith, length-map (take (before s.game p.number) box) least_value, length-take (before s.game p.number) box)
 
     change : (x : ℕ) → is_among (variables_of c.args) x ≡ true → Changes (a ++ u) (b ++ u) (position s.game p.number p.box) (position s.game p.number q.box) x
-    change x m = elim (or_below x (before s.game p.number)) [
+    change x m = elim (cases_lt x (before s.game p.number)) [
       | inl l ↦ inr (on a an x l ∙ shown p.box a reads_p an ai x m l, on b bn x l ∙ shown q.box b reads_q bn bi x m l)
       | inr l ↦ inl (past_both a b u x (an ∙ sym bn) (omega arith), past_end (position s.game p.number p.box) x (let h = short p.box in omega arith) ∙ sym (past_end (position s.game p.number q.box) x (let h = short q.box in omega arith)))
     ]
@@ -238,15 +239,15 @@ module _ (s : Setting) (valid : IsValid s.game) (p q : Place) (sp : StandsNode s
     alone_in by_value x m = m
 
     alone : (x : ℕ) → is_among (variables_by_value (reading_of (meaning_of c.pred)) c.args) x ≡ true → slice_index_or (a ++ u) x (pos 0) ≡ slice_index_or (b ++ u) x (pos 0)
-    alone x m = elim (or_below x (before s.game p.number)) [
+    alone x m = elim (cases_lt x (before s.game p.number)) [
       | inl l ↦ on a an x l ∙ (early x m l ∙ sym (on b bn x l))
       | inr l ↦ past_both a b u x (an ∙ sym bn) (omega arith)
     ]
       where
         early : (x : ℕ) → is_among (variables_by_value (reading_of (meaning_of c.pred)) c.args) x ≡ true → x < before s.game p.number → slice_index_or a x (pos 0) ≡ slice_index_or b x (pos 0)
         early x m l =
-            let w = (both (each_below (before s.game p.number) (λ y. not (is_seen s.game p.number y) || same_values (values_left p.box y) (values_left q.box y))) _ look).0 in
-            let seen = or_first (list_any (constrains p.number x) s.game.constraints) (is_named s.game x) (any_of (constrains p.number x) s.game.constraints c (get_among s.game.constraints place c there) (together (nat_le p.number c.owner.0) (is_among (variables_by_value (reading_of (meaning_of c.pred)) c.args) x) from m)) in
+            let w = (and_parts (each_below (before s.game p.number) (λ y. not (is_seen s.game p.number y) || same_values (values_left p.box y) (values_left q.box y))) _ look).0 in
+            let seen = or_first (list_any (constrains p.number x) s.game.constraints) (is_named s.game x) (any_of (constrains p.number x) s.game.constraints c (get_among s.game.constraints place c there) (and_from (nat_le p.number c.owner.0) (is_among (variables_by_value (reading_of (meaning_of c.pred)) c.args) x) from m)) in
             let same = same_true (values_left p.box x) (values_left q.box x) (not_or (is_seen s.game p.number x) (same_values (values_left p.box x) (values_left q.box x))
             (below_is (before s.game p.number) (λ y. not (is_seen s.game p.number y) || same_values (values_left p.box y) (values_left q.box y)) w x l) seen) in
             single_value (values_left p.box x) (slice_index_or a x (pos 0)) (slice_index_or b x (pos 0)) (read_single p.box reads_p x (alone_in (reading_of (meaning_of c.pred)) x m) l) (left_at a p.box x (omega arith) ai)
@@ -274,7 +275,7 @@ module _ (s : Setting) (valid : IsValid s.game) (p q : Place) (sp : StandsNode s
         (same_true (views s.game p.number p.box c) (views s.game p.number q.box c)
         (not_or (is_from p.number c) (same_values (views s.game p.number p.box c) (views s.game p.number q.box c))
         (all_to (λ d. not (is_from p.number d) || same_values (views s.game p.number p.box d) (views s.game p.number q.box d)) s.game.constraints
-        (both _ (list_all (λ d. not (is_from p.number d) || same_values (views s.game p.number p.box d) (views s.game p.number q.box d)) s.game.constraints) look).1 c (get_among s.game.constraints place c there)) from))
+        (and_parts _ (list_all (λ d. not (is_from p.number d) || same_values (views s.game p.number p.box d) (views s.game p.number q.box d)) s.game.constraints) look).1 c (get_among s.game.constraints place c there)) from))
       where
         by : (e f : Bool) → entailed_by c (declared_from s.game p.number p.box) ≡ e → entailed_by c (declared_from s.game p.number q.box) ≡ f →
             cond e [] (sees s.game p.number (position s.game p.number p.box) c) ≡ cond f [] (sees s.game p.number (position s.game p.number q.box) c) → holds_on c (a ++ u) ≡ holds_on c (b ++ u)

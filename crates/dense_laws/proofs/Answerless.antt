@@ -4,6 +4,7 @@ use Rattle.std.specs.Prelude.{slice_get, nat_le, nat_lt}
 use Rattle.std.specs.List.{list_any}
 use Rattle.std.proofs.lemmas.Bool.Decides.{nat_tests}
 use Rattle.std.proofs.lemmas.List.{length-set}
+use Rattle.std.proofs.lemmas.Bool.{cases_lt, and_parts, or_cases}
 use Rattle.qc_model.specs.declared.problem.Kind.{Kind}
 use Rattle.qc_model.specs.declared.problem.Kind.TheVariants.{Exists, Forall}
 use Rattle.qc_model.specs.declared.problem.Condition.{Condition}
@@ -55,7 +56,7 @@ use Rattle.dense_laws.proofs.Opponents.{after_lie, lost_answers}
 use Rattle.dense_laws.proofs.Owned.{owner_is, owner_below, owner_place}
 use Rattle.dense_laws.proofs.Replying.{in_or_not, none_owned, own_owner, forced_own, unrestricted_of, some_move, onto, late_next}
 use Rattle.dense_laws.proofs.Scopes.{scope_at}
-use Rattle.dense_laws.proofs.Small.{both, either, or_below, le_from, lt_from}
+use Rattle.dense_laws.proofs.Small.{le_from, lt_from}
 use Rattle.dense_laws.proofs.Standing.{InForce, in_force, free_at, closed_lies}
 
 -- the scopes of a block are the player's
@@ -111,8 +112,8 @@ answerless_is s valid p box d full h = record {
   owned = q.1;
   variable = x.0;
   own = x.1;
-  late = le_from p.number (owner_of (slice_get s.game.variables x.0)) (both (nat_le p.number (owner_of (slice_get s.game.variables x.0))) (is_universal (slice_get s.game.scopes (owner_of (slice_get s.game.variables x.0)))) m.0).0;
-  universal = (both (nat_le p.number (owner_of (slice_get s.game.variables x.0))) (is_universal (slice_get s.game.scopes (owner_of (slice_get s.game.variables x.0)))) m.0).1;
+  late = le_from p.number (owner_of (slice_get s.game.variables x.0)) (and_parts (nat_le p.number (owner_of (slice_get s.game.variables x.0))) (is_universal (slice_get s.game.scopes (owner_of (slice_get s.game.variables x.0)))) m.0).0;
+  universal = (and_parts (nat_le p.number (owner_of (slice_get s.game.variables x.0))) (is_universal (slice_get s.game.scopes (owner_of (slice_get s.game.variables x.0)))) m.0).1;
   free = m.1;
   value = end.0;
   left = end.1;
@@ -132,16 +133,16 @@ answerless_is s valid p box d full h = record {
     x = any_at (λ y. is_open_move s p.number y && (refutes_at c.0 box y (least_value (values_left box y)) || refutes_at c.0 box y (greatest_value (values_left box y)))) (variables_of c.0.args) c.2
 
     t : (is_open_move s p.number x.0 ≡ true) × ((refutes_at c.0 box x.0 (least_value (values_left box x.0)) || refutes_at c.0 box x.0 (greatest_value (values_left box x.0))) ≡ true)
-    t = both (is_open_move s p.number x.0) (refutes_at c.0 box x.0 (least_value (values_left box x.0)) || refutes_at c.0 box x.0 (greatest_value (values_left box x.0))) x.2
+    t = and_parts (is_open_move s p.number x.0) (refutes_at c.0 box x.0 (least_value (values_left box x.0)) || refutes_at c.0 box x.0 (greatest_value (values_left box x.0))) x.2
 
     m : ((nat_le p.number (owner_of (slice_get s.game.variables x.0)) && is_universal (slice_get s.game.scopes (owner_of (slice_get s.game.variables x.0)))) ≡ true) × (is_unrestricted s.game (owner_of (slice_get s.game.variables x.0)) ≡ true)
-    m = both (nat_le p.number (owner_of (slice_get s.game.variables x.0)) && is_universal (slice_get s.game.scopes (owner_of (slice_get s.game.variables x.0)))) (is_unrestricted s.game (owner_of (slice_get s.game.variables x.0))) t.0
+    m = and_parts (nat_le p.number (owner_of (slice_get s.game.variables x.0)) && is_universal (slice_get s.game.scopes (owner_of (slice_get s.game.variables x.0)))) (is_unrestricted s.game (owner_of (slice_get s.game.variables x.0))) t.0
 
     some : is_none_left (values_left box x.0) ≡ false
     some = some_left box x.0 full (own_place (length box) x.0 c.0.args (rule_below s.game valid box d k.0 c.0 k.1) x.1)
 
     end : (v : ℤ) × Among v (values_left box x.0) × (refuted_by c.0 (set box x.0 (v ∷ [])) ≡ true)
-    end = elim (either (refutes_at c.0 box x.0 (least_value (values_left box x.0))) (refutes_at c.0 box x.0 (greatest_value (values_left box x.0))) t.1) [
+    end = elim (or_cases (refutes_at c.0 box x.0 (least_value (values_left box x.0))) (refutes_at c.0 box x.0 (greatest_value (values_left box x.0))) t.1) [
       | inl f ↦ (least_value (values_left box x.0), has_to (values_left box x.0) (least_value (values_left box x.0)) (has_least (values_left box x.0) some), f)
       | inr f ↦ (greatest_value (values_left box x.0), has_to (values_left box x.0) (greatest_value (values_left box x.0)) (has_greatest (values_left box x.0) some), f)
     ]
@@ -181,9 +182,9 @@ module _ (g : Game) (valid : IsValid g) (small : Box) (d : is_box_of g small ≡
       on f t q m j o l = let w = f t q (move_count g k b t c m) j o l in (w.0, (t, m, w.1), w.2)
 
       where_is : ((x < before g k) ⊎ (before g (suc k) ≤ x)) ⊎ (owner_of (slice_get g.variables x) ≡ k)
-      where_is = elim (or_below x (before g k)) [
+      where_is = elim (cases_lt x (before g k)) [
         | inl l ↦ inl (inl l)
-        | inr l ↦ elim (or_below x (before g (suc k))) [ inl m ↦ inr (owner_is g valid k x l m) | inr m ↦ inl (inr m) ]
+        | inr l ↦ elim (cases_lt x (before g (suc k))) [ inl m ↦ inr (owner_is g valid k x l m) | inr m ↦ inl (inr m) ]
       ]
 
       not_players : sc.kind ≡ Exists → owner_of (slice_get g.variables x) ≡ k → ⊥
@@ -231,7 +232,7 @@ module _ (s : Setting) (valid : IsValid s.game) (p : Place) (st : StandsPart s p
       let w = answer_play s.game valid small small_declared small_full a.variable a.value a.left a.universal a.free (drop k s.game.scopes) k refl free b c h r o l in
       let j = sub s.game valid small small_declared small_full a.variable a.value a.left a.universal a.free w.0 w.2 in
       let q = whole s.game (sound_of s.game valid) k b w.0 small le (declared_of s.game small small_declared) c w.1 j in
-      let near = lt_from a.rule.owner.0 (joint_stop s.game s.given p.later p.number) (both (nat_le p.number a.rule.owner.0) (nat_lt a.rule.owner.0 (joint_stop s.game s.given p.later p.number)) a.owned).1 in
+      let near = lt_from a.rule.owner.0 (joint_stop s.game s.given p.later p.number) (and_parts (nat_le p.number a.rule.owner.0) (nat_lt a.rule.owner.0 (joint_stop s.game s.given p.later p.number)) a.owned).1 in
       let t = within k a.rule.owner.0 (suc (length s.game.scopes)) late (omega arith) in
       (sound_of s.game valid).table a.place a.rule (set small a.variable (a.value ∷ [])) w.0 a.there (q.passes.visible a.place a.rule a.there t) q.passes.declared a.refuted w.2 (q.passes.holds a.place a.rule a.there t)
     where
@@ -252,7 +253,7 @@ module _ (s : Setting) (valid : IsValid s.game) (p : Place) (st : StandsPart s p
   owner_near = owner_below s.game valid (suc move.rule.owner.0) move.variable (below s valid p st small found move)
 
   rule_near : move.rule.owner.0 < joint_stop s.game s.given p.later p.number
-  rule_near = lt_from move.rule.owner.0 (joint_stop s.game s.given p.later p.number) (both (nat_le p.number move.rule.owner.0) (nat_lt move.rule.owner.0 (joint_stop s.game s.given p.later p.number)) move.owned).1
+  rule_near = lt_from move.rule.owner.0 (joint_stop s.game s.given p.later p.number) (and_parts (nat_le p.number move.rule.owner.0) (nat_lt move.rule.owner.0 (joint_stop s.game s.given p.later p.number)) move.owned).1
 
   -- a position before the move may have it ahead
   position_in : (a : List ℤ) → length a ≡ before s.game p.number → InBox a small → InBox a (set small move.variable (move.value ∷ []))

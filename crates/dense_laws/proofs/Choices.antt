@@ -1,5 +1,6 @@
 -- Parts of the own tree of a scope of the player.
 use Rattle.std.proofs.Common.{◌≡◌, inl, inr, ℕ, zero, suc, ◌<◌, ◌≤◌, Bool, not, ◌||◌, true, false, List, [], ◌∷◌, ◌++◌, length, refl, sym, ap, subst, ◌∙◌, set, arith, ℤ, Option}
+use Rattle.std.proofs.lemmas.Bool.{or_parts, or_from}
 use Rattle.qc_model.specs.declared.problem.Condition.{Condition}
 use Rattle.qc_model.specs.declared.problem.Scope.{Scope}
 use Rattle.qc_model.specs.Content.{Game}
@@ -28,7 +29,7 @@ use Rattle.proof_tree.specs.Place.{is_fixed}
 use Rattle.dense_meaning.proofs.FullBoxes.{some_values}
 use Rattle.dense_laws.specs.Stands.{StandsNode, StandsPart}
 use Rattle.dense_laws.specs.Says.{IsAt, NodeTold, Holds, SomeHolds, SomeBest, EachReached, OnlyAt, ChoicesSay}
-use Rattle.dense_laws.proofs.Small.{clash, neither, nor}
+use Rattle.dense_laws.proofs.Small.{clash}
 use Rattle.dense_laws.proofs.Standing.{Enters}
 
 -- a choice of an allowed tuple, with an optimal strategy after it, all in the place's box
@@ -177,7 +178,7 @@ no_exact [] ys h k = k
 no_exact (seen_barred ∷ xs) ys h k = no_exact xs ys h k
 no_exact (seen_skipped ∷ xs) ys h k = no_exact xs ys h k
 no_exact (seen_bound m ∷ xs) ys h k = no_exact xs ys h k
-no_exact (seen_node v ∷ xs) ys h k = let q = neither (is_exact v) (some_node is_exact xs) h in nor (is_exact v) (some_node is_exact (xs ++ ys)) q.0 (no_exact xs ys q.1 k)
+no_exact (seen_node v ∷ xs) ys h k = let q = or_parts (is_exact v) (some_node is_exact xs) h in or_from (is_exact v) (some_node is_exact (xs ++ ys)) q.0 (no_exact xs ys q.1 k)
 
 -- what is so of two parts of a variable's values is so of both
 module _ (s : Setting) (p : Place) (y : Option Condition) (later : List Scope) (e : p.later ≡ existential y ∷ later) (x : ℕ) (low : before s.game p.number ≤ x) (high : x < before s.game (suc p.number)) (us vs : Values) where

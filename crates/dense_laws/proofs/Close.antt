@@ -2,6 +2,7 @@
 use Rattle.std.proofs.Common.{◌≡◌, ◌⊎◌, inl, inr, ℕ, zero, suc, ◌+◌, ◌<◌, ◌≤◌, ◌==◌, Bool, true, false, not, cond, List, [], ◌∷◌, ◌++◌, length, take, drop, refl, sym, ap, ◌∙◌, subst, arith, ℤ, Some, Option}
 use Rattle.std.specs.Prelude.{slice_get, nat_le, nat_lt}
 use Rattle.std.proofs.lemmas.Bool.Decides.{nat_tests}
+use Rattle.std.proofs.lemmas.Bool.{and_parts, and_from}
 use Rattle.qc_model.specs.declared.problem.Kind.{Kind}
 use Rattle.qc_model.specs.declared.problem.Kind.TheVariants.{Exists, Forall}
 use Rattle.qc_model.specs.declared.problem.Scope.{Scope}
@@ -46,7 +47,7 @@ use Rattle.dense_laws.proofs.Narrow.{front_of}
 use Rattle.dense_laws.proofs.Owned.{owner_is}
 use Rattle.dense_laws.proofs.Points.{Satisfies, greatest_is, point_stays}
 use Rattle.dense_laws.proofs.Scopes.{scope_at}
-use Rattle.dense_laws.proofs.Small.{both, together, clash, not_true, le_from, lt_from, same_number, sub_in_box}
+use Rattle.dense_laws.proofs.Small.{clash, not_true, le_from, lt_from, same_number, sub_in_box}
 
 to_le : (x y : ℕ) → x ≤ y → nat_le x y ≡ true
 to_le x y l = grind (arith, nat_tests)
@@ -140,11 +141,11 @@ module _ (g : Game) (valid : IsValid g) (i stop : ℕ) (box small : Box) (d : is
   late_at j k c x there owned own l = own_late g valid j k c x there own l
 
   pub late_here : AreLate 0 i
-  late_here k c x there owned own l = le_from i c.owner.0 (both (nat_le i c.owner.0) (nat_lt c.owner.0 stop) owned).0
+  late_here k c x there owned own l = le_from i c.owner.0 (and_parts (nat_le i c.owner.0) (nat_lt c.owner.0 stop) owned).0
 
   kept_by : (n j : ℕ) (w : List ℤ) → AreLate n j → Passes g j stop w → Satisfies (takes g) g valid i stop n w
   kept_by n j w late p k c x there owned own taken low high =
-      let o = together (nat_le j c.owner.0) (nat_lt c.owner.0 stop) (to_le j c.owner.0 (late k c x there owned own low)) (both (nat_le i c.owner.0) (nat_lt c.owner.0 stop) owned).1 in
+      let o = and_from (nat_le j c.owner.0) (nat_lt c.owner.0 stop) (to_le j c.owner.0 (late k c x there owned own low)) (and_parts (nat_le i c.owner.0) (nat_lt c.owner.0 stop) owned).1 in
       (p.visible k c there o, p.holds k c there o)
 
   -- past the scopes whose constraints are in force nothing goes
@@ -154,7 +155,7 @@ module _ (g : Game) (valid : IsValid g) (i stop : ℕ) (box small : Box) (d : is
       kept : Satisfies (takes g) g valid i stop (before g j) w
       kept q c x there owned own taken low high =
           let late = own_late g valid j q c x there own low in
-          let less = lt_from c.owner.0 stop (both (nat_le i c.owner.0) (nat_lt c.owner.0 stop) owned).1 in
+          let less = lt_from c.owner.0 stop (and_parts (nat_le i c.owner.0) (nat_lt c.owner.0 stop) owned).1 in
           absurd (omega arith)
 
   module _ (n j : ℕ) (late : AreLate n j) (le : j ≤ length g.scopes) (a : List ℤ) (at : IsPositionIn g j box a) (front : (w r : List ℤ) → w ≡ a ++ r → InBox (take n w) small) where

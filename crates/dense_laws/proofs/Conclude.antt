@@ -1,6 +1,7 @@
 -- What the leaves and marks of a scope of the player say of its node.
 use Rattle.std.proofs.Common.{◌≡◌, inl, inr, ℕ, suc, Bool, true, false, not, ◌&&◌, List, [], ◌∷◌, ◌++◌, map, length, refl, sym, subst, ℤ, None, cond}
 use Rattle.std.specs.List.{list_all}
+use Rattle.std.proofs.lemmas.Bool.{or_parts}
 use Rattle.qc_model.specs.declared.problem.Condition.{Condition}
 use Rattle.qc_model.specs.declared.problem.Scope.{Scope}
 use Rattle.qc_model.specs.Content.{Game}
@@ -16,7 +17,7 @@ use Rattle.qc_model.specs.ExistsVerdict.{best_vector, best_number, beats, some_o
 use Rattle.qc_model.proofs.Moves.{among_left, among_right}
 use Rattle.qc_model.proofs.Vectors.{no_better_through, none_beats_best, AllLong}
 use Rattle.model_laws.specs.Positions.{existential}
-use Rattle.model_laws.proofs.Better.{or_none, and_first, and_second, vector_not_better, vector_false}
+use Rattle.model_laws.proofs.Better.{and_first, and_second, vector_not_better, vector_false}
 use Rattle.model_laws.proofs.Choices.{beats_is, from_chosen}
 use Rattle.model_laws.proofs.Choosing.{best_one, best_weaker, vector_long}
 use Rattle.model_laws.proofs.Listed.{all_to}
@@ -61,7 +62,7 @@ best_of_all e (w ∷ vs) l v m = none_beats_best e w vs l.0 l.1 v m
 pub first_no_better : (g : Game) (c : Condition) (d : List Condition) (a : List ℤ) (r : Plan) (w : List ℤ) → length w ≡ length (c ∷ d) → is_better_vector (c ∷ d) (vector g (c ∷ d) a r) w ≡ false →
     is_better c.sense (value g r c.target a) (first_value w) ≡ false
 first_no_better g c d a r [] l h = cc
-first_no_better g c d a r (y ∷ w) l h = (or_none _ _ h).0
+first_no_better g c d a r (y ∷ w) l h = (or_parts _ _ h).0
 
 some_exact : (xs : List Seen) → some_node is_exact xs ≡ true → (w : List ℤ) × Among w (exact_vectors xs)
 some_exact [] q = cc

@@ -3,6 +3,7 @@ use Rattle.std.proofs.Common.{◌≡◌, ℕ, suc, Bool, true, false, not, ◌&&
 use Rattle.std.specs.List.{list_all}
 use Rattle.std.specs.Ordering.{int_eq}
 use Rattle.std.proofs.lemmas.Bool.Decides.{Decides-int_eq}
+use Rattle.std.proofs.lemmas.Bool.{or_parts}
 use Rattle.qc_model.specs.declared.problem.Condition.{Condition}
 use Rattle.qc_model.specs.declared.problem.Scope.{Scope}
 use Rattle.qc_model.specs.Content.{Game}
@@ -16,7 +17,7 @@ use Rattle.qc_model.specs.Verdict.{Seen, is_lost, each_node, exact_vectors, boun
 use Rattle.qc_model.specs.ExistsVerdict.{best_vector, beats, some_open, exists_verdict}
 use Rattle.qc_model.proofs.Vectors.{worse_through}
 use Rattle.model_laws.specs.Positions.{optimising}
-use Rattle.model_laws.proofs.Better.{or_none, and_first, and_second, not_better}
+use Rattle.model_laws.proofs.Better.{and_first, and_second, not_better}
 use Rattle.model_laws.proofs.Existence.{neither_better, optimal_exists, won_by_strategy}
 use Rattle.model_laws.proofs.Choosing.{best_one}
 use Rattle.dense_meaning.specs.Throughout.{PlaysLie, IsOptimalWithin, Says, ExactWithin}
@@ -46,7 +47,7 @@ module _ (g : Game) (c : Condition) (d : List Condition) (later : List Scope) (i
     own = head_is choice.4
 
     first_held : (r : Plan) → Optimal g (optimising c ∷ later) i a r → is_better c.sense (value g r c.target a) x ≡ false
-    first_held r o = (or_none _ _ (held r o)).0
+    first_held r o = (or_parts _ _ (held r o)).0
 
     -- so each optimal strategy has the value x
     pub own_is : (r : Plan) → Optimal g (optimising c ∷ later) i a r → value g r c.target a ≡ x
@@ -70,7 +71,7 @@ module _ (g : Game) (c : Condition) (d : List Condition) (later : List Scope) (i
     }
 
     rest_held : (y : ℤ) → y ≡ x → (b : Bool) → (is_better c.sense y x || (int_eq y x && b)) ≡ false → b ≡ false
-    rest_held y q b h = by (int_eq y x) b ((Decides-int_eq y x).1 q) (or_none _ _ h).1
+    rest_held y q b h = by (int_eq y x) b ((Decides-int_eq y x).1 q) (or_parts _ _ h).1
       where
         by : (f b : Bool) → f ≡ true → (f && b) ≡ false → b ≡ false
         by true b p h = h

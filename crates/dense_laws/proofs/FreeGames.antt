@@ -1,6 +1,7 @@
 -- In a free game the opponent is never stuck.
 use Rattle.std.proofs.Common.{◌≡◌, inl, inr, ℕ, zero, suc, ◌+◌, ◌==◌, true, List, [], ◌∷◌, ◌++◌, length, take, drop, map, refl, sym, ap, ◌∙◌, subst, arith, ℤ}
 use Rattle.std.specs.List.{list_any, list_all}
+use Rattle.std.proofs.lemmas.Bool.{and_parts, or_cases}
 use Rattle.qc_model.specs.declared.problem.Kind.{Kind}
 use Rattle.qc_model.specs.declared.problem.Kind.TheVariants.{Exists, Forall}
 use Rattle.qc_model.specs.declared.problem.Scope.{Scope}
@@ -25,7 +26,7 @@ use Rattle.dense_meaning.proofs.FullBoxes.{full_values}
 use Rattle.dense_tree.specs.Free.{is_unrestricted, is_always_allowed, gives, is_never_stuck, is_free_from}
 use Rattle.dense_tree.specs.Tree.{Given}
 use Rattle.dense_tree.specs.Tuples.{all_hold, are_of, is_tuple_of, box_taken}
-use Rattle.dense_laws.proofs.Small.{both, either, sub_in_box, same_number}
+use Rattle.dense_laws.proofs.Small.{sub_in_box, same_number}
 use Rattle.dense_laws.proofs.Tuple.{tuple_lies, tuple_long}
 
 -- a tuple of some domains
@@ -33,7 +34,7 @@ pub are_in : (ds : List Values) (t : List ℤ) → are_of ds t ≡ true → Lies
 are_in [] [] e = tt
 are_in [] (v ∷ t) e = cc
 are_in (d ∷ ds) [] e = cc
-are_in (d ∷ ds) (v ∷ t) e = let p = both (has_value d v) (are_of ds t) e in (has_to d v p.0, are_in ds t p.1)
+are_in (d ∷ ds) (v ∷ t) e = let p = and_parts (has_value d v) (are_of ds t) e in (has_to d v p.0, are_in ds t p.1)
 
 in_single : (t : List ℤ) (rest : Box) → InBox t (map (λ v. v ∷ []) t ++ rest)
 in_single [] rest = tt
@@ -82,15 +83,15 @@ module _ (g : Game) (valid : IsValid g) where
   pub has_moves : (us : List Given) (i : ℕ) (box : Box) → is_sub_box box (declared_box g) ≡ true → is_never_stuck g us i ≡ true → HasMoves g i box
   has_moves us i box d e a at =
       let j = sub_in_box a box (declared_box g) d at.lies in
-      elim (either (is_unrestricted g i) (list_any (gives g i) us) e) [
+      elim (or_cases (is_unrestricted g i) (list_any (gives g i) us) e) [
         | inl q ↦ (let t = full_values g i (declared_box g) (sound_of g valid).ordered.no_empty declared_all a (record { count = at.count; lies = j }) in
             (t.0, record { is_tuple = t.1; is_allowed = unrestricted_allows g i (a ++ t.0) q }))
-        | inr q ↦ (let u = any_at (gives g i) us q in given u.0 j (both (u.0.scope.0 == i) (is_always_allowed g i u.0.tuple) u.2).1)
+        | inr q ↦ (let u = any_at (gives g i) us q in given u.0 j (and_parts (u.0.scope.0 == i) (is_always_allowed g i u.0.tuple) u.2).1)
       ]
     where
       given : (u : Given) → InBox a (declared_box g) → is_always_allowed g i u.tuple ≡ true → (t : List ℤ) × IsMove g i a t
       given u j h =
-          let p = both (is_tuple_of g i (declared_box g) u.tuple) (all_hold (restriction g i) (box_taken g i (declared_box g) u.tuple)) h in
+          let p = and_parts (is_tuple_of g i (declared_box g) u.tuple) (all_hold (restriction g i) (box_taken g i (declared_box g) u.tuple)) h in
           let l = are_in (part g i (declared_box g)) u.tuple p.0 in
           let w = tuple_in i a u.tuple at.count j l in (
             u.tuple,
@@ -104,7 +105,7 @@ module _ (g : Game) (valid : IsValid g) where
   pub never_stuck : (us : List Given) (later : List Scope) (i : ℕ) (box : Box) → is_sub_box box (declared_box g) ≡ true → is_free_from g us later i ≡ true → NeverStuck g later i box
   never_stuck us [] i box d e = tt
   never_stuck us (s ∷ later) i box d e =
-      let p = both (of_kind s.kind true (is_never_stuck g us i)) (is_free_from g us later (suc i)) e in
+      let p = and_parts (of_kind s.kind true (is_never_stuck g us i)) (is_free_from g us later (suc i)) e in
       (by s.kind p.0, never_stuck us later (suc i) box d p.1)
     where
       by : (k : Kind) → of_kind k true (is_never_stuck g us i) ≡ true → OpponentHasMoves k g i box
@@ -117,4 +118,4 @@ free_later g us scopes zero i e = subst (λ j. is_free_from g us scopes j ≡ tr
 free_later g us [] (suc n) i e = refl
 free_later g us (s ∷ scopes) (suc n) i e =
     subst (λ j. is_free_from g us (drop n scopes) j ≡ true) (let q : n + suc i ≡ suc n + i = omega arith in q)
-    (free_later g us scopes n (suc i) (both (of_kind s.kind true (is_never_stuck g us i)) (is_free_from g us scopes (suc i)) e).1)
+    (free_later g us scopes n (suc i) (and_parts (of_kind s.kind true (is_never_stuck g us i)) (is_free_from g us scopes (suc i)) e).1)

@@ -1,6 +1,7 @@
 -- Steps within the own tree of a scope of the player, and the best value left.
 use Rattle.std.proofs.Common.{◌≡◌, ◌⊎◌, inl, inr, suc, ◌<◌, Bool, true, false, not, ◌&&◌, cond, List, [], ◌∷◌, drop, refl, sym, ap, ◌∙◌, subst, arith, ℤ, Some, Option, None}
 use Rattle.std.specs.Prelude.{slice_get, int_lt}
+use Rattle.std.proofs.lemmas.Bool.{not_from_false}
 use Rattle.qc_model.specs.declared.problem.Sense.{Sense}
 use Rattle.qc_model.specs.declared.problem.Sense.TheVariants.{Min, Max}
 use Rattle.qc_model.specs.declared.problem.VarId.{VarId}
@@ -45,7 +46,7 @@ use Rattle.dense_laws.specs.Says.{IsAt, SomeHolds, SomeBest, ChoicesSay}
 use Rattle.dense_laws.proofs.Bounds.{free_in_block, weaker, bounded_moves, bounded_strategies}
 use Rattle.dense_laws.proofs.Choices.{smaller_says}
 use Rattle.dense_laws.proofs.Scopes.{scope_at, list_next}
-use Rattle.dense_laws.proofs.Small.{clash, not_false, drop_set, sub_in_box}
+use Rattle.dense_laws.proofs.Small.{clash, drop_set, sub_in_box}
 use Rattle.dense_laws.proofs.Standing.{stands_in, closed_lies, players_is, no_opponents}
 
 -- the best of some values is no worse than each
@@ -159,7 +160,7 @@ module _ (s : Setting) (valid : IsValid s.game) (p : Place) (x : Option Conditio
         held a at r o false k =
             let m = value_left s.game p.later p.number it.variable p.box a r at.position.count visible_here o.optimal o.lies in
             let lies : PlaysLie small a r = lie_kept s.game p.later p.number it.variable p.box (values_outside low high (values_left p.box it.variable.0)) a r at.position.count visible_here o.optimal o.lies
-            (among_filter (λ v. not (is_within low high v)) (value s.game r (Var it.variable) a) (values_left p.box it.variable.0) m (not_false (is_within low high (value s.game r (Var it.variable) a)) k)) in
+            (among_filter (λ v. not (is_within low high v)) (value s.game r (Var it.variable) a) (values_left p.box it.variable.0) m (not_from_false (is_within low high (value s.game r (Var it.variable) a)) k)) in
             elim (h.held a (record { position = record { count = at.position.count; lies = lie_front small r a lies }; blocked = blocked_less s.game p.number a p.box small p.horizon sub at.blocked }) r (record { optimal = o.optimal; lies = lies })) [
               | inl t ↦ inl (inr t)
               | inr t ↦ inr t

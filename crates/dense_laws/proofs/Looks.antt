@@ -4,6 +4,7 @@ use Rattle.std.specs.Prelude.{slice_get, slice_index_or, is_none, IsTrue}
 use Rattle.std.specs.List.{list_any}
 use Rattle.std.proofs.lemmas.Bool.Decides.{nat_tests}
 use Rattle.std.proofs.lemmas.List.{length-drop}
+use Rattle.std.proofs.lemmas.Bool.{or_right, cases_lt, and_parts, or_cases, or_parts}
 use Rattle.qc_model.specs.declared.problem.Target.{Target}
 use Rattle.qc_model.specs.declared.problem.Target.TheVariants.{Var, Aggregate as Agg}
 use Rattle.qc_model.specs.declared.problem.Condition.{Condition}
@@ -39,13 +40,13 @@ use Rattle.dense_laws.proofs.Going.{list_visible}
 use Rattle.dense_laws.proofs.Nodes.{loosened_says, loosened_inexact}
 use Rattle.dense_laws.proofs.Opponents.{all_lie}
 use Rattle.dense_laws.proofs.Same.{IsOf, EachOf, WishOf, EachWish, SameAfter}
-use Rattle.dense_laws.proofs.Small.{both, either, neither, not_true, same_number, or_below, sub_in_box}
+use Rattle.dense_laws.proofs.Small.{not_true, same_number, sub_in_box}
 
 pub below_is : (n : ℕ) (p : ℕ → Bool) → each_below n p ≡ true → (x : ℕ) → x < n → p x ≡ true
 below_is zero p h x l = absurd (omega arith)
 below_is (suc n) p h x l = elim (or_last x n l) [
-  | inl e ↦ subst (λ k. p k ≡ true) (sym e) (both (p n) (each_below n p) h).0
-  | inr m ↦ below_is n p (both (p n) (each_below n p) h).1 x m
+  | inl e ↦ subst (λ k. p k ≡ true) (sym e) (and_parts (p n) (each_below n p) h).0
+  | inr m ↦ below_is n p (and_parts (p n) (each_below n p) h).1 x m
 ]
   where
     or_last : (x n : ℕ) → x < suc n → (x ≡ n) ⊎ (x < n)
@@ -54,10 +55,6 @@ below_is (suc n) p h x l = elim (or_last x n l) [
 pub not_or : (a b : Bool) → (not a || b) ≡ true → a ≡ true → b ≡ true
 not_or true b h e = h
 not_or false b h e = cc
-
-pub or_right : (a b : Bool) → b ≡ true → (a || b) ≡ true
-or_right true b h = refl
-or_right false b h = h
 
 pub single_value : (d : Values) (u v : ℤ) → is_single d ≡ true → Among u d → Among v d → u ≡ v
 single_value [] u v e m k = absurd m
@@ -104,7 +101,7 @@ left_same [] [] h = refl
 left_same [] (e ∷ es) h = cc
 left_same (d ∷ ds) [] h = cc
 left_same (d ∷ ds) (e ∷ es) h =
-    let q = both (same_values d e) (same_left ds es) h in ap (λ z. z ∷ ds) (same_true d e q.0) ∙ ap (λ zs. e ∷ zs) (left_same ds es q.1)
+    let q = and_parts (same_values d e) (same_left ds es) h in ap (λ z. z ∷ ds) (same_true d e q.0) ∙ ap (λ zs. e ∷ zs) (left_same ds es q.1)
 
 -- at two nodes that are alike, the same is allowed after the one's positions and after the other's, by the scopes from theirs on and by
 -- the goal, with the same declared values between
@@ -177,7 +174,7 @@ module _ (s : Setting) (valid : IsValid s.game) where
 
       value_at : (x : ℕ) → Named s.game x → x < before s.game p.number → slice_index_or a x (pos 0) ≡ slice_index_or b x (pos 0)
       value_at x n l =
-          let w = (both (each_below (before s.game p.number) (λ y. not (is_seen s.game p.number y) || same_values (values_left p.box y) (values_left q.box y))) _ look).0 in
+          let w = (and_parts (each_below (before s.game p.number) (λ y. not (is_seen s.game p.number y) || same_values (values_left p.box y) (values_left q.box y))) _ look).0 in
           let same = same_true (values_left p.box x) (values_left q.box x) (not_or (is_seen s.game p.number x) (same_values (values_left p.box x) (values_left q.box x))
           (below_is (before s.game p.number) (λ y. not (is_seen s.game p.number y) || same_values (values_left p.box y) (values_left q.box y)) w x l) (or_right (list_any (constrains p.number x) s.game.constraints) (is_named s.game x) n)) in
           let single = not_or (is_read s.game p.number x) (is_single (values_left p.box x)) (below_is (before s.game p.number) (λ y. not (is_read s.game p.number y) || is_single (values_left p.box y)) reads x l)
@@ -194,7 +191,7 @@ module _ (s : Setting) (valid : IsValid s.game) where
         declared = sub_in_box a p.box (declared_box s.game) sp.stands.box at.lies;
         other_declared = sub_in_box b q.box (declared_box s.game) sq.stands.box bt.lies;
         allowed = λ k u l n j m. allowed_same p q sp sq h a b at bt k u l n j m;
-        values = λ x n u. by x n u (or_below x (before s.game p.number));
+        values = λ x n u. by x n u (cases_lt x (before s.game p.number));
       }
         where
           by : (x : ℕ) → Named s.game x → (u : List ℤ) → (x < before s.game p.number) ⊎ (before s.game p.number ≤ x) → slice_index_or (a ++ u) x (pos 0) ≡ slice_index_or (b ++ u) x (pos 0)
@@ -203,16 +200,16 @@ module _ (s : Setting) (valid : IsValid s.game) where
           by x n u (inr l) = past_both a b u x (at.count ∙ sym other_count) (let c = at.count in omega arith)
 
       lie : (r : Plan) → Optimal s.game p.later p.number b r → PlaysLie p.box a r → PlaysLie q.box b r
-      lie r o l = elim (either (not (p.bounded || q.bounded)) (same_left (drop (before s.game p.number) p.box) (drop (before s.game p.number) q.box)) misses) [
+      lie r o l = elim (or_cases (not (p.bounded || q.bounded)) (same_left (drop (before s.game p.number) p.box) (drop (before s.game p.number) q.box)) misses) [
         | inl f ↦ (
-            let n = (neither p.bounded q.bounded (not_true (p.bounded || q.bounded) f)).1 in
+            let n = (or_parts p.bounded q.bounded (not_true (p.bounded || q.bounded) f)).1 in
             all_lie s.game q.later q.number q.box (subst (λ c. StrategiesStay s.game c q.later q.number q.box) n sq.strategies) b bt r
             (subst (λ k. Optimal s.game q.later k b r) number (subst (λ ls. Optimal s.game ls p.number b r) (sym later_is) o)))
         | inr f ↦ plays_moved (before s.game p.number) a b at.count other_count p.box q.box (left_same (drop (before s.game p.number) p.box) (drop (before s.game p.number) q.box) f) bt.lies r l
       ]
 
     blocked : (b : List ℤ) → IsPositionIn s.game q.number q.box b → IsBlocked s.game q.number b q.box q.horizon
-    blocked b bt = elim (either (not q.loose) (is_none q.horizon) all_told) [
+    blocked b bt = elim (or_cases (not q.loose) (is_none q.horizon) all_told) [
       | inl f ↦ sq.stands.blocked (not_true q.loose f) b bt
       | inr f ↦ by q.horizon f
     ]

@@ -2,6 +2,7 @@
 use Rattle.std.proofs.Common.{◌≡◌, inl, inr, ℕ, suc, ◌+◌, ◌≤◌, true, false, not, ◌&&◌, List, [], ◌∷◌, ◌++◌, length, drop, refl, sym, ap, ◌∙◌, subst, arith, ℤ, Option, Some, None}
 use Rattle.std.specs.Prelude.{is_none, nat_le}
 use Rattle.std.proofs.lemmas.List.{length-drop}
+use Rattle.std.proofs.lemmas.Bool.{and_parts}
 use Rattle.qc_model.specs.declared.problem.ScopeId.{ScopeId}
 use Rattle.qc_model.specs.declared.problem.Condition.{Condition}
 use Rattle.qc_model.specs.declared.problem.Scope.{Scope}
@@ -34,7 +35,7 @@ use Rattle.dense_laws.proofs.FreeGames.{never_stuck, unrestricted_allows}
 use Rattle.dense_laws.proofs.NoPlay.{none_playing, none_jointly, none_in_block, blocked_at}
 use Rattle.dense_laws.proofs.Opponents.{after_lie, lost_answers}
 use Rattle.dense_laws.proofs.Points.{none_is}
-use Rattle.dense_laws.proofs.Small.{both, le_from}
+use Rattle.dense_laws.proofs.Small.{le_from}
 use Rattle.dense_laws.proofs.Standing.{InForce, in_force, free_at}
 
 none_found : {X : Type 0} (o : Option X) → is_none o ≡ true → o ≡ None
@@ -51,15 +52,15 @@ module _ (s : Setting) (valid : IsValid s.game) where
   -- where no play is left no strategy is
   module _ (p : Place) (k : ScopeId) (st : Stands s p) (placed : no_play_placed s p k ≡ true) where
     free_here : is_free_from s.game s.given p.later p.number ≡ true
-    free_here = (both (is_free_from s.game s.given p.later p.number) (is_ahead p k.0) (both (is_free_from s.game s.given p.later p.number && is_ahead p k.0) (none_passes s p k.0) placed).0).0
+    free_here = (and_parts (is_free_from s.game s.given p.later p.number) (is_ahead p k.0) (and_parts (is_free_from s.game s.given p.later p.number && is_ahead p k.0) (none_passes s p k.0) placed).0).0
 
     none_here : NoneClosedBy takes_all (constraints_within s.game p.number (suc k.0)) p.box
-    none_here = passes_none p k.0 st (both (is_free_from s.game s.given p.later p.number && is_ahead p k.0) (none_passes s p k.0) placed).1
+    none_here = passes_none p k.0 st (and_parts (is_free_from s.game s.given p.later p.number && is_ahead p k.0) (none_passes s p k.0) placed).1
 
     near : suc k.0 ≤ suc (length s.game.scopes)
     near =
-        let a = (both (is_free_from s.game s.given p.later p.number) (is_ahead p k.0) (both (is_free_from s.game s.given p.later p.number && is_ahead p k.0) (none_passes s p k.0) placed).0).1 in
-        let l = le_from k.0 (p.number + length p.later) (both (nat_le p.number k.0) (nat_le k.0 (p.number + length p.later)) a).1 in
+        let a = (and_parts (is_free_from s.game s.given p.later p.number) (is_ahead p k.0) (and_parts (is_free_from s.game s.given p.later p.number && is_ahead p k.0) (none_passes s p k.0) placed).0).1 in
+        let l = le_from k.0 (p.number + length p.later) (and_parts (nat_le p.number k.0) (nat_le k.0 (p.number + length p.later)) a).1 in
         let m = left_from p st in omega arith
 
     stuck_never : NeverStuck s.game p.later p.number p.box
@@ -118,7 +119,7 @@ module _ (s : Setting) (valid : IsValid s.game) where
     blocked_by : (h : Option ScopeId) → horizon_placed s h p ≡ true → (a : List ℤ) → IsPositionIn s.game p.number p.box a → IsBlocked s.game p.number a p.box p.horizon → IsBlocked s.game p.number a p.box (with_horizon h p).horizon
     blocked_by None e a at b = b
     blocked_by (Some k) e a at b =
-        let q = both (not (is_goal p.later) && is_ahead p k.0 && is_nearer k.0 p.horizon) (none_passes s p k.0) e in
+        let q = and_parts (not (is_goal p.later) && is_ahead p k.0 && is_nearer k.0 p.horizon) (none_passes s p k.0) e in
         blocked_at s.game valid takes_all p.number k.0 p.box n.stands.box (passes_none p k.0 n.stands q.1) n.full a at.count
 
     pub horizon_stands : (h : Option ScopeId) → horizon_placed s h p ≡ true → StandsNode s (with_horizon h p)

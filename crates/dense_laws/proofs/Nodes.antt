@@ -3,6 +3,7 @@ use Rattle.std.proofs.Common.{◌≡◌, ◌⊎◌, inl, inr, ℕ, zero, suc, �
 use Rattle.std.specs.Prelude.{nat_lt}
 use Rattle.std.specs.List.{list_all}
 use Rattle.std.proofs.lemmas.Bool.Decides.{nat_tests}
+use Rattle.std.proofs.lemmas.Bool.{and_parts}
 use Rattle.qc_model.specs.declared.problem.Kind.TheVariants.{Exists}
 use Rattle.qc_model.specs.declared.problem.VarId.{VarId}
 use Rattle.qc_model.specs.declared.problem.Target.{Target}
@@ -40,7 +41,7 @@ use Rattle.dense_laws.proofs.Conditions.{condition_scope_says}
 use Rattle.dense_laws.proofs.Going.{none_above, list_visible}
 use Rattle.dense_laws.proofs.Held.{lost_holds_none}
 use Rattle.dense_laws.proofs.Narrow.{front_of}
-use Rattle.dense_laws.proofs.Small.{both, ones_alone}
+use Rattle.dense_laws.proofs.Small.{ones_alone}
 
 -- nothing is exact in a loose part
 upper_inexact : (s : Setting) (p : Place) (d : List Condition) (v : List ℤ) → is_exact (upper_bound s p d v) ≡ false
@@ -135,7 +136,7 @@ ones_position zero (v ∷ a) box h e j = cc
 ones_position (suc n) [] box h e j = cc
 ones_position (suc n) (v ∷ a) [] h e j = absurd j
 ones_position (suc n) (v ∷ a) (d ∷ box) h e j =
-    let q = both (at_most_one d) (list_all at_most_one (take n box)) h in
+    let q = and_parts (at_most_one d) (list_all at_most_one (take n box)) h in
     ap (λ z. z ∷ map least_value (take n box)) (one d q.0 j.0) ∙ ap (λ zs. v ∷ zs) (ones_position n a box q.1 (omega arith) j.1)
   where
     one : (d : Values) → at_most_one d ≡ true → Among v d → least_value d ≡ v
@@ -194,7 +195,7 @@ module _ (s : Setting) (valid : IsValid s.game) (p : Place) (n : StandsNode s p)
           where
             test : (t : Bool) → (each_node is_lost seen && is_none_of (bounds seen)) ≡ t → Says (cond t (at_most (best_number c.sense (b ∷ bs))) unknown) s.game (existential x ∷ later) p.number (c ∷ d) p.box a
             test true k = λ r o. elim (h.held a at r (subst (λ ls. IsOptimalWithin s.game ls p.number p.box a r) (sym e) o)) [
-              | inl t ↦ (let u = both (each_node is_lost seen) (is_none_of (bounds seen)) k in absurd (lost_holds_none s.game (list_after s.game p.later p.list) a r seen u.0 u.1 t))
+              | inl t ↦ (let u = and_parts (each_node is_lost seen) (is_none_of (bounds seen)) k in absurd (lost_holds_none s.game (list_after s.game p.later p.list) a r seen u.0 u.1 t))
               | inr t ↦ (
                   let u = best_among s.game c d a r (b ∷ bs) (subst (λ us. SomeBest s.game (c ∷ d) a r us) q (subst (λ us. SomeBest s.game us a r bests) w t)) in
                   best_weaker c.sense (value s.game r c.target a) u.0 (b ∷ bs) u.1 u.2)

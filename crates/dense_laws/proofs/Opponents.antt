@@ -1,6 +1,7 @@
 -- Parts of the own trees of the opponent's scopes, and what their nodes come to.
 use Rattle.std.proofs.Common.{◌≡◌, inl, inr, ℕ, suc, ◌<◌, ◌≤◌, Bool, true, false, not, ◌&&◌, ◌||◌, cond, List, [], ◌∷◌, ◌++◌, map, drop, refl, sym, ap, ◌∙◌, subst, arith, ℤ, Option}
 use Rattle.std.specs.List.{list_all}
+use Rattle.std.proofs.lemmas.Bool.{and_parts, or_parts}
 use Rattle.qc_model.specs.declared.problem.Target.TheVariants.{Var}
 use Rattle.qc_model.specs.declared.problem.Condition.{Condition}
 use Rattle.qc_model.specs.declared.problem.Scope.{Scope}
@@ -41,7 +42,7 @@ use Rattle.dense_laws.proofs.Entries.{entries_say}
 use Rattle.dense_laws.proofs.FreeGames.{entailed_allows}
 use Rattle.dense_laws.proofs.Going.{list_visible}
 use Rattle.dense_laws.proofs.Nodes.{stay_here, loosened_says, loosened_inexact}
-use Rattle.dense_laws.proofs.Small.{both, neither, sub_in_box}
+use Rattle.dense_laws.proofs.Small.{sub_in_box}
 use Rattle.dense_laws.proofs.Standing.{no_players, and_false}
 use Rattle.dense_laws.proofs.Tuple.{tuple_lies, tuple_long, tuple_of, part_declared}
 
@@ -125,7 +126,7 @@ none_lost_join (seen_barred ∷ xs) ys h = none_lost_join xs ys h
 none_lost_join (seen_skipped ∷ xs) ys h = none_lost_join xs ys h
 none_lost_join (seen_bound m ∷ xs) ys h = none_lost_join xs ys h
 none_lost_join (seen_node v ∷ xs) ys h =
-    let q = neither (is_lost v) (some_node is_lost (xs ++ ys)) h in
+    let q = or_parts (is_lost v) (some_node is_lost (xs ++ ys)) h in
     let r = none_lost_join xs ys q.1 in (nor_lost (is_lost v) (some_node is_lost xs) q.0 r.0, r.1)
   where
     nor_lost : (a b : Bool) → a ≡ false → b ≡ false → (a || b) ≡ false
@@ -247,7 +248,7 @@ module _ (s : Setting) (valid : IsValid s.game) (p : Place) (x : Option Conditio
 
         heads : (ds : Box) → list_all is_single ds ≡ true → LiesIn (map least_value ds) ds
         heads [] q = tt
-        heads (d ∷ ds) q = let k = both (is_single d) (list_all is_single ds) q in (head d k.0, heads ds k.1)
+        heads (d ∷ ds) q = let k = and_parts (is_single d) (list_all is_single ds) q in (head d k.0, heads ds k.1)
           where
             head : (d : Values) → is_single d ≡ true → Among (least_value d) d
             head [] q = cc

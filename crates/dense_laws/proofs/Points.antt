@@ -3,6 +3,7 @@ use Rattle.std.proofs.Common.{◌≡◌, inl, inr, ℕ, zero, suc, ◌<◌, ◌�
 use Rattle.std.specs.Prelude.{slice_get, MatchOption}
 use Rattle.std.specs.List.{list_all}
 use Rattle.std.proofs.lemmas.List.{length-take}
+use Rattle.std.proofs.lemmas.Bool.{false_from_ne_true, cases_lt, and_parts, and_from, not_from_false}
 use Rattle.qc_model.specs.Arguments.{variables_of}
 use Rattle.qc_model.specs.Block.{is_owned_within, constraints_within}
 use Rattle.qc_model.specs.Closed.{refutes_at}
@@ -36,7 +37,7 @@ use Rattle.dense_closing.proofs.Keeping.{EndStep, end_step_is, no_end, closed_fu
 use Rattle.dense_closing.proofs.Own.{own_of, own_place, refuted_apart}
 use Rattle.dense_closing.proofs.Within.{sub_self}
 use Rattle.dense_meaning.proofs.Bits.{all_from}
-use Rattle.dense_laws.proofs.Small.{both, together, clash, not_false, or_below, apart_by, sub_in_box}
+use Rattle.dense_laws.proofs.Small.{clash, apart_by, sub_in_box}
 
 -- single values before a box
 front_sub : (w : List ℤ) (box large : Box) → is_sub_box box large ≡ true → InBox w box → is_sub_box (singles w ++ drop (length w) box) box ≡ true
@@ -44,7 +45,7 @@ front_sub [] box large d j = sub_self box large d
 front_sub (v ∷ w) [] large d j = absurd j
 front_sub (v ∷ w) (e ∷ box) [] d j = cc
 front_sub (v ∷ w) (e ∷ box) (l ∷ large) d j =
-    by (has_value e v) (is_sub_box (singles w ++ drop (length w) box) box) (has_it e v j.0) (front_sub w box large (both _ (is_sub_box box large) d).1 j.1)
+    by (has_value e v) (is_sub_box (singles w ++ drop (length w) box) box) (has_it e v j.0) (front_sub w box large (and_parts _ (is_sub_box box large) d).1 j.1)
   where
     by : (a b : Bool) → a ≡ true → b ≡ true → ((a && true) && b) ≡ true
     by true b p q = q
@@ -67,10 +68,6 @@ greatest_there : (w : List ℤ) (rest : Box) (x : ℕ) → x < length w → set 
 greatest_there [] rest x l = absurd (omega arith)
 greatest_there (v ∷ w) rest zero l = refl
 greatest_there (v ∷ w) rest (suc x) l = ap (λ ds. (v ∷ []) ∷ ds) (greatest_there w rest x (omega arith))
-
-never : (b : Bool) → (b ≡ true → ⊥) → b ≡ false
-never true f = absurd (f refl)
-never false f = refl
 
 module _ (takes : Takes) (g : Game) (valid : IsValid g) (i stop : ℕ) where
   abbrev rules : List Rule
@@ -97,7 +94,7 @@ module _ (takes : Takes) (g : Game) (valid : IsValid g) (i stop : ℕ) where
 
         stands : keeps_box takes small e.rule ≡ true
         stands =
-            all_to (keeps_box takes small) (constraints_within g i stop) (both (not (has_empty small)) (list_all (keeps_box takes small) (constraints_within g i stop)) c).1 e.rule
+            all_to (keeps_box takes small) (constraints_within g i stop) (and_parts (not (has_empty small)) (list_all (keeps_box takes small) (constraints_within g i stop)) c).1 e.rule
             (among_filter (is_owned_within i stop) e.rule g.constraints (get_among g.constraints k.0 e.rule e.there) e.owned)
 
         refuting : InBox w (box_within box x.0 low high) → n ≤ x.0 → x.0 < length w → ⊥
@@ -111,8 +108,8 @@ module _ (takes : Takes) (g : Game) (valid : IsValid g) (i stop : ℕ) where
                 box_stands g valid k.0 e.rule e.there small box d s full takes stands e.variable (sym (refuted_apart g e.rule box x.0 (values_within low high (values_left box x.0)) o) ∙ e.refuted)
 
         taken : InBox w (box_within box x.0 low high) → InBox w (box_without box x.0 low high)
-        taken q = elim (or_below x.0 (length w)) [
-          | inl m ↦ elim (or_below x.0 n) [
+        taken q = elim (cases_lt x.0 (length w)) [
+          | inl m ↦ elim (cases_lt x.0 n) [
             | inl l ↦ absurd (apart box x.0 (values_within low high (values_left box x.0)) (values_outside low high (values_left box x.0)) (take n w) (omega (arith, length-take n w))
                 (apart_by (is_within low high) (values_left box x.0)) (taken_from n w (box_within box x.0 low high) q) (sub_in_box (take n w) small (box_without box x.0 low high) t f))
             | inr l ↦ absurd (refuting q l m)
@@ -128,7 +125,7 @@ module _ (takes : Takes) (g : Game) (valid : IsValid g) (i stop : ℕ) where
         InBox (take n w) (after_steps steps box) → InBox w box → InBox w (after_steps steps box)
     stays [] box d h c f j = j
     stays (st ∷ steps) box d h c f j =
-        let q = both (is_end_step takes g i stop st box) (are_end_steps takes g i stop steps (after_step st box)) h in
+        let q = and_parts (is_end_step takes g i stop st box) (are_end_steps takes g i stop steps (after_step st box)) h in
         let next = after_declared st box d in
         stays steps (after_step st box) next q.1 c f
         (step_stays st box (after_steps steps (after_step st box)) d q.0 (steps_within (st ∷ steps) box box (sub_self box (declared_box g) d)) c
@@ -167,7 +164,7 @@ module _ (takes : Takes) (g : Game) (valid : IsValid g) (i stop : ℕ) where
           let q = of_filter (is_owned_within i stop) c g.constraints m in
           let k = placed g.constraints c q.0 in
           let p = f k.place c k.there q.1 in
-          never (refuted_by c inner) (λ e. (sound_of g valid).table k.place c inner w k.there p.0 (sub_in_box w box (declared_box g) d j) e (in_front_box w (drop (length w) box)) p.1)
+          false_from_ne_true (refuted_by c inner) (λ e. (sound_of g valid).table k.place c inner w k.there p.0 (sub_in_box w box (declared_box g) d j) e (in_front_box w (drop (length w) box)) p.1)
 
       keeps : (c : Rule) → Among c (constraints_within g i stop) → keeps_box takes inner c ≡ true
       keeps c m = all_from (keeps_at takes inner c) (variables_of c.args) (λ x o. (let q = of_filter (is_owned_within i stop) c g.constraints m in
@@ -176,11 +173,11 @@ module _ (takes : Takes) (g : Game) (valid : IsValid g) (i stop : ℕ) where
           at (takes c x) x (own_place (length w) x c.args p.0 o)))
         where
           at : (b : Bool) (x : ℕ) → x < length w → cond b (not (refutes_at c inner x (least_value (values_left inner x))) && not (refutes_at c inner x (greatest_value (values_left inner x)))) (not (refuted_by c inner)) ≡ true
-          at false x l = not_false (refuted_by c inner) (unrefuted c m)
+          at false x l = not_from_false (refuted_by c inner) (unrefuted c m)
           at true x l =
-              together (not (refutes_at c inner x (least_value (values_left inner x)))) (not (refutes_at c inner x (greatest_value (values_left inner x))))
-              (not_false (refutes_at c inner x (least_value (values_left inner x))) (ap (refuted_by c) (least_there w (drop (length w) box) x l) ∙ unrefuted c m))
-              (not_false (refutes_at c inner x (greatest_value (values_left inner x))) (ap (refuted_by c) (greatest_there w (drop (length w) box) x l) ∙ unrefuted c m))
+              and_from (not (refutes_at c inner x (least_value (values_left inner x)))) (not (refutes_at c inner x (greatest_value (values_left inner x))))
+              (not_from_false (refutes_at c inner x (least_value (values_left inner x))) (ap (refuted_by c) (least_there w (drop (length w) box) x l) ∙ unrefuted c m))
+              (not_from_false (refutes_at c inner x (greatest_value (values_left inner x))) (ap (refuted_by c) (greatest_there w (drop (length w) box) x l) ∙ unrefuted c m))
 
       closed : is_closed_by takes (constraints_within g i stop) inner ≡ true
-      closed = together (not (has_empty inner)) (list_all (keeps_box takes inner) (constraints_within g i stop)) (not_false (has_empty inner) (front_full w (drop (length w) box) full)) (all_from (keeps_box takes inner) (constraints_within g i stop) keeps)
+      closed = and_from (not (has_empty inner)) (list_all (keeps_box takes inner) (constraints_within g i stop)) (not_from_false (has_empty inner) (front_full w (drop (length w) box) full)) (all_from (keeps_box takes inner) (constraints_within g i stop) keeps)

@@ -2,6 +2,7 @@
 use Rattle.std.proofs.Common.{◌≡◌, inl, inr, ℕ, suc, ◌<◌, ◌≤◌, ◌==◌, true, false, not, ◌&&◌, List, [], ◌∷◌, ◌++◌, length, drop, set, refl, sym, ap, ◌∙◌, subst, arith, ℤ, pos, Some, Option, None}
 use Rattle.std.specs.Prelude.{slice_index_or, nat_le, nat_lt}
 use Rattle.std.proofs.lemmas.Bool.Decides.{nat_tests}
+use Rattle.std.proofs.lemmas.Bool.{not_from_false}
 use Rattle.qc_model.specs.declared.problem.Kind.{Kind}
 use Rattle.qc_model.specs.declared.problem.Kind.TheVariants.{Exists, Forall}
 use Rattle.qc_model.specs.declared.problem.VarId.{VarId}
@@ -39,7 +40,7 @@ use Rattle.dense_tree.specs.Tuples.{all_hold, is_tuple_of, box_taken}
 use Rattle.dense_laws.specs.Stands.{MovesStay, StrategiesStay, StandsPart}
 use Rattle.dense_laws.proofs.FreeGames.{are_in, in_taken, entailed_allows}
 use Rattle.dense_laws.proofs.Scopes.{scope_at, none_after}
-use Rattle.dense_laws.proofs.Small.{clash, not_false, drop_set, sub_in_box}
+use Rattle.dense_laws.proofs.Small.{clash, drop_set, sub_in_box}
 use Rattle.dense_laws.proofs.Standing.{stands_in, no_opponents}
 use Rattle.dense_laws.proofs.Tuple.{part_declared, tuple_lies, tuple_long}
 
@@ -149,7 +150,7 @@ module _ (s : Setting) (valid : IsValid s.game) (p : Place) (st : StandsPart s p
         (subst (λ y. is_better it.condition.sense (value s.game finish y (a ++ t)) (value s.game q y (a ++ u)) ≡ false) it.target b) in
         let m = value_left s.game [] (suc p.number) it.variable p.box (a ++ u) q n visible o.after l in
         lie_kept s.game [] (suc p.number) it.variable p.box worse_go (a ++ u) q n visible o.after l
-        (among_filter (λ v. not (is_better it.condition.sense z v)) (value s.game q (Var it.variable) (a ++ u)) (values_left p.box it.variable.0) m (not_false (is_better it.condition.sense z (value s.game q (Var it.variable) (a ++ u))) k))
+        (among_filter (λ v. not (is_better it.condition.sense z v)) (value s.game q (Var it.variable) (a ++ u)) (values_left p.box it.variable.0) m (not_from_false (is_better it.condition.sense z (value s.game q (Var it.variable) (a ++ u))) k))
 
   pub reply_lies : (a : List ℤ) → IsPositionIn s.game p.number p.box a → (r : Plan) → IsOptimalWithin s.game p.later p.number p.box a r → IsOptimalWithin s.game p.later p.number (set p.box it.variable.0 worse_go) a r
   reply_lies a at r o = record { optimal = o.optimal; lies = stays a at r (subst (λ ls. Optimal s.game ls p.number a r) it.scopes o.optimal) o.lies }

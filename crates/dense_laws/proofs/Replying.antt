@@ -2,6 +2,7 @@
 use Rattle.std.proofs.Common.{◌≡◌, ◌⊎◌, inl, inr, ℕ, suc, ◌≤◌, ◌==◌, Bool, true, false, not, cond, List, [], ◌∷◌, ◌++◌, length, drop, refl, sym, ap, ◌∙◌, subst, arith, ℤ, Option, Some, None}
 use Rattle.std.specs.Prelude.{slice_get, nat_le, nat_lt}
 use Rattle.std.proofs.lemmas.Bool.Decides.{nat_tests}
+use Rattle.std.proofs.lemmas.Bool.{and_parts}
 use Rattle.qc_model.specs.declared.problem.Condition.{Condition}
 use Rattle.qc_model.specs.declared.problem.Scope.{Scope}
 use Rattle.qc_model.specs.Block.{force_stop, is_owned_within, constraints_within}
@@ -41,7 +42,7 @@ use Rattle.dense_laws.proofs.Opponents.{after_lie, lost_answers, none_answers, e
 use Rattle.dense_laws.proofs.Owned.{owner_below}
 use Rattle.dense_laws.proofs.Points.{Satisfies, none_is, point_stays}
 use Rattle.dense_laws.proofs.Scopes.{scope_at}
-use Rattle.dense_laws.proofs.Small.{both, clash, le_from, lt_from, same_number, full_drop, ones_keep}
+use Rattle.dense_laws.proofs.Small.{clash, le_from, lt_from, same_number, full_drop, ones_keep}
 use Rattle.dense_laws.proofs.Standing.{InForce, in_force, free_at}
 
 pub in_or_not : (w : List ℤ) (box : Box) → InBox w box ⊎ (InBox w box → ⊥)
@@ -73,14 +74,14 @@ module _ (s : Setting) (valid : IsValid s.game) (p : Place) (x : Option Conditio
   universal_here = universal_scope (slice_get s.game.scopes p.number) (universal x) (scope_at s.game.scopes p.number (universal x) later here_is).0 refl
 
   pub unrestricted_of : is_joint s.game s.given p.later p.number ≡ true → is_unrestricted s.game p.number ≡ true
-  unrestricted_of q = (both (is_free s.game s.given) (is_unrestricted s.game p.number) (subst (λ ls. is_joint s.game s.given ls p.number ≡ true) e q)).1
+  unrestricted_of q = (and_parts (is_free s.game s.given) (is_unrestricted s.game p.number) (subst (λ ls. is_joint s.game s.given ls p.number ≡ true) e q)).1
 
   pub forced_own : joint_stop s.game s.given p.later p.number ≡ force_stop p.later p.number → joint_stop s.game s.given p.later p.number ≡ suc p.number
   forced_own f = f ∙ ap (λ ls. force_stop ls p.number) e
 
   pub own_owner : (c : Rule) → joint_stop s.game s.given p.later p.number ≡ suc p.number → is_owned_within p.number (joint_stop s.game s.given p.later p.number) c ≡ true → c.owner.0 ≡ p.number
   own_owner c f o =
-      let q = both (nat_le p.number c.owner.0) (nat_lt c.owner.0 (joint_stop s.game s.given p.later p.number)) o in
+      let q = and_parts (nat_le p.number c.owner.0) (nat_lt c.owner.0 (joint_stop s.game s.given p.later p.number)) o in
       let l = le_from p.number c.owner.0 q.0 in
       let m = lt_from c.owner.0 (joint_stop s.game s.given p.later p.number) q.1 in omega arith
 
@@ -111,7 +112,7 @@ module _ (s : Setting) (valid : IsValid s.game) (p : Place) (x : Option Conditio
 
     pub late_next : is_unrestricted s.game p.number ≡ true → AreLate s.game valid p.number (joint_stop s.game s.given p.later p.number) p.box small st.stands.box found 0 (suc p.number)
     late_next u k c y there owned own l =
-        let m = le_from p.number c.owner.0 (both (nat_le p.number c.owner.0) (nat_lt c.owner.0 (joint_stop s.game s.given p.later p.number)) owned).0 in
+        let m = le_from p.number c.owner.0 (and_parts (nat_le p.number c.owner.0) (nat_lt c.owner.0 (joint_stop s.game s.given p.later p.number)) owned).0 in
         elim (or_next p.number c.owner.0 m) [ inl q ↦ absurd (none_owned s.game p.number k c u there (sym q)) | inr q ↦ q ]
       where
         or_next : (i o : ℕ) → i ≤ o → (i ≡ o) ⊎ (suc i ≤ o)

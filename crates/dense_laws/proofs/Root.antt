@@ -19,6 +19,7 @@ use Rattle.qc_model.specs.declared.problem.Condition.{Condition}
 use Rattle.qc_model.specs.Value.{value}
 use Rattle.model_laws.specs.Positions.{optimising}
 use Rattle.std.proofs.lemmas.Bool.Decides.{Decides-int_eq}
+use Rattle.std.proofs.lemmas.Bool.{true_from_ne_false, and_parts, and_from}
 use Rattle.qc_model.specs.Valid.{IsValid, is_domain, is_listed, has_gap, width_of}
 use Rattle.qc_model.specs.Verdict.{Verdict, lost, exact, at_most, unknown, is_exact, is_lost}
 use Rattle.qc_model.proofs.Before.{before-zero}
@@ -39,20 +40,15 @@ use Rattle.dense_tree.specs.Tree.{Node}
 use Rattle.dense_laws.specs.Stands.{OpponentStays, MovesStay, OptimalStay, StrategiesStay, kept_to, StandsNode, at_most_one}
 use Rattle.dense_laws.specs.Says.{IsAt, NodeTold, OwnSays, DenseMeans}
 use Rattle.dense_laws.specs.Laws.{CertificatesAreTrue}
-use Rattle.dense_laws.proofs.Small.{both, together, full_drop}
+use Rattle.dense_laws.proofs.Small.{full_drop}
 use Rattle.dense_laws.proofs.Trees.{node_done}
 use Rattle.dense_laws.proofs.Tuple.{tuple_lies}
-
--- declared values ascend
-true_unless : (b : Bool) → (b ≡ false → ⊥) → b ≡ true
-true_unless true h = refl
-true_unless false h = absurd (h refl)
 
 numbers_ascend : (low : ℤ) (n : ℕ) → is_ascending (numbers_from low n) ≡ true
 numbers_ascend low zero = refl
 numbers_ascend low (suc zero) = refl
 numbers_ascend low (suc (suc n)) =
-    ap (λ b. b && is_ascending (numbers_from (low +ℤ pos 1) (suc n))) (true_unless (int_lt low (low +ℤ pos 1)) (λ e. omega (arith, ints))) ∙ numbers_ascend (low +ℤ pos 1) (suc n)
+    ap (λ b. b && is_ascending (numbers_from (low +ℤ pos 1) (suc n))) (true_from_ne_false (int_lt low (low +ℤ pos 1)) (λ e. omega (arith, ints))) ∙ numbers_ascend (low +ℤ pos 1) (suc n)
 
 domain_ascends : (d : Domain) → is_domain d ≡ true → is_ascending (domain_values d) ≡ true
 domain_ascends Bits e = refl
@@ -62,16 +58,16 @@ domain_ascends (Range low high) e = by (int_lt high low)
     by true = refl
     by false = numbers_ascend low (nat_abs (high -ℤ low) + 1)
 domain_ascends (Listed ns) e =
-    let p = both (not (is_none_left ns) && is_listed ns && has_gap ns) (nat_le (width_of ns) 1048576) e in
-    let q = both (not (is_none_left ns) && is_listed ns) (has_gap ns) p.0 in
-    listed_ascends ns (both (not (is_none_left ns)) (is_listed ns) q.0).1
+    let p = and_parts (not (is_none_left ns) && is_listed ns && has_gap ns) (nat_le (width_of ns) 1048576) e in
+    let q = and_parts (not (is_none_left ns) && is_listed ns) (has_gap ns) p.0 in
+    listed_ascends ns (and_parts (not (is_none_left ns)) (is_listed ns) q.0).1
 
 self_sub : (xs : List Variable) → list_all (λ x. is_domain x.domain) xs ≡ true → is_sub_box (map (λ x. domain_values x.domain) xs) (map (λ x. domain_values x.domain) xs) ≡ true
 self_sub [] h = refl
 self_sub (x ∷ xs) h =
-    let q = both (is_domain x.domain) (list_all (λ y. is_domain y.domain) xs) h in
-    together (is_ascending (domain_values x.domain) && list_all (has_value (domain_values x.domain)) (domain_values x.domain)) (is_sub_box (map (λ y. domain_values y.domain) xs) (map (λ y. domain_values y.domain) xs))
-    (together (is_ascending (domain_values x.domain)) (list_all (has_value (domain_values x.domain)) (domain_values x.domain)) (domain_ascends x.domain q.0) (all_own (domain_values x.domain))) (self_sub xs q.1)
+    let q = and_parts (is_domain x.domain) (list_all (λ y. is_domain y.domain) xs) h in
+    and_from (is_ascending (domain_values x.domain) && list_all (has_value (domain_values x.domain)) (domain_values x.domain)) (is_sub_box (map (λ y. domain_values y.domain) xs) (map (λ y. domain_values y.domain) xs))
+    (and_from (is_ascending (domain_values x.domain)) (list_all (has_value (domain_values x.domain)) (domain_values x.domain)) (domain_ascends x.domain q.0) (all_own (domain_values x.domain))) (self_sub xs q.1)
 
 module _ (s : Setting) (valid : IsValid s.game) where
   moves : (later : List Scope) (i : ℕ) → MovesStay s.game later i (declared_box s.game)
@@ -136,10 +132,10 @@ module _ (s : Setting) (valid : IsValid s.game) where
   is_told v (Some w) h = ap Some (sym ((Decides-int_eq v w).0 h))
 
   outcome_means : (t : Node) (r : NodeRead) → NodeTold s (root_place s.game) r.verdict → OwnSays s (root_place s.game) r.verdict r.own → (outcome : Outcome) (optimum : Option ℤ) → shows s.game t r outcome optimum ≡ true → DenseMeans outcome optimum s.game
-  outcome_means t r d own True None h = exact_wins r.verdict (both (is_exact r.verdict) (not (optimises_first s.game.scopes)) h).0 (d.says [] root_at)
+  outcome_means t r d own True None h = exact_wins r.verdict (and_parts (is_exact r.verdict) (not (optimises_first s.game.scopes)) h).0 (d.says [] root_at)
   outcome_means t r d own True (Some v) h =
-      let q = both (is_exact r.verdict && optimises_first s.game.scopes) (is_value v r.own) h in
-      let w = both (is_exact r.verdict) (optimises_first s.game.scopes) q.0 in
+      let q = and_parts (is_exact r.verdict && optimises_first s.game.scopes) (is_value v r.own) h in
+      let w = and_parts (is_exact r.verdict) (optimises_first s.game.scopes) q.0 in
       optimum_by s.game.scopes refl w.1 v (exact_wins r.verdict w.0 (d.says [] root_at)) (λ c later e p o. own w.0 v (is_told v r.own q.1) [] root_at c later e p o)
   outcome_means t r d own False None h = lost_loses r.verdict h (d.says [] root_at)
   outcome_means t r d own False (Some v) h = cc
@@ -149,7 +145,7 @@ module _ (s : Setting) (valid : IsValid s.game) where
 pub certificates_true : CertificatesAreTrue
 certificates_true g outcome optimum c valid placed =
     let r = read_root g c in
-    let q = both (are_in_order c.given && list_all (given_placed g) c.given && r.placed) (shows g c.root r outcome optimum) placed in
-    let w = both (are_in_order c.given && list_all (given_placed g) c.given) r.placed q.0 in
+    let q = and_parts (are_in_order c.given && list_all (given_placed g) c.given && r.placed) (shows g c.root r outcome optimum) placed in
+    let w = and_parts (are_in_order c.given && list_all (given_placed g) c.given) r.placed q.0 in
     let done = node_done (record { game = g; given = c.given }) valid c.root (root_place g) [] (root_stands (record { game = g; given = c.given }) valid) tt w.1 in
     outcome_means (record { game = g; given = c.given }) valid c.root r done.0 done.2 outcome optimum q.1

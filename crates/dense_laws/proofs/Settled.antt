@@ -1,6 +1,7 @@
 -- Where each variable that a constraint sees has one value, the constraint is refuted or holds.
 use Rattle.std.proofs.Common.{◌≡◌, inl, inr, ℕ, zero, suc, ◌<◌, ◌≤◌, ◌==◌, Bool, true, false, not, ◌&&◌, ◌||◌, List, [], ◌∷◌, length, take, map, refl, ap, ◌∙◌, subst, arith}
 use Rattle.std.specs.List.{list_any, list_all}
+use Rattle.std.proofs.lemmas.Bool.{and_parts, and_from, not_from_false}
 use Rattle.qc_model.specs.declared.problem.Arg.{Arg}
 use Rattle.qc_model.specs.declared.problem.Arg.TheVariants.{Var, Num}
 use Rattle.qc_model.specs.declared.problem.Argument.{Argument}
@@ -20,13 +21,13 @@ use Rattle.lemma_list.specs.Entailment.{is_settled, entailed_by_index, entailed_
 use Rattle.proof_meaning.proofs.Premises.{sound_of}
 use Rattle.dense_meaning.proofs.Bits.{place_of, all_from}
 use Rattle.dense_tree.specs.Tuples.{all_hold, some_fails}
-use Rattle.dense_laws.proofs.Small.{both, together, not_false, same_number}
+use Rattle.dense_laws.proofs.Small.{same_number}
 
 single_at : (n x : ℕ) (box : Box) → list_all is_single (take n box) ≡ true → x < n → n ≤ length box → is_single (values_left box x) ≡ true
 single_at zero x box h l k = absurd (omega arith)
 single_at (suc n) x [] h l k = absurd (omega arith)
-single_at (suc n) zero (d ∷ box) h l k = (both (is_single d) (list_all is_single (take n box)) h).0
-single_at (suc n) (suc x) (d ∷ box) h l k = single_at n x box (both (is_single d) (list_all is_single (take n box)) h).1 (omega arith) (omega arith)
+single_at (suc n) zero (d ∷ box) h l k = (and_parts (is_single d) (list_all is_single (take n box)) h).0
+single_at (suc n) (suc x) (d ∷ box) h l k = single_at n x box (and_parts (is_single d) (list_all is_single (take n box)) h).1 (omega arith) (omega arith)
 
 module _ (n : ℕ) (box : Box) (singles : list_all is_single (take n box) ≡ true) (long : n ≤ length box) where
   arg_single : (x : Arg) → ArgBelow n x → is_single (left_to box x) ≡ true
@@ -35,7 +36,7 @@ module _ (n : ℕ) (box : Box) (singles : list_all is_single (take n box) ≡ tr
 
   args_single : (xs : List Arg) → ArgsBelow n xs → list_all is_single (map (left_to box) xs) ≡ true
   args_single [] h = refl
-  args_single (x ∷ xs) h = together (is_single (left_to box x)) (list_all is_single (map (left_to box) xs)) (arg_single x h.0) (args_single xs h.1)
+  args_single (x ∷ xs) h = and_from (is_single (left_to box x)) (list_all is_single (map (left_to box) xs)) (arg_single x h.0) (args_single xs h.1)
 
   argument_settled : (x : Argument) → ArgumentBelow n x → is_settled (fill (left_to box) x) ≡ true
   argument_settled (One x) h = arg_single x h
@@ -46,12 +47,12 @@ module _ (n : ℕ) (box : Box) (singles : list_all is_single (take n box) ≡ tr
   all_settled : (args : List Argument) → ArgumentsBelow n args → list_all is_settled (map (fill (left_to box)) args) ≡ true
   all_settled [] h = refl
   all_settled (x ∷ args) h =
-      together (is_settled (fill (left_to box) x)) (list_all is_settled (map (fill (left_to box)) args)) (argument_settled x h.0) (all_settled args h.1)
+      and_from (is_settled (fill (left_to box) x)) (list_all is_settled (map (fill (left_to box)) args)) (argument_settled x h.0) (all_settled args h.1)
 
   settled_entails : (c : Rule) → ArgumentsBelow n c.args → refuted_by c box ≡ false → entailed_by c box ≡ true
   settled_entails c h r =
       or_last (entailed_as (meaning_of c.pred) (map (fill (left_to box)) c.args) || entailed_by_index (meaning_of c.pred) (map (fill (left_to box)) c.args)) (list_all is_settled (map (fill (left_to box)) c.args) && not (refuted_by c box))
-      (together (list_all is_settled (map (fill (left_to box)) c.args)) (not (refuted_by c box)) (all_settled c.args h) (not_false (refuted_by c box) r))
+      (and_from (list_all is_settled (map (fill (left_to box)) c.args)) (not (refuted_by c box)) (all_settled c.args h) (not_from_false (refuted_by c box) r))
     where
       or_last : (a b : Bool) → b ≡ true → (a || b) ≡ true
       or_last true b e = refl

@@ -4,6 +4,7 @@ use Rattle.std.specs.Prelude.{nat_le, nat_lt, int_lt}
 use Rattle.std.proofs.lemmas.Int.{ints}
 use Rattle.std.specs.List.{list_any, list_all}
 use Rattle.std.proofs.lemmas.Bool.Decides.{nat_tests}
+use Rattle.std.proofs.lemmas.Bool.{and_parts, and_from, or_parts}
 use Rattle.qc_model.specs.Domains.{InBox, Box, Values, values_left, is_none_left, has_empty, has_value, is_single, is_sub_box, is_ascending}
 use Rattle.qc_model.specs.Lists.{Among}
 use Rattle.qc_model.proofs.Moves.{of_filter}
@@ -22,40 +23,13 @@ lt_from x y e = grind (arith, nat_tests)
 pub same_number : (m n : ℕ) → (m == n) ≡ true → m ≡ n
 same_number m n e = grind (arith, nat_tests)
 
-pub or_below : (x n : ℕ) → (x < n) ⊎ (n ≤ x)
-or_below x n = grind arith
-
-pub both : (a b : Bool) → (a && b) ≡ true → (a ≡ true) × (b ≡ true)
-both true b e = (refl, e)
-both false b e = cc
-
-pub together : (a b : Bool) → a ≡ true → b ≡ true → (a && b) ≡ true
-together true b e f = f
-together false b e f = e
-
 pub not_true : (a : Bool) → not a ≡ true → a ≡ false
 not_true true e = cc
 not_true false e = refl
 
-pub not_false : (a : Bool) → a ≡ false → not a ≡ true
-not_false true e = cc
-not_false false e = refl
-
 pub clash : {P : Type 0} → (a : Bool) → a ≡ true → a ≡ false → P
 clash true e f = cc
 clash false e f = cc
-
-pub either : (a b : Bool) → (a || b) ≡ true → (a ≡ true) ⊎ (b ≡ true)
-either true b e = inl refl
-either false b e = inr e
-
-pub neither : (a b : Bool) → (a || b) ≡ false → (a ≡ false) × (b ≡ false)
-neither true b e = cc
-neither false b e = (refl, e)
-
-pub nor : (a b : Bool) → a ≡ false → b ≡ false → (a || b) ≡ false
-nor true b e f = cc
-nor false b e f = f
 
 -- what is left to later variables
 pub drop_set : (n x : ℕ) (d : Values) (ds : Box) → x < n → drop n (set ds x d) ≡ drop n ds
@@ -67,7 +41,7 @@ drop_set (suc n) (suc x) d (e ∷ ds) l = drop_set n x d ds (omega arith)
 pub full_drop : (n : ℕ) (ds : Box) → has_empty ds ≡ false → has_empty (drop n ds) ≡ false
 full_drop zero ds e = e
 full_drop (suc n) [] e = e
-full_drop (suc n) (d ∷ ds) e = full_drop n ds (neither (is_none_left d) (has_empty ds) e).1
+full_drop (suc n) (d ∷ ds) e = full_drop n ds (or_parts (is_none_left d) (has_empty ds) e).1
 
 -- values of a box lie in each wider one
 pub sub_in_box : (w : List ℤ) (ds es : Box) → is_sub_box ds es ≡ true → InBox w ds → InBox w es
@@ -103,16 +77,16 @@ fewer_one : (c d : Values) → is_ascending c ≡ true → list_all (has_value d
 fewer_one [] d a h s = refl
 fewer_one (v ∷ []) d a h s = refl
 fewer_one (v ∷ w ∷ c) d a h s =
-    let p = both (has_value d v) (list_all (has_value d) (w ∷ c)) h in
-    let q = both (has_value d w) (list_all (has_value d) c) p.1 in
+    let p = and_parts (has_value d v) (list_all (has_value d) (w ∷ c)) h in
+    let q = and_parts (has_value d w) (list_all (has_value d) c) p.1 in
     let e : v ≡ w = one_value d w s (has_to d w q.0) v (has_to d v p.0) in
-    let l : int_lt v w ≡ true = (both (int_lt v w) (is_ascending (w ∷ c)) a).0 in
+    let l : int_lt v w ≡ true = (and_parts (int_lt v w) (is_ascending (w ∷ c)) a).0 in
     absurd (grind (arith, ints))
 
 sub_head : (c d : Values) (small box : Box) → is_sub_box (c ∷ small) (d ∷ box) ≡ true → (is_ascending c ≡ true) × (list_all (has_value d) c ≡ true) × (is_sub_box small box ≡ true)
 sub_head c d small box s =
-    let p = both (is_ascending c && list_all (has_value d) c) (is_sub_box small box) s in
-    let q = both (is_ascending c) (list_all (has_value d) c) p.0 in
+    let p = and_parts (is_ascending c && list_all (has_value d) c) (is_sub_box small box) s in
+    let q = and_parts (is_ascending c) (list_all (has_value d) c) p.0 in
     (q.0, q.1, p.1)
 
 pub ones_fewer : (n : ℕ) (small box : Box) → is_sub_box small box ≡ true → list_all at_most_one (take n box) ≡ true → list_all at_most_one (take n small) ≡ true
@@ -121,8 +95,8 @@ ones_fewer (suc n) [] box s h = refl
 ones_fewer (suc n) (c ∷ small) [] s h = cc
 ones_fewer (suc n) (c ∷ small) (d ∷ box) s h =
     let p = sub_head c d small box s in
-    let q = both (at_most_one d) (list_all at_most_one (take n box)) h in
-    together (at_most_one c) (list_all at_most_one (take n small)) (fewer_one c d p.0 p.1 q.0) (ones_fewer n small box p.2 q.1)
+    let q = and_parts (at_most_one d) (list_all at_most_one (take n box)) h in
+    and_from (at_most_one c) (list_all at_most_one (take n small)) (fewer_one c d p.0 p.1 q.0) (ones_fewer n small box p.2 q.1)
 
 -- a position whose variables have no other values stays in each smaller box that isn't empty
 pub ones_keep : (n : ℕ) (a : List ℤ) (small box : Box) → is_sub_box small box ≡ true → has_empty small ≡ false → list_all at_most_one (take n box) ≡ true → length a ≤ n → InBox a box → InBox a small
@@ -131,8 +105,8 @@ ones_keep zero (v ∷ a) small box s e h l j = absurd (omega arith)
 ones_keep (suc n) (v ∷ a) small [] s e h l j = absurd j
 ones_keep (suc n) (v ∷ a) [] (d ∷ box) s e h l j = cc
 ones_keep (suc n) (v ∷ a) (c ∷ small) (d ∷ box) s e h l j =
-    let p = neither (is_none_left c) (has_empty small) e in
-    let q = both (at_most_one d) (list_all at_most_one (take n box)) h in
+    let p = or_parts (is_none_left c) (has_empty small) e in
+    let q = and_parts (at_most_one d) (list_all at_most_one (take n box)) h in
     let r = sub_head c d small box s in
     let u = some_of c p.0 in
     let m : Among u.0 d = has_to d u.0 (all_to (has_value d) c r.1 u.0 u.1) in
@@ -147,7 +121,7 @@ ones_alone (suc n) [] b box h p q j k = cc
 ones_alone (suc n) (v ∷ a) [] box h p q j k = cc
 ones_alone (suc n) (v ∷ a) (u ∷ b) [] h p q j k = absurd j
 ones_alone (suc n) (v ∷ a) (u ∷ b) (d ∷ box) h p q j k =
-    let r = both (at_most_one d) (list_all at_most_one (take n box)) h in
+    let r = and_parts (at_most_one d) (list_all at_most_one (take n box)) h in
     let e : v ≡ u = one_value d u r.0 k.0 v j.0 in
     ap (λ z. z ∷ a) e ∙ ap (λ zs. u ∷ zs) (ones_alone n a b box r.1 (omega arith) (omega arith) j.1 k.1)
 
@@ -156,25 +130,25 @@ pub ones_single : (n : ℕ) (box : Box) → has_empty box ≡ false → list_all
 ones_single zero box e h = refl
 ones_single (suc n) [] e h = refl
 ones_single (suc n) (d ∷ box) e h =
-    let p = neither (is_none_left d) (has_empty box) e in
-    let q = both (at_most_one d) (list_all at_most_one (take n box)) h in
-    together (is_single d) (list_all is_single (take n box)) (one_is d q.0 p.0) (ones_single n box p.1 q.1)
+    let p = or_parts (is_none_left d) (has_empty box) e in
+    let q = and_parts (at_most_one d) (list_all at_most_one (take n box)) h in
+    and_from (is_single d) (list_all is_single (take n box)) (one_is d q.0 p.0) (ones_single n box p.1 q.1)
 
 pub singles_ones : (ds : Box) → list_all is_single ds ≡ true → list_all at_most_one ds ≡ true
 singles_ones [] h = refl
-singles_ones (d ∷ ds) h = let p = both (is_single d) (list_all is_single ds) h in together (at_most_one d) (list_all at_most_one ds) (single_one d p.0) (singles_ones ds p.1)
+singles_ones (d ∷ ds) h = let p = and_parts (is_single d) (list_all is_single ds) h in and_from (at_most_one d) (list_all at_most_one ds) (single_one d p.0) (singles_ones ds p.1)
 
 pub all_join : {X : Type 0} (p : X → Bool) (xs ys : List X) → list_all p xs ≡ true → list_all p ys ≡ true → list_all p (xs ++ ys) ≡ true
 all_join p [] ys h k = k
-all_join p (x ∷ xs) ys h k = let q = both (p x) (list_all p xs) h in together (p x) (list_all p (xs ++ ys)) q.0 (all_join p xs ys q.1 k)
+all_join p (x ∷ xs) ys h k = let q = and_parts (p x) (list_all p xs) h in and_from (p x) (list_all p (xs ++ ys)) q.0 (all_join p xs ys q.1 k)
 
 -- one of several values set
 pub ones_set : (n x : ℕ) (d : Values) (box : Box) → at_most_one d ≡ true → list_all at_most_one (take n box) ≡ true → list_all at_most_one (take n (set box x d)) ≡ true
 ones_set zero x d box s h = refl
 ones_set (suc n) x d [] s h = refl
-ones_set (suc n) zero d (e ∷ box) s h = let p = both (at_most_one e) (list_all at_most_one (take n box)) h in together (at_most_one d) (list_all at_most_one (take n box)) s p.1
+ones_set (suc n) zero d (e ∷ box) s h = let p = and_parts (at_most_one e) (list_all at_most_one (take n box)) h in and_from (at_most_one d) (list_all at_most_one (take n box)) s p.1
 ones_set (suc n) (suc x) d (e ∷ box) s h =
-    let p = both (at_most_one e) (list_all at_most_one (take n box)) h in together (at_most_one e) (list_all at_most_one (take n (set box x d))) p.0 (ones_set n x d box s p.1)
+    let p = and_parts (at_most_one e) (list_all at_most_one (take n box)) h in and_from (at_most_one e) (list_all at_most_one (take n (set box x d))) p.0 (ones_set n x d box s p.1)
 
 -- parts of tests on lists
 pub any_left : {X : Type 0} (p : X → Bool) (xs ys : List X) → list_any p (xs ++ ys) ≡ (list_any p xs || list_any p ys)

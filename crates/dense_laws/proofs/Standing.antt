@@ -2,6 +2,7 @@
 use Rattle.std.proofs.Common.{◌≡◌, ◌⊎◌, inl, inr, ℕ, suc, ◌+◌, ◌<◌, ◌≤◌, Bool, true, false, not, ◌&&◌, cond, List, [], ◌∷◌, ◌++◌, length, take, drop, refl, sym, ap, ◌∙◌, subst, arith, ℤ, Some, Option}
 use Rattle.std.specs.Prelude.{slice_get}
 use Rattle.std.specs.List.{list_all}
+use Rattle.std.proofs.lemmas.Bool.{and_parts, or_parts}
 use Rattle.qc_model.specs.declared.problem.Kind.{Kind}
 use Rattle.qc_model.specs.declared.problem.Kind.TheVariants.{Exists, Forall}
 use Rattle.qc_model.specs.declared.problem.Condition.{Condition}
@@ -27,7 +28,7 @@ use Rattle.dense_laws.proofs.Close.{found_within, found_full, moves_stay, late_h
 use Rattle.dense_laws.proofs.FreeGames.{never_stuck, free_later}
 use Rattle.dense_laws.proofs.Narrow.{moves_narrow, strategies_narrow}
 use Rattle.dense_laws.proofs.Scopes.{scope_at, list_next, left_over}
-use Rattle.dense_laws.proofs.Small.{both, neither, full_drop, sub_in_box, ones_fewer, singles_ones, all_join}
+use Rattle.dense_laws.proofs.Small.{full_drop, sub_in_box, ones_fewer, singles_ones, all_join}
 
 pub and_true : (b : Bool) → (b && true) ≡ b
 and_true true = refl
@@ -105,10 +106,10 @@ module _ (s : Setting) where
       list = ap (λ ls. list_after s.game ls p.list) st.stands.later ∙ ap (list_after s.game (drop p.number s.game.scopes)) st.stands.list ∙ list_next s.game p.number here.2;
       box = st.stands.box;
       behind = full_drop (before s.game (block_stop (next_scopes p.later) (suc p.number))) p.box full;
-      strict = λ l. (let q = neither p.loose (not (is_fixed s.game p.number p.box)) l in
+      strict = λ l. (let q = or_parts p.loose (not (is_fixed s.game p.number p.box)) l in
           subst (λ ds. list_all at_most_one ds ≡ true) (sym (take_scope s.game p.number p.box))
           (all_join at_most_one (take (before s.game p.number) p.box) (part s.game p.number p.box) (st.stands.strict q.0) (singles_ones (part s.game p.number p.box) (not_off q.1))));
-      blocked = λ l b at. (let q = neither p.loose (not (is_fixed s.game p.number p.box)) l in
+      blocked = λ l b at. (let q = or_parts p.loose (not (is_fixed s.game p.number p.box)) l in
           let r = enters q.0 (not_off q.1) b at in
           blocked_next s.game p.number r.0 r.1 b p.box p.horizon r.2 r.4 (st.stands.blocked q.0 r.0 r.3));
     };
@@ -133,7 +134,7 @@ module _ (s : Setting) where
     where
       by : (ls : List Scope) (b : Bool) → is_joint s.game s.given ls i ≡ b → InForce ls i (cond b (suc (length s.game.scopes)) (force_stop ls i))
       by [] true q = cc
-      by (sc ∷ later) true q = inl (refl, (both (is_free s.game s.given) (of_kind sc.kind true (is_unrestricted s.game i)) q).0, q)
+      by (sc ∷ later) true q = inl (refl, (and_parts (is_free s.game s.given) (of_kind sc.kind true (is_unrestricted s.game i)) q).0, q)
       by ls false q = inr refl
 
   module _ (valid : IsValid s.game) where

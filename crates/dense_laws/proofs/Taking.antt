@@ -5,6 +5,7 @@ use Rattle.std.specs.List.{list_all}
 use Rattle.std.proofs.Math.Seq.{drop-append_seam}
 use Rattle.std.proofs.lemmas.Int.{ints}
 use Rattle.std.proofs.lemmas.List.{length-take, length-append, length-map, take-append-drop}
+use Rattle.std.proofs.lemmas.Bool.{and_parts, and_from}
 use Rattle.qc_model.specs.Content.{Game}
 use Rattle.qc_model.specs.Domains.{InBox, Box, Values, declared_box, values_left, has_value, is_ascending, is_sub_box}
 use Rattle.qc_model.specs.Game.{before, part}
@@ -19,7 +20,6 @@ use Rattle.dense_closing.proofs.Within.{sub_self, sub_set, all_own}
 use Rattle.dense_meaning.specs.Plays.{KeepsFrom}
 use Rattle.dense_tree.specs.Tuples.{are_of, is_tuple_of, box_taken}
 use Rattle.dense_laws.proofs.FreeGames.{are_in}
-use Rattle.dense_laws.proofs.Small.{both, together}
 use Rattle.dense_laws.proofs.Tuple.{lies_count, sub_take, sub_drop}
 
 sub_append : (a b c d : Box) → is_sub_box a b ≡ true → is_sub_box c d ≡ true → is_sub_box (a ++ c) (b ++ d) ≡ true
@@ -27,15 +27,15 @@ sub_append [] [] c d h k = k
 sub_append [] (f ∷ b) c d h k = cc
 sub_append (e ∷ a) [] c d h k = cc
 sub_append (e ∷ a) (f ∷ b) c d h k =
-    let p = both (is_ascending e && list_all (has_value f) e) (is_sub_box a b) h in
-    together (is_ascending e && list_all (has_value f) e) (is_sub_box (a ++ c) (b ++ d)) p.0 (sub_append a b c d p.1 k)
+    let p = and_parts (is_ascending e && list_all (has_value f) e) (is_sub_box a b) h in
+    and_from (is_ascending e && list_all (has_value f) e) (is_sub_box (a ++ c) (b ++ d)) p.0 (sub_append a b c d p.1 k)
 
 sub_tuple : (ds : Box) (t : List ℤ) → are_of ds t ≡ true → is_sub_box (map (λ v. v ∷ []) t) ds ≡ true
 sub_tuple [] [] e = refl
 sub_tuple [] (v ∷ t) e = cc
 sub_tuple (d ∷ ds) [] e = cc
 sub_tuple (d ∷ ds) (v ∷ t) e =
-    let p = both (has_value d v) (are_of ds t) e in
+    let p = and_parts (has_value d v) (are_of ds t) e in
     by (has_value d v) (is_sub_box (map (λ v. v ∷ []) t) ds) p.0 (sub_tuple ds t p.1)
   where
     by : (a b : Bool) → a ≡ true → b ≡ true → ((a && true) && b) ≡ true
@@ -96,8 +96,8 @@ asc_take (suc n) [] h = refl
 asc_take (suc zero) (v ∷ vs) h = refl
 asc_take (suc (suc n)) (v ∷ []) h = refl
 asc_take (suc (suc n)) (v ∷ w ∷ vs) h =
-    let p = both (int_lt v w) (is_ascending (w ∷ vs)) h in
-    together (int_lt v w) (is_ascending (w ∷ take n vs)) p.0 (asc_take (suc n) (w ∷ vs) p.1)
+    let p = and_parts (int_lt v w) (is_ascending (w ∷ vs)) h in
+    and_from (int_lt v w) (is_ascending (w ∷ take n vs)) p.0 (asc_take (suc n) (w ∷ vs) p.1)
 
 asc_drop : (n : ℕ) (vs : Values) → is_ascending vs ≡ true → is_ascending (drop n vs) ≡ true
 asc_drop zero vs h = h
@@ -107,12 +107,12 @@ asc_drop (suc n) (v ∷ vs) h = asc_drop n vs (ascending_rest v vs h)
 all_take : (p : ℤ → Bool) (n : ℕ) (vs : Values) → list_all p vs ≡ true → list_all p (take n vs) ≡ true
 all_take p zero vs h = refl
 all_take p (suc n) [] h = refl
-all_take p (suc n) (v ∷ vs) h = let q = both (p v) (list_all p vs) h in together (p v) (list_all p (take n vs)) q.0 (all_take p n vs q.1)
+all_take p (suc n) (v ∷ vs) h = let q = and_parts (p v) (list_all p vs) h in and_from (p v) (list_all p (take n vs)) q.0 (all_take p n vs q.1)
 
 all_drop : (p : ℤ → Bool) (n : ℕ) (vs : Values) → list_all p vs ≡ true → list_all p (drop n vs) ≡ true
 all_drop p zero vs h = h
 all_drop p (suc n) [] h = refl
-all_drop p (suc n) (v ∷ vs) h = all_drop p n vs (both (p v) (list_all p vs) h).1
+all_drop p (suc n) (v ∷ vs) h = all_drop p n vs (and_parts (p v) (list_all p vs) h).1
 
 among_drop : (n : ℕ) (vs : Values) (z : ℤ) → Among z (drop n vs) → Among z vs
 among_drop zero vs z m = m

@@ -4,6 +4,7 @@ use Rattle.std.specs.Prelude.{slice_get, is_some, nat_lt}
 use Rattle.std.specs.List.{list_all}
 use Rattle.std.proofs.lemmas.Bool.Decides.{nat_tests}
 use Rattle.std.proofs.lemmas.List.{take-append-drop}
+use Rattle.std.proofs.lemmas.Bool.{and_parts, or_cases}
 use Rattle.qc_model.specs.declared.problem.Kind.{Kind}
 use Rattle.qc_model.specs.declared.problem.Kind.TheVariants.{Exists, Forall}
 use Rattle.qc_model.specs.declared.problem.Target.{Target}
@@ -59,7 +60,7 @@ use Rattle.dense_laws.proofs.Opponents.{map_join, claims_join, tuples_join, none
 use Rattle.dense_laws.proofs.Replies.{LastIs, last_is, worse_go, reply_lies, reply_sub, reply_part}
 use Rattle.dense_laws.proofs.Replying.{closing_answers, empty_answers}
 use Rattle.dense_laws.proofs.Settled.{settled_holds}
-use Rattle.dense_laws.proofs.Small.{both, not_true, clash, either, lt_from, full_drop, drop_set, sub_in_box, all_join, ones_single}
+use Rattle.dense_laws.proofs.Small.{not_true, clash, lt_from, full_drop, drop_set, sub_in_box, all_join, ones_single}
 use Rattle.dense_laws.proofs.Standing.{Enters, into_part, part_in, next_stands, closed_part, no_opponents, no_players, opponents_is}
 use Rattle.dense_laws.proofs.Taking.{taken_sub, taken_keeps, Left, all_left, left_parts, left_sub}
 use Rattle.dense_laws.proofs.Tuple.{split_position, part_declared}
@@ -103,7 +104,7 @@ module _ (s : Setting) (valid : IsValid s.game) where
         say = λ seen bests c. closing_says s valid p x later e st small q (λ w j. found_in s.game valid p.number (joint_stop s.game s.given p.later p.number) p.box small st.stands.box q w j) seen bests c;
       }
   player_step (bound y low high) p x later e st placed =
-      by (tracked s p) refl (both (removes_some p.box y.0 low high) (is_tracked y.0 (tracked s p)) placed).1
+      by (tracked s p) refl (and_parts (removes_some p.box y.0 low high) (is_tracked y.0 (tracked s p)) placed).1
     where
       by : (o : Option Tracked) → tracked s p ≡ o → is_tracked y.0 o ≡ true → StepsDone p (record { placed = removes_some p.box y.0 low high && is_tracked y.0 o; marks = bound_marks o (values_within low high (values_left p.box y.0)); place = record p { box = box_without p.box y.0 low high; bounded = true } })
       by None q h = cc
@@ -121,7 +122,7 @@ module _ (s : Setting) (valid : IsValid s.game) where
 
           here : (it s valid p x later e st u q).variable.0 ≡ y.0
           here = sym (ap (λ (z : Tracked). z.variable) (it s valid p x later e st u q).same) ∙ variable_is u.variable y.0 h
-  player_step (reply t) p x later e st placed = by (last_condition p.later) refl (both (not (has_empty p.box)) (replying s p (last_condition p.later) (box_taken s.game p.number p.box t) t).placed placed).1
+  player_step (reply t) p x later e st placed = by (last_condition p.later) refl (and_parts (not (has_empty p.box)) (replying s p (last_condition p.later) (box_taken s.game p.number p.box t) t).placed placed).1
     where
       by : (o : Option Tracked) → last_condition p.later ≡ o → (replying s p o (box_taken s.game p.number p.box t) t).placed ≡ true → StepsDone p (unless_empty p (replying s p o (box_taken s.game p.number p.box t) t))
       by None q h = cc
@@ -134,10 +135,10 @@ module _ (s : Setting) (valid : IsValid s.game) where
           h1 = subst (λ (z : Tracked). ((is_tuple_of s.game p.number p.box t && all_hold (constraints_within s.game p.number (suc (suc p.number))) (box_taken s.game p.number p.box t)) && is_single (values_left (box_taken s.game p.number p.box t) z.variable)) ≡ true) l.same h
 
           a : (is_tuple_of s.game p.number p.box t && all_hold (constraints_within s.game p.number (suc (suc p.number))) (box_taken s.game p.number p.box t) ≡ true) × (is_single (values_left (box_taken s.game p.number p.box t) l.variable.0) ≡ true)
-          a = both _ _ h1
+          a = and_parts _ _ h1
 
           b : (is_tuple_of s.game p.number p.box t ≡ true) × (all_hold (constraints_within s.game p.number (suc (suc p.number))) (box_taken s.game p.number p.box t) ≡ true)
-          b = both _ _ a.0
+          b = and_parts _ _ a.0
 
           done : StepsDone p (unless_empty p (replying s p (Some (record { sense = l.condition.sense; variable = l.variable.0 })) (box_taken s.game p.number p.box t) t))
           done = record {
@@ -152,7 +153,7 @@ module _ (s : Setting) (valid : IsValid s.game) where
   player_steps : (steps : List Step) (p : Place) (x : Option Condition) (later : List Scope) → p.later ≡ existential x ∷ later → StandsPart s p → (read_steps s steps p).placed ≡ true → StepsDone p (read_steps s steps p)
   player_steps [] p x later e st placed = record { same_later = refl; same_number = refl; part = st; say = λ seen bests c. c }
   player_steps (sp ∷ steps) p x later e st placed =
-      let q = both (read_step s sp p).placed (read_steps s steps (read_step s sp p).place).placed placed in
+      let q = and_parts (read_step s sp p).placed (read_steps s steps (read_step s sp p).place).placed placed in
       let one = player_step sp p x later e st q.0 in
       let more = player_steps steps (read_step s sp p).place x later (one.same_later ∙ e) one.part q.1 in
       record {
@@ -182,10 +183,10 @@ module _ (s : Setting) (valid : IsValid s.game) where
         say = λ seen c. closing_answers s valid p x later e st full small q seen c;
       }
   opponent_step (bound y low high) p x later e st full placed =
-      let h = (both (removes_some p.box y.0 low high) (is_tracked y.0 (tracked s p)) placed).1 in
+      let h = (and_parts (removes_some p.box y.0 low high) (is_tracked y.0 (tracked s p)) placed).1 in
       absurd (differ (subst (λ ls. is_tracked y.0 (tracked_variable s.game ls p.number (list_after s.game p.later p.list)) ≡ true) e h))
   opponent_step (reply t) p x later e st full placed =
-      by (last_condition p.later) (subst (λ ls. last_condition ls ≡ None) (sym e) (never later)) (both (not (has_empty p.box)) (replying s p (last_condition p.later) (box_taken s.game p.number p.box t) t).placed placed).1
+      by (last_condition p.later) (subst (λ ls. last_condition ls ≡ None) (sym e) (never later)) (and_parts (not (has_empty p.box)) (replying s p (last_condition p.later) (box_taken s.game p.number p.box t) t).placed placed).1
     where
       never : (later : List Scope) → last_condition (universal x ∷ later) ≡ None
       never [] = refl
@@ -198,7 +199,7 @@ module _ (s : Setting) (valid : IsValid s.game) where
   opponent_steps : (steps : List Step) (p : Place) (x : Option Condition) (later : List Scope) → p.later ≡ universal x ∷ later → StandsPart s p → has_empty p.box ≡ false → (read_steps s steps p).placed ≡ true → RepliesDone p (read_steps s steps p)
   opponent_steps [] p x later e st full placed = record { same_later = refl; part = st; full = full; say = λ seen c. c }
   opponent_steps (sp ∷ steps) p x later e st full placed =
-      let q = both (read_step s sp p).placed (read_steps s steps (read_step s sp p).place).placed placed in
+      let q = and_parts (read_step s sp p).placed (read_steps s steps (read_step s sp p).place).placed placed in
       let one = opponent_step sp p x later e st full q.0 in
       let more = opponent_steps steps (read_step s sp p).place x later (one.same_later ∙ e) one.part one.full q.1 in
       record {
@@ -231,23 +232,23 @@ module _ (s : Setting) (valid : IsValid s.game) where
   -- a leaf of the player's
   player_goes : (p : Place) (x : Option Condition) (later : List Scope) → p.later ≡ existential x ∷ later → next_placed s p ≡ true → (has_empty p.box ≡ false) × (some_fails (restriction s.game p.number) p.box ≡ false)
   player_goes p x later e h =
-      let q = both (not (has_empty p.box)) _ h in (
+      let q = and_parts (not (has_empty p.box)) _ h in (
         not_true (has_empty p.box) q.0,
-        elim (either (is_players p && not (some_fails (restriction s.game p.number) p.box)) _ q.1) [
-          | inl k ↦ not_true (some_fails (restriction s.game p.number) p.box) (both (is_players p) (not (some_fails (restriction s.game p.number) p.box)) k).1
-          | inr k ↦ clash (is_opponents p) (both (is_opponents p) (is_fixed s.game p.number p.box) (both (is_opponents p && is_fixed s.game p.number p.box) (all_hold (restriction s.game p.number) p.box) k).0).0 (no_opponents p x later e)
+        elim (or_cases (is_players p && not (some_fails (restriction s.game p.number) p.box)) _ q.1) [
+          | inl k ↦ not_true (some_fails (restriction s.game p.number) p.box) (and_parts (is_players p) (not (some_fails (restriction s.game p.number) p.box)) k).1
+          | inr k ↦ clash (is_opponents p) (and_parts (is_opponents p) (is_fixed s.game p.number p.box) (and_parts (is_opponents p && is_fixed s.game p.number p.box) (all_hold (restriction s.game p.number) p.box) k).0).0 (no_opponents p x later e)
         ],
       )
 
   opponent_goes : (p : Place) (x : Option Condition) (later : List Scope) → p.later ≡ universal x ∷ later → next_placed s p ≡ true → (has_empty p.box ≡ false) × (is_fixed s.game p.number p.box ≡ true) × (all_hold (restriction s.game p.number) p.box ≡ true)
   opponent_goes p x later e h =
-      let q = both (not (has_empty p.box)) _ h in
-      let r : ((is_opponents p && is_fixed s.game p.number p.box) && all_hold (restriction s.game p.number) p.box) ≡ true = elim (either (is_players p && not (some_fails (restriction s.game p.number) p.box)) _ q.1) [
-        | inl k ↦ clash (is_players p) (both (is_players p) (not (some_fails (restriction s.game p.number) p.box)) k).0 (no_players p x later e)
+      let q = and_parts (not (has_empty p.box)) _ h in
+      let r : ((is_opponents p && is_fixed s.game p.number p.box) && all_hold (restriction s.game p.number) p.box) ≡ true = elim (or_cases (is_players p && not (some_fails (restriction s.game p.number) p.box)) _ q.1) [
+        | inl k ↦ clash (is_players p) (and_parts (is_players p) (not (some_fails (restriction s.game p.number) p.box)) k).0 (no_players p x later e)
         | inr k ↦ k
       ] in
-      let a = both (is_opponents p && is_fixed s.game p.number p.box) (all_hold (restriction s.game p.number) p.box) r in
-      (not_true (has_empty p.box) q.0, (both (is_opponents p) (is_fixed s.game p.number p.box) a.0).1, a.1)
+      let a = and_parts (is_opponents p && is_fixed s.game p.number p.box) (all_hold (restriction s.game p.number) p.box) r in
+      (not_true (has_empty p.box) q.0, (and_parts (is_opponents p) (is_fixed s.game p.number p.box) a.0).1, a.1)
 
   -- a tuple taken
   taken_part : (p : Place) (vs : List ℤ) → StandsPart s p → is_tuple_of s.game p.number p.box vs ≡ true → has_empty (place_taken s vs p).box ≡ false → StandsPart s (place_taken s vs p)
@@ -310,10 +311,10 @@ module _ (s : Setting) (valid : IsValid s.game) where
       by (Some small) q h = no_answer_here s valid p st small q h x later e full
 
   barred_fails : (p : Place) → barred_placed s p ≡ true → some_fails (restriction s.game p.number) p.box ≡ true
-  barred_fails p h = (both (not (has_empty p.box) && is_fixed s.game p.number p.box) (some_fails (restriction s.game p.number) p.box) h).1
+  barred_fails p h = (and_parts (not (has_empty p.box) && is_fixed s.game p.number p.box) (some_fails (restriction s.game p.number) p.box) h).1
 
   player_best : (p : Place) → Stands s p → best_placed p ≡ true → ChoicesSay s p [] (list_best p.list p.box)
-  player_best p st placed = by p.list refl (both (not (has_empty p.box) && is_players p) (is_some_value (list_best p.list p.box)) placed).1
+  player_best p st placed = by p.list refl (and_parts (not (has_empty p.box) && is_players p) (is_some_value (list_best p.list p.box)) placed).1
     where
       by : (d : List Condition) → p.list ≡ d → is_some_value (list_best d p.box) ≡ true → ChoicesSay s p [] (list_best d p.box)
       by [] q h = cc
@@ -397,7 +398,7 @@ module _ (s : Setting) (valid : IsValid s.game) where
   some_covered None (v ∷ vs) h = refl
   some_covered (Some high) [] h = cc
   some_covered (Some high) (v ∷ vs) h =
-      long (cover (Some high) (v ∷ vs)) (v ∷ vs) (lt_from 1 (cover (Some high) (v ∷ vs)) (both (has_value (v ∷ vs) high) (nat_lt 1 (cover (Some high) (v ∷ vs))) h).1) refl
+      long (cover (Some high) (v ∷ vs)) (v ∷ vs) (lt_from 1 (cover (Some high) (v ∷ vs)) (and_parts (has_value (v ∷ vs) high) (nat_lt 1 (cover (Some high) (v ∷ vs))) h).1) refl
     where
       long : (n : ℕ) (us : Values) → 1 < n → is_none_left us ≡ false → is_none_left (take n us) ≡ false
       long zero us l e = absurd (omega arith)
@@ -424,13 +425,13 @@ module _ (s : Setting) (valid : IsValid s.game) where
   scope_done p steps end ks st k placed of_player of_opponent = by p.later refl
     where
       q : (cases_placed p ≡ true) × (((read_steps s steps p).placed && (read_ending s end (read_steps s steps p).place ks).placed) ≡ true)
-      q = both (cases_placed p) ((read_steps s steps p).placed && (read_ending s end (read_steps s steps p).place ks).placed) placed
+      q = and_parts (cases_placed p) ((read_steps s steps p).placed && (read_ending s end (read_steps s steps p).place ks).placed) placed
 
       m : ((read_steps s steps p).placed ≡ true) × ((read_ending s end (read_steps s steps p).place ks).placed ≡ true)
-      m = both (read_steps s steps p).placed (read_ending s end (read_steps s steps p).place ks).placed q.1
+      m = and_parts (read_steps s steps p).placed (read_ending s end (read_steps s steps p).place ks).placed q.1
 
       by : (ls : List Scope) → p.later ≡ ls → NodeDone p (read_body s (cases steps end) p ks)
-      by [] e = absurd (differ (subst (λ ls. not (is_goal ls) ≡ true) e (both (not (is_horizon p.horizon p.number)) (not (is_goal p.later)) q.0).1))
+      by [] e = absurd (differ (subst (λ ls. not (is_goal ls) ≡ true) e (and_parts (not (is_horizon p.horizon p.number)) (not (is_goal p.later)) q.0).1))
       by (sc ∷ later) e = kind sc.kind sc.condition e
         where
           kind : (j : Kind) (x : Option Condition) → p.later ≡ record { kind = j; condition = x } ∷ later → NodeDone p (read_body s (cases steps end) p ks)
@@ -456,7 +457,7 @@ module _ (s : Setting) (valid : IsValid s.game) where
   mutual
     pub node_done : (t : Node) (p : Place) (ks : List Known) → StandsNode s p → EachKnownSays s ks → (read_node s t p ks).placed ≡ true → NodeDone p (read_node s t p ks)
     node_done (node named h body) p ks st k placed =
-        let q = both (horizon_placed s h p) (read_body s body (with_horizon h p) (entered named p ks)).placed placed in
+        let q = and_parts (horizon_placed s h p) (read_body s body (with_horizon h p) (entered named p ks)).placed placed in
         let r = body_done body (with_horizon h p) (entered named p ks) (horizon_stands s valid p st h q.0) (known_entered named p ks k) q.1 in
         let told = horizon_told s valid p st h q.0 (read_body s body (with_horizon h p) (entered named p ks)).verdict r.0 in (
           told,
@@ -468,7 +469,7 @@ module _ (s : Setting) (valid : IsValid s.game) where
 
     body_done : (b : Body) (p : Place) (ks : List Known) → StandsNode s p → EachKnownSays s ks → (read_body s b p ks).placed ≡ true → NodeDone p (read_body s b p ks)
     body_done stuck p ks st k placed = (stuck_told s valid p st placed p.later refl, k, no_own p (loosened s p (stuck_comes_to s p p.later)))
-    body_done goal p ks st k placed = (goal_told s valid p st (goal_is p.later (both (not (is_horizon p.horizon p.number)) (is_goal p.later) placed).1), k, no_own p (loosened s p (goal_comes_to s p)))
+    body_done goal p ks st k placed = (goal_told s valid p st (goal_is p.later (and_parts (not (is_horizon p.horizon p.number)) (is_goal p.later) placed).1), k, no_own p (loosened s p (goal_comes_to s p)))
     body_done (cases steps end) p ks st k placed =
         scope_done p steps end ks st k placed
         (λ x later e part h. player_end end (read_steps s steps p).place x later e ks part k h)
@@ -479,18 +480,18 @@ module _ (s : Setting) (valid : IsValid s.game) where
     player_end barred p x later e ks st k placed = (barred_say s p (barred_none s p x later e valid st.stands.box (barred_fails p placed)), k)
     player_end best_left p x later e ks st k placed = (player_best p st.stands placed, k)
     player_end (dead j) p x later e ks st k placed =
-        let q = both (is_players p || is_free_choice s p) (no_play_placed s p j) placed in
+        let q = and_parts (is_players p || is_free_choice s p) (no_play_placed s p j) placed in
         (lost_say s p (λ a at r o. no_strategy s valid p j st.stands q.1 a at.position r o), k)
     player_end (next t) p x later e ks st k placed =
-        let q = both (next_placed s p) (read_node s t (place_below s p) ks).placed placed in
+        let q = and_parts (next_placed s p) (read_node s t (place_below s p) ks).placed placed in
         let g = player_goes p x later e q.0 in
         let enters : p.loose ≡ false → is_fixed s.game p.number p.box ≡ true → Enters s p = λ l fixed. settled_enters p st g.0 g.1 l fixed in
         let below = next_stands s p (existential x) later e st g.0 enters in
         let r = node_done t (place_below s p) ks below k q.1 in
         (next_says s p x later e st g.0 enters (read_node s t (place_below s p) ks).verdict r.0 below, r.1)
     player_end (chosen vs t) p x later e ks st k placed =
-        let q = both (chosen_placed s vs p) (read_node s t (place_below s (place_taken s vs p)) ks).placed placed in
-        let c = both (is_tuple_of s.game p.number p.box vs) (next_placed s (place_taken s vs p)) q.0 in
+        let q = and_parts (chosen_placed s vs p) (read_node s t (place_below s (place_taken s vs p)) ks).placed placed in
+        let c = and_parts (is_tuple_of s.game p.number p.box vs) (next_placed s (place_taken s vs p)) q.0 in
         let g = player_goes (place_taken s vs p) x later e c.1 in
         let part = taken_part p vs st c.0 g.0 in
         let enters : (place_taken s vs p).loose ≡ false → is_fixed s.game p.number (place_taken s vs p).box ≡ true → Enters s (place_taken s vs p) = λ l fixed. settled_enters (place_taken s vs p) part g.0 g.1 l fixed in
@@ -501,8 +502,8 @@ module _ (s : Setting) (valid : IsValid s.game) where
           r.1,
         )
     player_end (branch y bs) p x later e ks st k placed =
-        let q = both (branch_placed s p y.0) (read_branches s bs y.0 (values_left p.box y.0) p ks).placed placed in
-        let w = in_scope s.game p.number y.0 (both (not (has_empty p.box)) (is_of_scope s.game p.number y.0) (both (not (has_empty p.box) && is_of_scope s.game p.number y.0) (not (is_single (values_left p.box y.0))) q.0).0).1 in
+        let q = and_parts (branch_placed s p y.0) (read_branches s bs y.0 (values_left p.box y.0) p ks).placed placed in
+        let w = in_scope s.game p.number y.0 (and_parts (not (has_empty p.box)) (is_of_scope s.game p.number y.0) (and_parts (not (has_empty p.box) && is_of_scope s.game p.number y.0) (not (is_single (values_left p.box y.0))) q.0).0).1 in
         let r = player_branches bs y.0 (values_left p.box y.0) p x later e w.0 w.1 (all_left s.game p.box y.0 st.stands.box) ks st k q.1 in
         (subst (λ b. ChoicesSay s (with_box b p) (read_branches s bs y.0 (values_left p.box y.0) p ks).seen (read_branches s bs y.0 (values_left p.box y.0) p ks).bests) (set_same p.box y.0 (values_left p.box y.0) refl) r.0, r.1)
 
@@ -510,8 +511,8 @@ module _ (s : Setting) (valid : IsValid s.game) where
         (read_branches s bs y vs p ks).placed ≡ true → ChoicesSay s (case_place p y vs) (read_branches s bs y vs p ks).seen (read_branches s bs y vs p ks).bests × EachKnownSays s (read_branches s bs y vs p ks).known
     player_branches no_more y vs p x later e low high left ks st k placed = (player_none p x later e y high vs placed, k)
     player_branches (piece upto c bs) y vs p x later e low high left ks st k placed =
-        let q = both (is_cover upto vs) _ placed in
-        let m = both (read_case s c y (covered upto vs) p ks).placed (read_branches s bs y (uncovered upto vs) p (read_case s c y (covered upto vs) p ks).known).placed q.1 in
+        let q = and_parts (is_cover upto vs) _ placed in
+        let m = and_parts (read_case s c y (covered upto vs) p ks).placed (read_branches s bs y (uncovered upto vs) p (read_case s c y (covered upto vs) p ks).known).placed q.1 in
         let l = left_parts p.box y (cover upto vs) vs left in
         let one = player_case c y (covered upto vs) p x later e low high l.0 ks st k m.0 in
         let more = player_branches bs y (uncovered upto vs) p x later e low high l.1 (read_case s c y (covered upto vs) p ks).known st one.1 m.1 in (
@@ -528,8 +529,8 @@ module _ (s : Setting) (valid : IsValid s.game) where
     player_case left_open y us p x later e low high left ks st k placed = (skipped_say s (case_place p y us), k)
     player_case (go steps end) y us p x later e low high left ks st k placed =
         let w = read_steps s steps (case_place p y us) in
-        let q = both (is_narrower us (values_left p.box y)) (w.placed && (read_ending s end w.place ks).placed) placed in
-        let m = both w.placed (read_ending s end w.place ks).placed q.1 in
+        let q = and_parts (is_narrower us (values_left p.box y)) (w.placed && (read_ending s end w.place ks).placed) placed in
+        let m = and_parts w.placed (read_ending s end w.place ks).placed q.1 in
         let done = player_steps steps (case_place p y us) x later e (player_case_part p x later e y us high left st) m.0 in
         let r = player_end end w.place x later (done.same_later ∙ e) ks done.part k m.1 in
         (done.say (read_ending s end w.place ks).seen (read_ending s end w.place ks).bests r.0, r.1)
@@ -539,24 +540,24 @@ module _ (s : Setting) (valid : IsValid s.game) where
     opponent_end barred p x later e ks st full k placed =
         (barred_answers s valid p x later e (λ a t at m j. refuted_fails s.game valid p.number p.box (a ++ t) st.stands.box (move_count s.game p.number a t at.position.count m) j (barred_fails p placed) m.is_allowed), k)
     opponent_end best_left p x later e ks st full k placed =
-        absurd (clash (is_players p) (both (not (has_empty p.box)) (is_players p) (both (not (has_empty p.box) && is_players p) (is_some_value (list_best p.list p.box)) placed).0).1 (no_players p x later e))
+        absurd (clash (is_players p) (and_parts (not (has_empty p.box)) (is_players p) (and_parts (not (has_empty p.box) && is_players p) (is_some_value (list_best p.list p.box)) placed).0).1 (no_players p x later e))
     opponent_end (dead j) p x later e ks st full k placed =
-        let q = both (is_players p || is_free_choice s p) (no_play_placed s p j) placed in (
-          dead_answers s valid p j st.stands q.1 x later e st full (elim (either (is_players p) (is_free_choice s p) q.0) [
+        let q = and_parts (is_players p || is_free_choice s p) (no_play_placed s p j) placed in (
+          dead_answers s valid p j st.stands q.1 x later e st full (elim (or_cases (is_players p) (is_free_choice s p) q.0) [
             | inl f ↦ clash (is_players p) f (no_players p x later e)
-            | inr f ↦ (both (is_opponents p) (is_unrestricted s.game p.number) f).1
+            | inr f ↦ (and_parts (is_opponents p) (is_unrestricted s.game p.number) f).1
           ]),
           k,
         )
     opponent_end (next t) p x later e ks st full k placed =
-        let q = both (next_placed s p) (read_node s t (place_below s p) ks).placed placed in
+        let q = and_parts (next_placed s p) (read_node s t (place_below s p) ks).placed placed in
         let g = opponent_goes p x later e q.0 in
         let below = next_stands s p (universal x) later e st g.0 (λ l fixed. enters_by p st g.2) in
         let r = node_done t (place_below s p) ks below k q.1 in
         (next_answers s valid p x later e st g.1 g.2 g.0 (read_node s t (place_below s p) ks).verdict r.0, r.1)
     opponent_end (chosen vs t) p x later e ks st full k placed =
-        let q = both (chosen_placed s vs p) (read_node s t (place_below s (place_taken s vs p)) ks).placed placed in
-        let c = both (is_tuple_of s.game p.number p.box vs) (next_placed s (place_taken s vs p)) q.0 in
+        let q = and_parts (chosen_placed s vs p) (read_node s t (place_below s (place_taken s vs p)) ks).placed placed in
+        let c = and_parts (is_tuple_of s.game p.number p.box vs) (next_placed s (place_taken s vs p)) q.0 in
         let g = opponent_goes (place_taken s vs p) x later e c.1 in
         let part = taken_part p vs st c.0 g.0 in
         let below = next_stands s (place_taken s vs p) (universal x) later e part g.0 (λ l fixed. enters_by (place_taken s vs p) part g.2) in
@@ -566,8 +567,8 @@ module _ (s : Setting) (valid : IsValid s.game) where
           r.1,
         )
     opponent_end (branch y bs) p x later e ks st full k placed =
-        let q = both (branch_placed s p y.0) (read_branches s bs y.0 (values_left p.box y.0) p ks).placed placed in
-        let w = in_scope s.game p.number y.0 (both (not (has_empty p.box)) (is_of_scope s.game p.number y.0) (both (not (has_empty p.box) && is_of_scope s.game p.number y.0) (not (is_single (values_left p.box y.0))) q.0).0).1 in
+        let q = and_parts (branch_placed s p y.0) (read_branches s bs y.0 (values_left p.box y.0) p ks).placed placed in
+        let w = in_scope s.game p.number y.0 (and_parts (not (has_empty p.box)) (is_of_scope s.game p.number y.0) (and_parts (not (has_empty p.box) && is_of_scope s.game p.number y.0) (not (is_single (values_left p.box y.0))) q.0).0).1 in
         let r = opponent_branches bs y.0 (values_left p.box y.0) p x later e w.0 w.1 (all_left s.game p.box y.0 st.stands.box) ks st full k q.1 in
         (subst (λ b. AnswersSay s (with_box b p) (read_branches s bs y.0 (values_left p.box y.0) p ks).seen) (set_same p.box y.0 (values_left p.box y.0) refl) r.0, r.1)
 
@@ -575,8 +576,8 @@ module _ (s : Setting) (valid : IsValid s.game) where
         (read_branches s bs y vs p ks).placed ≡ true → AnswersSay s (case_place p y vs) (read_branches s bs y vs p ks).seen × EachKnownSays s (read_branches s bs y vs p ks).known
     opponent_branches no_more y vs p x later e low high left ks st full k placed = (opponent_none p x later e y high vs placed, k)
     opponent_branches (piece upto c bs) y vs p x later e low high left ks st full k placed =
-        let q = both (is_cover upto vs) _ placed in
-        let m = both (read_case s c y (covered upto vs) p ks).placed (read_branches s bs y (uncovered upto vs) p (read_case s c y (covered upto vs) p ks).known).placed q.1 in
+        let q = and_parts (is_cover upto vs) _ placed in
+        let m = and_parts (read_case s c y (covered upto vs) p ks).placed (read_branches s bs y (uncovered upto vs) p (read_case s c y (covered upto vs) p ks).known).placed q.1 in
         let l = left_parts p.box y (cover upto vs) vs left in
         let one = opponent_case c y (covered upto vs) p x later e low high l.0 (some_covered upto vs q.0) ks st full k m.0 in
         let more = opponent_branches bs y (uncovered upto vs) p x later e low high l.1 (read_case s c y (covered upto vs) p ks).known st full one.1 m.1 in (
@@ -591,8 +592,8 @@ module _ (s : Setting) (valid : IsValid s.game) where
     opponent_case left_open y us p x later e low high left some ks st full k placed = (skipped_answers s valid (case_place p y us) x later e, k)
     opponent_case (go steps end) y us p x later e low high left some ks st full k placed =
         let w = read_steps s steps (case_place p y us) in
-        let q = both (is_narrower us (values_left p.box y)) (w.placed && (read_ending s end w.place ks).placed) placed in
-        let m = both w.placed (read_ending s end w.place ks).placed q.1 in
+        let q = and_parts (is_narrower us (values_left p.box y)) (w.placed && (read_ending s end w.place ks).placed) placed in
+        let m = and_parts w.placed (read_ending s end w.place ks).placed q.1 in
         let done = opponent_steps steps (case_place p y us) x later e (opponent_case_part p y us high left some full st) (set_full p.box y us full some) m.0 in
         let r = opponent_end end w.place x later (done.same_later ∙ e) ks done.part done.full k m.1 in
         (done.say (read_ending s end w.place ks).seen r.0, r.1)

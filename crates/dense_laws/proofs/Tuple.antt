@@ -2,6 +2,7 @@
 use Rattle.std.proofs.Common.{◌≡◌, ℕ, zero, suc, true, ◌&&◌, List, [], ◌∷◌, ◌++◌, length, take, drop, refl, sym, ap, ◌∙◌, subst, arith, ℤ}
 use Rattle.std.proofs.lemmas.List.{length-take, length-drop, length-append, take-append-drop}
 use Rattle.std.specs.List.{list_all}
+use Rattle.std.proofs.lemmas.Bool.{and_parts, and_from}
 use Rattle.qc_model.specs.Content.{Game}
 use Rattle.qc_model.specs.Domains.{InBox, Box, declared_box, has_value, is_ascending, is_sub_box}
 use Rattle.qc_model.specs.Game.{before, part, scope_domains}
@@ -12,7 +13,6 @@ use Rattle.proof_meaning.proofs.Boxes.{in_append, in_rest, in_take, from_take}
 use Rattle.proof_meaning.proofs.Taken.{taken_from}
 use Rattle.proof_meaning.proofs.Widths.{part_rest, width}
 use Rattle.dense_meaning.proofs.Bits.{has_to}
-use Rattle.dense_laws.proofs.Small.{both, together}
 
 pub lies_count : (t : List ℤ) (ds : Box) → LiesIn t ds → length t ≡ length ds
 lies_count [] [] h = refl
@@ -73,15 +73,15 @@ sub_take (suc n) [] [] h = refl
 sub_take (suc n) [] (e ∷ es) h = cc
 sub_take (suc n) (d ∷ ds) [] h = cc
 sub_take (suc n) (d ∷ ds) (e ∷ es) h =
-    let p = both (is_ascending d && list_all (has_value e) d) (is_sub_box ds es) h in
-    together (is_ascending d && list_all (has_value e) d) (is_sub_box (take n ds) (take n es)) p.0 (sub_take n ds es p.1)
+    let p = and_parts (is_ascending d && list_all (has_value e) d) (is_sub_box ds es) h in
+    and_from (is_ascending d && list_all (has_value e) d) (is_sub_box (take n ds) (take n es)) p.0 (sub_take n ds es p.1)
 
 pub sub_drop : (n : ℕ) (ds es : Box) → is_sub_box ds es ≡ true → is_sub_box (drop n ds) (drop n es) ≡ true
 sub_drop zero ds es h = h
 sub_drop (suc n) [] [] h = refl
 sub_drop (suc n) [] (e ∷ es) h = cc
 sub_drop (suc n) (d ∷ ds) [] h = cc
-sub_drop (suc n) (d ∷ ds) (e ∷ es) h = sub_drop n ds es (both (is_ascending d && list_all (has_value e) d) (is_sub_box ds es) h).1
+sub_drop (suc n) (d ∷ ds) (e ∷ es) h = sub_drop n ds es (and_parts (is_ascending d && list_all (has_value e) d) (is_sub_box ds es) h).1
 
 lies_sub : (t : List ℤ) (ds es : Box) → is_sub_box ds es ≡ true → LiesIn t ds → LiesIn t es
 lies_sub [] [] [] h k = tt
@@ -90,8 +90,8 @@ lies_sub [] (d ∷ ds) es h k = absurd k
 lies_sub (v ∷ t) [] es h k = absurd k
 lies_sub (v ∷ t) (d ∷ ds) [] h k = cc
 lies_sub (v ∷ t) (d ∷ ds) (e ∷ es) h k =
-    let p = both (is_ascending d && list_all (has_value e) d) (is_sub_box ds es) h in
-    let q = both (is_ascending d) (list_all (has_value e) d) p.0 in
+    let p = and_parts (is_ascending d && list_all (has_value e) d) (is_sub_box ds es) h in
+    let q = and_parts (is_ascending d) (list_all (has_value e) d) p.0 in
     (has_to e v (all_to (has_value e) d q.1 v k.0), lies_sub t ds es p.1 k.1)
 
 pub part_declared : (g : Game) (i : ℕ) (box : Box) → is_sub_box box (declared_box g) ≡ true → (t : List ℤ) → LiesIn t (part g i box) → LiesIn t (scope_domains g i)

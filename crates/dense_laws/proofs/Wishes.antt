@@ -1,6 +1,7 @@
 -- The value that is told of a scope's own condition.
 use Rattle.std.proofs.Common.{◌≡◌, inl, inr, Bool, true, false, not, ◌&&◌, cond, List, [], ◌∷◌, refl, sym, ◌∙◌, subst, ℤ, Option, Some, None}
 use Rattle.std.specs.List.{list_all}
+use Rattle.std.proofs.lemmas.Bool.{and_parts}
 use Rattle.qc_model.specs.declared.problem.Condition.{Condition}
 use Rattle.qc_model.specs.declared.problem.Scope.{Scope}
 use Rattle.qc_model.specs.Demands.{vector, is_better_vector}
@@ -21,7 +22,6 @@ use Rattle.dense_laws.specs.Says.{IsAt, SomeHolds, SomeBest, EachReached, Choice
 use Rattle.dense_laws.proofs.Conclude.{HasChoice, choice_of, choice_long, held_best}
 use Rattle.dense_laws.proofs.Conditions.{own_is}
 use Rattle.dense_laws.proofs.Nodes.{reached_at, lie_of}
-use Rattle.dense_laws.proofs.Small.{both}
 
 -- a loose node is exact nowhere
 exact_before : (s : Setting) (p : Place) (v : Verdict) → is_exact (loosened s p v) ≡ true → is_exact v ≡ true
@@ -72,7 +72,7 @@ module _ (s : Setting) (valid : IsValid s.game) (p : Place) (st : StandsNode s p
     told ex n own r o =
         let v = best_vector (c ∷ p.list) (exact_vectors seen) in
         let t = exact_tests (each_node is_lost seen && is_none_of (bounds seen)) (some_open seen) (not (is_none_of (exact_vectors seen)) && list_all (beats c.sense (is_none_of p.list) (first_value v)) (bounds seen)) (without_own (Some c) v) unknown refl ex in
-        let w = both (not (is_none_of (exact_vectors seen))) (list_all (beats c.sense (is_none_of p.list) (first_value v)) (bounds seen)) t.1 in
+        let w = and_parts (not (is_none_of (exact_vectors seen))) (list_all (beats c.sense (is_none_of p.list) (first_value v)) (bounds seen)) t.1 in
         value_is v (choice_of s.game ls p.number (c ∷ p.list) a seen reached v (best_one (c ∷ p.list) (exact_vectors seen) w.0))
         (λ u k. held_best s.game c p.list ls p.number a seen reached t.0 w.1 u (held u k)) r o
         ∙ some_is (is_exact (exists_verdict (Some c) (c ∷ p.list) seen)) (first_value v) n own

@@ -2,6 +2,7 @@
 use Rattle.std.proofs.Common.{◌≡◌, ◌⊎◌, inl, inr, ℕ, suc, ◌<◌, set, List, [], ◌∷◌, ◌++◌, length, take, ◌-◌, refl, sym, ap, subst, arith, ℤ, Option}
 use Rattle.std.specs.Prelude.{IsFalse}
 use Rattle.std.proofs.lemmas.List.{length-take, length-drop, length-append}
+use Rattle.std.proofs.lemmas.Bool.{or_parts}
 use Rattle.qc_model.proofs.Before.{before-le, before_up}
 use Rattle.qc_model.specs.declared.problem.Condition.{Condition}
 use Rattle.qc_model.specs.declared.problem.Scope.{Scope}
@@ -14,7 +15,6 @@ use Rattle.qc_model.specs.Optimal.{Optimal}
 use Rattle.qc_model.specs.Demands.{vector, is_better_vector}
 use Rattle.qc_model.specs.Verdict.{Verdict, lost, exact, at_most, unknown, first_value}
 use Rattle.qc_model.proofs.Moves.{moves_from}
-use Rattle.model_laws.proofs.Better.{or_none}
 use Rattle.model_laws.specs.Positions.{existential, universal}
 use Rattle.proof_tree.specs.Meaning.{FirstIsNoBetter}
 use Rattle.proof_meaning.proofs.Boxes.{values_split}
@@ -55,7 +55,7 @@ postpone_bound g later x i c d p box h a at (answer l) o = absurd o.optimal
 -- the first value is no better than that of a vector that isn't beaten
 pub first_held : (g : Game) (c : Condition) (d : List Condition) (a v : List ℤ) (s r : Plan) → vector g (c ∷ d) a s ≡ v → IsFalse (is_better_vector (c ∷ d) (vector g (c ∷ d) a r) v) → FirstIsNoBetter g (c ∷ d) a r (first_value v)
 first_held g c d a [] s r e h = cc
-first_held g c d a (x ∷ v) s r e h = (or_none _ _ h).0
+first_held g c d a (x ∷ v) s r e h = (or_parts _ _ h).0
 
 pub postpone : (v : Verdict) (g : Game) (later : List Scope) (x : Option Condition) (i : ℕ) (d : List Condition) (box : Box) →
     Throughout v g later (suc i) d box → Throughout (as_bound d v) g (existential x ∷ later) i d box

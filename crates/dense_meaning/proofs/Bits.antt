@@ -3,17 +3,13 @@ use Rattle.std.proofs.Common.{◌≡◌, inl, inr, ℕ, suc, Bool, true, false, 
 use Rattle.std.specs.Prelude.{slice_get}
 use Rattle.std.specs.List.{list_all}
 use Rattle.std.proofs.lemmas.Bool.Decides.{Decides-int_eq}
+use Rattle.std.proofs.lemmas.Bool.{or_cases}
 use Rattle.qc_model.specs.Lists.{Among}
 use Rattle.qc_model.specs.Domains.{Values, has_value}
-use Rattle.model_laws.proofs.Better.{or_split}
 
 pub both_ways : (b : Bool) → b ≡ false → b ≡ true → ⊥
 both_ways true e f = cc
 both_ways false e f = cc
-
-pub either_false : (a b : Bool) → (a || b) ≡ false → (a ≡ false) × (b ≡ false)
-either_false true b e = cc
-either_false false b e = (refl, e)
 
 -- each item has its place
 pub place_of : {X : Type 0} (xs : List X) (x : X) → Among x xs → (k : ℕ) × (slice_get xs k ≡ Some x)
@@ -30,4 +26,4 @@ all_from p (x ∷ xs) f = by (p x) (list_all p xs) (f x (inl refl)) (all_from p 
 
 pub has_to : (d : Values) (v : ℤ) → has_value d v ≡ true → Among v d
 has_to [] v e = cc
-has_to (x ∷ d) v e = elim (or_split _ _ e) [ inl q ↦ inl ((Decides-int_eq v x).0 q) | inr q ↦ inr (has_to d v q) ]
+has_to (x ∷ d) v e = elim (or_cases _ _ e) [ inl q ↦ inl ((Decides-int_eq v x).0 q) | inr q ↦ inr (has_to d v q) ]

@@ -1,6 +1,7 @@
 -- Boxes with some value for each variable.
 use Rattle.std.proofs.Common.{◌≡◌, inl, ℕ, zero, suc, ◌≤◌, false, List, [], ◌∷◌, ◌++◌, length, take, drop, refl, sym, ap, subst, arith, ℤ}
 use Rattle.std.proofs.lemmas.List.{length-drop}
+use Rattle.std.proofs.lemmas.Bool.{or_parts}
 use Rattle.qc_model.specs.Content.{Game}
 use Rattle.qc_model.specs.Lists.{Among, LiesIn}
 use Rattle.qc_model.specs.Domains.{InBox, Box, Values, declared_box, has_empty, is_none_left}
@@ -10,7 +11,6 @@ use Rattle.proof_meaning.proofs.Boxes.{in_append, in_rest, in_take}
 use Rattle.proof_meaning.proofs.Narrowed.{within_in}
 use Rattle.proof_meaning.proofs.Widths.{part_rest, width}
 use Rattle.dense_meaning.specs.Plays.{IsDeclared, HasValues}
-use Rattle.dense_meaning.proofs.Bits.{either_false}
 
 least_among : (d : Values) → is_none_left d ≡ false → (v : ℤ) × Among v d
 least_among [] e = cc
@@ -20,7 +20,7 @@ pub some_values : (n : ℕ) (ds : Box) → has_empty ds ≡ false → n ≤ leng
 some_values zero ds e l = ([], refl, tt)
 some_values (suc n) [] e l = absurd (omega arith)
 some_values (suc n) (d ∷ ds) e l =
-    let p = either_false (is_none_left d) (has_empty ds) e in
+    let p = or_parts (is_none_left d) (has_empty ds) e in
     let v = least_among d p.0 in
     let r = some_values n ds p.1 (omega arith) in
     (v.0 ∷ r.0, ap suc r.1, (v.1, r.2))
@@ -28,7 +28,7 @@ some_values (suc n) (d ∷ ds) e l =
 full_drop : (n : ℕ) (ds : Box) → has_empty ds ≡ false → has_empty (drop n ds) ≡ false
 full_drop zero ds e = e
 full_drop (suc n) [] e = e
-full_drop (suc n) (d ∷ ds) e = full_drop n ds (either_false (is_none_left d) (has_empty ds) e).1
+full_drop (suc n) (d ∷ ds) e = full_drop n ds (or_parts (is_none_left d) (has_empty ds) e).1
 
 pub full_values : (g : Game) (i : ℕ) (box : Box) → has_empty box ≡ false → IsDeclared g box → HasValues g i box
 full_values g i box full dec a at =

@@ -4,6 +4,7 @@ use Rattle.std.specs.Prelude.{IsTrue, slice_get, nat_le, nat_lt}
 use Rattle.std.specs.List.{list_all}
 use Rattle.std.proofs.lemmas.List.{length-drop}
 use Rattle.std.proofs.lemmas.Bool.Decides.{nat_tests}
+use Rattle.std.proofs.lemmas.Bool.{and_parts, false_from_ne_true}
 use Rattle.qc_model.specs.declared.problem.Condition.{Condition}
 use Rattle.qc_model.specs.declared.problem.Scope.{Scope}
 use Rattle.qc_model.specs.Content.{Game, Rule}
@@ -20,7 +21,6 @@ use Rattle.qc_model.specs.Verdict.{lost}
 use Rattle.qc_model.proofs.Before.{before-le}
 use Rattle.qc_model.proofs.Moves.{of_filter}
 use Rattle.qc_model.proofs.Sound.{has_it}
-use Rattle.qc_model.proofs.Vectors.{false_unless}
 use Rattle.proof_tree.specs.Good.{MovesOn}
 use Rattle.proof_tree.specs.Steps.{is_refuted_within}
 use Rattle.proof_meaning.proofs.Boxes.{singles, filter_split}
@@ -28,7 +28,6 @@ use Rattle.proof_meaning.proofs.HorizonHolds.{Passes, not_refuted}
 use Rattle.proof_meaning.proofs.Narrowed.{within_in, past_set}
 use Rattle.proof_meaning.proofs.Taken.{still_in}
 use Rattle.proof_meaning.proofs.Passing.{move_count, passes, goal_move}
-use Rattle.proof_meaning.proofs.Places.{both}
 use Rattle.proof_meaning.proofs.Premises.{IsSound, sound_of}
 use Rattle.proof_meaning.proofs.Standing.{left_from, none_left}
 use Rattle.dense_meaning.specs.Throughout.{IsPositionIn, Throughout}
@@ -99,8 +98,8 @@ pub sub_in : (w : List ℤ) (box : Box) → is_sub_box (singles w) box ≡ true 
 sub_in [] box e = tt
 sub_in (v ∷ w) [] e = cc
 sub_in (v ∷ w) (d ∷ box) e =
-    let p = both (has_value d v && true) (is_sub_box (singles w) box) e in
-    let q = both (has_value d v) true p.0 in (has_to d v q.0, sub_in w box p.1)
+    let p = and_parts (has_value d v && true) (is_sub_box (singles w) box) e in
+    let q = and_parts (has_value d v) true p.0 in (has_to d v q.0, sub_in w box p.1)
 
 pub singles_full : (w : List ℤ) → has_empty (singles w) ≡ false
 singles_full [] = refl
@@ -137,7 +136,7 @@ singles_closed g sound i stop w p =
     not_here c m =
         let q = of_filter (is_owned_within i stop) c g.constraints m in
         let k = place_of g.constraints c q.0 in
-        false_unless (refuted_by c (singles w)) (λ e. sound k.0 c (singles w) w k.1 (p.visible k.0 c k.1 q.1) p.declared e (in_own w) (p.holds k.0 c k.1 q.1))
+        false_from_ne_true (refuted_by c (singles w)) (λ e. sound k.0 c (singles w) w k.1 (p.visible k.0 c k.1 q.1) p.declared e (in_own w) (p.holds k.0 c k.1 q.1))
 
     keeps : (c : Rule) → Among c (constraints_within g i stop) → keeps_ends (singles w) c ≡ true
     keeps c m =

@@ -1,9 +1,9 @@
 -- What is told at a branch, as its cases are passed over, gone into, and end.
 use Rattle.std.proofs.Common.{◌≡◌, ◌≢◌, ℕ, ◌+◌, ◌-◌, ◌^◌, ◌<◌, Bool, true, false, ◌&&◌, ◌||◌, Option, Some, None, List, [], ◌∷◌, length, set, refl, sym, ap, ◌∙◌, subst, arith, ℤ, IfNone, IfSome, Result, Ok, Err, OnOk}
 use Rattle.std.specs.Prelude.{min, nat_lt, is_some, pos, ◌+ℤ◌}
+use Rattle.std.proofs.lemmas.Bool.{and_right, and_from}
 use Rattle.qc_model.specs.Domains.{Box, Values, values_left, values_within, box_within, is_none_left}
 use Rattle.qc_model.specs.Verdict.{Seen, seen_skipped}
-use Rattle.qc_model.proofs.Readable.{together}
 use Rattle.model_arguments.specs.Asked.{is_box_of}
 use Rattle.joins.specs.Joins.{game_of as game_joined}
 use Rattle.joins.specs.Sizes.{AreLong}
@@ -209,10 +209,6 @@ pub least_some : (vs : Values) (o : Option ℤ) → o ≡ least_of vs → is_som
 least_some [] o e f = let q : false ≡ true = sym (ap is_some e) ∙ f in cc
 least_some (v ∷ vs) o e f = refl
 
-not_both : (a b : Bool) → b ≡ false → (a && b) ≡ false
-not_both true b e = e
-not_both false b e = refl
-
 module _ (m : Nest) (us : List Given) (boxes : List Box) (d : Ledger) (w : IsAtFork m us boxes d) where
   pub range_tells : (high : ℤ) → TellsOf (record m { due = due.Ranged high }) us boxes (at_fork d.frames (λ b fs. Some (record d { due = ranged_due high })))
   range_tells high =
@@ -303,7 +299,7 @@ module _ (m : Nest) (us : List Given) (boxes : List Box) (d : Ledger) (w : IsAtF
       pub not_narrower : (new : Nest) (box : Box) → new.due ≡ due.Wrong → box ≡ box_within m.remains.box k.x.0 start end → length (values_left box k.x.0) ≡ length (values_left m.remains.box k.x.0) → TellsOf new us boxes (at_fork d.frames (λ b fs. only_ledger (may_go b upto) (gone_into d b fs upto)))
       not_narrower new box wrong e same =
           not_may new upto wrong
-          (not_both (is_cover upto last.left) (is_narrower (covered upto last.left) (values_left (past_box m.remains k.mark.at) k.x.0))
+          (and_right (is_cover upto last.left) (is_narrower (covered upto last.left) (values_left (past_box m.remains k.mark.at) k.x.0))
           (ap (λ vs. nat_lt (length vs) (length (values_left (past_box m.remains k.mark.at) k.x.0))) there.covers
           ∙ subst (λ b. nat_lt (length (values_within start end (values_left b k.x.0))) (length (values_left b k.x.0)) ≡ false) back_is (not_fewer m.remains.box box k.x.0 start end variable_inside e same)))
 
@@ -329,7 +325,7 @@ module _ (m : Nest) (us : List Given) (boxes : List Box) (d : Ledger) (w : IsAtF
 
         goes_in : may_go fork_kept upto ≡ true
         goes_in =
-            together (is_cover upto fork_kept.left) (is_narrower (covered upto fork_kept.left) (values_left (past_box t k.mark.at) k.x.0)) kept_case.is
+            and_from (is_cover upto fork_kept.left) (is_narrower (covered upto fork_kept.left) (values_left (past_box t k.mark.at) k.x.0)) kept_case.is
             (ap (λ vs. nat_lt (length vs) (length (values_left (past_box t k.mark.at) k.x.0))) kept_case.covers
             ∙ subst (λ b. nat_lt (length (values_within start end (values_left b k.x.0))) (length (values_left b k.x.0)) ≡ true) past_is (fewer m.remains.box t.box k.x.0 start end variable_inside box differs))
 

@@ -110,11 +110,6 @@ module _ (m : Nest) (t : Held) (undone : IsUndone m.entry.mark.at m.remains t) (
         by false (waiting above ∷ fs) own l = absurd l
         by false (forked b ∷ fs) own l = absurd l
 
--- what an answer says goes on
-pub if_ok : {X E : Type 0} (r : Result X E) (P Q : X → Type 0) → ((x : X) → P x → Q x) → IfOk r P → IfOk r Q
-if_ok (Ok x) P Q f h = f x h
-if_ok (Err e) P Q f h = h
-
 -- ---- the branch that was opened last
 module _ (m : Nest) (k : Fork) (os : List Open) (t : Held) (top : m.open ≡ Forked k ∷ os) (undone : IsUndone k.mark.at m.remains t) (content : t.box ≡ past_box m.remains k.mark.at) where
   abbrev back_there : Nest

@@ -31,6 +31,7 @@ use Rattle.dense_nest.specs.Goes.{IsOver, Finds, NodeGoes, goal_of, is_told_in, 
 use Rattle.dense_nest.specs.Ends.{given_to, IsHere}
 use Rattle.std.specs.declared.result.Result.{Result}
 use Rattle.std.specs.declared.alloc.AllocError.{AllocError}
+use Rattle.std.proofs.lemmas.Result.{IfOk-weaker}
 use Rattle.joins.specs.declared.leaves.Found.TheVariants.{Exact as FoundExact}
 use Rattle.joins.proofs.DemandSteps.{demands_short}
 use Rattle.dense_tree.specs.Read.{Known}
@@ -42,7 +43,6 @@ use Rattle.dense_nest.specs.declared.told.Tally.{Tally}
 use Rattle.dense_nest.specs.Tallies.{IsTally, HasTally}
 use Rattle.dense_nest.proofs.Frames.{frames_same}
 use Rattle.dense_nest.proofs.Tallying.{set_at, set_other}
-use Rattle.dense_nest.proofs.Closing.{if_ok}
 use Rattle.dense_nest.proofs.Naming.{known_length, known_more, kept_more, names_more, last_named, frames_renamed, told_is}
 use Rattle.dense_nest.proofs.Finishing.{still_node, with_values, with_joins, with_found}
 
@@ -151,7 +151,7 @@ goal_here m m1 e js f count last rest1 made read all same verdict =
 pub over_goes : (r : Result (Unit {0}) AllocError) (m m1 n : Nest) (e : Entry) (f : List Given → Ledger → Verdict) → m1.remains ≡ m.remains → game_of m1 ≡ game_of m → Finds m e m1 f → OnOk r (OverGoes m1 e n) →
     OnOk r (NodeGoes m e n (λ d. Some (node_ended (setting_of (game_of m) d) d (entry_told (game_of m) m.remains e) (loosened (setting_of (game_of m) d) (entry_told (game_of m) m.remains e).place (f d.given d)) d.frames)))
 over_goes r m m1 n e f remains same finds h =
-    if_ok r (λ x. OverGoes m1 e n) (λ x. NodeGoes m e n (λ d. Some (node_ended (setting_of (game_of m) d) d (entry_told (game_of m) m.remains e) (loosened (setting_of (game_of m) d) (entry_told (game_of m) m.remains e).place (f d.given d)) d.frames)))
+    IfOk-weaker r (λ x. OverGoes m1 e n) (λ x. NodeGoes m e n (λ d. Some (node_ended (setting_of (game_of m) d) d (entry_told (game_of m) m.remains e) (loosened (setting_of (game_of m) d) (entry_told (game_of m) m.remains e).place (f d.given d)) d.frames)))
     (λ x goes. found_goes m m1 n e f remains same finds goes) h
 
 -- ---- a horizon, and a name

@@ -5,6 +5,7 @@ use Rattle.std.specs.List.{list_all}
 use Rattle.std.specs.Ordering.{int_eq}
 use Rattle.std.proofs.lemmas.Int.{ints}
 use Rattle.std.proofs.lemmas.Option.{same_Some}
+use Rattle.std.proofs.lemmas.Bool.{and_left, and_right, false_from_ne_true}
 use mir.Val.{of_z}
 use mir.Syntax.{w64}
 use Rattle.qc_model.specs.declared.problem.Arg.{Arg}
@@ -16,26 +17,17 @@ use Rattle.qc_model.specs.Meaning.{meaning_of, clause}
 use Rattle.qc_model.specs.Refuted.{left_to, refuted_as, refuted_by}
 use Rattle.model_arguments.specs.Repeats.{is_variable, same_variable}
 use Rattle.model_arguments.specs.Written.{args_at}
-use Rattle.model_arguments.proofs.Bools.{never}
 use Rattle.model_arguments.proofs.Written.{lefts_written}
 use Rattle.dense_closing.specs.Takes.{Takes}
 use Rattle.dense_quiet.specs.Clauses.{IsSpare}
 use Rattle.dense_quiet.specs.Slack.{SparesTaken}
 use Rattle.dense_quiet.proofs.OneEnd.{kept_left, left_cases, not_both, AtEnd}
 
-and_false : (a b : Bool) → a ≡ false → (a && b) ≡ false
-and_false true b h = cc
-and_false false b h = refl
-
-and_right : (a b : Bool) → b ≡ false → (a && b) ≡ false
-and_right true b h = h
-and_right false b h = refl
-
 -- one item that lacks it
 one_lacks : (p : Values → Bool) (f : Arg → Values) (xs : List Arg) (k : ℕ) (a : Arg) → slice_get xs k ≡ Some a → p (f a) ≡ false → list_all p (map f xs) ≡ false
 one_lacks p f [] zero a e h = cc
 one_lacks p f [] (suc k) a e h = cc
-one_lacks p f (x ∷ xs) zero a e h = and_false (p (f x)) (list_all p (map f xs)) (subst (λ z. p (f z) ≡ false) (sym (same_Some x a e)) h)
+one_lacks p f (x ∷ xs) zero a e h = and_left (p (f x)) (list_all p (map f xs)) (subst (λ z. p (f z) ≡ false) (sym (same_Some x a e)) h)
 one_lacks p f (x ∷ xs) (suc k) a e h = and_right (p (f x)) (list_all p (map f xs)) (one_lacks p f xs k a e h)
 
 -- numbers that aren't the same
@@ -43,10 +35,10 @@ equal : (p q : ℤ) → int_eq p q ≡ true → p ≡ q
 equal p q h = grind (arith, ints)
 
 pub apart_ends : (p q : ℤ) → (of_z w64 p ≡ of_z w64 q → ⊥) → int_eq p q ≡ false
-apart_ends p q n = never (int_eq p q) (λ h. n (ap (of_z w64) (equal p q h)))
+apart_ends p q n = false_from_ne_true (int_eq p q) (λ h. n (ap (of_z w64) (equal p q h)))
 
 pub not_wrong : (p : ℤ) (j : ℕ) → j < 2 → (of_z w64 p ≡ j → ⊥) → int_eq p (pos j) ≡ false
-not_wrong p j two n = never (int_eq p (pos j)) (λ h. n (ap (of_z w64) (equal p (pos j) h) ∙ as_word j two))
+not_wrong p j two n = false_from_ne_true (int_eq p (pos j)) (λ h. n (ap (of_z w64) (equal p (pos j) h) ∙ as_word j two))
   where
     as_word : (j : ℕ) → j < 2 → of_z w64 (pos j) ≡ j
     as_word zero l = refl
@@ -77,7 +69,7 @@ module _ (r : Rule) (box : Box) (e : meaning_of r.pred ≡ clause) where
       lacks j i h = ap (list_all (is_only (pos j))) (lefts_written at r.args j) ∙ one_lacks (is_only (pos j)) (left_to at) (args_at r.args j) k a i h
 
       by : (j : ℕ) → j < 2 → slice_get (args_at r.args j) k ≡ Some a → is_only (pos j) (left_to at a) ≡ false → refuted_as clause ls ≡ false
-      by zero l i h = and_false (list_all (is_only (pos 0)) (lefts_at ls 0)) (list_all (is_only (pos 1)) (lefts_at ls 1)) (lacks 0 i h)
+      by zero l i h = and_left (list_all (is_only (pos 0)) (lefts_at ls 0)) (list_all (is_only (pos 1)) (lefts_at ls 1)) (lacks 0 i h)
       by (suc zero) l i h = and_right (list_all (is_only (pos 0)) (lefts_at ls 0)) (list_all (is_only (pos 1)) (lefts_at ls 1)) (lacks 1 i h)
       by (suc (suc j)) l i h = absurd (omega arith)
 

@@ -3,9 +3,10 @@ use Rattle.std.proofs.Common.{◌≡◌, ◌⊎◌, inl, inr, ℕ, zero, suc, �
 use Rattle.std.specs.Prelude.{pos, ◌+ℤ◌, ◌-ℤ◌, ◌≤ℤ◌, ◌<ℤ◌, int_le, int_lt, count_by, nat_abs}
 use Rattle.std.proofs.lemmas.Int.{ints}
 use Rattle.std.proofs.lemmas.List.Sums.{sum_by-cons}
+use Rattle.std.proofs.lemmas.Bool.{and_parts}
 use Rattle.qc_model.specs.Domains.{Values, least_value, greatest_value}
 use Rattle.qc_model.specs.Left.{has_crowd}
-use Rattle.qc_model.proofs.Sound.{both, differ}
+use Rattle.qc_model.proofs.Sound.{differ}
 use Rattle.model_table.proofs.CrowdEnds.{crowd_has_ends}
 use Rattle.qc_refuter.specs.Full.{lies_in, held}
 use Rattle.qc_refuter.proofs.Fill.{held_of_crowd, least_to_greatest}
@@ -89,7 +90,7 @@ lowest_item p (x ∷ xs) = by (p x) refl (lowest_item p xs)
 -- what lies among the n numbers from l on
 lies_ends : (l : ℤ) (n : ℕ) (d : Values) → lies_in l n d ≡ true → (l ≤ℤ least_value d) × (greatest_value d <ℤ (l +ℤ pos n))
 lies_ends l n d e =
-    let p = both (int_le l (least_value d)) (int_lt (greatest_value d) (l +ℤ pos n)) e in
+    let p = and_parts (int_le l (least_value d)) (int_lt (greatest_value d) (l +ℤ pos n)) e in
     (omega (arith, ints, p.0), omega (arith, ints, p.1))
 
 pub lies_from : (l : ℤ) (n : ℕ) (d : Values) → l ≤ℤ least_value d → greatest_value d <ℤ (l +ℤ pos n) → lies_in l n d ≡ true

@@ -1,6 +1,7 @@
 -- An array of variables that refutes nothing that it may take.
 use Rattle.std.proofs.Common.{◌≡◌, ◌⊎◌, inl, inr, ℕ, Bool, true, false, not, ◌&&◌, List, [], ◌∷◌, map, refl, sym, ap, ◌∙◌, subst, arith, ℤ}
 use Rattle.std.specs.Prelude.{pos, Some}
+use Rattle.std.proofs.lemmas.Bool.{not_from_true}
 use Rattle.qc_model.specs.declared.problem.Arg.{Arg}
 use Rattle.qc_model.specs.Arguments.{fill, variables_of}
 use Rattle.qc_model.specs.Closed.{refutes_at}
@@ -22,7 +23,7 @@ use Rattle.dense_quiet.specs.Quiet.{SparesTwo, SparesThree, item_at}
 use Rattle.dense_quiet.specs.Slack.{SparesTaken}
 use Rattle.dense_quiet.proofs.ItemPlaces.{none_later, none_earlier, none_item, meets_item, no_item}
 use Rattle.dense_quiet.proofs.OneEnd.{args_apart, kept_left, kept_items, left_cases, not_both, AtEnd, spares_three}
-use Rattle.dense_quiet.proofs.Shared.{equal_spares, turned}
+use Rattle.dense_quiet.proofs.Shared.{equal_spares}
 
 module _ (takes : Takes) (r : Rule) (box : Box) (e : meaning_of r.pred ≡ variable_element) (d : Distinct (variables_of r.args)) where
   -- what an item meets isn't refuted
@@ -33,7 +34,7 @@ module _ (takes : Takes) (r : Rule) (box : Box) (e : meaning_of r.pred ≡ varia
       ∙ (ap (λ z. not (some_item_meets (pos 1) z (lefts_at ls 1) (left_at ls 2))) (left_written at r.args 0)
       ∙ (ap (λ z. not (some_item_meets (pos 1) (left_to at (arg_at r.args 0)) z (left_at ls 2))) (lefts_written at r.args 1)
       ∙ (ap (λ z. not (some_item_meets (pos 1) (left_to at (arg_at r.args 0)) (map (left_to at) (args_at r.args 1)) z)) (left_written at r.args 2)
-      ∙ turned (some_item_meets (pos 1) (left_to at (arg_at r.args 0)) (map (left_to at) (args_at r.args 1)) (left_to at (arg_at r.args 2))) h)))
+      ∙ not_from_true (some_item_meets (pos 1) (left_to at (arg_at r.args 0)) (map (left_to at) (args_at r.args 1)) (left_to at (arg_at r.args 2))) h)))
 
   stands_at : (at : Box) (p : ℤ) (a : Arg) → item_at (args_at r.args 1) p ≡ Some a → has_value (left_to at (arg_at r.args 0)) p ≡ true → misses (left_to at a) (left_to at (arg_at r.args 2)) ≡ false → refuted_by r at ≡ false
   stands_at at p a i h m = stands at (meets_item (left_to at (arg_at r.args 0)) (left_to at (arg_at r.args 2)) (left_to at) (args_at r.args 1) p a i h m)

@@ -5,6 +5,7 @@ use Rattle.std.specs.List.{list_any}
 use Rattle.std.proofs.lemmas.Bool.Decides.{nat_tests}
 use Rattle.std.proofs.lemmas.Int.{ints}
 use Rattle.std.proofs.lemmas.Option.{same_Some}
+use Rattle.std.proofs.lemmas.Bool.{or_left, or_right, or_parts, not_from_false, false_from_ne_true, or_cases, and_from}
 use Rattle.qc_model.specs.declared.problem.Arg.{Arg}
 use Rattle.qc_model.specs.declared.problem.Arg.TheVariants.{Var, Num}
 use Rattle.qc_model.specs.declared.problem.Argument.{Argument}
@@ -14,12 +15,10 @@ use Rattle.qc_model.specs.Domains.{Values, Box, has_value, misses}
 use Rattle.qc_model.specs.Left.{some_item_meets}
 use Rattle.qc_model.specs.Lists.{Among, Distinct}
 use Rattle.qc_model.specs.Refuted.{left_to}
-use Rattle.qc_model.proofs.Readable.{first, second, together}
+use Rattle.qc_model.proofs.Readable.{first, second}
 use Rattle.model_arguments.specs.Repeats.{is_variable, same_variable}
 use Rattle.model_arguments.specs.Written.{arg_at, args_at}
-use Rattle.model_arguments.proofs.Bools.{or_left, or_right, neither, never, not_true}
 use Rattle.model_arguments.proofs.Values.{has_first}
-use Rattle.model_table.proofs.Fits.{or_cases}
 use Rattle.dense_quiet.specs.Quiet.{item_at}
 use Rattle.dense_quiet.proofs.OneEnd.{among_right, distinct_right}
 use Rattle.dense_quiet.proofs.Places.{nothing_more, further}
@@ -80,16 +79,16 @@ items_there (a ∷ args) (suc i) x h = items_there args i x h
 
 -- a variable that is an argument is no item of a later array, and of no earlier one
 pub none_later : (args : List Argument) (i j x : ℕ) → i < j → Distinct (variables_of args) → is_variable (arg_at args i) x ≡ true → list_any (λ a. is_variable a x) (args_at args j) ≡ false
-none_later args i j x l d h = never (list_any (λ a. is_variable a x) (args_at args j)) (λ k. at_one args i j x l d (arg_there args i x h) (items_there args j x k))
+none_later args i j x l d h = false_from_ne_true (list_any (λ a. is_variable a x) (args_at args j)) (λ k. at_one args i j x l d (arg_there args i x h) (items_there args j x k))
 
 pub none_earlier : (args : List Argument) (i j x : ℕ) → i < j → Distinct (variables_of args) → is_variable (arg_at args j) x ≡ true → list_any (λ a. is_variable a x) (args_at args i) ≡ false
-none_earlier args i j x l d h = never (list_any (λ a. is_variable a x) (args_at args i)) (λ k. at_one args i j x l d (items_there args i x k) (arg_there args j x h))
+none_earlier args i j x l d h = false_from_ne_true (list_any (λ a. is_variable a x) (args_at args i)) (λ k. at_one args i j x l d (items_there args i x k) (arg_there args j x h))
 
 pub none_got : (p : Arg → Bool) (xs : List Arg) (k : ℕ) (a : Arg) → slice_get xs k ≡ Some a → list_any p xs ≡ false → p a ≡ false
 none_got p [] zero a e h = cc
 none_got p [] (suc k) a e h = cc
-none_got p (x ∷ xs) zero a e h = subst (λ z. p z ≡ false) (same_Some x a e) (neither (p x) (list_any p xs) h).0
-none_got p (x ∷ xs) (suc k) a e h = none_got p xs k a e (neither (p x) (list_any p xs) h).1
+none_got p (x ∷ xs) zero a e h = subst (λ z. p z ≡ false) (same_Some x a e) (or_parts (p x) (list_any p xs) h).0
+none_got p (x ∷ xs) (suc k) a e h = none_got p xs k a e (or_parts (p x) (list_any p xs) h).1
 
 -- an item that has a value in common with c, at a place that is left
 meets_in : (i : ℤ) (b c : Values) (f : Arg → Values) (xs : List Arg) (k : ℕ) (a : Arg) → slice_get xs k ≡ Some a → has_value b (i +ℤ pos k) ≡ true → misses (f a) c ≡ false → some_item_meets i b (map f xs) c ≡ true
@@ -97,7 +96,7 @@ meets_in i b c f [] zero a e h m = cc
 meets_in i b c f [] (suc k) a e h m = cc
 meets_in i b c f (x ∷ xs) zero a e h m =
     or_left (has_value b i && not (misses (f x) c)) (some_item_meets (i +ℤ pos 1) b (map f xs) c)
-    (together (has_value b i) (not (misses (f x) c)) (subst (λ z. has_value b z ≡ true) (nothing_more i) h) (not_true (misses (f x) c) (subst (λ z. misses (f z) c ≡ false) (sym (same_Some x a e)) m)))
+    (and_from (has_value b i) (not (misses (f x) c)) (subst (λ z. has_value b z ≡ true) (nothing_more i) h) (not_from_false (misses (f x) c) (subst (λ z. misses (f z) c ≡ false) (sym (same_Some x a e)) m)))
 meets_in i b c f (x ∷ xs) (suc k) a e h m =
     or_right (has_value b i && not (misses (f x) c)) (some_item_meets (i +ℤ pos 1) b (map f xs) c)
     (meets_in (i +ℤ pos 1) b c f xs k a e (subst (λ z. has_value b z ≡ true) (further i k) h) m)

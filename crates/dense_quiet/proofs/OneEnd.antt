@@ -3,6 +3,7 @@ use Rattle.std.proofs.Common.{◌≡◌, ◌⊎◌, inl, inr, ℕ, zero, suc, �
 use Rattle.std.specs.Prelude.{pos}
 use Rattle.std.specs.List.{list_any}
 use Rattle.std.proofs.lemmas.List.{get_or-set_other}
+use Rattle.std.proofs.lemmas.Bool.{or_parts, false_from_ne_true}
 use Rattle.qc_model.specs.declared.problem.Arg.{Arg}
 use Rattle.qc_model.specs.declared.problem.Arg.TheVariants.{Var, Num}
 use Rattle.qc_model.specs.declared.problem.Argument.{Argument}
@@ -17,7 +18,6 @@ use Rattle.qc_model.specs.Meaning.{Meaning, meaning_of}
 use Rattle.qc_model.specs.Refuted.{left_to, refuted_as, refuted_by}
 use Rattle.model_arguments.specs.Repeats.{is_variable, same_variable}
 use Rattle.model_arguments.specs.Written.{arg_at}
-use Rattle.model_arguments.proofs.Bools.{never, neither}
 use Rattle.model_arguments.proofs.Written.{left_written}
 use Rattle.dense_closing.specs.Takes.{Takes}
 use Rattle.dense_quiet.specs.Quiet.{FailsAtEnds, SparesTwo, SparesThree}
@@ -47,7 +47,7 @@ pub args_apart : (args : List Argument) (i j : ℕ) → i < j → Distinct (vari
 args_apart args i zero l d = absurd (omega arith)
 args_apart [] zero (suc j) l d = refl
 args_apart [] (suc i) (suc j) l d = refl
-args_apart (One (Var y) ∷ args) zero (suc j) l d = never (is_variable (arg_at args j) y.0) (λ h. d.0 (arg_among args j y.0 h))
+args_apart (One (Var y) ∷ args) zero (suc j) l d = false_from_ne_true (is_variable (arg_at args j) y.0) (λ h. d.0 (arg_among args j y.0 h))
 args_apart (One (Num n) ∷ args) zero (suc j) l d = refl
 args_apart (Many xs ∷ args) zero (suc j) l d = refl
 args_apart (Numbers ns ∷ args) zero (suc j) l d = refl
@@ -75,7 +75,7 @@ module _ (ok : ℕ → Bool) (box : Box) (x : ℕ) (taken : ok x ≡ true) (v : 
   pub kept_items : (xs : List Arg) → list_any (λ a. is_variable a x) xs ≡ false → map (left_to (box_at box x v)) xs ≡ map (left_to box) xs
   kept_items [] h = refl
   kept_items (a ∷ xs) h =
-      let n = neither (is_variable a x) (list_any (λ z. is_variable z x) xs) h in
+      let n = or_parts (is_variable a x) (list_any (λ z. is_variable z x) xs) h in
       ap (λ u. u ∷ map (left_to (box_at box x v)) xs) (kept_left a n.0) ∙ ap (λ us. left_to box a ∷ us) (kept_items xs n.1)
 
   -- x itself has one end

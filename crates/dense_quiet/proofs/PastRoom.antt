@@ -7,6 +7,7 @@ use Rattle.std.proofs.lemmas.Bool.Decides.{nat_tests}
 use Rattle.std.proofs.lemmas.Int.{ints, clamps}
 use Rattle.std.proofs.lemmas.List.{get_or-set_same}
 use Rattle.std.proofs.lemmas.Option.{same_Some}
+use Rattle.std.proofs.lemmas.Bool.{or_left, or_right, or_from, or_parts, false_from_ne_true, or_cases}
 use Rattle.qc_model.specs.declared.problem.Arg.{Arg}
 use Rattle.qc_model.specs.declared.problem.Arg.TheVariants.{Var, Num}
 use Rattle.qc_model.specs.declared.problem.Argument.{Argument}
@@ -24,12 +25,10 @@ use Rattle.qc_model.specs.Valid.{IsValid}
 use Rattle.model_arguments.specs.Asked.{is_box_of}
 use Rattle.model_arguments.specs.Repeats.{is_variable, same_variable, has_repeat}
 use Rattle.model_arguments.specs.Written.{args_at, ints_at}
-use Rattle.model_arguments.proofs.Bools.{neither, or_none, or_left, or_right, never}
 use Rattle.model_arguments.proofs.Items.{other_left, others_left}
 use Rattle.model_arguments.proofs.Kept.{at_least, at_most, is_lower, through}
 use Rattle.model_arguments.proofs.Values.{value_passes, has_least, has_greatest}
 use Rattle.model_arguments.proofs.Written.{lefts_written, numbers_written}
-use Rattle.model_table.proofs.Fits.{or_cases}
 use Rattle.model_table.proofs.Inside.{Inside, given_sums_inside}
 use Rattle.model_table.proofs.Parts.{lefts_parts}
 use Rattle.model_table.proofs.Typed.{lefts_of}
@@ -67,9 +66,9 @@ no_number (a ∷ xs) n = no_number xs n
 
 items_once : (xs : List Arg) → Distinct (flat_map arg_variables xs) → has_repeat xs ≡ false
 items_once [] d = refl
-items_once (Num n ∷ xs) d = or_none (list_any (same_variable (Num n)) xs) (has_repeat xs) (no_number xs n) (items_once xs d)
+items_once (Num n ∷ xs) d = or_from (list_any (same_variable (Num n)) xs) (has_repeat xs) (no_number xs n) (items_once xs d)
 items_once (Var x ∷ xs) d =
-    or_none (list_any (same_variable (Var x)) xs) (has_repeat xs) (never (list_any (same_variable (Var x)) xs) (λ h. d.0 (stands x.0 xs h))) (items_once xs d.1)
+    or_from (list_any (same_variable (Var x)) xs) (has_repeat xs) (false_from_ne_true (list_any (same_variable (Var x)) xs) (λ h. d.0 (stands x.0 xs h))) (items_once xs d.1)
 
 pub once_at : (args : List Argument) (k : ℕ) → Distinct (variables_of args) → has_repeat (args_at args k) ≡ false
 once_at [] zero d = refl
@@ -118,8 +117,8 @@ module _ (box : Box) (x : VarId) (us : Values) (n : ℤ) (l : x.0 < length box) 
   apart_from : (a : Arg) (xs : List Arg) (i : ℕ) → list_any (same_variable a) xs ≡ false → slice_get xs i ≡ Some (Var x) → same_variable a (Var x) ≡ false
   apart_from a [] zero h e = cc
   apart_from a [] (suc i) h e = cc
-  apart_from a (b ∷ xs) zero h e = subst (λ z. same_variable a z ≡ false) (same_Some b (Var x) e) (neither (same_variable a b) (list_any (same_variable a) xs) h).0
-  apart_from a (b ∷ xs) (suc i) h e = apart_from a xs i (neither (same_variable a b) (list_any (same_variable a) xs) h).1 e
+  apart_from a (b ∷ xs) zero h e = subst (λ z. same_variable a z ≡ false) (same_Some b (Var x) e) (or_parts (same_variable a b) (list_any (same_variable a) xs) h).0
+  apart_from a (b ∷ xs) (suc i) h e = apart_from a xs i (or_parts (same_variable a b) (list_any (same_variable a) xs) h).1 e
 
   sum_moved : (ns : List ℤ) (xs : List Arg) (i : ℕ) → has_repeat xs ≡ false → slice_get ns i ≡ Some n → slice_get xs i ≡ Some (Var x) →
       IsMoved (sum_range ns (map (left_to box) xs)) (sum_range ns (map (left_to (set box x.0 us)) xs)) (term n (values_left box x.0)) (term n us)
@@ -130,7 +129,7 @@ module _ (box : Box) (x : VarId) (us : Values) (n : ℤ) (l : x.0 < length box) 
   sum_moved (m ∷ ns) (a ∷ xs) zero r p q =
       let e = same_Some m n p in
       let f = same_Some a (Var x) q in
-      let once = neither (list_any (same_variable a) xs) (has_repeat xs) r in
+      let once = or_parts (list_any (same_variable a) xs) (has_repeat xs) r in
       let rest = others_left box x us xs (subst (λ z. list_any (same_variable z) xs ≡ false) f once.0) in
       let was = ap (λ z. term z (left_to box a)) e ∙ ap (λ z. term n (left_to box z)) f in
       let is = ap (λ z. term z (left_to (set box x.0 us) a)) e ∙ (ap (λ z. term n (left_to (set box x.0 us) z)) f ∙ ap (term n) (get_or-set_same box x.0 us [] l)) in
@@ -142,7 +141,7 @@ module _ (box : Box) (x : VarId) (us : Values) (n : ℤ) (l : x.0 < length box) 
       swap : (a b c d s t : ℤ) → a ≡ b → c ≡ d → s ≡ t → (a +ℤ s) +ℤ d ≡ (c +ℤ t) +ℤ b
       swap a b c d s t h k m = omega (arith, ints)
   sum_moved (m ∷ ns) (a ∷ xs) (suc i) r p q =
-      let once = neither (list_any (same_variable a) xs) (has_repeat xs) r in
+      let once = or_parts (list_any (same_variable a) xs) (has_repeat xs) r in
       let stays = ap (term m) (other_left box x us a (apart_from a xs i once.0 q)) in
       let rest = sum_moved ns xs i once.1 p q in
       record {

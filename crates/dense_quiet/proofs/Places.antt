@@ -3,17 +3,16 @@ use Rattle.std.proofs.Common.{◌≡◌, ℕ, zero, suc, ◌<◌, ◌+◌, ◌-�
 use Rattle.std.specs.Prelude.{pos, ◌+ℤ◌, int_lt, unsigned_abs}
 use Rattle.std.specs.Ordering.{int_eq}
 use Rattle.std.proofs.lemmas.Int.{ints}
+use Rattle.std.proofs.lemmas.Bool.{not_from_true, or_left, or_right, and_from}
 use Rattle.qc_model.specs.declared.problem.Arg.{Arg}
 use Rattle.qc_model.specs.Domains.{Values, Box, least_value, greatest_value, has_value}
 use Rattle.qc_model.specs.Left.{some_item_in}
 use Rattle.qc_model.specs.Refuted.{left_to}
-use Rattle.qc_model.proofs.Readable.{first, second, together}
-use Rattle.model_arguments.proofs.Bools.{or_left, or_right}
+use Rattle.qc_model.proofs.Readable.{first, second}
 use Rattle.model_arguments.proofs.Values.{has_first, has_least, has_greatest}
 use Rattle.qc_refuter.specs.Met.{is_domain_left, is_open}
 use Rattle.qc_refuter.proofs.Terms.{some_left}
 use Rattle.dense_quiet.specs.Quiet.{SparesTwo, misses_number}
-use Rattle.dense_quiet.proofs.Shared.{turned}
 
 pub nothing_more : (i : ℤ) → i +ℤ pos 0 ≡ i
 nothing_more i = omega (arith, ints)
@@ -25,7 +24,7 @@ item_in : (i : ℤ) (b c : Values) (ns : List ℤ) (k : ℕ) → k < length ns �
 item_in i b c [] k l h m = absurd (omega arith)
 item_in i b c (n ∷ ns) zero l h m =
     or_left (has_value b i && has_value c n) (some_item_in (i +ℤ pos 1) b ns c)
-    (together (has_value b i) (has_value c n) (subst (λ z. has_value b z ≡ true) (nothing_more i) h) m)
+    (and_from (has_value b i) (has_value c n) (subst (λ z. has_value b z ≡ true) (nothing_more i) h) m)
 item_in i b c (n ∷ ns) (suc k) l h m =
     or_right (has_value b i && has_value c n) (some_item_in (i +ℤ pos 1) b ns c)
     (item_in (i +ℤ pos 1) b c ns k (omega arith) (subst (λ z. has_value b z ≡ true) (further i k) h) m)
@@ -53,7 +52,7 @@ more_places i p b c [] m h = cc
 more_places i p b c (n ∷ ns) m h = by (more_places (i +ℤ pos 1) p b c ns m) (has_value (p ∷ []) i && has_value c n) refl h
   where
     there : (has_value (p ∷ []) i && has_value c n) ≡ true → (has_value b i && has_value c n) ≡ true
-    there t = together (has_value b i) (has_value c n) (subst (λ z. has_value b z ≡ true) (sym (only_value p i (first (has_value (p ∷ []) i) (has_value c n) t))) m) (second (has_value (p ∷ []) i) (has_value c n) t)
+    there t = and_from (has_value b i) (has_value c n) (subst (λ z. has_value b z ≡ true) (sym (only_value p i (first (has_value (p ∷ []) i) (has_value c n) t))) m) (second (has_value (p ∷ []) i) (has_value c n) t)
 
     by : (some_item_in (i +ℤ pos 1) (p ∷ []) ns c ≡ true → some_item_in (i +ℤ pos 1) b ns c ≡ true) → (t : Bool) → (has_value (p ∷ []) i && has_value c n) ≡ t → (t || some_item_in (i +ℤ pos 1) (p ∷ []) ns c) ≡ true → some_item_in i b (n ∷ ns) c ≡ true
     by f true e k = or_left (has_value b i && has_value c n) (some_item_in (i +ℤ pos 1) b ns c) (there e)
@@ -82,9 +81,9 @@ from_greatest b c p ns o e h = more_places (pos 1) p b c ns (subst (λ z. has_va
 pub element_spares : (ok : ℕ → Bool) (x y : Arg) (box : Box) (ns : List ℤ) → is_open box x ≡ true → some_item_in (pos 1) (least_value (left_to box x) ∷ []) ns (left_to box y) ≡ true → some_item_in (pos 1) (greatest_value (left_to box x) ∷ []) ns (left_to box y) ≡ true →
     some_item_in (pos 1) (left_to box x) ns (least_value (left_to box y) ∷ []) ≡ true → some_item_in (pos 1) (left_to box x) ns (greatest_value (left_to box y) ∷ []) ≡ true → SparesTwo (misses_number ns) ok x y box
 element_spares ok x y box ns o f g h k = record {
-  whole = turned (some_item_in (pos 1) b ns c) (from_least b c (least_value b) ns o refl f);
-  first = λ t. record { least = turned (some_item_in (pos 1) (least_value b ∷ []) ns c) f; greatest = turned (some_item_in (pos 1) (greatest_value b ∷ []) ns c) g };
-  second = λ t. record { least = turned (some_item_in (pos 1) b ns (least_value c ∷ [])) h; greatest = turned (some_item_in (pos 1) b ns (greatest_value c ∷ [])) k };
+  whole = not_from_true (some_item_in (pos 1) b ns c) (from_least b c (least_value b) ns o refl f);
+  first = λ t. record { least = not_from_true (some_item_in (pos 1) (least_value b ∷ []) ns c) f; greatest = not_from_true (some_item_in (pos 1) (greatest_value b ∷ []) ns c) g };
+  second = λ t. record { least = not_from_true (some_item_in (pos 1) b ns (least_value c ∷ [])) h; greatest = not_from_true (some_item_in (pos 1) b ns (greatest_value c ∷ [])) k };
 }
   where
     b : Values

@@ -4,6 +4,7 @@ use Rattle.std.specs.Prelude.{flat_map}
 use Rattle.std.specs.List.{list_any}
 use Rattle.std.proofs.lemmas.Bool.Decides.{nat_tests}
 use Rattle.std.proofs.lemmas.List.{get_or-set_other}
+use Rattle.std.proofs.lemmas.Bool.{or_from, or_parts}
 use Rattle.qc_model.specs.declared.problem.Arg.{Arg}
 use Rattle.qc_model.specs.declared.problem.Arg.TheVariants.{Var, Num}
 use Rattle.qc_model.specs.declared.problem.Argument.{Argument}
@@ -19,7 +20,6 @@ use Rattle.qc_model.specs.Meaning.{meaning_of}
 use Rattle.qc_model.specs.Refuted.{left_to, refuted_as, refuted_by}
 use Rattle.model_arguments.specs.Repeats.{is_variable, same_variable, has_repeat}
 use Rattle.model_arguments.specs.Written.{args_at}
-use Rattle.model_arguments.proofs.Bools.{neither, or_none}
 use Rattle.model_arguments.proofs.Written.{lefts_written}
 use Rattle.dense_closing.specs.Takes.{Takes}
 use Rattle.dense_quiet.specs.Differing.{AllQuiet}
@@ -48,7 +48,7 @@ distinct_later (x ∷ xs) ys d = distinct_later xs ys d.1
 none_same : (k : ℕ) (xs : List Arg) → (Among k (flat_map arg_variables xs) → ⊥) → list_any (λ b. is_variable b k) xs ≡ false
 none_same k [] f = refl
 none_same k (Num m ∷ xs) f = none_same k xs f
-none_same k (Var y ∷ xs) f = or_none (y.0 == k) (list_any (λ b. is_variable b k) xs) (by (y.0 == k) refl) (none_same k xs (λ m. f (inr m)))
+none_same k (Var y ∷ xs) f = or_from (y.0 == k) (list_any (λ b. is_variable b k) xs) (by (y.0 == k) refl) (none_same k xs (λ m. f (inr m)))
   where
     by : (b : Bool) → (y.0 == k) ≡ b → b ≡ false
     by true e = absurd (f (inl (sym (equal_numbers y.0 k e))))
@@ -56,12 +56,12 @@ none_same k (Var y ∷ xs) f = or_none (y.0 == k) (list_any (λ b. is_variable b
 
 items_once : (xs : List Arg) → Distinct (flat_map arg_variables xs) → has_repeat xs ≡ false
 items_once [] d = refl
-items_once (Num m ∷ xs) d = or_none (list_any (same_variable (Num m)) xs) (has_repeat xs) (no_number xs) (items_once xs d)
+items_once (Num m ∷ xs) d = or_from (list_any (same_variable (Num m)) xs) (has_repeat xs) (no_number xs) (items_once xs d)
   where
     no_number : (ys : List Arg) → list_any (same_variable (Num m)) ys ≡ false
     no_number [] = refl
     no_number (y ∷ ys) = no_number ys
-items_once (Var y ∷ xs) d = or_none (list_any (same_variable (Var y)) xs) (has_repeat xs) (none_same y.0 xs d.0) (items_once xs d.1)
+items_once (Var y ∷ xs) d = or_from (list_any (same_variable (Var y)) xs) (has_repeat xs) (none_same y.0 xs d.0) (items_once xs d.1)
 
 once_at : (args : List Argument) (k : ℕ) → Distinct (variables_of args) → has_repeat (args_at args k) ≡ false
 once_at [] zero d = refl
@@ -95,7 +95,7 @@ module _ (box : Box) (x : ℕ) (v : ℤ) where
   same_items [] h = refl
   same_items (Num m ∷ xs) h = ap (λ ds. (m ∷ []) ∷ ds) (same_items xs h)
   same_items (Var y ∷ xs) h =
-      let both = neither (y.0 == x) (list_any (λ b. is_variable b x) xs) h in
+      let both = or_parts (y.0 == x) (list_any (λ b. is_variable b x) xs) h in
       ap (λ d. d ∷ map (left_to (box_at box x v)) xs) (other_left y.0 (apart_numbers y.0 x both.0)) ∙ ap (λ ds. values_left box y.0 ∷ ds) (same_items xs both.1)
 
   later : (a : Arg) (xs : List Arg) → left_to (box_at box x v) a ≡ left_to box a → IsSame box x v xs ⊎ IsReplaced box x v xs → IsSame box x v (a ∷ xs) ⊎ IsReplaced box x v (a ∷ xs)
@@ -121,8 +121,8 @@ module _ (box : Box) (x : ℕ) (v : ℤ) where
 
   replaced : (xs : List Arg) → has_repeat xs ≡ false → IsSame box x v xs ⊎ IsReplaced box x v xs
   replaced [] r = inl refl
-  replaced (Num m ∷ xs) r = later (Num m) xs refl (replaced xs (neither (list_any (same_variable (Num m)) xs) (has_repeat xs) r).1)
-  replaced (Var y ∷ xs) r = by (y.0 == x) refl (neither (list_any (same_variable (Var y)) xs) (has_repeat xs) r) (replaced xs (neither (list_any (same_variable (Var y)) xs) (has_repeat xs) r).1)
+  replaced (Num m ∷ xs) r = later (Num m) xs refl (replaced xs (or_parts (list_any (same_variable (Num m)) xs) (has_repeat xs) r).1)
+  replaced (Var y ∷ xs) r = by (y.0 == x) refl (or_parts (list_any (same_variable (Var y)) xs) (has_repeat xs) r) (replaced xs (or_parts (list_any (same_variable (Var y)) xs) (has_repeat xs) r).1)
     where
       by : (b : Bool) → (y.0 == x) ≡ b → (list_any (same_variable (Var y)) xs ≡ false) × (has_repeat xs ≡ false) → IsSame box x v xs ⊎ IsReplaced box x v xs → IsSame box x v (Var y ∷ xs) ⊎ IsReplaced box x v (Var y ∷ xs)
       by true q h rest =

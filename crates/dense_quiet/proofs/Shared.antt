@@ -4,11 +4,11 @@ use Rattle.std.specs.Prelude.{◌≤ℤ◌}
 use Rattle.std.specs.List.{list_any}
 use Rattle.std.specs.Ordering.{int_eq}
 use Rattle.std.proofs.lemmas.Int.{ints}
+use Rattle.std.proofs.lemmas.Bool.{not_from_true, or_left, or_right}
 use Rattle.qc_model.specs.declared.problem.Arg.{Arg}
 use Rattle.qc_model.specs.Domains.{Values, Box, least_value, greatest_value, has_value, misses}
 use Rattle.qc_model.specs.Ranges.{range_of}
 use Rattle.qc_model.specs.Refuted.{left_to}
-use Rattle.model_arguments.proofs.Bools.{or_left, or_right}
 use Rattle.model_arguments.proofs.Values.{has_first, has_least, has_greatest}
 use Rattle.qc_refuter.specs.Met.{is_domain_left, is_open}
 use Rattle.qc_refuter.proofs.Terms.{some_left}
@@ -32,12 +32,8 @@ any_has p (w ∷ vs) v h k = by (any_has p vs v) (int_eq v w) refl h
     by f true e m = or_left (p w) (list_any p vs) (subst (λ z. p z ≡ true) (equal e) k)
     by f false e m = or_right (p w) (list_any p vs) (f m k)
 
-pub turned : (b : Bool) → b ≡ true → not b ≡ false
-turned true h = refl
-turned false h = cc
-
 pub in_both : (d e : Values) (v : ℤ) → has_value d v ≡ true → has_value e v ≡ true → misses d e ≡ false
-in_both d e v h k = turned (list_any (has_value e) d) (any_has (has_value e) d v h k)
+in_both d e v h k = not_from_true (list_any (has_value e) d) (any_has (has_value e) d v h k)
 
 pub equal_spares : (ok : ℕ → Bool) (x y : Arg) (box : Box) → is_open box x ≡ true → is_open box y ≡ true → least_value (left_to box x) ≡ least_value (left_to box y) → greatest_value (left_to box x) ≡ greatest_value (left_to box y) → SparesTwo misses ok x y box
 equal_spares ok x y box ox oy low high = record {

@@ -19,11 +19,11 @@ use Rattle.qc_model.specs.Ranges.{Range, point, product, range_of, ranges_miss}
 use Rattle.qc_model.specs.Refuted.{left_to, refuted_as, refuted_by}
 use Rattle.model_arguments.specs.Repeats.{is_variable, same_variable, has_repeat}
 use Rattle.model_arguments.specs.Written.{arg_at, args_at, ints_at}
-use Rattle.model_arguments.proofs.Bools.{neither, or_none}
 use Rattle.model_arguments.proofs.Written.{left_written, lefts_written, numbers_written}
 use Rattle.dense_closing.specs.Takes.{Takes}
 use Rattle.dense_quiet.specs.Slack.{IsNear, is_taken, AreNear, AllNear, SparesTaken}
 use Rattle.std.proofs.lemmas.Option.{same_Some}
+use Rattle.std.proofs.lemmas.Bool.{or_from, or_parts}
 
 -- one more place
 pub last_or_before : (k n : ℕ) → k < n + 1 → (k < n) ⊎ (k ≡ n)
@@ -87,7 +87,7 @@ module _ (ok : ℕ → Bool) (s : ℤ) (z : pos 0 ≤ℤ s) (box : Box) (x : ℕ
   same_items [] h = refl
   same_items (Num m ∷ xs) h = ap (λ ds. (m ∷ []) ∷ ds) (same_items xs h)
   same_items (Var y ∷ xs) h =
-      let both = neither (y.0 == x) (list_any (λ b. is_variable b x) xs) h in
+      let both = or_parts (y.0 == x) (list_any (λ b. is_variable b x) xs) h in
       ap (λ d. d ∷ map (left_to (box_at box x v)) xs) (other_left y.0 (apart_numbers y.0 x both.0)) ∙ ap (λ ds. values_left box y.0 ∷ ds) (same_items xs both.1)
 
   own_close : (n : ℤ) → IsNear s n (values_left box x) → IsClose s (product (point n) (span (values_left (box_at box x v) x))) (product (point n) (span (values_left box x)))
@@ -102,10 +102,10 @@ module _ (ok : ℕ → Bool) (s : ℤ) (z : pos 0 ≤ℤ s) (box : Box) (x : ℕ
   sum_close (n ∷ ns) [] r f = close_same s z (point (pos 0))
   sum_close (n ∷ ns) (Num m ∷ xs) r f =
       let t = product (point n) (span (m ∷ [])) in
-      let rest = sum_close ns xs (neither (list_any (same_variable (Num m)) xs) (has_repeat xs) r).1 (λ i k a p q w. f (suc i) k a p q w) in
+      let rest = sum_close ns xs (or_parts (list_any (same_variable (Num m)) xs) (has_repeat xs) r).1 (λ i k a p q w. f (suc i) k a p q w) in
       record { from = rest_close s t.from t.from _ _ refl rest.from; to = rest_close s t.to t.to _ _ refl rest.to }
   sum_close (n ∷ ns) (Var y ∷ xs) r f =
-      by (y.0 == x) refl (neither (list_any (same_variable (Var y)) xs) (has_repeat xs) r) (sum_close ns xs (neither (list_any (same_variable (Var y)) xs) (has_repeat xs) r).1 (λ i k a p q w. f (suc i) k a p q w))
+      by (y.0 == x) refl (or_parts (list_any (same_variable (Var y)) xs) (has_repeat xs) r) (sum_close ns xs (or_parts (list_any (same_variable (Var y)) xs) (has_repeat xs) r).1 (λ i k a p q w. f (suc i) k a p q w))
     where
       old : Range
       old = product (point n) (span (values_left box y.0))
@@ -169,7 +169,7 @@ roomy takes c b m s box e n z r f under over = record {
     whole = sums box
 
     by : (b : Bool) → c.pred ≡ cond b IntLinEq IntLinLe → (b ≡ true → (m +ℤ s) ≤ℤ whole.to) → (d : Box) → IsClose s (sums d) whole → refuted_by c d ≡ false
-    by true e o d h = equal_is c m d e n ∙ or_none (int_lt (sums d).to m) (int_lt m (sums d).from) (not_under m whole.to (sums d).to s h.to (o refl)) (not_over m whole.from (sums d).from s h.from under)
+    by true e o d h = equal_is c m d e n ∙ or_from (int_lt (sums d).to m) (int_lt m (sums d).from) (not_under m whole.to (sums d).to s h.to (o refl)) (not_over m whole.from (sums d).from s h.from under)
     by false e o d h = at_most_is c m d e n ∙ not_over m whole.from (sums d).from s h.from under
 
     at : (x : ℕ) → takes c x ≡ true → (v : ℤ) → (v ≡ least_value (values_left box x)) ⊎ (v ≡ greatest_value (values_left box x)) → refutes_at c box x v ≡ false

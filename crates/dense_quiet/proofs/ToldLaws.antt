@@ -3,6 +3,7 @@ use Rattle.std.proofs.Common.{◌≡◌, ◌⊎◌, inl, inr, ℕ, ◌-◌, Bool
 use Rattle.std.specs.Prelude.{pos, ◌≤ℤ◌, int_lt, int_le}
 use Rattle.std.specs.Ordering.{int_eq}
 use Rattle.std.proofs.lemmas.Int.{ints}
+use Rattle.std.proofs.lemmas.Bool.{and_left}
 use Rattle.qc_model.specs.declared.problem.Arg.{Arg}
 use Rattle.qc_model.specs.Arguments.{fill, variables_of}
 use Rattle.qc_model.specs.Content.{Rule}
@@ -63,10 +64,6 @@ both_left true true r s h k l = l
 both_left true false r s h k l = cc
 both_left false q r s h k l = cc
 
-lacks_left : (a b : Bool) → a ≡ false → (a && b) ≡ false
-lacks_left true b h = cc
-lacks_left false b h = refl
-
 -- it tests what is left to the three arguments
 module _ (m : Meaning) (k : IsComparison m) (r : Rule) (e : meaning_of r.pred ≡ reified m) (three : length r.args ≡ 3) where
   refuted_two : (ls : Lefts) → refuted_as m ls ≡ refuted_of m (left_at ls 0) (left_at ls 1)
@@ -108,7 +105,7 @@ open_spares m ok a b c box oc low high u = record {
   second = λ t. record { least = both (left_to box a) (least_value (left_to box b) ∷ []); greatest = both (left_to box a) (greatest_value (left_to box b) ∷ []) };
   third = λ t. record {
     least = subst (λ z. told_of m (left_to box a) (left_to box b) (z ∷ []) ≡ false) (sym low) u.entailed;
-    greatest = subst (λ z. told_of m (left_to box a) (left_to box b) (z ∷ []) ≡ false) (sym high) (lacks_left (refuted_of m (left_to box a) (left_to box b)) true u.refuted);
+    greatest = subst (λ z. told_of m (left_to box a) (left_to box b) (z ∷ []) ≡ false) (sym high) (and_left (refuted_of m (left_to box a) (left_to box b)) true u.refuted);
   };
 }
   where
@@ -131,7 +128,7 @@ quiet_told m takes r box a b c e three d i j k oc low high u =
 
 -- where it is to hold
 refuted_left : (p q r : Bool) → p ≡ true → r ≡ false → ((not p || r) && q) ≡ false
-refuted_left true q r h k = lacks_left r q k
+refuted_left true q r h k = and_left r q k
 refuted_left false q r h k = cc
 
 held_spares : (m : Meaning) (ok : ℕ → Bool) (a b c : Arg) (box : Box) → is_open box c ≡ true → least_value (left_to box c) ≡ pos 1 → greatest_value (left_to box c) ≡ pos 1 → SparesThree (λ d e f. refuted_of m d e) ok a b c box → SparesThree (told_of m) ok a b c box

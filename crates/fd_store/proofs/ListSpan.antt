@@ -7,6 +7,7 @@ use Rattle.std.specs.Ordering.{int_eq}
 use Rattle.std.proofs.lemmas.Bool.Decides.{nat_tests}
 use Rattle.std.proofs.lemmas.Int.{ints}
 use Rattle.std.proofs.lemmas.Nat.Bits.{bit_at-zero}
+use Rattle.std.proofs.lemmas.Bool.{and_parts}
 use mir.Val.{SFits}
 use mir.Syntax.{w64}
 use Rattle.qc_model.specs.Domains.{Values, is_ascending, is_none_left, has_value, least_value, greatest_value}
@@ -19,13 +20,13 @@ use Rattle.fd_store.specs.Added.{IsLonger, AddsCell}
 use Rattle.fd_store.specs.Places.{is_set, is_kept, is_inside, values_below, cell_values}
 use Rattle.fd_store.proofs.Runs.{set_in}
 use Rattle.fd_store.proofs.Values.{values_agree, length-values, has_is, has_none, greatest_below}
-use Rattle.fd_store.proofs.Ascending.{same_values, values_ascend, eq_self, eq_is, both, lt_is}
+use Rattle.fd_store.proofs.Ascending.{same_values, values_ascend, eq_self, eq_is, lt_is}
 
 asc_low : (x : ℤ) (xs : Values) (k : ℕ) (d : ℤ) → is_ascending (x ∷ xs) ≡ true → k ≤ length xs → x ≤ℤ get_or (x ∷ xs) k d
 asc_low x xs zero d a h = omega (arith, ints)
 asc_low x [] (suc k) d a h = absurd (omega arith)
 asc_low x (w ∷ ws) (suc k) d a h =
-    let p = both (int_lt x w) (is_ascending (w ∷ ws)) a in
+    let p = and_parts (int_lt x w) (is_ascending (w ∷ ws)) a in
     let l = lt_is x w p.0 in
     let m = asc_low w ws k d p.1 (omega arith) in
     omega (arith, ints)
@@ -33,7 +34,7 @@ asc_low x (w ∷ ws) (suc k) d a h =
 asc_high : (x : ℤ) (xs : Values) (k : ℕ) (d : ℤ) → is_ascending (x ∷ xs) ≡ true → k ≤ length xs → get_or (x ∷ xs) k d ≤ℤ get_or (x ∷ xs) (length xs) d
 asc_high x xs zero d a h = asc_low x xs (length xs) d a (omega arith)
 asc_high x [] (suc k) d a h = absurd (omega arith)
-asc_high x (w ∷ ws) (suc k) d a h = asc_high w ws k d (both (int_lt x w) (is_ascending (w ∷ ws)) a).1 (omega arith)
+asc_high x (w ∷ ws) (suc k) d a h = asc_high w ws k d (and_parts (int_lt x w) (is_ascending (w ∷ ws)) a).1 (omega arith)
 
 pub has_there : (ns : Values) (k : ℕ) (d : ℤ) → k < length ns → has_value ns (get_or ns k d) ≡ true
 has_there [] k d h = absurd (omega arith)
@@ -46,8 +47,8 @@ has_there (n ∷ ns) (suc k) d h = ap (λ b. int_eq (get_or ns k d) n || b) (has
 
 all_number : (ns : Values) (k : ℕ) (d : ℤ) → list_all is_number ns ≡ true → k < length ns → is_number (get_or ns k d) ≡ true
 all_number [] k d a h = absurd (omega arith)
-all_number (n ∷ ns) zero d a h = (both (is_number n) (list_all is_number ns) a).0
-all_number (n ∷ ns) (suc k) d a h = all_number ns k d (both (is_number n) (list_all is_number ns) a).1 (omega arith)
+all_number (n ∷ ns) zero d a h = (and_parts (is_number n) (list_all is_number ns) a).0
+all_number (n ∷ ns) (suc k) d a h = all_number ns k d (and_parts (is_number n) (list_all is_number ns) a).1 (omega arith)
 
 pub record IsListSpan (ns : Values) : Type 0 where
   pub some : 0 < length ns

@@ -134,10 +134,5 @@ takes_no_word t x c a e w from to gone i h at ic o g z =
     stays true false f = refl
     stays false b f = refl
 
-pub word_at : (words : List ℕ) (w d : ℕ) → w < length words → get_or words w d ≡ get_or words w 0
-word_at [] w d h = absurd (omega arith)
-word_at (b ∷ bs) zero d h = refl
-word_at (b ∷ bs) (suc w) d h = word_at bs w d (omega arith)
-
 pub word_of : (c : Cell) (a e : ℕ) → a < e → e ≤ 64 * (a / 64) + 64 → c.first < a → e < c.end → WordOf c a e (c.start + a / 64) (a % 64) (a % 64 + (e - a))
 word_of c a e h l m n = record { order = h; word = refl; low = refl; high = refl; within = omega arith; first = m; end = n }

@@ -2,6 +2,7 @@
 use Rattle.std.proofs.Common.{◌≡◌, ◌≤◌, ◌<◌, ◌+◌, ◌*◌, ◌∙◌, inl, inr, ℕ, suc, Bool, true, false, cond, List, [], ◌∷◌, length, refl, sym, ap, subst, arith, Option, None, Some, ℤ}
 use Rattle.std.specs.Prelude.{◌⊎◌}
 use Rattle.std.specs.List.{list_all}
+use Rattle.std.proofs.lemmas.Bool.{and_from}
 use Rattle.qc_model.specs.declared.problem.Scope.{Scope}
 use Rattle.qc_model.specs.Content.{Game}
 use Rattle.qc_model.specs.Domains.{Box}
@@ -27,7 +28,6 @@ use Rattle.game_search.specs.Pieces.{OpenIsSpent, PieceLines, is_no_better, leaf
 use Rattle.game_search.specs.Solution.{outcome_by}
 use Rattle.game_search.proofs.Rooted.{no_own}
 use Rattle.game_search.proofs.Solved.{HaveFits, at_least}
-use Rattle.search_parts.proofs.Bools.{two}
 
 -- ---- one way through a piece
 -- without a scope there is no condition
@@ -60,7 +60,7 @@ module _ (cuts : Bool) (g : Game) (box : Box) (reached : Option ℤ) (turns : �
       let none_left : left ≡ 0 = spent_all m.opens some_open in
       let least = m.exact uncut in (
         record { all = refl; taken = omega (arith, m.spent, least, none_left); some = omega (arith, some_open) },
-        ap (outcome_fits (Open turns)) e ∙ two _ _ (at_least 1 turns some) (at_least turns 10000000 few),
+        ap (outcome_fits (Open turns)) e ∙ and_from _ _ (at_least 1 turns some) (at_least turns 10000000 few),
       )
     where
       spent_all : ((opens_of t ≡ 0) ⊎ (left ≡ 0)) → ¬ (opens_of t ≡ 0) → left ≡ 0

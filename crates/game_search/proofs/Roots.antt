@@ -2,6 +2,7 @@
 use Rattle.std.proofs.Common.{◌≡◌, ◌≤◌, ◌<◌, ◌+◌, ◌*◌, ◌∙◌, inl, inr, ℕ, zero, suc, Bool, true, false, cond, List, [], ◌∷◌, ◌++◌, length, refl, sym, ap, subst, arith, Option, None, Some, append_assoc, ℤ}
 use Rattle.std.specs.Prelude.{◌⊎◌, is_some, unsigned_abs}
 use Rattle.std.specs.List.{list_any}
+use Rattle.std.proofs.lemmas.Bool.{and_from, not_from_false, or_from}
 use Rattle.qc_model.specs.declared.problem.Kind.{Kind}
 use Rattle.qc_model.specs.declared.problem.Kind.TheVariants.{Exists, Forall}
 use Rattle.qc_model.specs.declared.problem.Condition.{Condition}
@@ -36,8 +37,8 @@ use Rattle.search_parts.specs.Beaten.{firsts, seen_bounds}
 use Rattle.search_parts.specs.Own.{IsOwnSized}
 use Rattle.search_parts.specs.Settled.{beats_none, is_ended, is_outdone, is_settled, is_vague_verdict}
 use Rattle.search_parts.proofs.Beating.{among_none}
-use Rattle.search_parts.proofs.Bools.{not_false, not_first, two}
-use Rattle.search_parts.proofs.Joining.{known, or_none, settled_wishes}
+use Rattle.search_parts.proofs.Bools.{not_first}
+use Rattle.search_parts.proofs.Joining.{known, settled_wishes}
 use Rattle.search_parts.proofs.Sizes.{own_sized_as, sizes_none, sizes_of}
 use Rattle.search_parts.proofs.Stepping.{part_beaten, part_long, part_open, part_says}
 use Rattle.search_parts.proofs.Sure.{vectors_marks}
@@ -86,11 +87,11 @@ never_settled g ss d xs f = by (is_settled ss (list_after g ss d) xs) refl
 
 none_beats : (above : ℤ → Bool) (ns : List ℤ) → ((n : ℤ) → above n ≡ false) → list_any above ns ≡ false
 none_beats above [] h = refl
-none_beats above (n ∷ ns) h = or_none (above n) (list_any above ns) (h n) (none_beats above ns h)
+none_beats above (n ∷ ns) h = or_from (above n) (list_any above ns) (h n) (none_beats above ns h)
 
 -- and nothing ends it
 never_ended : (above : ℤ → Bool) (g : Game) (ss : List Scope) (d : List Condition) (xs : List Seen) → optimises_first ss ≡ true → ((n : ℤ) → above n ≡ false) → is_ended above ss (list_after g ss d) xs ≡ false
-never_ended above g ss d xs f h = or_none (is_settled ss (list_after g ss d) xs) (is_outdone above xs) (never_settled g ss d xs f) (none_beats above (known_numbers xs) h)
+never_ended above g ss d xs f h = or_from (is_settled ss (list_after g ss d) xs) (is_outdone above xs) (never_settled g ss d xs f) (none_beats above (known_numbers xs) h)
 
 -- what it comes to doesn't depend on values before it
 anywhere : (g : Game) (ss : List Scope) (d : List Condition) (a b : List ℤ) (xs : List Seen) → optimises_first ss ≡ true → scope_verdict ss g d a xs ≡ scope_verdict ss g d b xs
@@ -192,13 +193,13 @@ module _ (cuts : Bool) (g : Game) (box : Box) (r : ℤ) (first : optimises_first
         tree = tree z stuck;
         lines = q ∙ (ap (λ ls. ls ++ StuckLine ∷ []) p ∙ append_assoc old (horizon_lines z) (StuckLine ∷ []));
         made = record {
-          placed = two _ _ place here;
+          placed = and_from _ _ place here;
           verdict = shown;
           settled = refl;
           lasts = refl;
           ones = refl;
           apart = refl;
-          fits = two _ _ fits refl;
+          fits = and_from _ _ fits refl;
           spent = omega arith;
           exact = λ c. omega arith;
           opens = inl refl;
@@ -238,13 +239,13 @@ module _ (cuts : Bool) (g : Game) (box : Box) (r : ℤ) (first : optimises_first
         tree = t;
         lines = w.part.written.lines ∙ (ap (λ ls. ls ++ body_lines (cases steps e)) q ∙ append_assoc old (horizon_lines z) (body_lines (cases steps e)));
         made = record {
-          placed = two _ _ place (two _ _ (two _ _ (two _ _ (not_false (is_horizon h 0) apart) (not_false (is_goal ss) (no_goal ss first))) p.stepped.legal) m.placed);
+          placed = and_from _ _ place (and_from _ _ (and_from _ _ (and_from _ _ (not_from_false (is_horizon h 0) apart) (not_from_false (is_goal ss) (no_goal ss first))) p.stepped.legal) m.placed);
           verdict = shown;
-          settled = two _ _ (not_first (skips e) _ (none_skipped (skips e) refl (λ k. sym ended ∙ m.skips k))) m.settled;
+          settled = and_from _ _ (not_first (skips e) _ (none_skipped (skips e) refl (λ k. sym ended ∙ m.skips k))) m.settled;
           lasts = m.lasts;
           ones = m.ones;
           apart = m.apart;
-          fits = two _ _ fits (two _ _ p.stepped.fits m.fits);
+          fits = and_from _ _ fits (and_from _ _ p.stepped.fits m.fits);
           spent = m.spent;
           exact = m.exact;
           opens = m.opens;

@@ -4,6 +4,7 @@ use Rattle.std.specs.Prelude.{is_some, ◌==◌, ◌⊎◌, IsTrue, nat_le}
 use Rattle.std.specs.Ordering.{int_eq}
 use Rattle.std.specs.List.{list_all}
 use Rattle.std.proofs.lemmas.Bool.Decides.{nat_tests, Decides-int_eq}
+use Rattle.std.proofs.lemmas.Bool.{and_from, and_parts}
 use Rattle.qc_model.specs.declared.problem.Kind.{Kind}
 use Rattle.qc_model.specs.declared.problem.Kind.TheVariants.{Exists, Forall}
 use Rattle.qc_model.specs.declared.problem.Condition.{Condition}
@@ -43,7 +44,7 @@ use Rattle.search_parts.specs.Own.{IsOwnSized}
 use Rattle.search_parts.specs.Settled.{beats_none, is_vague_verdict}
 use Rattle.game_search.specs.Solution.{Solution, SolutionLines, OpenMeans, outcome_by}
 use Rattle.search_parts.specs.Written.{NodeWritten}
-use Rattle.search_parts.proofs.Bools.{two, both, is_below}
+use Rattle.search_parts.proofs.Bools.{is_below}
 
 same_value : (v : ℤ) → int_eq v v ≡ true
 same_value v = (Decides-int_eq v v).1 refl
@@ -117,8 +118,8 @@ own_says g (tree z stuck) (s ∷ later) i d box h e = by s.kind s.condition
     by Forall c = record { known = λ f. refl; none = λ f. refl }
 own_says g (tree z goal) [] i d box h e = record { known = λ f. refl; none = λ f. refl }
 own_says g (tree z goal) (s ∷ later) i d box h e =
-    let body = both (horizon_in_place g z (s ∷ later) i box h) _ e in
-    let scope = both (not (is_horizon (horizon_below z h) i)) false body.1 in
+    let body = and_parts (horizon_in_place g z (s ∷ later) i box h) _ e in
+    let scope = and_parts (not (is_horizon (horizon_below z h) i)) false body.1 in
     absurd cc
 own_says g (tree z (cases steps end)) [] i d box h e = record { known = λ f. cc; none = λ f. refl }
 own_says g (tree z (cases steps end)) (s ∷ later) i d box h e = by s.kind s.condition
@@ -180,13 +181,13 @@ module _ (cuts : Bool) (g : Game) (turns : ℕ) (some : 1 ≤ turns) (small : tu
       Solution g turns outcome own t
   whole outcome v own left t m shown fits spent = record {
     proves = shown;
-    in_order = two _ _ (two _ _ (two _ _ m.lasts m.ones) m.apart) m.settled;
+    in_order = and_from _ _ (and_from _ _ (and_from _ _ m.lasts m.ones) m.apart) m.settled;
     diligent = record { closed = m.closed; foreseen = m.foreseen };
     incumbents = m.keeps;
     few = omega (arith, m.spent);
     spent = spent;
     means = meanings outcome own t shown;
-    has_text = two _ _ fits m.fits;
+    has_text = and_from _ _ fits m.fits;
   }
 
   pub solved : (v : Verdict) (own : Option ℤ) (left : ℕ) (lines : List Line) → (is_vague_verdict beats_none v ≡ true → cuts ≡ false) → (w : NodeWritten cuts beats_none g g.scopes 0 [] (declared_box g) None v turns left [] lines) → (root_finding g w.tree).own ≡ own →
@@ -209,8 +210,8 @@ module _ (cuts : Bool) (g : Game) (turns : ℕ) (some : 1 ≤ turns) (small : tu
       spent_all (inr e) h = e
 
       shown_true : (own : Option ℤ) → is_some own ≡ optimises_first g.scopes → is_exact f.verdict ≡ true → f.own ≡ own → shows g w.tree f True own ≡ true
-      shown_true None e q r = two _ _ q (ap not (sym e))
-      shown_true (Some o) e q r = two _ _ (two _ _ q (sym e)) (ap (is_value o) r ∙ same_value o)
+      shown_true None e q r = and_from _ _ q (ap not (sym e))
+      shown_true (Some o) e q r = and_from _ _ (and_from _ _ q (sym e)) (ap (is_value o) r ∙ same_value o)
 
       fits_true : (own : Option ℤ) → IsOwnSized (suc (2 * turns_of w.tree)) own → turns_of w.tree + left ≤ turns → outcome_fits True own ≡ true
       fits_true None e q = refl
@@ -226,15 +227,15 @@ module _ (cuts : Bool) (g : Game) (turns : ℕ) (some : 1 ≤ turns) (small : tu
           let unknown_there = sure g w.tree g.scopes 0 (declared_box g) (ap (is_vague_verdict beats_none) m.verdict ∙ q) in
           subst (λ o. Solution g turns (Open turns) o w.tree) (sym e)
           (whole (Open turns) v None left w.tree m
-          (two _ _ m.placed (two _ _ (two _ _ unknown_there (same_number (turns_of w.tree) turns all)) (is_below 0 (opens_of w.tree) (omega (arith, some_open)))))
-          (two _ _ (at_least 1 turns some) (at_least turns 10000000 small))
+          (and_from _ _ m.placed (and_from _ _ (and_from _ _ unknown_there (same_number (turns_of w.tree) turns all)) (is_below 0 (opens_of w.tree) (omega (arith, some_open)))))
+          (and_from _ _ (at_least 1 turns some) (at_least turns 10000000 small))
           (record { all = refl; taken = all; below = below_full (length g.variables * value_product g.variables) turns (cases_of w.tree) small (omega (arith, all, some_open, cases_more)) (few w.tree m.placed m.ones) }))
 
       by : (v : Verdict) (own : Option ℤ) → (is_vague_verdict beats_none v ≡ true → cuts ≡ false) → NodeMade cuts beats_none g g.scopes 0 [] (declared_box g) None v turns left w.tree → OwnSays (optimises_first g.scopes) v own → IsOwnSized (suc (2 * turns_of w.tree)) own → f.own ≡ own →
           Solution g turns (outcome_by v turns) own w.tree
-      by (exact u) own surely m o sized h = whole True (exact u) own left w.tree m (two _ _ m.placed (shown_true own (o.known refl) (ap is_exact m.verdict) h)) (fits_true own sized m.spent) tt
+      by (exact u) own surely m o sized h = whole True (exact u) own left w.tree m (and_from _ _ m.placed (shown_true own (o.known refl) (ap is_exact m.verdict) h)) (fits_true own sized m.spent) tt
       by lost own surely m o sized h =
-          subst (λ n. Solution g turns False n w.tree) (sym (o.none refl)) (whole False lost None left w.tree m (two _ _ m.placed (ap is_lost m.verdict)) refl tt)
+          subst (λ n. Solution g turns False n w.tree) (sym (o.none refl)) (whole False lost None left w.tree m (and_from _ _ m.placed (ap is_lost m.verdict)) refl tt)
       by (at_most p) own surely m o sized h = left_open (at_most p) own refl (o.none refl) (surely refl) m
       by unknown own surely m o sized h = left_open unknown own refl (o.none refl) (surely refl) m
 

@@ -1,6 +1,7 @@
 -- The tree of a solution nests few parts, and has few ends.
 use Rattle.std.proofs.Common.{◌≤◌, ◌^◌, ◌&&◌, ℕ, ℤ, Option, arith}
 use Rattle.std.specs.Prelude.{IsTrue}
+use Rattle.std.proofs.lemmas.Bool.{and_parts}
 use Rattle.qc_model.specs.Content.{Game}
 use Rattle.qc_model.specs.Valid.{IsValid}
 use Rattle.proof_tree.specs.declared.tree.Outcome.{Outcome}
@@ -13,7 +14,6 @@ use Rattle.proof_tree.specs.Read.{root_finding}
 use Rattle.proof_tree.specs.Tree.{Tree}
 use Rattle.proof_tree.proofs.EndsByTurns.{tree_ends}
 use Rattle.game_search.specs.Solution.{Solution}
-use Rattle.search_parts.proofs.Bools.{both}
 
 -- as the law of nesting has it
 abbrev IsShallow : Type 0
@@ -21,9 +21,9 @@ IsShallow = (g : Game) (t : Tree) → IsValid g → IsTrue (root_in_place g t) �
 
 pub solution_depth : (g : Game) (turns : ℕ) (outcome : Outcome) (optimum : Option ℤ) (t : Tree) → IsValid g → IsShallow → Solution g turns outcome optimum t → depth_of t ≤ 1000
 solution_depth g turns outcome optimum t valid shallow s =
-    let placed = (both (root_in_place g t) (shows g t (root_finding g t) outcome optimum) s.proves).0 in
-    let joined = (both (each_case opens_last t && each_case goes_at_one t && each_case is_joined t) _ s.in_order).0 in
-    let ones = (both (each_case opens_last t) (each_case goes_at_one t) (both (each_case opens_last t && each_case goes_at_one t) (each_case is_joined t) joined).0).1 in
+    let placed = (and_parts (root_in_place g t) (shows g t (root_finding g t) outcome optimum) s.proves).0 in
+    let joined = (and_parts (each_case opens_last t && each_case goes_at_one t && each_case is_joined t) _ s.in_order).0 in
+    let ones = (and_parts (each_case opens_last t) (each_case goes_at_one t) (and_parts (each_case opens_last t && each_case goes_at_one t) (each_case is_joined t) joined).0).1 in
     let few = shallow g t valid placed ones in
     omega (arith, few)
 

@@ -6,12 +6,12 @@ use Rattle.std.specs.Prelude.{◌==◌, min}
 use Rattle.std.proofs.lemmas.List.{drop_more, drop_all}
 use Rattle.std.proofs.lemmas.Int.{ints}
 use Rattle.std.proofs.lemmas.Bool.Decides.{Decides-int_eq}
+use Rattle.std.proofs.lemmas.Bool.{false_from_ne_true}
 use Rattle.qc_model.specs.declared.problem.Sense.{Sense}
 use Rattle.qc_model.specs.declared.problem.Sense.TheVariants.{Min, Max}
 use Rattle.qc_model.specs.declared.problem.Condition.{Condition}
 use Rattle.qc_model.specs.Optimal.{is_better}
 use Rattle.qc_model.specs.Demands.{is_better_vector}
-use Rattle.qc_model.proofs.Vectors.{false_unless}
 use Rattle.joins.specs.Order.{number_order, vector_order}
 use Rattle.joins.specs.Bests.{better_of}
 
@@ -25,8 +25,8 @@ then_order Equal o = o
 then_order Greater o = Greater
 
 better_apart : (s : Sense) (x y : ℤ) → is_better s x y ≡ true → (is_better s y x ≡ false) × ((int_eq x y ≡ false) × (int_eq y x ≡ false))
-better_apart Min x y h = (false_unless (int_lt y x) (λ e. omega (arith, ints)), (false_unless (int_eq x y) (λ e. (let k : x ≡ y = (Decides-int_eq x y).0 e in omega (arith, ints))), false_unless (int_eq y x) (λ e. (let k : y ≡ x = (Decides-int_eq y x).0 e in omega (arith, ints)))))
-better_apart Max x y h = (false_unless (int_lt x y) (λ e. omega (arith, ints)), (false_unless (int_eq x y) (λ e. (let k : x ≡ y = (Decides-int_eq x y).0 e in omega (arith, ints))), false_unless (int_eq y x) (λ e. (let k : y ≡ x = (Decides-int_eq y x).0 e in omega (arith, ints)))))
+better_apart Min x y h = (false_from_ne_true (int_lt y x) (λ e. omega (arith, ints)), (false_from_ne_true (int_eq x y) (λ e. (let k : x ≡ y = (Decides-int_eq x y).0 e in omega (arith, ints))), false_from_ne_true (int_eq y x) (λ e. (let k : y ≡ x = (Decides-int_eq y x).0 e in omega (arith, ints)))))
+better_apart Max x y h = (false_from_ne_true (int_lt x y) (λ e. omega (arith, ints)), (false_from_ne_true (int_eq x y) (λ e. (let k : x ≡ y = (Decides-int_eq x y).0 e in omega (arith, ints))), false_from_ne_true (int_eq y x) (λ e. (let k : y ≡ x = (Decides-int_eq y x).0 e in omega (arith, ints)))))
 
 neither : (s : Sense) (x y : ℤ) → is_better s x y ≡ false → is_better s y x ≡ false → x ≡ y
 neither Min x y f g = omega (arith, ints)

@@ -20,10 +20,6 @@ use Rattle.joins.specs.Sizes.{IsSized, HasSizes, AreNumbers}
 use Rattle.joins.specs.Ends.{tells_nothing, HasEnds, IsOfEnds, HasPart}
 use Rattle.joins.proofs.Sizing.{nodes_join, marks_join, node_nodes, verdict_sized}
 
-both : (a b : Bool) → (a && b) ≡ true → (a ≡ true) × (b ≡ true)
-both true b e = (refl, e)
-both false b e = cc
-
 -- ---- where nothing is known
 none_such : (p : Verdict → Bool) (xs : List Seen) → p unknown ≡ false → tells_nothing xs ≡ true → some_node p xs ≡ false
 none_such p [] u t = refl

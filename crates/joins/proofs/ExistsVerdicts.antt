@@ -5,6 +5,7 @@ use Rattle.std.specs.List.{list_all}
 use Rattle.std.specs.Ordering.{int_eq}
 use Rattle.std.proofs.lemmas.Int.{ints}
 use Rattle.std.proofs.lemmas.Bool.Decides.{Decides-int_eq}
+use Rattle.std.proofs.lemmas.Bool.{or_left, false_from_ne_true}
 use Rattle.qc_model.specs.declared.problem.Sense.{Sense}
 use Rattle.qc_model.specs.declared.problem.Sense.TheVariants.{Min, Max}
 use Rattle.qc_model.specs.declared.problem.Condition.{Condition}
@@ -12,7 +13,6 @@ use Rattle.qc_model.specs.Optimal.{is_better}
 use Rattle.qc_model.specs.Demands.{is_better_vector}
 use Rattle.qc_model.specs.Verdict.{Verdict, lost, exact, at_most, unknown, Seen, is_lost, is_exact, each_node, exact_vectors, bounds, is_none_of, first_value}
 use Rattle.qc_model.specs.ExistsVerdict.{best_from, best_vector, best_number_from, best_number, without_own, beats, some_open, exists_verdict, exists_own}
-use Rattle.qc_model.proofs.Vectors.{false_unless}
 use Rattle.joins.specs.Bests.{best_bound, AllLong, better_of, beats_bound, best_known, is_settled, bounded, unsettled, verdict_by, own_by}
 use Rattle.joins.specs.ExistsJoin.{Keeps}
 use Rattle.joins.proofs.Compared.{better_assoc}
@@ -35,10 +35,6 @@ either : (a e b : Bool) → (a || (e && b)) ≡ true → (a ≡ true) ⊎ ((e �
 either true e b h = inl refl
 either false true b h = inr (refl, h)
 either false false b h = cc
-
-or_left : (a b : Bool) → a ≡ true → (a || b) ≡ true
-or_left true b e = refl
-or_left false b e = cc
 
 or_right : (a e b : Bool) → e ≡ true → b ≡ true → (a || (e && b)) ≡ true
 or_right true e b h k = refl
@@ -72,8 +68,8 @@ beats_worse s a n m k f h = elim (either (is_better s n m) a (int_eq n m) h) [
 ]
 
 turned : (s : Sense) (x y : ℤ) → is_better s x y ≡ true → is_better s y x ≡ false
-turned Min x y h = false_unless (int_lt y x) (λ e. omega (arith, ints))
-turned Max x y h = false_unless (int_lt x y) (λ e. omega (arith, ints))
+turned Min x y h = false_from_ne_true (int_lt y x) (λ e. omega (arith, ints))
+turned Max x y h = false_from_ne_true (int_lt x y) (λ e. omega (arith, ints))
 
 two_as_one : (s : Sense) (a : Bool) (n m k : ℤ) → (beats s a n m && beats s a n k) ≡ beats s a n (better_of s m k)
 two_as_one s a n m k = by (is_better s k m) refl

@@ -4,6 +4,7 @@ use Rattle.std.specs.Prelude.{max, ⊤, slice_get, slice_index_or, ℤ, pos, ◌
 use Rattle.std.specs.List.{list_all}
 use Rattle.std.proofs.lemmas.Int.{ints}
 use Rattle.std.proofs.lemmas.Bool.Decides.{nat_tests}
+use Rattle.std.proofs.lemmas.Bool.{and_parts}
 use Rattle.qc_model.specs.declared.problem.Sense.{Sense}
 use Rattle.qc_model.specs.declared.problem.Sense.TheVariants.{Min, Max}
 use Rattle.qc_model.specs.declared.problem.Fold.{Fold}
@@ -151,20 +152,16 @@ fold_within b (Least d) (n ∷ ns) e l s = from_within b n ns (omega (arith, s))
 fold_within b (Greatest d) [] e l s = let a = number_small d e in omega (arith, a, l)
 fold_within b (Greatest d) (n ∷ ns) e l s = to_within b n ns (omega (arith, s)) (omega (arith, s))
 
-both : (a b : Bool) → (a && b) ≡ true → (a ≡ true) × (b ≡ true)
-both true b e = (refl, e)
-both false b e = cc
-
 all_get : {X : Type 0} (p : X → Bool) (xs : List X) (k : ℕ) (x : X) → list_all p xs ≡ true → slice_get xs k ≡ Some x → p x ≡ true
 all_get p [] k x a e = cc
-all_get p (y ∷ xs) zero x a e = let q : y ≡ x = cc in ap p (sym q) ∙ (both (p y) (list_all p xs) a).0
-all_get p (y ∷ xs) (suc k) x a e = all_get p xs k x (both (p y) (list_all p xs) a).1 e
+all_get p (y ∷ xs) zero x a e = let q : y ≡ x = cc in ap p (sym q) ∙ (and_parts (p y) (list_all p xs) a).0
+all_get p (y ∷ xs) (suc k) x a e = all_get p xs k x (and_parts (p y) (list_all p xs) a).1 e
 
 fold_valid : (g : Game) (k : ℕ) (q : Aggregate) → IsValid g → slice_get g.aggregates k ≡ Some q → is_fold q.fold ≡ true
 fold_valid g k q v e =
     let a = all_get (is_aggregate_of g) g.aggregates k q v.aggregates e in
-    let b = both (is_universal (slice_get g.scopes q.scope.0) && is_fold q.fold) (is_target g.variables q.target) a in
-    (both (is_universal (slice_get g.scopes q.scope.0)) (is_fold q.fold) b.0).1
+    let b = and_parts (is_universal (slice_get g.scopes q.scope.0) && is_fold q.fold) (is_target g.variables q.target) a in
+    (and_parts (is_universal (slice_get g.scopes q.scope.0)) (is_fold q.fold) b.0).1
 
 aggregate_by : (g : Game) (k : ℕ) (o : Option Aggregate) (b : ℕ) (ns : List ℤ) → IsValid g → slice_get g.aggregates k ≡ o → 1000000000 ≤ b → abs_sum ns ≤ b → unsigned_abs (aggregate_fold o ns) ≤ b
 aggregate_by g k None b ns v e l s = omega arith
@@ -176,8 +173,8 @@ aggregate_within g k b ns v l s = aggregate_by g k (slice_get g.aggregates k) b 
 -- ---- the values of a list
 value_within : (a : List ℤ) (k : ℕ) → AreNumbers a → unsigned_abs (number_at k a) ≤ 1000000000
 value_within [] k e = omega arith
-value_within (x ∷ a) zero e = number_small x (both (is_number x) (list_all is_number a) e).0
-value_within (x ∷ a) (suc k) e = value_within a k (both (is_number x) (list_all is_number a) e).1
+value_within (x ∷ a) zero e = number_small x (and_parts (is_number x) (list_all is_number a) e).0
+value_within (x ∷ a) (suc k) e = value_within a k (and_parts (is_number x) (list_all is_number a) e).1
 
 entry_within : (g : Game) (a : List ℤ) (ns : ℕ → List ℤ) (b : ℕ) (x : Target) → IsValid g → AreNumbers a → 1000000000 ≤ b → ((q : ℕ) → abs_sum (ns q) ≤ b) → unsigned_abs (entry_value g a ns x) ≤ b
 entry_within g a ns b (Var x) v e l s = let h = value_within a x.0 e in omega (arith, h, l)

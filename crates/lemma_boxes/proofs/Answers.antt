@@ -4,6 +4,7 @@ use Rattle.std.specs.Prelude.{ℤ, pos, ◌==◌}
 use Rattle.std.specs.List.{list_any, list_all}
 use Rattle.std.specs.Ordering.{int_eq}
 use Rattle.std.proofs.lemmas.Bool.Decides.{nat_tests}
+use Rattle.std.proofs.lemmas.Bool.{and_parts, or_cases, and_from}
 use Rattle.qc_model.specs.declared.problem.Arg.{Arg}
 use Rattle.qc_model.specs.declared.problem.Arg.TheVariants.{Var, Num}
 use Rattle.qc_model.specs.declared.problem.Argument.{Argument}
@@ -18,7 +19,7 @@ use Rattle.qc_model.specs.Meaning.{Meaning, clause, meaning_of}
 use Rattle.qc_model.specs.Refuted.{left_to}
 use Rattle.qc_model.specs.Visible.{ArgBelow, ArgsBelow, ArgumentsBelow}
 use Rattle.qc_model.proofs.Moves.{among_filter, of_filter}
-use Rattle.model_table.proofs.Fits.{or_cases, all_at, any_at, any_from, only_value, and_true}
+use Rattle.model_table.proofs.Fits.{all_at, any_at, any_from, only_value}
 use Rattle.model_table.proofs.Sums.{same_number}
 use Rattle.lemma_list.specs.declared.lemma.Literal.{Literal}
 use Rattle.lemma_list.specs.declared.lemma.Reason.{Reason}
@@ -26,7 +27,7 @@ use Rattle.lemma_list.specs.declared.lemma.Reason.TheVariants.{Constraint, Lemma
 use Rattle.lemma_list.specs.Lemmas.{Lemma}
 use Rattle.lemma_list.specs.Literals.{meets, literals_hold}
 use Rattle.lemma_list.specs.Reasons.{Known, lemma_at, is_item, answered, comes_to, falsified_as, is_falsified, is_met}
-use Rattle.lemma_boxes.proofs.Lists.{differ, both, not_true, lies_at, all_from, value_among}
+use Rattle.lemma_boxes.proofs.Lists.{differ, not_true, lies_at, all_from, value_among}
 use Rattle.lemma_boxes.proofs.Sums.{arg_in}
 
 -- which value the winner gives to y, where it had meant to give d
@@ -77,8 +78,8 @@ items_in : (xs ys : List Arg) (box : Box) → PicksIn (items_pick xs ys box) box
 items_in xs ys box y d h = by (list_any (is_item y) xs && has_value (values_left box y) (pos 0)) refl (list_any (is_item y) ys && has_value (values_left box y) (pos 1)) refl
   where
     by : (a : Bool) → (list_any (is_item y) xs && has_value (values_left box y) (pos 0)) ≡ a → (b : Bool) → (list_any (is_item y) ys && has_value (values_left box y) (pos 1)) ≡ b → Among (cond a (pos 0) (cond b (pos 1) d)) (values_left box y)
-    by true e b f = value_among (values_left box y) (pos 0) (both (list_any (is_item y) xs) (has_value (values_left box y) (pos 0)) e).1
-    by false e true f = value_among (values_left box y) (pos 1) (both (list_any (is_item y) ys) (has_value (values_left box y) (pos 1)) f).1
+    by true e b f = value_among (values_left box y) (pos 0) (and_parts (list_any (is_item y) xs) (has_value (values_left box y) (pos 0)) e).1
+    by false e true f = value_among (values_left box y) (pos 1) (and_parts (list_any (is_item y) ys) (has_value (values_left box y) (pos 1)) f).1
     by false e false f = h
 
 clause_in : (m : Meaning) (args : List Argument) (box : Box) → PicksIn (clause_pick m args box) box
@@ -119,7 +120,7 @@ met_holds answers ls box w i picked below e = all_from (λ l. meets ls l.x.0 (ge
     elim (or_cases (list_all (meets ls l.x.0) (values_left box l.x.0)) (answers l.x.0 && list_any (meets ls l.x.0) (values_left box l.x.0)) (all_at (is_met answers ls box) ls l e a)) [
       | inl q ↦ all_at (meets ls l.x.0) (values_left box l.x.0) (get_or w l.x.0 (pos 0)) q (lies_at w box l.x.0 i (below l a))
       | inr q ↦ (
-          let p = both (answers l.x.0) (list_any (meets ls l.x.0) (values_left box l.x.0)) q in
+          let p = and_parts (answers l.x.0) (list_any (meets ls l.x.0) (values_left box l.x.0)) q in
           let k = picked l.x.0 p.0 in
           ap (meets ls l.x.0) k.same ∙ any_filter (meets ls l.x.0) (values_left box l.x.0) k.meant p.1)
     ])
@@ -131,7 +132,7 @@ item_self x = grind (arith, nat_tests)
 module _ (answers : ℕ → Bool) (box : Box) (w : List ℤ) (inside : LiesIn w box) (xs ys : List Arg) (picked : AllPicked answers (items_pick xs ys box) box w) where
   only_there : (x : Arg) (v : ℤ) → ArgBelow (length w) x → is_only v (left_to box x) ≡ true → arg_value w x ≡ v
   only_there x v b e =
-      let p = both (is_single (left_to box x)) (int_eq (least_value (left_to box x)) v) e in
+      let p = and_parts (is_single (left_to box x)) (int_eq (least_value (left_to box x)) v) e in
       only_value (arg_value w x) (left_to box x) p.0 (arg_in w box x b inside) ∙ same_number (least_value (left_to box x)) v p.1
 
   is_first : (x : Arg) → Among x xs → ArgBelow (length w) x → comes_to answers box ys (pos 0) x ≡ true → arg_value w x ≡ pos 0
@@ -140,12 +141,12 @@ module _ (answers : ℕ → Bool) (box : Box) (w : List ℤ) (inside : LiesIn w 
       elim (or_cases (is_only (pos 0) (left_to box (Var y))) (answered answers box ys (pos 0) (Var y)) e) [
         | inl q ↦ only_there (Var y) (pos 0) b q
         | inr q ↦ (
-            let p = both (answers y.0 && has_value (values_left box y.0) (pos 0)) (not (list_any (is_item y.0) ys)) q in
-            let p2 = both (answers y.0) (has_value (values_left box y.0) (pos 0)) p.0 in
+            let p = and_parts (answers y.0 && has_value (values_left box y.0) (pos 0)) (not (list_any (is_item y.0) ys)) q in
+            let p2 = and_parts (answers y.0) (has_value (values_left box y.0) (pos 0)) p.0 in
             let k = picked y.0 p2.0 in
             k.same
             ∙ ap (λ b. cond b (pos 0) (cond (list_any (is_item y.0) ys && has_value (values_left box y.0) (pos 1)) (pos 1) k.meant))
-            (and_true (list_any (is_item y.0) xs) (has_value (values_left box y.0) (pos 0)) (any_from (is_item y.0) xs (Var y) a (item_self y.0)) p2.1))
+            (and_from (list_any (is_item y.0) xs) (has_value (values_left box y.0) (pos 0)) (any_from (is_item y.0) xs (Var y) a (item_self y.0)) p2.1))
       ]
 
   is_second : (x : Arg) → Among x ys → ArgBelow (length w) x → comes_to answers box xs (pos 1) x ≡ true → arg_value w x ≡ pos 1
@@ -154,13 +155,13 @@ module _ (answers : ℕ → Bool) (box : Box) (w : List ℤ) (inside : LiesIn w 
       elim (or_cases (is_only (pos 1) (left_to box (Var y))) (answered answers box xs (pos 1) (Var y)) e) [
         | inl q ↦ only_there (Var y) (pos 1) b q
         | inr q ↦ (
-            let p = both (answers y.0 && has_value (values_left box y.0) (pos 1)) (not (list_any (is_item y.0) xs)) q in
-            let p2 = both (answers y.0) (has_value (values_left box y.0) (pos 1)) p.0 in
+            let p = and_parts (answers y.0 && has_value (values_left box y.0) (pos 1)) (not (list_any (is_item y.0) xs)) q in
+            let p2 = and_parts (answers y.0) (has_value (values_left box y.0) (pos 1)) p.0 in
             let k = picked y.0 p2.0 in
             k.same
             ∙ ap (λ b. cond (b && has_value (values_left box y.0) (pos 0)) (pos 0) (cond (list_any (is_item y.0) ys && has_value (values_left box y.0) (pos 1)) (pos 1) k.meant)) (not_true (list_any (is_item y.0) xs) p.1)
             ∙ ap (λ b. cond b (pos 1) k.meant)
-            (and_true (list_any (is_item y.0) ys) (has_value (values_left box y.0) (pos 1)) (any_from (is_item y.0) ys (Var y) a (item_self y.0)) p2.1))
+            (and_from (list_any (is_item y.0) ys) (has_value (values_left box y.0) (pos 1)) (any_from (is_item y.0) ys (Var y) a (item_self y.0)) p2.1))
       ]
 
 no_one : (w : List ℤ) (xs : List Arg) → ((x : Arg) → Among x xs → arg_value w x ≡ pos 0) → list_any is_one (map (arg_value w) xs) ≡ false
@@ -178,7 +179,7 @@ args_at n (y ∷ xs) x h m = elim m [ inl e ↦ subst (ArgBelow n) (sym e) h.0 |
 falsified : (answers : ℕ → Bool) (box : Box) (w : List ℤ) → LiesIn w box → (m : Meaning) (args : List Argument) → ArgumentsBelow (length w) args → AllPicked answers (clause_pick m args box) box w → falsified_as answers box m args ≡ true →
     holds_as m (map (fill (arg_value w)) args) ≡ true → ⊥
 falsified answers box w i clause (Many xs ∷ Many ys ∷ []) b picked e h =
-    let p = both (list_all (comes_to answers box ys (pos 0)) xs) (list_all (comes_to answers box xs (pos 1)) ys) e in
+    let p = and_parts (list_all (comes_to answers box ys (pos 0)) xs) (list_all (comes_to answers box xs (pos 1)) ys) e in
     let first = no_one w xs (λ x m. is_first answers box w i xs ys picked x m (args_at (length w) xs x b.0 m) (all_at (comes_to answers box ys (pos 0)) xs x p.0 m)) in
     let second = no_zero w ys (λ x m. is_second answers box w i xs ys picked x m (args_at (length w) ys x b.1.0 m) (all_at (comes_to answers box xs (pos 1)) ys x p.1 m)) in
     differ (sym (ap (λ q. q || list_any is_zero (map (arg_value w) ys)) first ∙ second) ∙ h)

@@ -4,6 +4,7 @@ use Rattle.std.specs.Prelude.{ℤ, pos, ◌+ℤ◌, ◌||◌}
 use Rattle.std.specs.Ordering.{int_eq}
 use Rattle.std.specs.List.{list_all}
 use Rattle.std.proofs.lemmas.Bool.Decides.{Decides-int_eq}
+use Rattle.std.proofs.lemmas.Bool.{and_parts, or_cases, or_left, or_right}
 use Rattle.qc_model.specs.Lists.{Among, LiesIn}
 use Rattle.qc_model.specs.Content.{Game, Rule}
 use Rattle.qc_model.specs.Domains.{Box, Values, InBox, declared_box, is_single, least_value}
@@ -16,7 +17,7 @@ use Rattle.qc_model.specs.Entailed.{entailed_as}
 use Rattle.qc_model.specs.Valid.{IsValid}
 use Rattle.qc_model.specs.Visible.{ArgumentsBelow}
 use Rattle.qc_model.proofs.Visible.{FitsOne, Fits, one_fits, given_fits}
-use Rattle.model_table.proofs.Fits.{many_fits, or_cases, or_left, or_right}
+use Rattle.model_table.proofs.Fits.{many_fits}
 use Rattle.model_table.proofs.Typing.{Kinds}
 use Rattle.model_table.proofs.Typed.{given_of, lefts_of}
 use Rattle.model_table.proofs.Kinded.{kinds_of}
@@ -26,7 +27,7 @@ use Rattle.model_table.proofs.Singles.{alone, alone_in, singles}
 use Rattle.model_table.proofs.Single.{single_exact}
 use Rattle.model_table.proofs.Truths.{only_is}
 use Rattle.lemma_list.specs.Entailment.{is_settled, is_picked, entailed_by_index, is_entailed, entailed_by}
-use Rattle.lemma_boxes.proofs.Lists.{differ, both}
+use Rattle.lemma_boxes.proofs.Lists.{differ}
 
 single_is : (v : ℤ) (d : Values) → is_single d ≡ true → Among v d → d ≡ alone v
 single_is v [] e m = absurd m
@@ -38,7 +39,7 @@ singles_are [] [] e h = refl
 singles_are [] (d ∷ ds) e h = absurd h
 singles_are (v ∷ vs) [] e h = absurd h
 singles_are (v ∷ vs) (d ∷ ds) e h =
-    let p = both (is_single d) (list_all is_single ds) e in
+    let p = and_parts (is_single d) (list_all is_single ds) e in
     ap (λ x. x ∷ ds) (single_is v d p.0 h.0) ∙ ap (λ xs. alone v ∷ xs) (singles_are vs ds p.1 h.1)
 
 argument_settled : (v : Filled ℤ) (d : Filled Values) → FitsOne v d → is_settled d ≡ true → d ≡ alone_in v
@@ -53,7 +54,7 @@ settled [] [] h e = refl
 settled [] (d ∷ ds) h e = absurd h
 settled (v ∷ vs) [] h e = absurd h
 settled (v ∷ vs) (d ∷ ds) h e =
-    let p = both (is_settled d) (list_all is_settled ds) e in
+    let p = and_parts (is_settled d) (list_all is_settled ds) e in
     ap (λ x. x ∷ ds) (argument_settled v d h.0 p.0) ∙ ap (λ xs. alone_in v ∷ xs) (settled vs ds h.1 p.1)
 
 twice_not : (a : Bool) → not (not a) ≡ true → a ≡ true
@@ -63,8 +64,8 @@ twice_not false e = e
 -- two arguments with one value, the same
 one_value : (v w : ℤ) (d e : Values) → are_one_value d e ≡ true → Among v d → Among w e → int_eq v w ≡ true
 one_value v w d e r h i =
-    let p = both (is_single d && is_single e) (int_eq (least_value d) (least_value e)) r in
-    let q = both (is_single d) (is_single e) p.0 in
+    let p = and_parts (is_single d && is_single e) (int_eq (least_value d) (least_value e)) r in
+    let q = and_parts (is_single d) (is_single e) p.0 in
     subst (λ x. int_eq x w ≡ true) (ap least_value (single_is v d q.0 h))
     (subst (λ x. int_eq (least_value d) x ≡ true) (ap least_value (single_is w e q.1 i)) p.1)
 
@@ -76,7 +77,7 @@ picked k b c (v ∷ vs) d e [] h i l r = absurd l
 picked k b c (v ∷ vs) d e (x ∷ ds) h i l r =
     elim (or_cases (is_only k d && are_one_value x e) (is_picked (k +ℤ pos 1) d ds e) r) [
       | inl q ↦ (
-          let p = both (is_only k d) (are_one_value x e) q in
+          let p = and_parts (is_only k d) (are_one_value x e) q in
           let same : int_eq k b ≡ true = (Decides-int_eq k b).1 (sym (only_is k b d p.0 h)) in
           or_left (int_eq k b && int_eq v c) (item_is (k +ℤ pos 1) b vs c)
           (subst (λ t. (t && int_eq v c) ≡ true) (sym same) (one_value v c x e p.1 l.0 i))
@@ -97,7 +98,7 @@ entailed_sound m vs ds k f e =
         | inr t ↦ index_entails m vs ds f t
       ]
       | inr q ↦ (
-          let p = both (list_all is_settled ds) (not (refuted_as m ds)) q in
+          let p = and_parts (list_all is_settled ds) (not (refuted_as m ds)) q in
           let s : ds ≡ singles vs = settled vs ds f p.0 in
           let r : refuted_as m ds ≡ not (holds_as m vs) = ap (refuted_as m) s ∙ single_exact m vs (subst (Kinds m vs) s k) in
           twice_not (holds_as m vs) (sym (ap not r) ∙ p.1))

@@ -7,16 +7,13 @@ use Rattle.qc_model.specs.Content.{Rule}
 use Rattle.lemma_list.specs.Reasons.{all_rules}
 use Rattle.qc_model.specs.Domains.{Box, InBox, is_none_left, has_value}
 use Rattle.std.specs.Ordering.{int_eq}
+use Rattle.std.proofs.lemmas.Bool.{and_parts}
 use Rattle.qc_model.proofs.Moves.{among_filter, of_filter}
 use Rattle.model_table.proofs.Fits.{any_at}
 use Rattle.model_table.proofs.Sums.{same_number}
 
 pub differ : false ≡ true → ⊥
 differ e = cc
-
-pub both : (a b : Bool) → (a && b) ≡ true → (a ≡ true) × (b ≡ true)
-both true b e = (refl, e)
-both false b e = absurd (differ e)
 
 pub not_true : (a : Bool) → not a ≡ true → a ≡ false
 not_true true e = absurd (differ e)
@@ -139,11 +136,6 @@ left_only (d ∷ ds) (suc x) u v m h = left_only ds x u v m h
 pub value_among : (vs : List ℤ) (v : ℤ) → has_value vs v ≡ true → Among v vs
 value_among vs v e = let r = any_at (int_eq v) vs e in subst (λ z. Among z vs) (sym (same_number v r.0 r.2)) r.1
 
-pub get_end : {X : Type 0} (xs : List X) (n : ℕ) → length xs ≤ n → slice_get xs n ≡ None
-get_end [] n l = refl
-get_end (x ∷ xs) zero l = absurd (omega arith)
-get_end (x ∷ xs) (suc n) l = get_end xs n (omega arith)
-
 pub get_front : (b r : List ℤ) (x : ℕ) → x < length b → get_or (b ++ r) x (pos 0) ≡ get_or b x (pos 0)
 get_front [] r x l = absurd (omega arith)
 get_front (v ∷ b) r zero l = refl
@@ -167,10 +159,10 @@ rule_at p [] j k c e q = cc
 rule_at p (d ∷ cs) j zero c e q =
     let s : d ≡ c = some_rule d c q in
     let n : j ≡ j + 0 = omega arith in
-    subst (λ z. p (j + 0) z ≡ true) s (subst (λ i. p i d ≡ true) n (both (p j d) (all_rules p (suc j) cs) e).0)
+    subst (λ z. p (j + 0) z ≡ true) s (subst (λ i. p i d ≡ true) n (and_parts (p j d) (all_rules p (suc j) cs) e).0)
   where
     some_rule : (d c : Rule) → Some d ≡ Some c → d ≡ c
     some_rule d c e = cc
 rule_at p (d ∷ cs) j (suc k) c e q =
     let n : suc j + k ≡ j + suc k = omega arith in
-    subst (λ i. p i c ≡ true) n (rule_at p cs (suc j) k c (both (p j d) (all_rules p (suc j) cs) e).1 q)
+    subst (λ i. p i c ≡ true) n (rule_at p cs (suc j) k c (and_parts (p j d) (all_rules p (suc j) cs) e).1 q)

@@ -2,18 +2,19 @@
 use Rattle.std.proofs.Common.{◌≡◌, inl, inr, refl, ℕ, ◌<◌, ◌≤◌, true, List, [], ◌∷◌, ◌++◌, length, set, get_or, filter, sym, ap, ◌∙◌, arith}
 use Rattle.std.specs.Prelude.{ℤ, pos}
 use Rattle.std.specs.List.{list_all}
+use Rattle.std.proofs.lemmas.Bool.{and_parts}
 use Rattle.qc_model.specs.Lists.{Among, LiesIn}
 use Rattle.qc_model.specs.Domains.{Box}
 use Rattle.model_table.proofs.Fits.{all_at}
 use Rattle.lemma_list.specs.declared.lemma.Literal.{Literal}
 use Rattle.lemma_list.specs.Literals.{meets, literals_hold, cut_to, box_to}
-use Rattle.lemma_boxes.proofs.Lists.{all_from, both, lies_filter, left_filter, left_other, get_front}
+use Rattle.lemma_boxes.proofs.Lists.{all_from, lies_filter, left_filter, left_other, get_front}
 
 -- values that meet the literals lie in the box cut to them
 cut_lies : (ls rest : List Literal) (box : Box) (w : List ℤ) → LiesIn w box → list_all (λ l. meets ls l.x.0 (get_or w l.x.0 (pos 0))) rest ≡ true → LiesIn w (cut_to ls rest box)
 cut_lies ls [] box w h e = h
 cut_lies ls (l ∷ rest) box w h e =
-    let p = both (meets ls l.x.0 (get_or w l.x.0 (pos 0))) (list_all (λ r. meets ls r.x.0 (get_or w r.x.0 (pos 0))) rest) e in
+    let p = and_parts (meets ls l.x.0 (get_or w l.x.0 (pos 0))) (list_all (λ r. meets ls r.x.0 (get_or w r.x.0 (pos 0))) rest) e in
     cut_lies ls rest (set box l.x.0 (filter (meets ls l.x.0) (get_or box l.x.0 []))) w (lies_filter (meets ls l.x.0) box l.x.0 w h p.0) p.1
 
 pub box_lies : (ls : List Literal) (box : Box) (w : List ℤ) → LiesIn w box → literals_hold ls w ≡ true → LiesIn w (box_to ls box)

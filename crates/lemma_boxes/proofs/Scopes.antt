@@ -3,6 +3,7 @@ use Rattle.std.proofs.Common.{◌≡◌, ◌⊎◌, inl, inr, ℕ, zero, suc, �
 use Rattle.std.specs.Prelude.{max, nat_le, nat_lt}
 use Rattle.std.specs.List.{count_by}
 use Rattle.std.proofs.lemmas.Bool.Decides.{nat_tests}
+use Rattle.std.proofs.lemmas.Bool.{and_parts, cases_lt, and_from}
 use Rattle.qc_model.specs.declared.problem.Kind.{Kind}
 use Rattle.qc_model.specs.declared.problem.Variable.{Variable}
 use Rattle.qc_model.specs.Content.{Game}
@@ -13,13 +14,12 @@ use Rattle.qc_model.specs.Counter.{opposite}
 use Rattle.qc_model.specs.Valid.{IsValid, is_in_order}
 use Rattle.qc_model.proofs.Before.{before-le}
 use Rattle.model_table.proofs.Crowded.{count_step}
-use Rattle.model_table.proofs.Fits.{and_true}
 use Rattle.proof_meaning.proofs.FreeFront.{before_wider}
 use Rattle.proof_meaning.proofs.Widths.{in_scope}
 use Rattle.lemma_list.specs.declared.lemma.Literal.{Literal}
 use Rattle.lemma_list.specs.Lemmas.{Lemma}
 use Rattle.lemma_list.specs.Places.{is_kind, side_at, of_its_scope, is_chosen_from, is_chosen_before, after_scope, place_of, place, is_winners, is_answer}
-use Rattle.lemma_boxes.proofs.Lists.{differ, both, get_among}
+use Rattle.lemma_boxes.proofs.Lists.{differ, get_among}
 
 pub le_of : (x y : ℕ) → nat_le x y ≡ true → x ≤ y
 le_of x y e = grind (arith, nat_tests)
@@ -36,9 +36,6 @@ lt_is x y l = grind (arith, nat_tests)
 lt_not : (x y : ℕ) → y ≤ x → nat_lt x y ≡ false
 lt_not x y l = grind (arith, nat_tests)
 
-pub up_or_down : (x y : ℕ) → (x < y) ⊎ (y ≤ x)
-up_or_down x y = grind arith
-
 -- variables in the order of their scopes
 abbrev owners : List Variable → List ℕ
 owners xs = map (λ x. x.scope.0) xs
@@ -48,12 +45,12 @@ count_before i xs = count_by (λ x. nat_lt x.scope.0 i) xs
 
 order_rest : (n : ℕ) (x : Variable) (xs : List Variable) → is_in_order n (owners (x ∷ xs)) ≡ true → is_in_order n (owners xs) ≡ true
 order_rest n x [] e = refl
-order_rest n x (y ∷ xs) e = (both (nat_le x.scope.0 y.scope.0) (is_in_order n (owners (y ∷ xs))) e).1
+order_rest n x (y ∷ xs) e = (and_parts (nat_le x.scope.0 y.scope.0) (is_in_order n (owners (y ∷ xs))) e).1
 
 lowest : (n : ℕ) (x y : Variable) (xs : List Variable) → is_in_order n (owners (x ∷ xs)) ≡ true → Among y xs → x.scope.0 ≤ y.scope.0
 lowest n x y [] e m = absurd m
 lowest n x y (z ∷ xs) e m =
-    let p = both (nat_le x.scope.0 z.scope.0) (is_in_order n (owners (z ∷ xs))) e in
+    let p = and_parts (nat_le x.scope.0 z.scope.0) (is_in_order n (owners (z ∷ xs))) e in
     let l = le_of x.scope.0 z.scope.0 p.0 in
     elim m [ inl q ↦ (let s : y.scope.0 ≡ z.scope.0 = ap (λ v. v.scope.0) q in omega arith) | inr t ↦ (let r = lowest n z y xs p.1 t in omega arith) ]
 
@@ -61,7 +58,7 @@ pub order_below : (n i : ℕ) (is : List ℕ) → is_in_order n is ≡ true → 
 order_below n i [] e m = absurd m
 order_below n i (j ∷ []) e m = elim m [ inl q ↦ (let l = lt_of j n e in omega arith) | inr t ↦ absurd t ]
 order_below n i (j ∷ h ∷ is) e m =
-    let p = both (nat_le j h) (is_in_order n (h ∷ is)) e in
+    let p = and_parts (nat_le j h) (is_in_order n (h ∷ is)) e in
     elim m [ inl q ↦ (let l = le_of j h p.0 in let r = order_below n h (h ∷ is) p.1 (inl refl) in omega arith) | inr t ↦ order_below n i (h ∷ is) p.1 t ]
 
 pub among_map : {X : Type 0} (f : X → ℕ) (x : X) (xs : List X) → Among x xs → Among (f x) (map f xs)
@@ -87,7 +84,7 @@ one_at_most false = omega arith
 none_counted : (n i : ℕ) (x : Variable) (xs : List Variable) → is_in_order n (owners (x ∷ xs)) ≡ true → i ≤ x.scope.0 → count_before i (x ∷ xs) ≡ 0
 none_counted n i x [] e l = omega (arith, counted i x [], none_above x.scope.0 i l)
 none_counted n i x (y ∷ xs) e l =
-    let p = both (nat_le x.scope.0 y.scope.0) (is_in_order n (owners (y ∷ xs))) e in
+    let p = and_parts (nat_le x.scope.0 y.scope.0) (is_in_order n (owners (y ∷ xs))) e in
     let up = le_of x.scope.0 y.scope.0 p.0 in
     omega (arith, counted i x (y ∷ xs), none_above x.scope.0 i l, none_counted n i y xs p.1 (omega arith))
 
@@ -145,7 +142,7 @@ wider_before g i j x l e = by (slice_get g.variables x) e
 module _ (g : Game) (valid : IsValid g) where
   of_scope_is : (x : ℕ) (v : Variable) → slice_get g.variables x ≡ Some v → is_of_scope g v.scope.0 x ≡ true
   of_scope_is x v e =
-      and_true (nat_le (before g v.scope.0) x) (nat_lt x (before g (suc v.scope.0)))
+      and_from (nat_le (before g v.scope.0) x) (nat_lt x (before g (suc v.scope.0)))
       (le_is (before g v.scope.0) x (stands_above (length g.scopes) v.scope.0 x v g.variables valid.variable_order e (omega arith)))
       (lt_is x (before g (suc v.scope.0)) (stands_below (length g.scopes) (suc v.scope.0) x v g.variables valid.variable_order e (omega arith)))
 
@@ -160,7 +157,7 @@ module _ (g : Game) (valid : IsValid g) where
   pub chosen_is : (k : Kind) (i x : ℕ) → is_chosen_from k g i x ≡ true → Chosen k g i x
   chosen_is k i x e =
       let r = its (λ j. is_kind k (side_at g j) && nat_le i j) (slice_get g.variables x) e in
-      let p = both (is_kind k (side_at g r.variable.scope.0)) (nat_le i r.variable.scope.0) r.holds in
+      let p = and_parts (is_kind k (side_at g r.variable.scope.0)) (nat_le i r.variable.scope.0) r.holds in
       record {
         scope = r.variable.scope.0;
         side = p.0;
@@ -172,12 +169,12 @@ module _ (g : Game) (valid : IsValid g) where
   pub chosen_cases : (k : Kind) (i x : ℕ) → is_chosen_from k g i x ≡ true → ((is_kind k (side_at g i) ≡ true) × (is_of_scope g i x ≡ true)) ⊎ (is_chosen_from k g (suc i) x ≡ true)
   chosen_cases k i x e =
       let r = its (λ j. is_kind k (side_at g j) && nat_le i j) (slice_get g.variables x) e in
-      let p = both (is_kind k (side_at g r.variable.scope.0)) (nat_le i r.variable.scope.0) r.holds in
+      let p = and_parts (is_kind k (side_at g r.variable.scope.0)) (nat_le i r.variable.scope.0) r.holds in
       elim (split_chosen k g i x r.variable.scope.0 p.0 (le_of i r.variable.scope.0 p.1)) [
         | inl q ↦ inl (ap (λ j. is_kind k (side_at g j)) q ∙ p.0, ap (λ j. is_of_scope g j x) q ∙ of_scope_is x r.variable r.is)
         | inr l ↦ inr (
             ap (of_its_scope (λ j. is_kind k (side_at g j) && nat_le (suc i) j)) r.is
-            ∙ and_true (is_kind k (side_at g r.variable.scope.0)) (nat_le (suc i) r.variable.scope.0) p.0 (le_is (suc i) r.variable.scope.0 l))
+            ∙ and_from (is_kind k (side_at g r.variable.scope.0)) (nat_le (suc i) r.variable.scope.0) p.0 (le_is (suc i) r.variable.scope.0 l))
       ]
 
   -- a variable that is chosen from scope i on isn't one before, and is one of the game
@@ -192,14 +189,14 @@ module _ (g : Game) (valid : IsValid g) where
   -- the variable x stands before the scope that has an answer to it
   pub answer_after : (m : Lemma) (x y j : ℕ) → is_answer g m x y ≡ true → is_of_scope g j y ≡ true → x < before g j
   answer_after m x y j e s =
-      let q = (both (is_winners g m y) (of_its_scope (λ i. is_chosen_from (opposite m.loser) g (suc i) y) (slice_get g.variables x)) e).1 in
+      let q = (and_parts (is_winners g m y) (of_its_scope (λ i. is_chosen_from (opposite m.loser) g (suc i) y) (slice_get g.variables x)) e).1 in
       let r = its (λ i. is_chosen_from (opposite m.loser) g (suc i) y) (slice_get g.variables x) q in
       let c = chosen_is (opposite m.loser) (suc r.variable.scope.0) y r.holds in
       let own = in_scope g r.variable.scope.0 x (of_scope_is x r.variable r.is) in
       let here = in_scope g c.scope y c.of_scope in
       let there = in_scope g j y s in
       let low = before_wider g (suc r.variable.scope.0) c.scope c.from in
-      elim (up_or_down j c.scope) [
+      elim (cases_lt j c.scope) [
         | inl z ↦ (let up = before_wider g (suc j) c.scope z in absurd (omega arith))
         | inr z ↦ (let up = before_wider g c.scope j z in omega arith)
       ]

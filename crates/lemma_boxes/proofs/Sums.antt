@@ -6,6 +6,7 @@ use Rattle.std.specs.Int.{int_min, int_max}
 use Rattle.std.specs.List.{list_all}
 use Rattle.std.proofs.lemmas.Int.{ints}
 use Rattle.std.proofs.lemmas.Bool.Decides.{nat_tests, Decides-int_eq}
+use Rattle.std.proofs.lemmas.Bool.{and_parts, true_from_ne_false}
 use Rattle.qc_model.specs.declared.problem.Arg.{Arg}
 use Rattle.qc_model.specs.declared.problem.Arg.TheVariants.{Var, Num}
 use Rattle.qc_model.specs.declared.problem.Argument.{Argument}
@@ -23,7 +24,7 @@ use Rattle.qc_model.specs.Left.{span}
 use Rattle.qc_model.specs.Refuted.{left_to}
 use Rattle.qc_model.specs.Visible.{ArgBelow, ArgsBelow, ArgumentsBelow}
 use Rattle.qc_model.proofs.Sound.{InRange, in_span, add_in, apart, hi_of, lo_of}
-use Rattle.model_table.proofs.Fits.{only_value, true_if}
+use Rattle.model_table.proofs.Fits.{only_value}
 use Rattle.model_table.proofs.Sums.{in_point, same_number}
 use Rattle.model_table.proofs.Products.{times_in}
 use Rattle.proof_meaning.proofs.FreeFront.{before_wider}
@@ -31,7 +32,7 @@ use Rattle.lemma_list.specs.declared.lemma.SumLiteral.{SumLiteral}
 use Rattle.lemma_list.specs.Lemmas.{Lemma}
 use Rattle.lemma_list.specs.Places.{place}
 use Rattle.lemma_list.specs.Sums.{Linear, linear_as, linear_of, counts, terms_sum, terms_range, last_scope, sum_lies, linear_at, sum_holds, sums_hold, common, by_sum, sum_known, linear_refuted, linear_entailed, refuted_by_sums, entailed_by_sums, sum_shown}
-use Rattle.lemma_boxes.proofs.Lists.{differ, both, lies_at, get_front, all_same}
+use Rattle.lemma_boxes.proofs.Lists.{differ, lies_at, get_front, all_same}
 use Rattle.lemma_boxes.proofs.Scopes.{wider_before, chosen_below}
 
 pub arg_in : (w : List ℤ) (box : Box) (x : Arg) → ArgBelow (length w) x → LiesIn w box → Among (arg_value w x) (left_to box x)
@@ -116,12 +117,12 @@ same_test false false f h = refl
 le_as_sum : (a b : ℤ) → int_le a b ≡ int_le ((pos 1 *ℤ a) +ℤ ((negsuc 0 *ℤ b) +ℤ pos 0)) (pos 0)
 le_as_sum a b =
     same_test (int_le a b) (int_le ((pos 1 *ℤ a) +ℤ ((negsuc 0 *ℤ b) +ℤ pos 0)) (pos 0))
-    (λ h. true_if (int_le ((pos 1 *ℤ a) +ℤ ((negsuc 0 *ℤ b) +ℤ pos 0)) (pos 0)) (λ n. omega (arith, ints))) (λ h. true_if (int_le a b) (λ n. omega (arith, ints)))
+    (λ h. true_from_ne_false (int_le ((pos 1 *ℤ a) +ℤ ((negsuc 0 *ℤ b) +ℤ pos 0)) (pos 0)) (λ n. omega (arith, ints))) (λ h. true_from_ne_false (int_le a b) (λ n. omega (arith, ints)))
 
 lt_as_sum : (a b : ℤ) → int_lt a b ≡ int_le ((pos 1 *ℤ a) +ℤ ((negsuc 0 *ℤ b) +ℤ pos 0)) (negsuc 0)
 lt_as_sum a b =
     same_test (int_lt a b) (int_le ((pos 1 *ℤ a) +ℤ ((negsuc 0 *ℤ b) +ℤ pos 0)) (negsuc 0))
-    (λ h. true_if (int_le ((pos 1 *ℤ a) +ℤ ((negsuc 0 *ℤ b) +ℤ pos 0)) (negsuc 0)) (λ n. omega (arith, ints))) (λ h. true_if (int_lt a b) (λ n. omega (arith, ints)))
+    (λ h. true_from_ne_false (int_le ((pos 1 *ℤ a) +ℤ ((negsuc 0 *ℤ b) +ℤ pos 0)) (negsuc 0)) (λ n. omega (arith, ints))) (λ h. true_from_ne_false (int_lt a b) (λ n. omega (arith, ints)))
 
 plus_as_sum : (a b c : ℤ) → int_eq (a +ℤ b) c ≡ int_eq ((pos 1 *ℤ a) +ℤ ((pos 1 *ℤ b) +ℤ ((negsuc 0 *ℤ c) +ℤ pos 0))) (pos 0)
 plus_as_sum a b c =
@@ -189,13 +190,13 @@ module _ (g : Game) (w : List ℤ) (c : Rule) (l : Linear) (is : linear_of c ≡
 
         by : (q : Bool) → cond q (is_single (left_to box l.bound) && is_point (least_value (left_to box l.bound)) r) (int_le r.to (least_value (left_to box l.bound))) ≡ true → test q total (arg_value w l.bound) ≡ true
         by true e =
-            let p = both (is_single (left_to box l.bound)) (is_point (least_value (left_to box l.bound)) r) e in
-            let p2 = both (int_eq r.from (least_value (left_to box l.bound))) (int_eq r.to (least_value (left_to box l.bound))) p.1 in
+            let p = and_parts (is_single (left_to box l.bound)) (is_point (least_value (left_to box l.bound)) r) e in
+            let p2 = and_parts (int_eq r.from (least_value (left_to box l.bound))) (int_eq r.to (least_value (left_to box l.bound))) p.1 in
             let t = one_number total (least_value (left_to box l.bound)) r known (same_number r.from (least_value (left_to box l.bound)) p2.0) (same_number r.to (least_value (left_to box l.bound)) p2.1) in
             (Decides-int_eq total (arg_value w l.bound)).1 (t ∙ sym (only_value (arg_value w l.bound) (left_to box l.bound) p.0 bound_in))
         by false e =
             let low = lo_of (arg_value w l.bound) (left_to box l.bound) bound_in in
-            true_if (int_le total (arg_value w l.bound)) (λ n. omega (arith, ints, known.high))
+            true_from_ne_false (int_le total (arg_value w l.bound)) (λ n. omega (arith, ints, known.high))
 
 -- what counts up to one scope counts up to a later one
 abbrev Reaches : Option ℕ → ℕ → Type 0
@@ -216,7 +217,7 @@ equal_of x y e = grind (arith, nat_tests)
 
 within_range : (low high v : ℤ) → is_within low high v ≡ true → InRange v (range_of low high)
 within_range low high v e =
-    let p = both (int_le low v) (int_le v high) e in
+    let p = and_parts (int_le low v) (int_le v high) e in
     record { low = (let q = p.0 in omega (arith, ints)); high = (let q = p.1 in omega (arith, ints)) }
 
 common_in : (v : ℤ) (r s : Range) → InRange v r → InRange v s → InRange v (common r s)
@@ -244,7 +245,7 @@ module _ (g : Game) (w : List ℤ) (box : Box) (inside : LiesIn w box) (i : ℕ)
       InRange (terms_sum (counts g t) l.factors l.items w) (sum_known g i sums k t l box)
   known_in [] k t l r q b e = terms_in (counts g t) l.factors l.items w box b inside
   known_in (z ∷ sums) k t l r q b e =
-      let p = both (sum_holds g i z w) (list_all (λ y. sum_holds g i y w) sums) e in
+      let p = and_parts (sum_holds g i z w) (list_all (λ y. sum_holds g i y w) sums) e in
       by p.0 (known_in sums k t l r q b p.1) (z.c.0 == k) refl
     where
       by : sum_holds g i z w ≡ true → InRange (terms_sum (counts g t) l.factors l.items w) (sum_known g i sums k t l box) → (c : Bool) → (z.c.0 == k) ≡ c →
@@ -295,11 +296,11 @@ module _ (g : Game) (w : List ℤ) (box : Box) (inside : LiesIn w box) (m : Lemm
   sum_is_shown n late z s None q e = e
   sum_is_shown n late z s (Some l) q e =
       let t = last_scope g n in
-      let p = both (int_le z.lo (sum_known g (last_scope g m) m.sums z.c.0 (Some t) l box).from) (int_le (sum_known g (last_scope g m) m.sums z.c.0 (Some t) l box).to z.hi) e in
+      let p = and_parts (int_le z.lo (sum_known g (last_scope g m) m.sums z.c.0 (Some t) l box).from) (int_le (sum_known g (last_scope g m) m.sums z.c.0 (Some t) l box).to z.hi) e in
       let i = known_in g w box inside (last_scope g m) m.sums z.c.0 (Some t) l (pred_wider (place g m) (place g n) late) (ap (λ j. linear_at (slice_get g.constraints j)) s ∙ (ap linear_at at ∙ q)) (items_below g w c l q below) hold in
       and_of (int_le z.lo (terms_sum (counts g (Some t)) l.factors l.items w)) (int_le (terms_sum (counts g (Some t)) l.factors l.items w) z.hi)
-      (true_if (int_le z.lo (terms_sum (counts g (Some t)) l.factors l.items w)) (λ n. (let a = p.0 in omega (arith, ints, i.low))))
-      (true_if (int_le (terms_sum (counts g (Some t)) l.factors l.items w) z.hi) (λ n. (let a = p.1 in omega (arith, ints, i.high))))
+      (true_from_ne_false (int_le z.lo (terms_sum (counts g (Some t)) l.factors l.items w)) (λ n. (let a = p.0 in omega (arith, ints, i.low))))
+      (true_from_ne_false (int_le (terms_sum (counts g (Some t)) l.factors l.items w) z.hi) (λ n. (let a = p.1 in omega (arith, ints, i.high))))
     where
       and_of : (a b : Bool) → a ≡ true → b ≡ true → (a && b) ≡ true
       and_of true b e f = f

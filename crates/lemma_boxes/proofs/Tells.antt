@@ -1,6 +1,7 @@
 -- What a box and the sums of a lemma say of a constraint is so.
 use Rattle.std.proofs.Common.{◌≡◌, inl, inr, ℕ, suc, true, List, length, refl, arith, Some, slice_get}
 use Rattle.std.specs.Prelude.{ℤ}
+use Rattle.std.proofs.lemmas.Bool.{or_cases}
 use Rattle.qc_model.specs.Content.{Game, Rule}
 use Rattle.qc_model.specs.Lists.{LiesIn}
 use Rattle.qc_model.specs.Domains.{Box, declared_box}
@@ -10,7 +11,7 @@ use Rattle.qc_model.specs.Refuted.{refuted_by}
 use Rattle.qc_model.specs.Valid.{IsValid}
 use Rattle.qc_model.specs.Visible.{ArgumentsBelow}
 use Rattle.qc_model.proofs.Before.{before-le}
-use Rattle.model_table.proofs.Fits.{length_fits, or_cases}
+use Rattle.model_table.proofs.Fits.{length_fits}
 use Rattle.model_table.proofs.Ordered.{valid_ordered}
 use Rattle.model_table.proofs.Valid.{valid_table_sound}
 use Rattle.lemma_list.specs.Lemmas.{Lemma}

@@ -2,12 +2,12 @@
 use Rattle.std.proofs.Common.{◌≡◌, inl, inr, ℕ, suc, ◌≤◌, slice_get, Bool, true, false, not, ◌&&◌, List, [], ◌∷◌, length, set, get_or, filter, refl, sym, ap, ◌∙◌, subst, arith, cond}
 use Rattle.std.specs.Prelude.{ℤ, pos, max, ◌==◌}
 use Rattle.std.proofs.lemmas.Bool.Decides.{nat_tests}
+use Rattle.std.proofs.lemmas.Bool.{and_parts, and_from}
 use Rattle.qc_model.specs.Content.{Game}
 use Rattle.qc_model.specs.Lists.{Among, LiesIn}
 use Rattle.qc_model.specs.Domains.{Box, values_left, values_within, is_none_left, has_value, has_empty, is_within, box_at, box_within, box_without}
 use Rattle.qc_model.specs.Counter.{opposite}
 use Rattle.qc_model.specs.Valid.{IsValid}
-use Rattle.model_table.proofs.Fits.{and_true}
 use Rattle.lemma_list.specs.declared.lemma.Reason.{Reason}
 use Rattle.lemma_list.specs.declared.lemma.Step.{Step}
 use Rattle.lemma_list.specs.declared.lemma.Step.TheVariants.{Cut, Choose}
@@ -19,7 +19,7 @@ use Rattle.lemma_list.specs.Reasons.{Known, goes_on, reason_place, reason_shows,
 use Rattle.lemma_list.specs.InPlace.{no_answer, may_step, ends, closes}
 use Rattle.lemma_list.specs.Claims.{IsPosition}
 use Rattle.lemma_boxes.specs.Claims.{Fitting}
-use Rattle.lemma_boxes.proofs.Lists.{differ, both, not_true, lies_empty, lies_filter, lies_less, lies_some, lies_set, left_filter, left_some, left_other, left_same, left_only, value_among, get_front}
+use Rattle.lemma_boxes.proofs.Lists.{differ, not_true, lies_empty, lies_filter, lies_less, lies_some, lies_set, left_filter, left_some, left_other, left_same, left_only, value_among, get_front}
 use Rattle.lemma_boxes.proofs.Scopes.{answer_after}
 use Rattle.lemma_boxes.proofs.Answers.{Pick, reason_pick, picks_in, AllPicked}
 use Rattle.lemma_laws.specs.Claims.{AreTrue}
@@ -66,14 +66,14 @@ module _ (g : Game) (valid : IsValid g) (known : Known) (true_of : AreTrue g kno
   fitting w box c i = record { declared = c.full; inside = i; sums = c.sums }
 
   is_winner : (x y : ℕ) → is_answer g m x y ≡ true → is_winners g m y ≡ true
-  is_winner x y e = (both (is_winners g m y) (of_its_scope (λ i. is_chosen_from (opposite m.loser) g (suc i) y) (slice_get g.variables x)) e).0
+  is_winner x y e = (and_parts (is_winners g m y) (of_its_scope (λ i. is_chosen_from (opposite m.loser) g (suc i) y) (slice_get g.variables x)) e).0
 
   ends_none : (passed : ℕ) (box : Box) (end : Ending) → passed ≤ length g.scopes → Passed g m passed box → ends g known m end passed box ≡ true → (w : List ℤ) → Course g m a w → LiesIn w box → ⊥
   unfolding fitting
   ends_none passed box Emptied most on e w c i = lies_empty w box i e
   ends_none passed box (Lost r) most on e w c i =
-      shows_none g valid m a position w c passed most (on w (fitting w box c i)) known true_of no_answer box box i i r (λ y q. absurd (differ q)) (both (not (has_empty box)) (shows g known m no_answer passed box box r) e).1
-  ends_none passed box Goal most on e w c i = goal_none g valid m a position w c passed most (on w (fitting w box c i)) box i (both (not (has_empty box)) (goal_shows g m passed box) e).1
+      shows_none g valid m a position w c passed most (on w (fitting w box c i)) known true_of no_answer box box i i r (λ y q. absurd (differ q)) (and_parts (not (has_empty box)) (shows g known m no_answer passed box box r) e).1
+  ends_none passed box Goal most on e w c i = goal_none g valid m a position w c passed most (on w (fitting w box c i)) box i (and_parts (not (has_empty box)) (goal_shows g m passed box) e).1
 
   -- the reply that answers values of x from low to high as the pick says
   answering : Pick → ℕ → ℤ → ℤ → Reply → Reply
@@ -108,7 +108,7 @@ module _ (g : Game) (valid : IsValid g) (known : Known) (true_of : AreTrue g kno
           meant = s.reply h.front y;
           left = stays h.front y l;
           same = h.same
-              ∙ ap (λ c. cond c (pick y (s.reply h.front y)) (s.reply h.front y)) (and_true (is_within low high (get_or h.front x (pos 0))) (is_answer g m x y) (ap (is_within low high) (sym (seen w y k h)) ∙ q) k);
+              ∙ ap (λ c. cond c (pick y (s.reply h.front y)) (s.reply h.front y)) (and_from (is_within low high (get_or h.front x (pos 0))) (is_answer g m x y) (ap (is_within low high) (sym (seen w y k h)) ∙ q) k);
         }
 
     plain : (w : List ℤ) → Answers g m (answering pick x low high s.reply) w → is_within low high (get_or w x (pos 0)) ≡ false → Answers g m s.reply w
@@ -175,19 +175,19 @@ module _ (g : Game) (valid : IsValid g) (known : Known) (true_of : AreTrue g kno
   pub refuted : (end : Ending) (steps : List Step) (passed : ℕ) (box : Box) (reply : Reply) → passed ≤ length g.scopes → Passed g m passed box → RepliesIn g m box reply → closes g known m end steps passed box ≡ true → Refutation g m a box
   refuted end [] passed box reply most on f e = record { reply = reply; within = f; none = λ w c n i. ends_none passed box end most on e w c i }
   refuted end (Cut x low high by ∷ steps) passed box reply most on f e =
-      let p = both (not (has_empty box) && may_step g known m (Cut x low high by) passed box) (closes g known m end steps (max passed (reason_place g known by)) (box_without box x.0 low high)) e in
-      let p1 = both (not (has_empty box)) (may_step g known m (Cut x low high by) passed box) p.0 in
-      let p2 = both (not (is_winners g m x.0) && not (is_none_left (values_within low high (values_left box x.0)))) (shows g known m (is_answer g m x.0) passed box (box_within box x.0 low high) by) p1.1 in
-      let own = not_true (is_winners g m x.0) (both (not (is_winners g m x.0)) (not (is_none_left (values_within low high (values_left box x.0)))) p2.0).0 in
-      let reached : goes_on g m passed (reason_place g known by) box ≡ true = (both (goes_on g m passed (reason_place g known by) box) (reason_shows g known m (is_answer g m x.0) (box_within box x.0 low high) by) p2.1).0 in
+      let p = and_parts (not (has_empty box) && may_step g known m (Cut x low high by) passed box) (closes g known m end steps (max passed (reason_place g known by)) (box_without box x.0 low high)) e in
+      let p1 = and_parts (not (has_empty box)) (may_step g known m (Cut x low high by) passed box) p.0 in
+      let p2 = and_parts (not (is_winners g m x.0) && not (is_none_left (values_within low high (values_left box x.0)))) (shows g known m (is_answer g m x.0) passed box (box_within box x.0 low high) by) p1.1 in
+      let own = not_true (is_winners g m x.0) (and_parts (not (is_winners g m x.0)) (not (is_none_left (values_within low high (values_left box x.0)))) p2.0).0 in
+      let reached : goes_on g m passed (reason_place g known by) box ≡ true = (and_parts (goes_on g m passed (reason_place g known by) box) (reason_shows g known m (is_answer g m x.0) (box_within box x.0 low high) by) p2.1).0 in
       after_cut x.0 low high by passed box most on own p2.1
       (refuted end steps (max passed (reason_place g known by)) (box_without box x.0 low high) reply (passed_most g valid known by passed most)
       (λ w h. (let outer = smaller w box (box_without box x.0 low high) (lies_less (λ v. not (is_within low high v)) box x.0 w) h in passes_on g valid m passed (reason_place g known by) w box reached outer (on w outer)))
       (cut_in x.0 low high box reply own f) p.1)
   refuted end (Choose x v ∷ steps) passed box reply most on f e =
-      let p = both (not (has_empty box) && may_step g known m (Choose x v) passed box) (closes g known m end steps passed (box_at box x.0 v)) e in
-      let p1 = both (not (has_empty box)) (may_step g known m (Choose x v) passed box) p.0 in
-      let p2 = both (is_winners g m x.0) (has_value (values_left box x.0) v) p1.1 in
+      let p = and_parts (not (has_empty box) && may_step g known m (Choose x v) passed box) (closes g known m end steps passed (box_at box x.0 v)) e in
+      let p1 = and_parts (not (has_empty box)) (may_step g known m (Choose x v) passed box) p.0 in
+      let p2 = and_parts (is_winners g m x.0) (has_value (values_left box x.0) v) p1.1 in
       let h : Among v (values_left box x.0) = value_among (values_left box x.0) v p2.1 in
       after_choice x.0 v box p2.0 h
       (refuted end steps passed (box_at box x.0 v) (choosing reply x.0 v) most

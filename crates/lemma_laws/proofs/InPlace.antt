@@ -2,6 +2,7 @@
 use Rattle.std.proofs.Common.{◌≡◌, ℕ, zero, suc, ◌<◌, Bool, true, false, ◌&&◌, List, [], ◌∷◌, ◌++◌, length, drop, slice_get, set, get_or, refl, sym, ap, ◌∙◌, subst, arith, cond, Some, None}
 use Rattle.std.specs.Prelude.{ℤ}
 use Rattle.std.specs.List.{list_all}
+use Rattle.std.proofs.lemmas.Bool.{and_parts, and_from}
 use Rattle.qc_model.specs.declared.problem.Kind.{Kind}
 use Rattle.qc_model.specs.declared.problem.Kind.TheVariants.{Exists, Forall}
 use Rattle.qc_model.specs.Content.{Game}
@@ -11,7 +12,6 @@ use Rattle.qc_model.specs.Game.{before}
 use Rattle.qc_model.specs.Counter.{opposite}
 use Rattle.qc_model.specs.Valid.{IsValid}
 use Rattle.qc_model.proofs.Before.{before-zero}
-use Rattle.model_table.proofs.Fits.{and_true}
 use Rattle.model_table.proofs.Ordered.{valid_ordered}
 use Rattle.proof_meaning.proofs.Standing.{left_from}
 use Rattle.lemma_list.specs.declared.lemma.Literal.{Literal}
@@ -23,7 +23,7 @@ use Rattle.lemma_list.specs.Sums.{last_scope, sum_holds, sums_hold, are_linear}
 use Rattle.lemma_list.specs.Reasons.{Known, if_known}
 use Rattle.lemma_list.specs.InPlace.{closes, holds_at, is_lemma, in_place, is_nil, is_final, entry_in_place, known_after, ends_with, proves_after}
 use Rattle.lemma_list.specs.Claims.{Loses, IsPosition, LemmaMeans}
-use Rattle.lemma_boxes.proofs.Lists.{differ, both, first_of, first_among}
+use Rattle.lemma_boxes.proofs.Lists.{differ, first_of, first_among}
 use Rattle.lemma_boxes.proofs.Scopes.{chosen_late, starts}
 use Rattle.lemma_boxes.proofs.Literals.{box_lies, box_keeps, box_less, literals_longer}
 use Rattle.lemma_boxes.proofs.Sums.{sums_front}
@@ -60,11 +60,11 @@ module _ (g : Game) (valid : IsValid g) where
   module _ (m : Lemma) (is : is_lemma g m ≡ true) (a : List ℤ) (position : IsPosition g (place g m) a) (holds : holds_at g m a ≡ true) where
     before_place : (l : Literal) → Among l m.literals → l.x.0 < before g (place g m)
     before_place =
-        let p = both (are_in_order m.literals && list_all (λ l. is_chosen_before g (place g m) l.x.0) m.literals) (are_linear g m.sums) is in
-        literals_before g valid m (both (are_in_order m.literals) (list_all (λ l. is_chosen_before g (place g m) l.x.0) m.literals) p.0).1
+        let p = and_parts (are_in_order m.literals && list_all (λ l. is_chosen_before g (place g m) l.x.0) m.literals) (are_linear g m.sums) is in
+        literals_before g valid m (and_parts (are_in_order m.literals) (list_all (λ l. is_chosen_before g (place g m) l.x.0) m.literals) p.0).1
 
     parts : (literals_hold m.literals a ≡ true) × (sums_hold g m a ≡ true)
-    parts = both (literals_hold m.literals a) (sums_hold g m a) holds
+    parts = and_parts (literals_hold m.literals a) (sums_hold g m a) holds
 
     first_within : RepliesIn g m (box_to m.literals (declared_box g)) (first_left g)
     first_within b x l =
@@ -92,7 +92,7 @@ module _ (g : Game) (valid : IsValid g) where
 
   lemma_true : (known : Known) (s : Shown) → AreTrue g known → in_place g known s ≡ true → LemmaMeans g s.lemma
   lemma_true known s true_of e =
-      let p = both (is_lemma g s.lemma) (closes g known s.lemma s.ending s.steps (place g s.lemma) (box_to s.lemma.literals (declared_box g))) e in
+      let p = and_parts (is_lemma g s.lemma) (closes g known s.lemma s.ending s.steps (place g s.lemma) (box_to s.lemma.literals (declared_box g))) e in
       record {
         is_lemma = p.0;
         loses = λ a position holds. loses_unless s.lemma.loser g (drop (place g s.lemma) g.scopes) (place g s.lemma) a
@@ -131,11 +131,11 @@ module _ (g : Game) (valid : IsValid g) where
   -- a lemma of the start without literals
   final_loses : (k : Kind) (m : Lemma) → is_final k m ≡ true → LemmaMeans g m → Loses k g g.scopes 0 []
   final_loses k m e h =
-      let p0 = both (is_kind k m.loser && is_nil m.literals) (is_nil m.sums) e in
-      let p = both (is_kind k m.loser) (is_nil m.literals) p0.0 in
+      let p0 = and_parts (is_kind k m.loser && is_nil m.literals) (is_nil m.sums) e in
+      let p = and_parts (is_kind k m.loser) (is_nil m.literals) p0.0 in
       let zero_is : place g m ≡ 0 = none_placed m.literals p.1 in
       subst (λ l. Loses l g g.scopes 0 []) (sym (is_same k m.loser p.0))
-      (subst (λ i. (IsPosition g i [] → Loses m.loser g (drop i g.scopes) i [])) zero_is (λ position. h.loses [] position (and_true (literals_hold m.literals []) (sums_hold g m []) (hold m.literals p.1) (none m.sums p0.1))) (record { count = sym (before-zero g); declared = tt; entered = tt }))
+      (subst (λ i. (IsPosition g i [] → Loses m.loser g (drop i g.scopes) i [])) zero_is (λ position. h.loses [] position (and_from (literals_hold m.literals []) (sums_hold g m []) (hold m.literals p.1) (none m.sums p0.1))) (record { count = sym (before-zero g); declared = tt; entered = tt }))
     where
       none_placed : (ls : List Literal) → is_nil ls ≡ true → place_of g m.loser ls ≡ 0
       none_placed [] e = refl
@@ -155,9 +155,9 @@ module _ (g : Game) (valid : IsValid g) where
 
   list_true : (k : Kind) (known : Known) (entries : List Entry) → AreTrue g known → proves_after g k known entries ≡ true → Loses k g g.scopes 0 []
   list_true k known [] t e = absurd (differ e)
-  list_true k known (x ∷ []) t e = let p = both (entry_in_place g known x) (ends_with k x) e in last_loses k known x t p.0 p.1
+  list_true k known (x ∷ []) t e = let p = and_parts (entry_in_place g known x) (ends_with k x) e in last_loses k known x t p.0 p.1
   list_true k known (x ∷ y ∷ rest) t e =
-      let p = both (entry_in_place g known x) (proves_after g k (known_after known x) (y ∷ rest)) e in
+      let p = and_parts (entry_in_place g known x) (proves_after g k (known_after known x) (y ∷ rest)) e in
       list_true k (known_after known x) (y ∷ rest) (true_after known x t p.0) p.1
 
   none_known : AreTrue g []

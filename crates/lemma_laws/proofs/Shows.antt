@@ -4,6 +4,8 @@ use Rattle.std.specs.Prelude.{ℤ, IsTrue, max, nat_le, nat_lt, ◌==◌}
 use Rattle.std.specs.List.{list_all}
 use Rattle.std.proofs.lemmas.List.{drop-drop, length-drop}
 use Rattle.std.proofs.lemmas.Bool.Decides.{nat_tests}
+use Rattle.std.proofs.lemmas.Bool.{and_parts, cases_lt, or_cases, and_from}
+use Rattle.std.proofs.lemmas.Option.{slice_get_past}
 use Rattle.qc_model.specs.declared.problem.Kind.{Kind}
 use Rattle.qc_model.specs.declared.problem.Kind.TheVariants.{Exists, Forall}
 use Rattle.qc_model.specs.declared.problem.Scope.{Scope}
@@ -18,7 +20,7 @@ use Rattle.qc_model.specs.Table.{IsOrdered}
 use Rattle.qc_model.specs.Valid.{IsValid}
 use Rattle.qc_model.proofs.Before.{before-le}
 use Rattle.qc_model.proofs.Moves.{of_filter}
-use Rattle.model_table.proofs.Fits.{all_at, length_fits, and_true, or_cases}
+use Rattle.model_table.proofs.Fits.{all_at, length_fits}
 use Rattle.model_table.proofs.Ordered.{valid_ordered}
 use Rattle.proof_meaning.proofs.Boxes.{in_front}
 use Rattle.lemma_list.specs.declared.lemma.Literal.{Literal}
@@ -32,8 +34,8 @@ use Rattle.lemma_list.specs.Sums.{linear_of, linear_at, last_scope, sum_lies, su
 use Rattle.lemma_list.specs.Reasons.{Known, lemma_at, all_rules, goes_on, owner_of, place_in, reason_place, is_falsified, rule_shows, is_met, lemma_shows, shows, goal_shows}
 use Rattle.lemma_list.specs.Claims.{Loses, Entered, IsPosition, LemmaMeans}
 use Rattle.lemma_boxes.specs.Claims.{Fitting}
-use Rattle.lemma_boxes.proofs.Lists.{rule_at, differ, both, lies_in_box, get_among, among_get, all_from, drop_all, get_end}
-use Rattle.lemma_boxes.proofs.Scopes.{le_of, up_or_down, chosen_below, starts, order_below, among_map}
+use Rattle.lemma_boxes.proofs.Lists.{rule_at, differ, lies_in_box, get_among, among_get, all_from, drop_all}
+use Rattle.lemma_boxes.proofs.Scopes.{le_of, chosen_below, starts, order_below, among_map}
 use Rattle.lemma_boxes.proofs.Allowed.{owner_same, allowed_holds, allows_front}
 use Rattle.lemma_boxes.proofs.Literals.{literals_front}
 use Rattle.lemma_boxes.proofs.Sums.{sum_is_shown, sums_front}
@@ -131,7 +133,7 @@ module _ (g : Game) (valid : IsValid g) where
 
   -- the winner's restrictions that the box keeps hold on its values
   pub passes_on : (m : Lemma) (from stop : ℕ) (w : List ℤ) (box : Box) → goes_on g m from stop box ≡ true → Fitting g m box w → Unblocked g m.loser (place g m) from w → Unblocked g m.loser (place g m) (max from stop) w
-  passes_on m from stop w box e f u = λ j low high side. elim (up_or_down j from) [
+  passes_on m from stop w box e f u = λ j low high side. elim (cases_lt j from) [
     | inl z ↦ u j low z side
     | inr z ↦ elim (below_max j from stop high) [ inl y ↦ absurd (omega arith) | inr y ↦ kept j z y side ]
   ]
@@ -164,7 +166,7 @@ module _ (g : Game) (valid : IsValid g) where
 
     allowed_at : (o t : ℕ) → place g m ≤ suc o → o < t → t ≤ length g.scopes → Unblocked g m.loser (place g m) t w → allows g o w ≡ true
     allowed_at o t low high most u =
-        elim (up_or_down o (place g m)) [ inl z ↦ entered_on o (omega arith) | inr z ↦ (reached_at t (omega arith) most u).allowed o z high ]
+        elim (cases_lt o (place g m)) [ inl z ↦ entered_on o (omega arith) | inr z ↦ (reached_at t (omega arith) most u).allowed o z high ]
 
     goal_holds : m.loser ≡ Exists → Reached g m.loser [] (place g m) (length g.scopes) w → allows g (length g.scopes) w ≡ true
     goal_holds e r =
@@ -178,17 +180,17 @@ module _ (g : Game) (valid : IsValid g) where
     module _ (passed : ℕ) (most : passed ≤ length g.scopes) (u : Unblocked g m.loser (place g m) passed w) where
       -- the side's own restrictions up to there
       own_allowed : (o : ℕ) → m.loser ≡ side_at g o → place g m ≤ suc o → o ≤ passed → allows g o w ≡ true
-      own_allowed o side low high = elim (up_or_down o (length g.scopes)) [ inl z ↦ inner z | inr z ↦ last (omega arith) ]
+      own_allowed o side low high = elim (cases_lt o (length g.scopes)) [ inl z ↦ inner z | inr z ↦ last (omega arith) ]
         where
           inner : o < length g.scopes → allows g o w ≡ true
-          inner z = allowed_at o (suc o) low (omega arith) (omega arith) (λ j l h s. elim (up_or_down j o) [ inl q ↦ u j l (omega arith) s | inr q ↦ absurd (own j (omega arith) s) ])
+          inner z = allowed_at o (suc o) low (omega arith) (omega arith) (λ j l h s. elim (cases_lt j o) [ inl q ↦ u j l (omega arith) s | inr q ↦ absurd (own j (omega arith) s) ])
             where
               own : (j : ℕ) → j ≡ o → side_at g j ≡ opposite m.loser → ⊥
               own j e s = not_opposite m.loser (sym s ∙ (ap (side_at g) e ∙ sym side))
 
           last : o ≡ length g.scopes → allows g o w ≡ true
           last e =
-              let k : m.loser ≡ Exists = none_is (slice_get g.scopes o) m.loser (get_end g.scopes o (omega arith)) side in
+              let k : m.loser ≡ Exists = none_is (slice_get g.scopes o) m.loser (slice_get_past g.scopes o (omega arith)) side in
               let v : Unblocked g m.loser (place g m) (length g.scopes) w = λ j l h s. u j l (omega arith) s in
               subst (λ n. allows g n w ≡ true) (sym e) (goal_holds k (at_goal v))
 
@@ -215,8 +217,8 @@ module _ (g : Game) (valid : IsValid g) where
           unfolding fits
           rule_refutes j None q high picked e = differ e
           rule_refutes j (Some c) q high picked e =
-              let p = both (is_kind m.loser (side_at g c.owner.0) && nat_le (place g m) (suc c.owner.0)) (is_refuted g m j c box || is_falsified answers c box) e in
-              let p2 = both (is_kind m.loser (side_at g c.owner.0)) (nat_le (place g m) (suc c.owner.0)) p.0 in
+              let p = and_parts (is_kind m.loser (side_at g c.owner.0) && nat_le (place g m) (suc c.owner.0)) (is_refuted g m j c box || is_falsified answers c box) e in
+              let p2 = and_parts (is_kind m.loser (side_at g c.owner.0)) (nat_le (place g m) (suc c.owner.0)) p.0 in
               let ok = own_allowed c.owner.0 (is_same m.loser (side_at g c.owner.0) p2.0) (le_of (place g m) (suc c.owner.0) p2.1) high in
               let holds = allowed_holds g j c c.owner.0 w q refl ok in
               elim (or_cases (is_refuted g m j c box) (is_falsified answers c box) p.1) [
@@ -228,18 +230,18 @@ module _ (g : Game) (valid : IsValid g) where
           lemma_refutes None true_of high picked e = differ e
           lemma_refutes (Some n) true_of high picked e =
               let lm = true_of n refl in
-              let p0 = both (is_kind m.loser n.loser && nat_le (place g m) (place g n) && list_all (is_met answers n.literals box) n.literals) (list_all (is_sum_shown g m (last_scope g n) box) n.sums) e in
-              let p = both (is_kind m.loser n.loser && nat_le (place g m) (place g n)) (list_all (is_met answers n.literals box) n.literals) p0.0 in
-              let p2 = both (is_kind m.loser n.loser) (nat_le (place g m) (place g n)) p.0 in
-              let b1 = both (are_in_order n.literals && list_all (λ l. is_chosen_before g (place g n) l.x.0) n.literals) (are_linear g n.sums) lm.is_lemma in
-              let b2 = both (are_in_order n.literals) (list_all (λ l. is_chosen_before g (place g n) l.x.0) n.literals) b1.0 in
+              let p0 = and_parts (is_kind m.loser n.loser && nat_le (place g m) (place g n) && list_all (is_met answers n.literals box) n.literals) (list_all (is_sum_shown g m (last_scope g n) box) n.sums) e in
+              let p = and_parts (is_kind m.loser n.loser && nat_le (place g m) (place g n)) (list_all (is_met answers n.literals box) n.literals) p0.0 in
+              let p2 = and_parts (is_kind m.loser n.loser) (nat_le (place g m) (place g n)) p.0 in
+              let b1 = and_parts (are_in_order n.literals && list_all (λ l. is_chosen_before g (place g n) l.x.0) n.literals) (are_linear g n.sums) lm.is_lemma in
+              let b2 = and_parts (are_in_order n.literals) (list_all (λ l. is_chosen_before g (place g n) l.x.0) n.literals) b1.0 in
               let same = is_same m.loser n.loser p2.0 in
               let low = le_of (place g m) (place g n) p2.1 in
               let v : Unblocked g m.loser (place g m) (place g n) w = λ i l h s. u i l (omega arith) s in
               let r = reached_at (place g n) low (starts g valid n) v in
               not_both m.loser g (drop (place g n) g.scopes) (place g n) r.front
               (subst (λ k. Loses k g (drop (place g n) g.scopes) (place g n) r.front) (sym same)
-              (lm.loses r.front (at_front r low v) (and_true (literals_hold n.literals r.front) (sums_hold g n r.front) (literals_there r b2.1 p.1) (sums_there r low p0.1)))) r.holds
+              (lm.loses r.front (at_front r low v) (and_from (literals_hold n.literals r.front) (sums_hold g n r.front) (literals_there r b2.1 p.1) (sums_there r low p0.1)))) r.holds
             where
               at_front : (r : Reached g m.loser (drop (place g n) g.scopes) (place g m) (place g n) w) → place g m ≤ place g n → Unblocked g m.loser (place g m) (place g n) w → IsPosition g (place g n) r.front
               at_front r low v = record {
@@ -250,7 +252,7 @@ module _ (g : Game) (valid : IsValid g) where
               }
                 where
                   allowed_before : (o : ℕ) → place g n ≡ suc o → allows g o w ≡ true
-                  allowed_before o z = elim (up_or_down o (place g m)) [ inl y ↦ entered_on o (omega arith) | inr y ↦ r.allowed o y (omega arith) ]
+                  allowed_before o z = elim (cases_lt o (place g m)) [ inl y ↦ entered_on o (omega arith) | inr y ↦ r.allowed o y (omega arith) ]
 
               literals_there : (r : Reached g m.loser (drop (place g n) g.scopes) (place g m) (place g n) w) → list_all (λ l. is_chosen_before g (place g n) l.x.0) n.literals ≡ true → list_all (is_met answers n.literals box) n.literals ≡ true → literals_hold n.literals r.front ≡ true
               literals_there r back es =
@@ -278,17 +280,17 @@ module _ (g : Game) (valid : IsValid g) where
       pub shows_none : (known : Known) → AreTrue g known → (answers : ℕ → Bool) (outer box : Box) → LiesIn w outer → LiesIn w box → (r : Reason) → AllPicked answers (reason_pick g known r box) box w → shows g known m answers passed outer box r ≡ true → ⊥
       unfolding fitting
       shows_none known true_of answers outer box o i (Constraint c) picked e =
-          let p = both (goes_on g m passed (owner_of (slice_get g.constraints c.0)) outer) (rule_shows g m answers box c.0 (slice_get g.constraints c.0)) e in
+          let p = and_parts (goes_on g m passed (owner_of (slice_get g.constraints c.0)) outer) (rule_shows g m answers box c.0 (slice_get g.constraints c.0)) e in
           let stop : ℕ = owner_of (slice_get g.constraints c.0) in
           rule_refutes (max passed stop) (max_most passed stop (length g.scopes) most (owner_most c.0 (slice_get g.constraints c.0) refl)) (passes_on m passed stop w outer p.0 (fitting outer o) u) box i answers c.0 (slice_get g.constraints c.0) refl (max_right passed stop) picked p.1
       shows_none known true_of answers outer box o i (Earlier n) picked e =
-          let p = both (goes_on g m passed (place_in g (lemma_at known n.0)) outer) (lemma_shows g m answers box (lemma_at known n.0)) e in
+          let p = and_parts (goes_on g m passed (place_in g (lemma_at known n.0)) outer) (lemma_shows g m answers box (lemma_at known n.0)) e in
           let stop : ℕ = place_in g (lemma_at known n.0) in
           lemma_refutes (max passed stop) (max_most passed stop (length g.scopes) most (place_most (lemma_at known n.0))) (passes_on m passed stop w outer p.0 (fitting outer o) u) box i answers (lemma_at known n.0) (true_of n.0) (max_right passed stop) picked p.1
 
       pub goal_none : (box : Box) → LiesIn w box → goal_shows g m passed box ≡ true → ⊥
       unfolding fitting
       goal_none box i e =
-          let p = both (is_kind m.loser Forall && goes_on g m passed (length g.scopes) box) (all_rules (λ k c. not (c.owner.0 == length g.scopes) || is_kept g m k c box) 0 g.constraints) e in
-          let p2 = both (is_kind m.loser Forall) (goes_on g m passed (length g.scopes) box) p.0 in
+          let p = and_parts (is_kind m.loser Forall && goes_on g m passed (length g.scopes) box) (all_rules (λ k c. not (c.owner.0 == length g.scopes) || is_kept g m k c box) 0 g.constraints) e in
+          let p2 = and_parts (is_kind m.loser Forall) (goes_on g m passed (length g.scopes) box) p.0 in
           goal_refutes (max passed (length g.scopes)) (max_most passed (length g.scopes) (length g.scopes) most (omega arith)) (passes_on m passed (length g.scopes) w box p2.1 (fitting box i) u) box i p2.0 (max_right passed (length g.scopes)) p.1

@@ -7,8 +7,8 @@ use Rattle.std.proofs.lemmas.Int.{ints}
 use Rattle.std.proofs.lemmas.List.{at_drop_more, at_drop_all}
 use mir.Syntax.{w64}
 use Rattle.std.proofs.lemmas.Bool.Decides.{nat_tests}
+use Rattle.std.proofs.lemmas.Bool.{false_from_ne_true, and_parts}
 use Rattle.qc_model.specs.Domains.{Values, has_value, is_within, least_value, greatest_value}
-use Rattle.model_levels.proofs.Items.{both}
 use Rattle.model_arguments.proofs.Kept.{low_end, high_end, inside, at_least, at_most, through, over_low, under_high}
 use Rattle.fd_store.specs.Held.{values_from, least_of}
 use Rattle.qc_refuter.specs.Met.{is_domain_left}
@@ -24,13 +24,9 @@ ordered a b h = grind (arith, ints)
 over : (a b : ℤ) → int_le a b ≡ false → a ≤ℤ b → ⊥
 over a b h k = grind (arith, ints)
 
-never : (b : Bool) → (b ≡ true → ⊥) → b ≡ false
-never true f = absurd (f refl)
-never false f = refl
-
 -- no value from lo on is left, or some
 pub none_within : (d : Values) (lo hi : ℤ) → None ≡ least_of (values_from lo d) → false ≡ list_any (is_within lo hi) d
-none_within d lo hi h = none_passes (is_within lo hi) d (λ w k. never (is_within lo hi w) (λ e. from_none d lo w h k (at_least lo hi w e)))
+none_within d lo hi h = none_passes (is_within lo hi) d (λ w k. false_from_ne_true (is_within lo hi w) (λ e. from_none d lo w h k (at_least lo hi w e)))
 
 pub some_within : (d : Values) (lo hi v : ℤ) → Some v ≡ least_of (values_from lo d) → int_le v hi ≡ list_any (is_within lo hi) d
 some_within d lo hi v h = by (int_le v hi) refl
@@ -42,7 +38,7 @@ some_within d lo hi v h = by (int_le v hi) refl
     by true e = some_found (is_within lo hi) d v n.there (inside lo hi v n.up (ordered v hi e))
     by false e =
         none_passes (is_within lo hi) d
-        (λ w k. never (is_within lo hi w) (λ i. over v hi e (through v w hi (n.all w k (at_least lo hi w i)) (at_most lo hi w i))))
+        (λ w k. false_from_ne_true (is_within lo hi w) (λ i. over v hi e (through v w hi (n.all w k (at_least lo hi w i)) (at_most lo hi w i))))
 
 -- some value passes one test or the other
 pub any_or : (p q : ℤ → Bool) (d : Values) → list_any (λ v. p v || q v) d ≡ (list_any p d || list_any q d)
@@ -175,5 +171,5 @@ all_meet_own ls k l d b e h = ap (λ z. z || b) (sym (all ls k l d e h))
     all : (ls : List Literal) (k : ℕ) (l : Literal) (d : Values) → slice_get ls k ≡ Some l → list_all (is_within l.lo l.hi) d ≡ true → list_all (meets ls l.x.0) d ≡ true
     all ls k l [] e h = refl
     all ls k l (v ∷ d) e h =
-        let r = both (is_within l.lo l.hi v) (list_all (is_within l.lo l.hi) d) h in
+        let r = and_parts (is_within l.lo l.hi v) (list_all (is_within l.lo l.hi) d) h in
         together (meets ls l.x.0 v) (list_all (meets ls l.x.0) d) (meets_own ls k l v e r.0) (all ls k l d e r.1)

@@ -3,27 +3,17 @@ use Rattle.std.proofs.Common.{◌≡◌, ◌∙◌, ◌≤◌, ◌<◌, ◌+◌,
 use Rattle.std.proofs.Math.Path.{fun_ext}
 use Rattle.std.specs.Prelude.{nat_le, nat_lt, ◌==◌}
 use Rattle.std.proofs.lemmas.Bool.Decides.{nat_tests}
+use Rattle.std.proofs.lemmas.Bool.{and_from, and_left, and_right, cases_lt, and_parts}
 use Rattle.qc_model.specs.Content.{Game, Rule}
 use Rattle.qc_model.specs.Domains.{Box}
 use Rattle.qc_model.specs.Block.{is_owned_within}
 use Rattle.model_levels.specs.Spans.{IsSpanOf, is_rule_within}
-use Rattle.model_levels.proofs.Items.{both}
 use Rattle.qc_model.specs.Counter.{opposite}
 use Rattle.lemma_list.specs.Lemmas.{Lemma}
 use Rattle.lemma_list.specs.Places.{is_kind, side_at}
 use Rattle.lemma_list.specs.Sums.{is_kept}
 use Rattle.lemma_list.specs.Reasons.{all_rules, goes_on}
 use Rattle.lemma_reasons.specs.Within.{kept_within, is_passed}
-
-together : (a b : Bool) → a ≡ true → b ≡ true → (a && b) ≡ true
-together a b e f = ap (λ c. c && b) e ∙ f
-
-first_fails : (a b : Bool) → a ≡ false → (a && b) ≡ false
-first_fails a b e = ap (λ c. c && b) e
-
-second_fails : (a b : Bool) → b ≡ false → (a && b) ≡ false
-second_fails true b e = e
-second_fails false b e = refl
 
 no_more : (j : ℕ) → j + 0 ≡ j
 no_more j = omega arith
@@ -35,24 +25,24 @@ one_more j k = omega arith
 pub all_hold : (p : ℕ → Rule → Bool) (j : ℕ) (cs : List Rule) → ((k : ℕ) (c : Rule) → slice_get cs k ≡ Some c → p (j + k) c ≡ true) → all_rules p j cs ≡ true
 all_hold p j [] f = refl
 all_hold p j (c ∷ cs) f =
-    together (p j c) (all_rules p (suc j) cs) (subst (λ n. p n c ≡ true) (no_more j) (f zero c refl))
+    and_from (p j c) (all_rules p (suc j) cs) (subst (λ n. p n c ≡ true) (no_more j) (f zero c refl))
     (all_hold p (suc j) cs (λ k d e. subst (λ n. p n d ≡ true) (one_more j k) (f (suc k) d e)))
 
 pub one_fails : (p : ℕ → Rule → Bool) (j : ℕ) (cs : List Rule) (k : ℕ) (c : Rule) → slice_get cs k ≡ Some c → p (j + k) c ≡ false → all_rules p j cs ≡ false
 one_fails p j [] k c e f = cc
 one_fails p j (d ∷ cs) zero c e f =
     let same : c ≡ d = cc in
-    first_fails (p j d) (all_rules p (suc j) cs) (subst (λ (x : Rule). p j x ≡ false) same (subst (λ n. p n c ≡ false) (no_more j) f))
+    and_left (p j d) (all_rules p (suc j) cs) (subst (λ (x : Rule). p j x ≡ false) same (subst (λ n. p n c ≡ false) (no_more j) f))
 one_fails p j (d ∷ cs) (suc k) c e f =
-    second_fails (p j d) (all_rules p (suc j) cs) (one_fails p (suc j) cs k c e (subst (λ n. p n c ≡ false) (one_more j k) f))
+    and_right (p j d) (all_rules p (suc j) cs) (one_fails p (suc j) cs k c e (subst (λ n. p n c ≡ false) (one_more j k) f))
 
 pub each_holds : (p : ℕ → Rule → Bool) (j : ℕ) (cs : List Rule) (k : ℕ) (c : Rule) → all_rules p j cs ≡ true → slice_get cs k ≡ Some c → p (j + k) c ≡ true
 each_holds p j [] k c h e = cc
 each_holds p j (d ∷ cs) zero c h e =
     let same : d ≡ c = cc in
-    subst (λ n. p n c ≡ true) (sym (no_more j)) (subst (λ (x : Rule). p j x ≡ true) same (both (p j d) (all_rules p (suc j) cs) h).0)
+    subst (λ n. p n c ≡ true) (sym (no_more j)) (subst (λ (x : Rule). p j x ≡ true) same (and_parts (p j d) (all_rules p (suc j) cs) h).0)
 each_holds p j (d ∷ cs) (suc k) c h e =
-    subst (λ n. p n c ≡ true) (sym (one_more j k)) (each_holds p (suc j) cs k c (both (p j d) (all_rules p (suc j) cs) h).1 e)
+    subst (λ n. p n c ≡ true) (sym (one_more j k)) (each_holds p (suc j) cs k c (and_parts (p j d) (all_rules p (suc j) cs) h).1 e)
 
 -- where less is asked of each, and that fails, so does what asks for more
 pub more_fails : (p q : ℕ → Rule → Bool) (j : ℕ) (cs : List Rule) → ((k : ℕ) (c : Rule) → p k c ≡ true → q k c ≡ true) → all_rules q j cs ≡ false → all_rules p j cs ≡ false
@@ -68,8 +58,8 @@ more_fails p q j cs f h = never (all_rules p j cs) (λ e. clash (sym (weaker j c
     weaker : (j : ℕ) (cs : List Rule) → all_rules p j cs ≡ true → all_rules q j cs ≡ true
     weaker j [] e = refl
     weaker j (c ∷ cs) e =
-        let r = both (p j c) (all_rules p (suc j) cs) e in
-        together (q j c) (all_rules q (suc j) cs) (f j c r.0) (weaker (suc j) cs r.1)
+        let r = and_parts (p j c) (all_rules p (suc j) cs) e in
+        and_from (q j c) (all_rules q (suc j) cs) (f j c r.0) (weaker (suc j) cs r.1)
 
 le_of : (x y : ℕ) → nat_le x y ≡ true → x ≤ y
 le_of x y e = grind (arith, nat_tests)
@@ -87,12 +77,12 @@ lt_is x y l = grind (arith, nat_tests)
 pub in_span : (g : Game) (i stop first end : ℕ) → IsSpanOf g i stop first end → (k : ℕ) (c : Rule) → slice_get g.constraints k ≡ Some c → is_owned_within i stop c ≡ true → (first ≤ k) × (k < end)
 in_span g i stop first end s k c e o =
     let b = s.numbers k ∙ (ap (is_rule_within i stop) e ∙ o) in
-    let r = both (nat_le first k) (nat_lt k end) b in
+    let r = and_parts (nat_le first k) (nat_lt k end) b in
     (le_of first k r.0, lt_of k end r.1)
 
 pub of_span : (g : Game) (i stop first end : ℕ) → IsSpanOf g i stop first end → (k : ℕ) (c : Rule) → slice_get g.constraints k ≡ Some c → first ≤ k → k < end → is_owned_within i stop c ≡ true
 of_span g i stop first end s k c e l h =
-    sym (ap (is_rule_within i stop) e) ∙ (sym (s.numbers k) ∙ together (nat_le first k) (nat_lt k end) (le_is first k l) (lt_is k end h))
+    sym (ap (is_rule_within i stop) e) ∙ (sym (s.numbers k) ∙ and_from (nat_le first k) (nat_lt k end) (le_is first k l) (lt_is k end h))
 
 -- what is asked of those that are of some scopes
 pub if_asked : (a b : Bool) → (a ≡ true → b ≡ true) → (not a || b) ≡ true
@@ -117,10 +107,10 @@ told true b h e = h
 told false b h e = cc
 
 pub owned : (i stop j : ℕ) → (nat_le i j && nat_lt j stop) ≡ true → (i ≤ j) × (j < stop)
-owned i stop j e = let r = both (nat_le i j) (nat_lt j stop) e in (le_of i j r.0, lt_of j stop r.1)
+owned i stop j e = let r = and_parts (nat_le i j) (nat_lt j stop) e in (le_of i j r.0, lt_of j stop r.1)
 
 pub owns : (i stop j : ℕ) → i ≤ j → j < stop → (nat_le i j && nat_lt j stop) ≡ true
-owns i stop j l h = together (nat_le i j) (nat_lt j stop) (le_is i j l) (lt_is j stop h)
+owns i stop j l h = and_from (nat_le i j) (nat_lt j stop) (le_is i j l) (lt_is j stop h)
 
 pub own_scope : (j k : ℕ) → (nat_le j k && nat_lt k (suc j)) ≡ (k == j)
 own_scope j k = grind (arith, nat_tests)
@@ -134,9 +124,6 @@ rule_there [] k h = absurd (omega arith)
 rule_there (c ∷ cs) zero h = (c, refl)
 rule_there (c ∷ cs) (suc k) h = rule_there cs k (omega arith)
 
-up_or_down : (x y : ℕ) → (x < y) ⊎ (y ≤ x)
-up_or_down x y = grind arith
-
 module _ (g : Game) (m : Lemma) (box : Box) where
   abbrev kept_at : ℕ → Rule → Bool
   kept_at k c = is_kept g m k c box
@@ -149,7 +136,7 @@ module _ (g : Game) (m : Lemma) (box : Box) where
 
   pub one_more_kept : (first k : ℕ) (r : Bool) → AllKept first k → ((c : Rule) → slice_get g.constraints k ≡ Some c → r ≡ is_kept g m k c box) → r ≡ true → AllKept first (k + 1)
   one_more_kept first k r f here e n c l h q =
-      elim (up_or_down n k) [
+      elim (cases_lt n k) [
         | inl b ↦ f n c l b q
         | inr t ↦ (let same : k ≡ n = omega arith in
             subst (λ i. kept_at i c ≡ true) same (sym (here c (subst (λ i. slice_get g.constraints i ≡ Some c) (sym same) q)) ∙ e))
@@ -187,7 +174,7 @@ module _ (g : Game) (m : Lemma) (box : Box) where
 
   pub one_more_scope : (from j : ℕ) → WinnersKept from j → is_passed g m j box ≡ true → WinnersKept from (j + 1)
   one_more_scope from j f p k c l h w q =
-      elim (up_or_down c.owner.0 j) [
+      elim (cases_lt c.owner.0 j) [
         | inl b ↦ f k c l b w q
         | inr t ↦ passed_kept j p k c (omega arith) w q
       ]
@@ -197,7 +184,7 @@ module _ (g : Game) (m : Lemma) (box : Box) where
       sym (all_hold (λ n d. not (is_owned_within from stop d && winners d.owner.0) || kept_at n d) 0 g.constraints
       (λ n c q. subst (λ x. (not (is_owned_within from stop c && winners c.owner.0) || kept_at x c) ≡ true) (from_zero n)
       (if_asked (is_owned_within from stop c && winners c.owner.0) (kept_at n c)
-      (λ o. let r = both (is_owned_within from stop c) (winners c.owner.0) o in
+      (λ o. let r = and_parts (is_owned_within from stop c) (winners c.owner.0) o in
       let p = owned from stop c.owner.0 r.0 in
       f n c p.0 (omega (arith, p.1)) r.1 q))))
 
@@ -211,7 +198,7 @@ module _ (g : Game) (m : Lemma) (box : Box) where
       (λ o. let b = owned j (suc j) c.owner.0 o in
       let same : j ≡ c.owner.0 = omega (arith, b.0, b.1) in
       told (is_owned_within from stop c && winners c.owner.0) (kept_at n c) p
-      (together (is_owned_within from stop c) (winners c.owner.0) (owns from stop c.owner.0 (omega arith) (omega arith))
+      (and_from (is_owned_within from stop c) (winners c.owner.0) (owns from stop c.owner.0 (omega arith) (omega arith))
       (subst (λ i. winners i ≡ true) same w.0))))
       w.1)
 

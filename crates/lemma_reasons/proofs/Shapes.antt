@@ -2,6 +2,7 @@
 use Rattle.std.proofs.Common.{◌≡◌, ◌∙◌, ℕ, Bool, true, false, ◌&&◌, List, [], ◌∷◌, refl, sym, ap, subst, None}
 use Rattle.std.specs.Prelude.{pos, negsuc}
 use Rattle.std.specs.List.{list_all}
+use Rattle.std.proofs.lemmas.Bool.{and_parts}
 use Rattle.qc_model.specs.declared.problem.Arg.{Arg}
 use Rattle.qc_model.specs.declared.problem.Argument.{Argument}
 use Rattle.qc_model.specs.declared.problem.Argument.TheVariants.{One, Many, Numbers, Members}
@@ -16,7 +17,6 @@ use Rattle.qc_model.specs.Meaning.{clause, meaning_of}
 use Rattle.qc_model.specs.Signature.{arg_kinds_of}
 use Rattle.qc_model.specs.Valid.{is_of_sort, are_of_sorts, have_lengths, argument_sees, is_constraint}
 use Rattle.model_arguments.specs.Written.{arg_at, args_at, ints_at}
-use Rattle.model_levels.proofs.Items.{both}
 use Rattle.lemma_list.specs.Sums.{linear, linear_as, linear_of}
 use Rattle.lemma_list.specs.Reasons.{comes_to, falsified_as, is_falsified}
 use Rattle.lemma_reasons.specs.Known.{difference_of, balance_of}
@@ -66,72 +66,72 @@ some_more xs s sorts h = cc
 
 pub weighted_args : (xs : List Variable) (args : List Argument) → are_of_sorts xs (numbers ∷ integers ∷ integer ∷ []) args ≡ true → args ≡ Numbers (ints_at args 0) ∷ Many (args_at args 1) ∷ One (arg_at args 2) ∷ []
 weighted_args xs [] h = absurd (some_more xs numbers (integers ∷ integer ∷ []) h)
-weighted_args xs (a ∷ []) h = absurd (some_more xs integers (integer ∷ []) (both (is_of_sort xs numbers a) (are_of_sorts xs (integers ∷ integer ∷ []) []) h).1)
+weighted_args xs (a ∷ []) h = absurd (some_more xs integers (integer ∷ []) (and_parts (is_of_sort xs numbers a) (are_of_sorts xs (integers ∷ integer ∷ []) []) h).1)
 weighted_args xs (a ∷ b ∷ []) h =
-    let u = both (is_of_sort xs numbers a) (are_of_sorts xs (integers ∷ integer ∷ []) (b ∷ [])) h in
-    absurd (some_more xs integer [] (both (is_of_sort xs integers b) (are_of_sorts xs (integer ∷ []) []) u.1).1)
+    let u = and_parts (is_of_sort xs numbers a) (are_of_sorts xs (integers ∷ integer ∷ []) (b ∷ [])) h in
+    absurd (some_more xs integer [] (and_parts (is_of_sort xs integers b) (are_of_sorts xs (integer ∷ []) []) u.1).1)
 weighted_args xs (a ∷ b ∷ c ∷ []) h =
-    let u = both (is_of_sort xs numbers a) (are_of_sorts xs (integers ∷ integer ∷ []) (b ∷ c ∷ [])) h in
-    let v = both (is_of_sort xs integers b) (are_of_sorts xs (integer ∷ []) (c ∷ [])) u.1 in
-    let w = both (is_of_sort xs integer c) (are_of_sorts xs [] []) v.1 in
+    let u = and_parts (is_of_sort xs numbers a) (are_of_sorts xs (integers ∷ integer ∷ []) (b ∷ c ∷ [])) h in
+    let v = and_parts (is_of_sort xs integers b) (are_of_sorts xs (integer ∷ []) (c ∷ [])) u.1 in
+    let w = and_parts (is_of_sort xs integer c) (are_of_sorts xs [] []) v.1 in
     three a b c _ _ _ (numbers_there xs a u.0) (integers_there xs b v.0) (integer_there xs c w.0)
 weighted_args xs (a ∷ b ∷ c ∷ d ∷ args) h =
-    let u = both (is_of_sort xs numbers a) (are_of_sorts xs (integers ∷ integer ∷ []) (b ∷ c ∷ d ∷ args)) h in
-    let v = both (is_of_sort xs integers b) (are_of_sorts xs (integer ∷ []) (c ∷ d ∷ args)) u.1 in
-    let w = both (is_of_sort xs integer c) (are_of_sorts xs [] (d ∷ args)) v.1 in
+    let u = and_parts (is_of_sort xs numbers a) (are_of_sorts xs (integers ∷ integer ∷ []) (b ∷ c ∷ d ∷ args)) h in
+    let v = and_parts (is_of_sort xs integers b) (are_of_sorts xs (integer ∷ []) (c ∷ d ∷ args)) u.1 in
+    let w = and_parts (is_of_sort xs integer c) (are_of_sorts xs [] (d ∷ args)) v.1 in
     absurd (none_more xs d args w.1)
 
 pub three_args : (xs : List Variable) (args : List Argument) → are_of_sorts xs (integer ∷ integer ∷ integer ∷ []) args ≡ true → args ≡ One (arg_at args 0) ∷ One (arg_at args 1) ∷ One (arg_at args 2) ∷ []
 three_args xs [] h = absurd (some_more xs integer (integer ∷ integer ∷ []) h)
-three_args xs (a ∷ []) h = absurd (some_more xs integer (integer ∷ []) (both (is_of_sort xs integer a) (are_of_sorts xs (integer ∷ integer ∷ []) []) h).1)
+three_args xs (a ∷ []) h = absurd (some_more xs integer (integer ∷ []) (and_parts (is_of_sort xs integer a) (are_of_sorts xs (integer ∷ integer ∷ []) []) h).1)
 three_args xs (a ∷ b ∷ []) h =
-    let u = both (is_of_sort xs integer a) (are_of_sorts xs (integer ∷ integer ∷ []) (b ∷ [])) h in
-    absurd (some_more xs integer [] (both (is_of_sort xs integer b) (are_of_sorts xs (integer ∷ []) []) u.1).1)
+    let u = and_parts (is_of_sort xs integer a) (are_of_sorts xs (integer ∷ integer ∷ []) (b ∷ [])) h in
+    absurd (some_more xs integer [] (and_parts (is_of_sort xs integer b) (are_of_sorts xs (integer ∷ []) []) u.1).1)
 three_args xs (a ∷ b ∷ c ∷ []) h =
-    let u = both (is_of_sort xs integer a) (are_of_sorts xs (integer ∷ integer ∷ []) (b ∷ c ∷ [])) h in
-    let v = both (is_of_sort xs integer b) (are_of_sorts xs (integer ∷ []) (c ∷ [])) u.1 in
-    let w = both (is_of_sort xs integer c) (are_of_sorts xs [] []) v.1 in
+    let u = and_parts (is_of_sort xs integer a) (are_of_sorts xs (integer ∷ integer ∷ []) (b ∷ c ∷ [])) h in
+    let v = and_parts (is_of_sort xs integer b) (are_of_sorts xs (integer ∷ []) (c ∷ [])) u.1 in
+    let w = and_parts (is_of_sort xs integer c) (are_of_sorts xs [] []) v.1 in
     three a b c _ _ _ (integer_there xs a u.0) (integer_there xs b v.0) (integer_there xs c w.0)
 three_args xs (a ∷ b ∷ c ∷ d ∷ args) h =
-    let u = both (is_of_sort xs integer a) (are_of_sorts xs (integer ∷ integer ∷ []) (b ∷ c ∷ d ∷ args)) h in
-    let v = both (is_of_sort xs integer b) (are_of_sorts xs (integer ∷ []) (c ∷ d ∷ args)) u.1 in
-    let w = both (is_of_sort xs integer c) (are_of_sorts xs [] (d ∷ args)) v.1 in
+    let u = and_parts (is_of_sort xs integer a) (are_of_sorts xs (integer ∷ integer ∷ []) (b ∷ c ∷ d ∷ args)) h in
+    let v = and_parts (is_of_sort xs integer b) (are_of_sorts xs (integer ∷ []) (c ∷ d ∷ args)) u.1 in
+    let w = and_parts (is_of_sort xs integer c) (are_of_sorts xs [] (d ∷ args)) v.1 in
     absurd (none_more xs d args w.1)
 
 pub two_integers : (xs : List Variable) (args : List Argument) → are_of_sorts xs (integer ∷ integer ∷ []) args ≡ true → args ≡ One (arg_at args 0) ∷ One (arg_at args 1) ∷ []
 two_integers xs [] h = absurd (some_more xs integer (integer ∷ []) h)
-two_integers xs (a ∷ []) h = absurd (some_more xs integer [] (both (is_of_sort xs integer a) (are_of_sorts xs (integer ∷ []) []) h).1)
+two_integers xs (a ∷ []) h = absurd (some_more xs integer [] (and_parts (is_of_sort xs integer a) (are_of_sorts xs (integer ∷ []) []) h).1)
 two_integers xs (a ∷ b ∷ []) h =
-    let u = both (is_of_sort xs integer a) (are_of_sorts xs (integer ∷ []) (b ∷ [])) h in
-    let v = both (is_of_sort xs integer b) (are_of_sorts xs [] []) u.1 in
+    let u = and_parts (is_of_sort xs integer a) (are_of_sorts xs (integer ∷ []) (b ∷ [])) h in
+    let v = and_parts (is_of_sort xs integer b) (are_of_sorts xs [] []) u.1 in
     two a b _ _ (integer_there xs a u.0) (integer_there xs b v.0)
 two_integers xs (a ∷ b ∷ c ∷ args) h =
-    let u = both (is_of_sort xs integer a) (are_of_sorts xs (integer ∷ []) (b ∷ c ∷ args)) h in
-    let v = both (is_of_sort xs integer b) (are_of_sorts xs [] (c ∷ args)) u.1 in
+    let u = and_parts (is_of_sort xs integer a) (are_of_sorts xs (integer ∷ []) (b ∷ c ∷ args)) h in
+    let v = and_parts (is_of_sort xs integer b) (are_of_sorts xs [] (c ∷ args)) u.1 in
     absurd (none_more xs c args v.1)
 
 pub two_booleans : (xs : List Variable) (args : List Argument) → are_of_sorts xs (boolean ∷ boolean ∷ []) args ≡ true → args ≡ One (arg_at args 0) ∷ One (arg_at args 1) ∷ []
 two_booleans xs [] h = absurd (some_more xs boolean (boolean ∷ []) h)
-two_booleans xs (a ∷ []) h = absurd (some_more xs boolean [] (both (is_of_sort xs boolean a) (are_of_sorts xs (boolean ∷ []) []) h).1)
+two_booleans xs (a ∷ []) h = absurd (some_more xs boolean [] (and_parts (is_of_sort xs boolean a) (are_of_sorts xs (boolean ∷ []) []) h).1)
 two_booleans xs (a ∷ b ∷ []) h =
-    let u = both (is_of_sort xs boolean a) (are_of_sorts xs (boolean ∷ []) (b ∷ [])) h in
-    let v = both (is_of_sort xs boolean b) (are_of_sorts xs [] []) u.1 in
+    let u = and_parts (is_of_sort xs boolean a) (are_of_sorts xs (boolean ∷ []) (b ∷ [])) h in
+    let v = and_parts (is_of_sort xs boolean b) (are_of_sorts xs [] []) u.1 in
     two a b _ _ (boolean_there xs a u.0) (boolean_there xs b v.0)
 two_booleans xs (a ∷ b ∷ c ∷ args) h =
-    let u = both (is_of_sort xs boolean a) (are_of_sorts xs (boolean ∷ []) (b ∷ c ∷ args)) h in
-    let v = both (is_of_sort xs boolean b) (are_of_sorts xs [] (c ∷ args)) u.1 in
+    let u = and_parts (is_of_sort xs boolean a) (are_of_sorts xs (boolean ∷ []) (b ∷ c ∷ args)) h in
+    let v = and_parts (is_of_sort xs boolean b) (are_of_sorts xs [] (c ∷ args)) u.1 in
     absurd (none_more xs c args v.1)
 
 pub two_arrays : (xs : List Variable) (args : List Argument) → are_of_sorts xs (booleans ∷ booleans ∷ []) args ≡ true → args ≡ Many (args_at args 0) ∷ Many (args_at args 1) ∷ []
 two_arrays xs [] h = absurd (some_more xs booleans (booleans ∷ []) h)
-two_arrays xs (a ∷ []) h = absurd (some_more xs booleans [] (both (is_of_sort xs booleans a) (are_of_sorts xs (booleans ∷ []) []) h).1)
+two_arrays xs (a ∷ []) h = absurd (some_more xs booleans [] (and_parts (is_of_sort xs booleans a) (are_of_sorts xs (booleans ∷ []) []) h).1)
 two_arrays xs (a ∷ b ∷ []) h =
-    let u = both (is_of_sort xs booleans a) (are_of_sorts xs (booleans ∷ []) (b ∷ [])) h in
-    let v = both (is_of_sort xs booleans b) (are_of_sorts xs [] []) u.1 in
+    let u = and_parts (is_of_sort xs booleans a) (are_of_sorts xs (booleans ∷ []) (b ∷ [])) h in
+    let v = and_parts (is_of_sort xs booleans b) (are_of_sorts xs [] []) u.1 in
     two a b _ _ (booleans_there xs a u.0) (booleans_there xs b v.0)
 two_arrays xs (a ∷ b ∷ c ∷ args) h =
-    let u = both (is_of_sort xs booleans a) (are_of_sorts xs (booleans ∷ []) (b ∷ c ∷ args)) h in
-    let v = both (is_of_sort xs booleans b) (are_of_sorts xs [] (c ∷ args)) u.1 in
+    let u = and_parts (is_of_sort xs booleans a) (are_of_sorts xs (booleans ∷ []) (b ∷ c ∷ args)) h in
+    let v = and_parts (is_of_sort xs booleans b) (are_of_sorts xs [] (c ∷ args)) u.1 in
     absurd (none_more xs c args v.1)
 
 -- what is known of a constraint of this predicate
@@ -139,7 +139,7 @@ sorts_of : (xs : List Variable) (c : Rule) (p : Pred) → c.pred ≡ p → is_co
 sorts_of xs c p e h =
     let sorted = are_of_sorts xs (arg_kinds_of c.pred) c.args in
     let lengths = have_lengths (meaning_of c.pred) c.args in
-    subst (λ (q : Pred). are_of_sorts xs (arg_kinds_of q) c.args ≡ true) e (both sorted lengths (both (sorted && lengths) (list_all (argument_sees xs c.owner.0) c.args) h).0).0
+    subst (λ (q : Pred). are_of_sorts xs (arg_kinds_of q) c.args ≡ true) e (and_parts sorted lengths (and_parts (sorted && lengths) (list_all (argument_sees xs c.owner.0) c.args) h).0).0
 
 linear_here : (c : Rule) (p : Pred) (args : List Argument) → c.pred ≡ p → c.args ≡ args → linear_of c ≡ linear_as (meaning_of p) args
 linear_here c p args e f = ap (λ (q : Pred). linear_as (meaning_of q) c.args) e ∙ ap (linear_as (meaning_of p)) f

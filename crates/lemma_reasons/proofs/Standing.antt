@@ -2,10 +2,10 @@
 use Rattle.std.proofs.Common.{◌≡◌, ℕ, zero, suc, ◌<◌, true, refl, List, [], ◌∷◌, map, subst, arith, Some, slice_get}
 use Rattle.std.specs.Prelude.{nat_lt, nat_le}
 use Rattle.std.proofs.lemmas.Bool.Decides.{nat_tests}
+use Rattle.std.proofs.lemmas.Bool.{and_parts}
 use Rattle.qc_model.specs.declared.problem.Variable.{Variable}
 use Rattle.qc_model.specs.Content.{Rule}
 use Rattle.qc_model.specs.Valid.{is_in_order}
-use Rattle.model_levels.proofs.Items.{both}
 
 lt_of : (x y : ℕ) → nat_lt x y ≡ true → x < y
 lt_of x y e = grind (arith, nat_tests)
@@ -17,14 +17,14 @@ le_of x y e = grind (arith, nat_tests)
 first_below : (n i : ℕ) (is : List ℕ) → is_in_order n (i ∷ is) ≡ true → i < n
 first_below n i [] e = lt_of i n e
 first_below n i (j ∷ is) e =
-    let p = both (nat_le i j) (is_in_order n (j ∷ is)) e in
+    let p = and_parts (nat_le i j) (is_in_order n (j ∷ is)) e in
     let l = le_of i j p.0 in
     let r = first_below n j is p.1 in
     omega arith
 
 rest_in_order : (n i : ℕ) (is : List ℕ) → is_in_order n (i ∷ is) ≡ true → is_in_order n is ≡ true
 rest_in_order n i [] e = refl
-rest_in_order n i (j ∷ is) e = (both (nat_le i j) (is_in_order n (j ∷ is)) e).1
+rest_in_order n i (j ∷ is) e = (and_parts (nat_le i j) (is_in_order n (j ∷ is)) e).1
 
 pub below_at : {X : Type 0} (f : X → ℕ) (n : ℕ) (xs : List X) (k : ℕ) (x : X) → is_in_order n (map f xs) ≡ true → slice_get xs k ≡ Some x → f x < n
 below_at f n [] k x e h = cc

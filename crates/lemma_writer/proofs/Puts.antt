@@ -19,14 +19,6 @@ use Rattle.lemma_text.specs.Items.{item_text, is_none, literal_items, entry_item
 use Rattle.lemma_text.proofs.Spelled.{list_spelled}
 use Rattle.lemma_writer.specs.Entries.{shown_of, body_items}
 
-pub map_ok : {T E P Q : Type 0} (r : Result T E) → (P → Q) → OnOk r P → OnOk r Q
-map_ok (Ok x) f p = f p
-map_ok (Err e) f p = tt
-
-pub map_err : {T E P Q : Type 0} (r : Result T E) → (P → Q) → OnErr r P → OnErr r Q
-map_err (Ok x) f p = tt
-map_err (Err e) f p = f p
-
 -- so many bytes are put or held, of all that are to be
 pub record Going (a b : Option (List ℕ)) (held all rest : List ℕ) : Type 0 where
   pub done : List ℕ

@@ -4,15 +4,15 @@ use Rattle.std.specs.Prelude.{nat_le, nat_lt, slice_index_or, pos}
 use Rattle.std.specs.List.{list_all, list_any}
 use Rattle.std.proofs.lemmas.List.{get_or_past}
 use Rattle.std.proofs.lemmas.Bool.Decides.{nat_tests}
+use Rattle.std.proofs.lemmas.Bool.{or_left, or_right, and_parts, and_from, or_cases}
 use Rattle.qc_model.specs.Content.{Game, Rule}
 use Rattle.qc_model.specs.Domains.{Values, Box, declared_box, values_left, box_values, has_empty, is_single, least_value}
 use Rattle.qc_model.specs.Game.{before}
 use Rattle.model_arguments.specs.Asked.{is_box_of}
 use Rattle.model_arguments.proofs.Boxes.{sub_length}
-use Rattle.model_arguments.proofs.Bools.{or_left, or_right}
 use Rattle.proof_alike.specs.Alike.{is_among, constrains, is_named, is_seen, is_looked_at, AreAlike}
 use Rattle.proof_alike.specs.Reading.{read_alone}
-use Rattle.proof_alike.proofs.Boxes.{both, join, either, owned_below, ahead_looks}
+use Rattle.proof_alike.proofs.Boxes.{owned_below, ahead_looks}
 use Rattle.proof_alike.proofs.Starting.{early}
 use Rattle.proof_tree.specs.Place.{position}
 use Rattle.likeness.specs.Likeness.{IsLike, SeenAlike}
@@ -27,13 +27,13 @@ past x n e = grind (arith, nat_tests)
 pub single_stands : (box : Box) (n x : ℕ) → x < n → x < length box → list_all is_single (take n box) ≡ true → values_left box x ≡ slice_index_or (box_values (take n box)) x (pos 0) ∷ []
 single_stands [] n x h l e = absurd (omega arith)
 single_stands (d ∷ box) zero x h l e = absurd (omega arith)
-single_stands (d ∷ box) (suc n) zero h l e = one d (both (is_single d) (list_all is_single (take n box)) e).0
+single_stands (d ∷ box) (suc n) zero h l e = one d (and_parts (is_single d) (list_all is_single (take n box)) e).0
   where
     one : (d : Values) → is_single d ≡ true → d ≡ least_value d ∷ []
     one [] e = cc
     one (v ∷ []) e = refl
     one (v ∷ w ∷ vs) e = cc
-single_stands (d ∷ box) (suc n) (suc x) h l e = single_stands box n x (omega arith) (omega arith) (both (is_single d) (list_all is_single (take n box)) e).1
+single_stands (d ∷ box) (suc n) (suc x) h l e = single_stands box n x (omega arith) (omega arith) (and_parts (is_single d) (list_all is_single (take n box)) e).1
 
 -- where one value is left to each variable before the scope, and all later ones have their declared values, the box is like
 -- the values of its position
@@ -101,16 +101,16 @@ likes_alike g i vs a b p q =
 
 -- what is looked at from a scope on is looked at from each earlier one on
 pub looked_before : (g : Game) (i j x : ℕ) → i ≤ j → is_looked_at g j x ≡ true → is_looked_at g i x ≡ true
-looked_before g i j x h e = by (either (nat_le (before g j) x) (is_seen g j x) e)
+looked_before g i j x h e = by (or_cases (nat_le (before g j) x) (is_seen g j x) e)
   where
     some : (cs : List Rule) → list_any (constrains j x) cs ≡ true → list_any (constrains i x) cs ≡ true
     some [] e = e
-    some (c ∷ cs) e = first (either (constrains j x c) (list_any (constrains j x) cs) e) (λ q. some cs q)
+    some (c ∷ cs) e = first (or_cases (constrains j x c) (list_any (constrains j x) cs) e) (λ q. some cs q)
       where
         first : ((constrains j x c ≡ true) ⊎ (list_any (constrains j x) cs ≡ true)) → (list_any (constrains j x) cs ≡ true → list_any (constrains i x) cs ≡ true) → list_any (constrains i x) (c ∷ cs) ≡ true
         first (inl q) rest =
-            let p = both (nat_le j c.owner.0) (is_among (read_alone c) x) q in
-            or_left (constrains i x c) (list_any (constrains i x) cs) (join (nat_le i c.owner.0) (is_among (read_alone c) x) (owned_below i j c.owner.0 h p.0) p.1)
+            let p = and_parts (nat_le j c.owner.0) (is_among (read_alone c) x) q in
+            or_left (constrains i x c) (list_any (constrains i x) cs) (and_from (nat_le i c.owner.0) (is_among (read_alone c) x) (owned_below i j c.owner.0 h p.0) p.1)
         first (inr q) rest = or_right (constrains i x c) (list_any (constrains i x) cs) (rest q)
 
     seen : ((list_any (constrains j x) g.constraints ≡ true) ⊎ (is_named g x ≡ true)) → is_seen g i x ≡ true
@@ -119,4 +119,4 @@ looked_before g i j x h e = by (either (nat_le (before g j) x) (is_seen g j x) e
 
     by : ((nat_le (before g j) x ≡ true) ⊎ (is_seen g j x ≡ true)) → is_looked_at g i x ≡ true
     by (inl q) = ahead_looks g i j x h q
-    by (inr q) = or_right (nat_le (before g i) x) (is_seen g i x) (seen (either (list_any (constrains j x) g.constraints) (is_named g x) q))
+    by (inr q) = or_right (nat_le (before g i) x) (is_seen g i x) (seen (or_cases (list_any (constrains j x) g.constraints) (is_named g x) q))

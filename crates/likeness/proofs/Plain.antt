@@ -1,6 +1,7 @@
 -- Games in which nothing is optimised: what is demanded in them, and what their nodes come to.
 use Rattle.std.proofs.Common.{◌≡◌, ◌∙◌, ℕ, zero, suc, Bool, true, false, ◌&&◌, List, [], ◌∷◌, drop, take, refl, sym, ap, Option, None, Some, ℤ}
 use Rattle.std.specs.Prelude.{is_none, is_some, slice_get}
+use Rattle.std.proofs.lemmas.Bool.{and_parts}
 use Rattle.qc_model.specs.declared.problem.Condition.{Condition}
 use Rattle.qc_model.specs.declared.problem.Kind.{Kind}
 use Rattle.qc_model.specs.declared.problem.Kind.TheVariants.{Exists, Forall}
@@ -13,7 +14,6 @@ use Rattle.proof_tree.specs.Finding.{Leaf, kind_finding, scope_finding, kind_stu
 use Rattle.proof_tree.specs.Place.{position}
 use Rattle.proof_tree.specs.Read.{read}
 use Rattle.proof_tree.specs.Tree.{Tree, tree, stuck, goal, cases}
-use Rattle.proof_alike.proofs.Boxes.{both}
 use Rattle.likeness.specs.Likeness.{ask_nothing, decided_as, is_decided_as}
 
 -- where no scope has a condition nothing is demanded
@@ -22,7 +22,7 @@ demanded_none g [] zero e = refl
 demanded_none g [] (suc i) e = refl
 demanded_none g (s ∷ ss) zero e = refl
 demanded_none g (s ∷ ss) (suc i) e =
-    let p = both (is_none s.condition) (ask_nothing ss) e in
+    let p = and_parts (is_none s.condition) (ask_nothing ss) e in
     ap (demands_from g (take i ss)) (after s.kind s.condition p.0) ∙ demanded_none g ss i p.1
   where
     after : (k : Kind) (o : Option Condition) → is_none o ≡ true → demands_after g k o [] ≡ []
@@ -38,7 +38,7 @@ pub later_none : (ss : List Scope) (i : ℕ) → ask_nothing ss ≡ true → ask
 later_none [] zero e = refl
 later_none [] (suc i) e = refl
 later_none (s ∷ ss) zero e = e
-later_none (s ∷ ss) (suc i) e = later_none ss i (both (is_none s.condition) (ask_nothing ss) e).1
+later_none (s ∷ ss) (suc i) e = later_none ss i (and_parts (is_none s.condition) (ask_nothing ss) e).1
 
 -- a node that nobody passes has no value of its own, in any game
 pub stuck_own : (later : List Scope) (g : Game) (d : List Condition) (a : List ℤ) → (stuck_finding later g d a).own ≡ None
@@ -52,7 +52,7 @@ stuck_own (s ∷ later) g d a = by s.kind
 -- where no scope from the first on has a condition, a scope has no value of its own, whatever its leaves come to
 pub cases_none : (g : Game) (later : List Scope) (i : ℕ) (d : List Condition) (a : List ℤ) (ls : List Leaf) → ask_nothing later ≡ true → (scope_finding later g i d a ls).own ≡ None
 cases_none g [] i d a ls e = refl
-cases_none g (s ∷ later) i d a ls e = by s.kind s.condition (both (is_none s.condition) (ask_nothing later) e).0
+cases_none g (s ∷ later) i d a ls e = by s.kind s.condition (and_parts (is_none s.condition) (ask_nothing later) e).0
   where
     by : (k : Kind) (o : Option Condition) → is_none o ≡ true → (kind_finding k o g i d a ls).own ≡ None
     by Exists None e = refl

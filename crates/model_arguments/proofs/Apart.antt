@@ -1,9 +1,9 @@
 -- The test that no number stands twice passes exactly where none does.
 use Rattle.std.proofs.Common.{◌≡◌, ℕ, Bool, true, false, not, ◌||◌, inl, inr, List, [], ◌∷◌, refl, ◌==◌, ◌↔◌, IsTrue}
 use Rattle.std.specs.List.{list_any}
-use Rattle.std.proofs.lemmas.Bool.{eqb-true, eq-eqb}
+use Rattle.std.proofs.lemmas.Bool.{eqb-true, eq-eqb, and_from}
 use Rattle.qc_model.specs.Lists.{Among, Distinct}
-use Rattle.qc_model.proofs.Conjunctions.{first, second, together}
+use Rattle.qc_model.proofs.Conjunctions.{first, second}
 use Rattle.model_arguments.specs.Apart.{all_apart}
 
 among_any : (x : ℕ) (ys : List ℕ) → Among x ys → list_any (λ y. x == y) ys ≡ true
@@ -45,7 +45,7 @@ differ_apart : (xs : List ℕ) → Distinct xs → all_apart xs ≡ true
 differ_apart [] d = refl
 differ_apart (x ∷ xs) d =
     let here = list_any (λ y. x == y) xs in
-    together (not here) (all_apart xs) (none here (λ h. d.0 (any_among x xs h))) (differ_apart xs d.1)
+    and_from (not here) (all_apart xs) (none here (λ h. d.0 (any_among x xs h))) (differ_apart xs d.1)
 
 pub apart_distinct : (xs : List ℕ) → IsTrue (all_apart xs) ↔ Distinct xs
 apart_distinct xs = (apart_differ xs, differ_apart xs)

@@ -6,11 +6,12 @@ use Rattle.std.specs.Ordering.{int_eq}
 use Rattle.std.proofs.lemmas.Int.{ints}
 use Rattle.std.proofs.lemmas.Bool.Decides.{nat_tests}
 use Rattle.std.proofs.lemmas.List.{length-map}
+use Rattle.std.proofs.lemmas.Bool.{and_from}
 use Rattle.qc_model.specs.declared.problem.Variable.{Variable}
 use Rattle.qc_model.specs.Content.{Game}
 use Rattle.qc_model.specs.Domains.{Values, Box, domain_values, declared_box, values_left, is_none_left, has_empty, has_value, is_within, box_without, box_within, is_ascending, is_sub_box}
 use Rattle.qc_model.specs.Valid.{is_number, is_domain, is_declared_by}
-use Rattle.qc_model.proofs.Readable.{first, second, together}
+use Rattle.qc_model.proofs.Readable.{first, second}
 use Rattle.qc_model.proofs.DomainValues.{domain_fits}
 use Rattle.model_arguments.proofs.Values.{value_passes, all_kept, ascending_kept, has_first}
 
@@ -57,13 +58,13 @@ sub_kept q [] large x h = h
 sub_kept q (d ∷ ds) [] x h = cc
 sub_kept q (d ∷ ds) (e ∷ es) zero h =
     let p = first (is_ascending d && list_all (has_value e) d) (is_sub_box ds es) h in
-    together (is_ascending (filter q d) && list_all (has_value e) (filter q d)) (is_sub_box ds es)
-    (together (is_ascending (filter q d)) (list_all (has_value e) (filter q d))
+    and_from (is_ascending (filter q d) && list_all (has_value e) (filter q d)) (is_sub_box ds es)
+    (and_from (is_ascending (filter q d)) (list_all (has_value e) (filter q d))
     (ascending_kept q d (first (is_ascending d) (list_all (has_value e) d) p))
     (all_kept (has_value e) q d (second (is_ascending d) (list_all (has_value e) d) p)))
     (second (is_ascending d && list_all (has_value e) d) (is_sub_box ds es) h)
 sub_kept q (d ∷ ds) (e ∷ es) (suc x) h =
-    together (is_ascending d && list_all (has_value e) d) (is_sub_box (set ds x (filter q (values_left ds x))) es)
+    and_from (is_ascending d && list_all (has_value e) d) (is_sub_box (set ds x (filter q (values_left ds x))) es)
     (first (is_ascending d && list_all (has_value e) d) (is_sub_box ds es) h)
     (sub_kept q ds es x (second (is_ascending d && list_all (has_value e) d) (is_sub_box ds es) h))
 
@@ -109,11 +110,11 @@ left_small g box y d s = all_of (values_left box y) (λ v h. value_small g box y
 
     all_of : (vs : Values) → ((v : ℤ) → has_value vs v ≡ true → is_number v ≡ true) → list_all is_number vs ≡ true
     all_of [] f = refl
-    all_of (v ∷ vs) f = together (is_number v) (list_all is_number vs) (f v (or_left v vs)) (all_of vs (λ w h. f w (skip (int_eq w v) (has_value vs w) h)))
+    all_of (v ∷ vs) f = and_from (is_number v) (list_all is_number vs) (f v (or_left v vs)) (all_of vs (λ w h. f w (skip (int_eq w v) (has_value vs w) h)))
 
 all_weaker : (p q : ℤ → Bool) → ((v : ℤ) → p v ≡ true → q v ≡ true) → (vs : Values) → list_all p vs ≡ true → list_all q vs ≡ true
 all_weaker p q f [] h = refl
-all_weaker p q f (v ∷ vs) h = together (q v) (list_all q vs) (f v (first (p v) (list_all p vs) h)) (all_weaker p q f vs (second (p v) (list_all p vs) h))
+all_weaker p q f (v ∷ vs) h = and_from (q v) (list_all q vs) (f v (first (p v) (list_all p vs) h)) (all_weaker p q f vs (second (p v) (list_all p vs) h))
 
 -- the whole range keeps everything
 pub within_all : (g : Game) (box : Box) (y : ℕ) → list_all (λ x. is_domain x.domain) g.variables ≡ true → is_sub_box box (declared_box g) ≡ true → box_within box y (negsuc 999999999) (pos 1000000000) ≡ box

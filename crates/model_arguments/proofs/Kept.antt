@@ -3,12 +3,12 @@ use Rattle.std.proofs.Common.{◌≡◌, ℕ, zero, suc, ◌≤◌, Bool, true, 
 use Rattle.std.specs.Prelude.{pos, negsuc, ◌≤ℤ◌, ◌<ℤ◌, unsigned_abs, filter, int_lt}
 use Rattle.std.specs.Ordering.{int_eq}
 use Rattle.std.proofs.lemmas.Int.{ints}
-use Rattle.std.proofs.lemmas.Bool.{leb-true}
+use Rattle.std.proofs.lemmas.Bool.{leb-true, and_from}
 use Rattle.std.proofs.lemmas.Bool.Decides.{Decides-int_eq, nat_tests}
 use Rattle.qc_model.specs.Domains.{Values, Box, values_left, values_within, box_within, is_within, has_value, is_none_left, least_value, greatest_value}
 use Rattle.qc_model.specs.Lists.{Among}
 use Rattle.qc_model.specs.Valid.{is_number}
-use Rattle.qc_model.proofs.Readable.{first, second, together}
+use Rattle.qc_model.proofs.Readable.{first, second}
 use Rattle.qc_model.proofs.Sound.{lo_of, hi_of}
 use Rattle.model_arguments.proofs.Values.{has_least, has_greatest}
 
@@ -58,7 +58,7 @@ has_kept q (x ∷ vs) v =
     ∙ has_table (q x) (q v) (int_eq v x) (has_value (filter q vs) v) (has_value vs v) (λ e. ap q ((Decides-int_eq v x).0 e)) (has_kept q vs v)
 
 pub keeps : (q : ℤ → Bool) (vs : Values) (v : ℤ) → q v ≡ true → has_value vs v ≡ true → has_value (filter q vs) v ≡ true
-keeps q vs v h k = has_kept q vs v ∙ together (q v) (has_value vs v) h k
+keeps q vs v h k = has_kept q vs v ∙ and_from (q v) (has_value vs v) h k
 
 pub passes : (q : ℤ → Bool) (vs : Values) (v : ℤ) → has_value (filter q vs) v ≡ true → q v ≡ true
 passes q vs v h = first (q v) (has_value vs v) (sym (has_kept q vs v) ∙ h)

@@ -5,9 +5,9 @@ use Rattle.std.specs.List.{list_any}
 use Rattle.std.proofs.lemmas.List.{get_or-replicate, at_drop_more}
 use Rattle.std.proofs.lemmas.Bool.Decides.{nat_tests}
 use Rattle.std.proofs.Math.Seq.{drop-length}
+use Rattle.std.proofs.lemmas.Bool.{or_left, or_right, or_from}
 use Rattle.qc_model.specs.declared.problem.Arg.{Arg}
 use Rattle.qc_model.specs.declared.problem.Arg.TheVariants.{Var, Num}
-use Rattle.model_arguments.proofs.Bools.{or_left, or_right, or_none}
 use Rattle.model_arguments.specs.Repeats.{same_variable, has_repeat, has_place, is_marked}
 
 -- each variable of the list is marked, and no other
@@ -57,7 +57,7 @@ pub repeat_none : (marks : List Bool) (xs : List Arg) (k after : ℕ) (e : Arg) 
     has_repeat (drop k xs) ≡ false
 repeat_none marks xs k after e q l f p m r =
     next has_repeat xs k after e q l
-    ∙ or_none (list_any (same_variable (get_or xs k e)) (drop after xs)) (has_repeat (drop after xs)) (sym (stands marks (get_or xs k e) (drop after xs) f p) ∙ m) r
+    ∙ or_from (list_any (same_variable (get_or xs k e)) (drop after xs)) (has_repeat (drop after xs)) (sym (stands marks (get_or xs k e) (drop after xs) f p) ∙ m) r
 
 -- it is marked then
 pub one_marked : (marks new : List Bool) (xs : List Arg) (k after : ℕ) (e : Arg) → k + 1 ≡ after → k < length xs → AreMarked marks (drop after xs) →

@@ -5,9 +5,9 @@ use Rattle.std.specs.List.{list_all}
 use Rattle.std.specs.Ordering.{int_eq}
 use Rattle.std.proofs.lemmas.Int.{ints}
 use Rattle.std.proofs.lemmas.Bool.Decides.{Decides-int_eq}
+use Rattle.std.proofs.lemmas.Bool.{or_right, and_from}
 use Rattle.qc_model.specs.Domains.{Values, least_from, greatest_from, least_value, greatest_value, has_value, is_none_left, is_within, values_within, is_ascending}
-use Rattle.qc_model.proofs.Readable.{first, second, together}
-use Rattle.model_arguments.proofs.Bools.{or_right}
+use Rattle.qc_model.proofs.Readable.{first, second}
 
 pub value_passes : (p : ℤ → Bool) (vs : Values) (v : ℤ) → list_all p vs ≡ true → has_value vs v ≡ true → p v ≡ true
 value_passes p [] v a h = cc
@@ -22,7 +22,7 @@ all_kept p q [] h = refl
 all_kept p q (v ∷ vs) h = by (q v) (all_kept p q vs (second (p v) (list_all p vs) h))
   where
     by : (b : Bool) → list_all p (filter q vs) ≡ true → list_all p (cond b (v ∷ filter q vs) (filter q vs)) ≡ true
-    by true k = together (p v) (list_all p (filter q vs)) (first (p v) (list_all p vs) h) k
+    by true k = and_from (p v) (list_all p (filter q vs)) (first (p v) (list_all p vs) h) k
     by false k = k
 
 pub ascending_rest : (v : ℤ) (vs : Values) → is_ascending (v ∷ vs) ≡ true → is_ascending vs ≡ true
@@ -32,7 +32,7 @@ ascending_rest v (w ∷ vs) h = second (int_lt v w) (is_ascending (w ∷ vs)) h
 below_all : (v w : ℤ) (vs : Values) → int_lt v w ≡ true → list_all (int_lt w) vs ≡ true → list_all (int_lt v) vs ≡ true
 below_all v w [] l h = refl
 below_all v w (x ∷ vs) l h =
-    together (int_lt v x) (list_all (int_lt v) vs) (through v w x l (first (int_lt w x) (list_all (int_lt w) vs) h)) (below_all v w vs l (second (int_lt w x) (list_all (int_lt w) vs) h))
+    and_from (int_lt v x) (list_all (int_lt v) vs) (through v w x l (first (int_lt w x) (list_all (int_lt w) vs) h)) (below_all v w vs l (second (int_lt w x) (list_all (int_lt w) vs) h))
   where
     through : (a b c : ℤ) → int_lt a b ≡ true → int_lt b c ≡ true → int_lt a c ≡ true
     through a b c p q = grind (arith, ints)
@@ -42,11 +42,11 @@ above_first v [] h = refl
 above_first v (w ∷ vs) h =
     let l = first (int_lt v w) (is_ascending (w ∷ vs)) h in
     let r = second (int_lt v w) (is_ascending (w ∷ vs)) h in
-    together (int_lt v w) (list_all (int_lt v) vs) l (below_all v w vs l (above_first w vs r))
+    and_from (int_lt v w) (list_all (int_lt v) vs) l (below_all v w vs l (above_first w vs r))
 
 ascending_from : (v : ℤ) (vs : Values) → list_all (int_lt v) vs ≡ true → is_ascending vs ≡ true → is_ascending (v ∷ vs) ≡ true
 ascending_from v [] a h = refl
-ascending_from v (w ∷ vs) a h = together (int_lt v w) (is_ascending (w ∷ vs)) (first (int_lt v w) (list_all (int_lt v) vs) a) h
+ascending_from v (w ∷ vs) a h = and_from (int_lt v w) (is_ascending (w ∷ vs)) (first (int_lt v w) (list_all (int_lt v) vs) a) h
 
 pub ascending_kept : (q : ℤ → Bool) (vs : Values) → is_ascending vs ≡ true → is_ascending (filter q vs) ≡ true
 ascending_kept q [] h = refl

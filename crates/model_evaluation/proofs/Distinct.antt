@@ -11,9 +11,10 @@ use Rattle.std.proofs.lemmas.Cmp.{int_ranked}
 use Rattle.std.proofs.lemmas.Bool.Decides.{Decides-int_eq}
 use Rattle.std.proofs.lemmas.List.Sums.{sum_by-cons}
 use Rattle.std.proofs.lemmas.List.Sorted.{sum_by-IsPermutation}
+use Rattle.std.proofs.lemmas.Bool.{or_parts, or_from, not_from_false, and_from}
 use Rattle.qc_model.specs.Domains.{is_ascending}
 use Rattle.qc_model.specs.Holds.{all_differ}
-use Rattle.qc_model.proofs.Conjunctions.{first, second, together}
+use Rattle.qc_model.proofs.Conjunctions.{first, second}
 use Rattle.qc_model.proofs.Places.{differ_up}
 
 abbrev count_of : Bool → ℕ
@@ -35,26 +36,14 @@ same_times : (xs ys : List ℤ) (v : ℤ) → IsPermutation xs ys → times_in v
 unfolding times_in
 same_times xs ys v h = sum_by-IsPermutation (λ y. cond (int_eq v y) 1 0) xs ys h
 
-neither : (a b : Bool) → (a || b) ≡ false → (a ≡ false) × (b ≡ false)
-neither true b h = cc
-neither false b h = (refl, h)
-
-either_false : (a b : Bool) → a ≡ false → b ≡ false → (a || b) ≡ false
-either_false true b g h = g
-either_false false b g h = h
-
 not_true : (a : Bool) → not a ≡ true → a ≡ false
 not_true true h = cc
 not_true false h = refl
 
-not_false : (a : Bool) → a ≡ false → not a ≡ true
-not_false true h = cc
-not_false false h = refl
-
 absent : (v : ℤ) (xs : List ℤ) → list_any (int_eq v) xs ≡ false → times_in v xs ≡ 0
 absent v [] h = none_in v
 absent v (x ∷ xs) h =
-    let parts = neither (int_eq v x) (list_any (int_eq v) xs) h in
+    let parts = or_parts (int_eq v x) (list_any (int_eq v) xs) h in
     let here = ap count_of parts.0 in
     let rest = absent v xs parts.1 in
     let more = one_more v x xs in
@@ -69,7 +58,7 @@ present v (x ∷ xs) h = go (int_eq v x) refl (present v xs)
     go false e later =
         let here = ap count_of e in
         let more = one_more v x xs in
-        either_false (int_eq v x) (list_any (int_eq v) xs) e (later (omega (arith, here, more, h)))
+        or_from (int_eq v x) (list_any (int_eq v) xs) e (later (omega (arith, here, more, h)))
 
 once_each : (xs : List ℤ) → all_differ xs ≡ true → (v : ℤ) → times_in v xs ≤ 1
 once_each [] h v = let e = none_in v in omega (arith, e)
@@ -93,8 +82,8 @@ differ_if_once (x ∷ xs) h =
     let here = ap count_of ((Decides-int_eq x x).1 refl) in
     let more = one_more x x xs in
     let once = h x in
-    together (not (list_any (int_eq x) xs)) (all_differ xs)
-    (not_false (list_any (int_eq x) xs) (present x xs (omega (arith, here, more, once))))
+    and_from (not (list_any (int_eq x) xs)) (all_differ xs)
+    (not_from_false (list_any (int_eq x) xs) (present x xs (omega (arith, here, more, once))))
     (differ_if_once xs (λ v. let m = one_more v x xs in let k = h v in omega (arith, m, k)))
 
 one_truth : (a b : Bool) → (a ≡ true → b ≡ true) → (b ≡ true → a ≡ true) → a ≡ b
@@ -112,10 +101,10 @@ less : (a b : ℤ) → int_lt a b ≡ true → a <ℤ b
 less a b h = grind (arith, ints)
 
 above : (z x : ℤ) (xs : List ℤ) → z <ℤ x → is_ascending (x ∷ xs) ≡ true → list_any (int_eq z) (x ∷ xs) ≡ false
-above z x [] l h = either_false (int_eq z x) false (differ_up z x l) refl
+above z x [] l h = or_from (int_eq z x) false (differ_up z x l) refl
 above z x (y ∷ ys) l h =
     let up = less x y (first (int_lt x y) (is_ascending (y ∷ ys)) h) in
-    either_false (int_eq z x) (list_any (int_eq z) (y ∷ ys)) (differ_up z x l)
+    or_from (int_eq z x) (list_any (int_eq z) (y ∷ ys)) (differ_up z x l)
     (above z y ys (omega (arith, ints, up, l)) (second (int_lt x y) (is_ascending (y ∷ ys)) h))
 
 ascending_differ : (xs : List ℤ) → is_ascending xs ≡ true → all_differ xs ≡ true
@@ -124,8 +113,8 @@ ascending_differ (x ∷ []) h = refl
 ascending_differ (x ∷ y ∷ ys) h =
     let up = first (int_lt x y) (is_ascending (y ∷ ys)) h in
     let rest = second (int_lt x y) (is_ascending (y ∷ ys)) h in
-    together (not (list_any (int_eq x) (y ∷ ys))) (all_differ (y ∷ ys))
-    (not_false (list_any (int_eq x) (y ∷ ys)) (above x y ys (less x y up) rest))
+    and_from (not (list_any (int_eq x) (y ∷ ys))) (all_differ (y ∷ ys))
+    (not_from_false (list_any (int_eq x) (y ∷ ys)) (above x y ys (less x y up) rest))
     (ascending_differ (y ∷ ys) rest)
 
 -- no value is above the next
@@ -145,8 +134,8 @@ differ_ascending [] up h = refl
 differ_ascending (x ∷ []) up h = refl
 differ_ascending (x ∷ y ∷ ys) up h =
     let gone = not_true (list_any (int_eq x) (y ∷ ys)) (first (not (list_any (int_eq x) (y ∷ ys))) (all_differ (y ∷ ys)) h) in
-    let apart = neither (int_eq x y) (list_any (int_eq x) ys) gone in
-    together (int_lt x y) (is_ascending (y ∷ ys))
+    let apart = or_parts (int_eq x y) (list_any (int_eq x) ys) gone in
+    and_from (int_lt x y) (is_ascending (y ∷ ys))
     (rises x y (up zero (omega arith)) apart.0)
     (differ_ascending (y ∷ ys) (λ k l. up (suc k) (omega arith)) (second (not (list_any (int_eq x) (y ∷ ys))) (all_differ (y ∷ ys)) h))
 

@@ -5,6 +5,7 @@ use Rattle.std.proofs.lemmas.Option.{same_Some}
 use Rattle.std.specs.List.{list_all}
 use Rattle.std.specs.Ordering.{int_eq}
 use Rattle.std.proofs.lemmas.Bool.Decides.{Decides-int_eq}
+use Rattle.std.proofs.lemmas.Bool.{and_from}
 use Rattle.qc_model.specs.declared.problem.Arg.{Arg}
 use Rattle.qc_model.specs.declared.problem.Arg.TheVariants.{Var, Num}
 use Rattle.qc_model.specs.declared.problem.Argument.{Argument}
@@ -17,7 +18,7 @@ use Rattle.qc_model.specs.declared.signature.ArgKind.{ArgKind}
 use Rattle.qc_model.specs.declared.signature.ArgKind.TheVariants.{Integer as integer, Boolean as boolean, Integers as integers, Booleans as booleans, Numbers as numbers, Truths as truths, Members as members}
 use Rattle.qc_model.specs.Signature.{arg_kinds_of}
 use Rattle.qc_model.specs.Valid.{is_number, is_truth, is_integer, is_boolean, is_of_sort, are_of_sorts, have_lengths, argument_sees, is_constraint}
-use Rattle.qc_model.proofs.Conjunctions.{first, second, together}
+use Rattle.qc_model.proofs.Conjunctions.{first, second}
 use Rattle.model_evaluation.specs.Evaluation.{item_values, is_readable, are_readable}
 
 value_is_number : (vs : List ℤ) (k : ℕ) → IsTrue (list_all is_number vs) → is_number (slice_index_or vs k (pos 0)) ≡ true
@@ -43,16 +44,16 @@ boolean_is_number xs vs small (Num n) h = truth_is_number n h
 all_along : {X Y : Type 0} (p : X → Bool) (q : Y → Bool) (f : X → Y) → ((x : X) → p x ≡ true → q (f x) ≡ true) → (xs : List X) → list_all p xs ≡ true → list_all q (map f xs) ≡ true
 all_along p q f step [] h = refl
 all_along p q f step (x ∷ xs) h =
-    together (q (f x)) (list_all q (map f xs)) (step x (first (p x) (list_all p xs) h)) (all_along p q f step xs (second (p x) (list_all p xs) h))
+    and_from (q (f x)) (list_all q (map f xs)) (step x (first (p x) (list_all p xs) h)) (all_along p q f step xs (second (p x) (list_all p xs) h))
 
 all_weaker : {X : Type 0} (p q : X → Bool) → ((x : X) → p x ≡ true → q x ≡ true) → (xs : List X) → list_all p xs ≡ true → list_all q xs ≡ true
 all_weaker p q step [] h = refl
 all_weaker p q step (x ∷ xs) h =
-    together (q x) (list_all q xs) (step x (first (p x) (list_all p xs) h)) (all_weaker p q step xs (second (p x) (list_all p xs) h))
+    and_from (q x) (list_all q xs) (step x (first (p x) (list_all p xs) h)) (all_weaker p q step xs (second (p x) (list_all p xs) h))
 
 items_readable : (vs : List ℤ) (p : Arg → Bool) → ((a : Arg) → p a ≡ true → is_number (arg_value vs a) ≡ true) → (items : List Arg) → (nat_le (length items) 1000 && list_all p items) ≡ true → is_readable vs (Many (items)) ≡ true
 items_readable vs p step items h =
-    together (nat_le (length items) 1000) (list_all is_number (item_values vs items))
+    and_from (nat_le (length items) 1000) (list_all is_number (item_values vs items))
     (first (nat_le (length items) 1000) (list_all p items) h)
     (all_along p is_number (arg_value vs) step items (second (nat_le (length items) 1000) (list_all p items) h))
 
@@ -91,7 +92,7 @@ arguments_readable xs vs small [] [] h = refl
 arguments_readable xs vs small [] (a ∷ args) h = cc
 arguments_readable xs vs small (s ∷ sorts) [] h = cc
 arguments_readable xs vs small (s ∷ sorts) (a ∷ args) h =
-    together (is_readable vs a) (are_readable vs args)
+    and_from (is_readable vs a) (are_readable vs args)
     (argument_readable xs vs small s a (first (is_of_sort xs s a) (are_of_sorts xs sorts args) h))
     (arguments_readable xs vs small sorts args (second (is_of_sort xs s a) (are_of_sorts xs sorts args) h))
 

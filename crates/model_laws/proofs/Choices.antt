@@ -2,6 +2,7 @@
 use Rattle.std.proofs.Common.{◌≡◌, ◌⊎◌, inl, inr, ℕ, true, false, ◌&&◌, Option, suc, List, [], ◌∷◌, ◌++◌, refl, sym, ◌∙◌, subst, ℤ, Some, None}
 use Rattle.std.specs.Ordering.{int_eq}
 use Rattle.std.proofs.lemmas.Bool.Decides.{Decides-int_eq}
+use Rattle.std.proofs.lemmas.Bool.{or_cases}
 use Rattle.qc_model.specs.declared.problem.Kind.TheVariants.{Exists}
 use Rattle.qc_model.specs.declared.problem.Scope.{Scope}
 use Rattle.qc_model.specs.declared.problem.Condition.{Condition}
@@ -14,7 +15,7 @@ use Rattle.qc_model.specs.Demands.{vector, is_better_vector, IsBestVector}
 use Rattle.qc_model.specs.Verdict.{is_none_of, first_value}
 use Rattle.qc_model.specs.ExistsVerdict.{beats}
 use Rattle.model_laws.specs.Positions.{Chosen, AtMost}
-use Rattle.model_laws.proofs.Better.{IsBetter, IsBetterVector, better_is, or_split, and_first, and_second, not_better, better_false, vector_not_better, vector_false, unbeaten}
+use Rattle.model_laws.proofs.Better.{IsBetter, IsBetterVector, better_is, and_first, and_second, not_better, better_false, vector_not_better, vector_false, unbeaten}
 use Rattle.model_laws.proofs.Existence.{neither_better, better_chain, vector_chain, vector_or_not, vectors_same}
 
 -- the first entry's value of w is better than p, or it is p and the list has one entry
@@ -23,7 +24,7 @@ BeatsBound [] w p = ⊥
 BeatsBound (c ∷ d) w p = IsBetter c.sense (first_value w) p ⊎ ((first_value w ≡ p) × (d ≡ []))
 
 pub beats_is : (c : Condition) (d : List Condition) (w : List ℤ) (p : ℤ) → beats c.sense (is_none_of d) (first_value w) p ≡ true → BeatsBound (c ∷ d) w p
-beats_is c d w p q = elim (or_split (is_better c.sense (first_value w) p) (is_none_of d && int_eq (first_value w) p) q) [
+beats_is c d w p q = elim (or_cases (is_better c.sense (first_value w) p) (is_none_of d && int_eq (first_value w) p) q) [
   | inl b ↦ inl (better_is c.sense (first_value w) p b)
   | inr r ↦ inr ((Decides-int_eq (first_value w) p).0 (and_second (is_none_of d) (int_eq (first_value w) p) r), none_is d (and_first (is_none_of d) (int_eq (first_value w) p) r))
 ]

@@ -3,6 +3,7 @@ use Rattle.std.proofs.Common.{◌≡◌, ◌⊎◌, inl, inr, ℕ, suc, Bool, tr
 use Rattle.std.specs.Prelude.{IsTrue, ◌≤ℤ◌, ◌&&◌, filter, cond}
 use Rattle.std.specs.List.{flat_map, list_all}
 use Rattle.std.proofs.lemmas.Int.{ints, by_lt_z}
+use Rattle.std.proofs.lemmas.Bool.{and_from}
 use Rattle.qc_model.specs.declared.problem.Kind.{Kind}
 use Rattle.qc_model.specs.declared.problem.Kind.TheVariants.{Exists, Forall}
 use Rattle.qc_model.specs.declared.problem.Sense.{Sense}
@@ -55,13 +56,9 @@ pub all_to : {X : Type 0} (p : X → Bool) (xs : List X) → list_all p xs ≡ t
 all_to p [] e x m = absurd m
 all_to p (y ∷ xs) e x m = elim m [ inl q ↦ ap p q ∙ and_first (p y) (list_all p xs) e | inr n ↦ all_to p xs (and_second (p y) (list_all p xs) e) x n ]
 
-both_true : (b c : Bool) → b ≡ true → c ≡ true → (b && c) ≡ true
-both_true true c p q = q
-both_true false c p q = cc
-
 all_from : {X : Type 0} (p : X → Bool) (xs : List X) → ((x : X) → Among x xs → p x ≡ true) → list_all p xs ≡ true
 all_from p [] f = refl
-all_from p (x ∷ xs) f = both_true (p x) (list_all p xs) (f x (inl refl)) (all_from p xs (λ y m. f y (inr m)))
+all_from p (x ∷ xs) f = and_from (p x) (list_all p xs) (f x (inl refl)) (all_from p xs (λ y m. f y (inr m)))
 
 goal_exact : (b : Bool) → Lists (λ s. IsFinish s × IsTrue b) (cond b (finish ∷ []) [])
 goal_exact true = record { from = there; to = back }

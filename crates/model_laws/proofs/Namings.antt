@@ -3,6 +3,7 @@ use Rattle.std.proofs.Common.{◌≡◌, ◌⊎◌, inl, inr, ℕ, suc, Bool, tr
 use Rattle.std.specs.Prelude.{◌==◌, slice_get, slice_index_or, Some, ⊤}
 use Rattle.std.proofs.lemmas.List.{append_assoc, append-nil}
 use Rattle.std.proofs.lemmas.List.Folds.{list_any-append}
+use Rattle.std.proofs.lemmas.Bool.{or_cases, or_left, or_right, or_from, false_from_ne_true}
 use Rattle.qc_model.specs.declared.problem.Target.{Target}
 use Rattle.qc_model.specs.declared.problem.Target.TheVariants.{Var, Aggregate as Agg}
 use Rattle.qc_model.specs.declared.problem.Condition.{Condition}
@@ -11,27 +12,10 @@ use Rattle.qc_model.specs.Value.{inner_target}
 use Rattle.qc_model.specs.Demands.{is_aggregate, names, with_naming, first_namings, demand_within, place_among}
 use Rattle.qc_model.specs.Verdict.{first_value}
 use Rattle.model_laws.specs.Branches.{IsAggregate}
-use Rattle.model_laws.proofs.Better.{or_split}
-
-pub or_left : (a b : Bool) → a ≡ true → (a || b) ≡ true
-or_left true b e = refl
-or_left false b e = cc
-
-pub or_right : (a b : Bool) → b ≡ true → (a || b) ≡ true
-or_right true b e = refl
-or_right false b e = e
-
-or_false : (a b : Bool) → a ≡ false → b ≡ false → (a || b) ≡ false
-or_false true b e f = cc
-or_false false b e f = f
 
 not_both : (b : Bool) → b ≡ true → b ≡ false → ⊥
 not_both true e f = cc
 not_both false e f = cc
-
-false_else : (b : Bool) → (b ≡ true → ⊥) → b ≡ false
-false_else true f = absurd (f refl)
-false_else false f = refl
 
 abbrev pub number_of : Target → ℕ
 number_of (Var x) = 0
@@ -82,9 +66,9 @@ pub names_last : (q : ℕ) (p : List Condition) (c : Condition) → is_aggregate
 names_last q p c h = names_end q p c ∙ or_right (names q p) (is_aggregate q c.target || false) (or_left (is_aggregate q c.target) false h)
 
 pub names_either : (q : ℕ) (p : List Condition) (c : Condition) → names q (p ++ c ∷ []) ≡ true → (names q p ≡ true) ⊎ (is_aggregate q c.target ≡ true)
-names_either q p c h = elim (or_split (names q p) (is_aggregate q c.target || false) (sym (names_end q p c) ∙ h)) [
+names_either q p c h = elim (or_cases (names q p) (is_aggregate q c.target || false) (sym (names_end q p c) ∙ h)) [
   | inl e ↦ inl e
-  | inr e ↦ elim (or_split (is_aggregate q c.target) false e) [ inl f ↦ inr f | inr f ↦ absurd (not_both false f refl) ]
+  | inr e ↦ elim (or_cases (is_aggregate q c.target) false e) [ inl f ↦ inr f | inr f ↦ absurd (not_both false f refl) ]
 ]
 
 -- what was named before is no fresh naming
@@ -97,11 +81,11 @@ not_fresh q p (c ∷ d) h = by c.target refl (not_fresh q p d h) (not_fresh q (p
     by (Agg r) e f k = split (names r.0 p) refl
       where
         other : names r.0 p ≡ false → is_aggregate q c.target ≡ false
-        other n = false_else (is_aggregate q c.target) (λ m. (let s : r.0 ≡ q = eqb-true r.0 q (ap (is_aggregate q) (sym e) ∙ m) in not_both (names r.0 p) (ap (λ z. names z p) s ∙ h) n))
+        other n = false_from_ne_true (is_aggregate q c.target) (λ m. (let s : r.0 ≡ q = eqb-true r.0 q (ap (is_aggregate q) (sym e) ∙ m) in not_both (names r.0 p) (ap (λ z. names z p) s ∙ h) n))
 
         split : (b : Bool) → names r.0 p ≡ b → names q (cond b (fresh p d) (c ∷ fresh (p ++ c ∷ []) d)) ≡ false
         split true n = f
-        split false n = or_false (is_aggregate q c.target) (names q (fresh (p ++ c ∷ []) d)) (other n) k
+        split false n = or_from (is_aggregate q c.target) (names q (fresh (p ++ c ∷ []) d)) (other n) k
 
 -- each entry names an aggregate, which no later entry names
 abbrev pub NamesOnce : List Condition → Type 0
@@ -126,7 +110,7 @@ fresh_once p (c ∷ d) = by c.target refl (fresh_once p d) (fresh_once (p ++ c �
 -- what the list names is named first somewhere
 pub first_named : (q : ℕ) (p d : List Condition) → (names q p ≡ true) ⊎ (names q d ≡ true) → names q (first_namings p d) ≡ true
 first_named q p [] h = elim h [ inl e ↦ e | inr e ↦ absurd (not_both false e refl) ]
-first_named q p (c ∷ d) h = first_named q (with_naming p c c.target) d (elim h [ inl e ↦ inl (kept c.target e) | inr e ↦ elim (or_split (is_aggregate q c.target) (names q d) e) [ inl f ↦ inl (added c.target refl f) | inr f ↦ inr f ] ])
+first_named q p (c ∷ d) h = first_named q (with_naming p c c.target) d (elim h [ inl e ↦ inl (kept c.target e) | inr e ↦ elim (or_cases (is_aggregate q c.target) (names q d) e) [ inl f ↦ inl (added c.target refl f) | inr f ↦ inr f ] ])
   where
     kept : (t : Target) → names q p ≡ true → names q (with_naming p c t) ≡ true
     kept (Var x) e = e
@@ -207,5 +191,5 @@ columns ns (c ∷ d) ws o f = (here, columns ns d (map (λ w. drop 1 w) ws) o.1 
     there : (q : ℕ) → names q d ≡ true → ns q ≡ map (λ w. slice_index_or w (place_among q d) (pos 0)) (map (λ w. drop 1 w) ws)
     there q m =
         f q (or_right (is_aggregate q c.target) (names q d) m)
-        ∙ ap (λ b. at b q) (false_else (is_aggregate q c.target) (λ e. not_both (names (number_of c.target) d) (ap (λ z. names z d) (named_is q c.target e).1 ∙ m) o.0.1))
+        ∙ ap (λ b. at b q) (false_from_ne_true (is_aggregate q c.target) (λ e. not_both (names (number_of c.target) d) (ap (λ z. names z d) (named_is q c.target e).1 ∙ m) o.0.1))
         ∙ next_is (place_among q d) ws

@@ -3,6 +3,7 @@ use Rattle.std.proofs.Common.{◌≡◌, ◌⊎◌, inl, inr, ℕ, zero, suc, Bo
 use Rattle.std.specs.Prelude.{slice_get, slice_index_or, Option, Some, None, ⊤}
 use Rattle.std.specs.List.{list_all}
 use Rattle.std.proofs.lemmas.Int.{ints}
+use Rattle.std.proofs.lemmas.Bool.{or_cases, or_left, or_right}
 use Rattle.qc_model.specs.declared.problem.Kind.TheVariants.{Forall}
 use Rattle.qc_model.specs.declared.problem.Sense.{Sense}
 use Rattle.qc_model.specs.declared.problem.Sense.TheVariants.{Min, Max}
@@ -23,9 +24,9 @@ use Rattle.qc_model.specs.Bottlenecks.{is_sum, is_bottleneck_fold, is_bottleneck
 use Rattle.qc_model.specs.Verdict.{first_value}
 use Rattle.qc_model.specs.ForallVerdict.{entry_value, entry_values, numbers_for}
 use Rattle.model_laws.specs.Branches.{NeverBetter, BestAfter}
-use Rattle.model_laws.proofs.Better.{IsBetter, IsBetterVector, not_better, better_false, and_first, and_second, or_split, vector_false, unbeaten}
+use Rattle.model_laws.proofs.Better.{IsBetter, IsBetterVector, not_better, better_false, and_first, and_second, vector_false, unbeaten}
 use Rattle.model_laws.proofs.Folds.{aggregate_not_better, fold_not_better, not_better_self}
-use Rattle.model_laws.proofs.Namings.{or_left, or_right, is_itself, keep, fresh, namings_fresh, names_either, named_is, fresh_once, first_named, asked, Columns, columns}
+use Rattle.model_laws.proofs.Namings.{is_itself, keep, fresh, namings_fresh, names_either, named_is, fresh_once, first_named, asked, Columns, columns}
 
 -- no vector is better than itself
 pub vector_not_self : (d : List Condition) (v : List ℤ) → ¬ IsBetterVector d v v
@@ -141,7 +142,7 @@ module _ (g : Game) (a : List ℤ) (ns ms : ℕ → List ℤ) where
   -- where nothing but the aggregate q is named, and it has the same fold
   alone : (t : Target) (d : List Condition) → list_all (λ b. names_no_other t b.target) d ≡ true → ((q : ℕ) → is_aggregate q t ≡ true → fold_at g q (ns q) ≡ fold_at g q (ms q)) → Same d
   alone t [] h f q n = cc
-  alone t (c ∷ d) h f q n = elim (or_split (is_aggregate q c.target) (names q d) n) [
+  alone t (c ∷ d) h f q n = elim (or_cases (is_aggregate q c.target) (names q d) n) [
     | inl e ↦ by c.target e (and_first (names_no_other t c.target) (list_all (λ b. names_no_other t b.target) d) h)
     | inr e ↦ alone t d (and_second (names_no_other t c.target) (list_all (λ b. names_no_other t b.target) d) h) f q e
   ]
@@ -182,7 +183,7 @@ module _ (g : Game) (a : List ℤ) (ns ms : ℕ → List ℤ) where
           after : fold_at g q.0 (ns q.0) ≡ fold_at g q.0 (ms q.0) → ns q.0 ≡ map first_value vs → ms q.0 ≡ map first_value ws →
               Columns ns (fresh (p ++ x ∷ []) d) (map (λ w. drop 1 w) vs) → Columns ms (fresh (p ++ x ∷ []) d) (map (λ w. drop 1 w) ws) → EachBeaten (x ∷ fresh (p ++ x ∷ []) d) vs ws →
               ¬ IsBetterVector d (entry_values g d a ns) (entry_values g d a ms)
-          after e u v m n b w = elim (or_split (not (is_bottleneck g (Agg q))) (list_all (λ z. names_no_other (Agg q) z.target) d) o) [
+          after e u v m n b w = elim (or_cases (not (is_bottleneck g (Agg q))) (list_all (λ z. names_no_other (Agg q) z.target) d) o) [
             | inl i ↦ (let forced : map first_value vs ≡ map first_value ws = folded (slice_get g.aggregates q.0) i (ap (fold_at g q.0) (sym u) ∙ e ∙ ap (fold_at g q.0) v) in
                 next (map (λ w. drop 1 w) vs) (map (λ w. drop 1 w) ws)
                 (λ r h. elim (names_either r p x h) [ inl y ↦ f r y | inr y ↦ subst (λ z. ns z ≡ ms z) (named_is r (Agg q) y).1 (u ∙ forced ∙ sym v) ])

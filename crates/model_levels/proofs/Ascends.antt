@@ -2,7 +2,7 @@
 use Rattle.std.proofs.Common.{◌≡◌, ℕ, zero, suc, Bool, true, false, ◌&&◌, cond, [], refl, ap, ◌∙◌, arith}
 use Rattle.std.specs.Prelude.{ℤ, pos, ◌+ℤ◌, ◌-ℤ◌, nat_abs, int_lt, ◌+◌, nat_le, not}
 use Rattle.std.proofs.lemmas.Int.{ints}
-use Rattle.std.proofs.lemmas.Bool.{and_parts}
+use Rattle.std.proofs.lemmas.Bool.{and_parts, true_from_ne_false}
 use Rattle.qc_model.specs.declared.problem.Domain.{Domain}
 use Rattle.qc_model.specs.declared.problem.Domain.TheVariants.{Bits, Range, Listed}
 use Rattle.qc_model.specs.Lists.{numbers_from}
@@ -10,15 +10,11 @@ use Rattle.qc_model.specs.Domains.{domain_values, is_ascending, is_none_left}
 use Rattle.qc_model.specs.Valid.{is_domain, is_listed, has_gap, width_of}
 use Rattle.qc_model.proofs.Widths.{listed_ascends}
 
-true_unless : (b : Bool) → (b ≡ false → ⊥) → b ≡ true
-true_unless true h = refl
-true_unless false h = absurd (h refl)
-
 numbers_ascend : (low : ℤ) (n : ℕ) → is_ascending (numbers_from low n) ≡ true
 numbers_ascend low zero = refl
 numbers_ascend low (suc zero) = refl
 numbers_ascend low (suc (suc n)) =
-    ap (λ b. b && is_ascending (numbers_from (low +ℤ pos 1) (suc n))) (true_unless (int_lt low (low +ℤ pos 1)) (λ e. omega (arith, ints))) ∙ numbers_ascend (low +ℤ pos 1) (suc n)
+    ap (λ b. b && is_ascending (numbers_from (low +ℤ pos 1) (suc n))) (true_from_ne_false (int_lt low (low +ℤ pos 1)) (λ e. omega (arith, ints))) ∙ numbers_ascend (low +ℤ pos 1) (suc n)
 
 pub domain_ascends : (d : Domain) → is_domain d ≡ true → is_ascending (domain_values d) ≡ true
 domain_ascends Bits e = refl

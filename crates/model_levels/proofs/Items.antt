@@ -2,16 +2,13 @@
 use Rattle.std.proofs.Common.{◌≡◌, ℕ, zero, suc, ◌<◌, Bool, true, false, ◌&&◌, List, [], ◌∷◌, length, drop, get_or, refl, ap, sym, subst, arith, Some}
 use Rattle.std.specs.Prelude.{slice_get}
 use Rattle.std.specs.List.{list_all}
-
-pub both : (a b : Bool) → (a && b) ≡ true → (a ≡ true) × (b ≡ true)
-both true b e = (refl, e)
-both false b e = cc
+use Rattle.std.proofs.lemmas.Bool.{and_parts}
 
 -- what passes for all items passes for the one at a place
 pub all_item : {X : Type 0} (p : X → Bool) (xs : List X) (n : ℕ) (x : X) → list_all p xs ≡ true → n < length xs → x ≡ get_or xs n x → p x ≡ true
 all_item p [] n x h l e = absurd (omega arith)
-all_item p (y ∷ xs) zero x h l e = subst (λ z. p z ≡ true) (sym e) (both (p y) (list_all p xs) h).0
-all_item p (y ∷ xs) (suc n) x h l e = all_item p xs n x (both (p y) (list_all p xs) h).1 (omega arith) e
+all_item p (y ∷ xs) zero x h l e = subst (λ z. p z ≡ true) (sym e) (and_parts (p y) (list_all p xs) h).0
+all_item p (y ∷ xs) (suc n) x h l e = all_item p xs n x (and_parts (p y) (list_all p xs) h).1 (omega arith) e
 
 -- what stands at a place is the head of what is dropped up to it
 pub drop_at : {X : Type 0} (n : ℕ) (xs : List X) (y : X) → slice_get xs n ≡ Some y → drop n xs ≡ y ∷ drop (suc n) xs

@@ -1,7 +1,7 @@
 -- Lists in the order of a number: those whose numbers lie between two stand together.
 use Rattle.std.proofs.Common.{◌≡◌, ◌∙◌, sym, ap, refl, ◌<◌, ◌≤◌, ◌+◌, ◌-◌, ℕ, zero, suc, Bool, true, false, ◌&&◌, List, [], ◌∷◌, length, map, filter, take, drop, cond, arith, zero-add, inl, inr, slice_get, Option, Some, None}
 use Rattle.std.specs.Prelude.{nat_lt, nat_le, ◌==◌}
-use Rattle.std.proofs.lemmas.Bool.{cases_order}
+use Rattle.std.proofs.lemmas.Bool.{cases_order, and_parts}
 use Rattle.std.proofs.lemmas.Bool.Decides.{nat_tests}
 use Rattle.qc_model.specs.Valid.{IsValid, is_in_order}
 use Rattle.qc_model.specs.Content.{Game, Rule}
@@ -9,10 +9,6 @@ use Rattle.qc_model.specs.declared.problem.Variable.{Variable}
 use Rattle.qc_model.specs.Game.{before}
 use Rattle.qc_model.proofs.InOrder.{tail_order, next_up, below, none_below, counted, stands_before, stands_after, below_within}
 use Rattle.model_levels.specs.Spans.{constraints_before, is_between, is_rule_within, IsSpanOf}
-
-both : (a b : Bool) → (a && b) ≡ true → (a ≡ true) × (b ≡ true)
-both true b e = (refl, e)
-both false b e = absurd cc
 
 module _ {X : Type 0} (f : X → ℕ) where
   abbrev within : ℕ → ℕ → X → Bool
@@ -23,7 +19,7 @@ module _ {X : Type 0} (f : X → ℕ) where
   none_within n k i j (x ∷ xs) h le =
       let up = next_up f n k x xs h in
       ap (λ b. cond b (x ∷ filter (within i j) xs) (filter (within i j) xs)) (above (f x) (omega (arith, up, le)))
-      ∙ none_within n (f x) i j xs (both _ _ h).1 (omega (arith, up, le))
+      ∙ none_within n (f x) i j xs (and_parts _ _ h).1 (omega (arith, up, le))
     where
       above : (m : ℕ) → j ≤ m → (nat_le i m && nat_lt m j) ≡ false
       above m le = grind (arith, nat_tests)
@@ -159,7 +155,7 @@ module _ {X : Type 0} (f : X → ℕ) where
     where
       below_true : (k n : ℕ) → nat_lt k n ≡ true → k < n
       below_true k n e = grind (arith, nat_tests)
-  head_low n k (x ∷ xs) h = let up = next_up f n k x xs h in let low = head_low n (f x) xs (both (nat_le k (f x)) (is_in_order n (f x ∷ map f xs)) h).1 in omega (arith, up, low)
+  head_low n k (x ∷ xs) h = let up = next_up f n k x xs h in let low = head_low n (f x) xs (and_parts (nat_le k (f x)) (is_in_order n (f x ∷ map f xs)) h).1 in omega (arith, up, low)
 
   pub all_below : (n : ℕ) (xs : List X) → is_in_order n (map f xs) ≡ true → below f n xs ≡ length xs
   all_below n [] h = refl

@@ -6,6 +6,7 @@ use Rattle.std.specs.Int.{int_max}
 use Rattle.std.specs.List.{list_any, list_all}
 use Rattle.std.proofs.lemmas.Int.{ints, clamps}
 use Rattle.std.proofs.lemmas.Bool.Decides.{Decides-int_eq}
+use Rattle.std.proofs.lemmas.Bool.{and_parts}
 use Rattle.qc_model.specs.declared.problem.Set.{Set}
 use Rattle.qc_model.specs.Domains.{Values, least_value, is_single, set_has}
 use Rattle.qc_model.specs.Ranges.{Range, range_of, product, absolute, absolute_range}
@@ -15,16 +16,16 @@ use Rattle.qc_model.specs.Holds.{Given, value_at, values_at, holds_as, odd_ones,
 use Rattle.qc_model.specs.Left.{Lefts, left_at, lefts_at, range_at}
 use Rattle.qc_model.specs.Refuted.{refuted_as}
 use Rattle.qc_model.proofs.Visible.{Fits, one_fits}
-use Rattle.qc_model.proofs.Sound.{InRange, at_range, apart, result_apart, both, not_true}
+use Rattle.qc_model.proofs.Sound.{InRange, at_range, apart, result_apart, not_true}
 use Rattle.model_table.proofs.Products.{times_in}
 use Rattle.model_table.proofs.Fits.{many_fits, members_fit, only_value, only_values, any_from, both_false}
 use Rattle.model_table.proofs.Sums.{same_number}
 
--- both are single and equal
+-- and_parts are single and equal
 pub one_value_same : (vs : Given) (ds : Lefts) → Fits vs ds → (is_single (left_at ds 0) && is_single (left_at ds 1) && int_eq (least_value (left_at ds 0)) (least_value (left_at ds 1))) ≡ true → value_at vs 0 ≡ value_at vs 1
 one_value_same vs ds f r =
-    let p = both (is_single (left_at ds 0) && is_single (left_at ds 1)) (int_eq (least_value (left_at ds 0)) (least_value (left_at ds 1))) r in
-    let q = both (is_single (left_at ds 0)) (is_single (left_at ds 1)) p.0 in
+    let p = and_parts (is_single (left_at ds 0) && is_single (left_at ds 1)) (int_eq (least_value (left_at ds 0)) (least_value (left_at ds 1))) r in
+    let q = and_parts (is_single (left_at ds 0)) (is_single (left_at ds 1)) p.0 in
     only_value (value_at vs 0) (left_at ds 0) q.0 (one_fits vs ds 0 f) ∙ same_number (least_value (left_at ds 0)) (least_value (left_at ds 1)) p.1 ∙ sym (only_value (value_at vs 1) (left_at ds 1) q.1 (one_fits vs ds 1 f))
 
 pub different_sound : (vs : Given) (ds : Lefts) → Fits vs ds → refuted_as different ds ≡ true → holds_as different vs ≡ true → ⊥
@@ -60,9 +61,9 @@ xor_holds a b c = same_truth (is_one c) (not (int_eq a b))
 
 pub exactly_one_sound : (vs : Given) (ds : Lefts) → Fits vs ds → refuted_as exactly_one ds ≡ true → holds_as exactly_one vs ≡ true → ⊥
 exactly_one_sound vs ds f r h =
-    let p = both (is_single d && is_single e && is_single g) (not (xor_holds (least_value d) (least_value e) (least_value g))) r in
-    let q = both (is_single d && is_single e) (is_single g) p.0 in
-    let s = both (is_single d) (is_single e) q.0 in
+    let p = and_parts (is_single d && is_single e && is_single g) (not (xor_holds (least_value d) (least_value e) (least_value g))) r in
+    let q = and_parts (is_single d && is_single e) (is_single g) p.0 in
+    let s = and_parts (is_single d) (is_single e) q.0 in
     let x = only_value (value_at vs 0) d s.0 (one_fits vs ds 0 f) in
     let y = only_value (value_at vs 1) e s.1 (one_fits vs ds 1 f) in
     let z = only_value (value_at vs 2) g q.1 (one_fits vs ds 2 f) in
@@ -82,6 +83,6 @@ exactly_one_sound vs ds f r h =
 
 pub odd_items_sound : (vs : Given) (ds : Lefts) → Fits vs ds → refuted_as odd_items ds ≡ true → holds_as odd_items vs ≡ true → ⊥
 odd_items_sound vs ds f r h =
-    let p = both (list_all is_single (lefts_at ds 0)) (not (odd_ones (map least_value (lefts_at ds 0)))) r in
+    let p = and_parts (list_all is_single (lefts_at ds 0)) (not (odd_ones (map least_value (lefts_at ds 0)))) r in
     both_false (odd_ones (map least_value (lefts_at ds 0)))
     (subst (λ (xs : List ℤ). odd_ones xs ≡ true) (only_values (values_at vs 0) (lefts_at ds 0) p.0 (many_fits vs ds 0 f)) h) p.1

@@ -3,11 +3,12 @@ use Rattle.std.proofs.Common.{◌≡◌, ◌⊎◌, inl, inr, ℕ, ◌+◌, ◌�
 use Rattle.std.specs.Prelude.{ℤ, pos, ◌+ℤ◌, ◌-ℤ◌, ◌≤ℤ◌, int_le, int_lt}
 use Rattle.std.specs.List.{list_any, count_by}
 use Rattle.std.proofs.lemmas.Int.{ints}
+use Rattle.std.proofs.lemmas.Bool.{and_from, true_from_ne_false, and_parts}
 use Rattle.qc_model.specs.Lists.{Among}
 use Rattle.qc_model.specs.Domains.{Values, least_value, greatest_value}
 use Rattle.qc_model.specs.Left.{is_crowded, has_crowd}
-use Rattle.qc_model.proofs.Sound.{differ, both, lo_of, hi_of}
-use Rattle.model_table.proofs.Fits.{any_at, any_from, and_true, true_if}
+use Rattle.qc_model.proofs.Sound.{differ, lo_of, hi_of}
+use Rattle.model_table.proofs.Fits.{any_at, any_from}
 use Rattle.model_table.proofs.Crowded.{count_step, ends_within}
 
 -- what passes the one test passes the other, so as many do
@@ -89,25 +90,25 @@ least_to_greatest (v ∷ d) = let a = lo_of v (v ∷ d) (inl refl) in let b = hi
 -- the range may shrink to the ends of the items within it
 shrunk : (ds : List Values) (l h m n : ℤ) → is_crowded ds l h ≡ true → l ≤ℤ m → n ≤ℤ h → m ≤ℤ n → ((e : Values) → Among e ds → ends_within l h e ≡ true → (m ≤ℤ least_value e) × (greatest_value e ≤ℤ n)) → is_crowded ds m n ≡ true
 shrunk ds l h m n c a b o f =
-    let p = both (int_le l h) (int_lt ((h -ℤ l) +ℤ pos 1) (pos (count_by (ends_within l h) ds))) c in
+    let p = and_parts (int_le l h) (int_lt ((h -ℤ l) +ℤ pos 1) (pos (count_by (ends_within l h) ds))) c in
     fewer (count_by (ends_within l h) ds) (count_by (ends_within m n) ds) p.1
     (count_more (ends_within l h) (ends_within m n) ds (λ e k w. let q = f e k w in within e q.0 q.1))
   where
     within : (e : Values) → m ≤ℤ least_value e → greatest_value e ≤ℤ n → ends_within m n e ≡ true
     within e x y =
-        and_true (int_le m (least_value e)) (int_le (greatest_value e) n) (true_if (int_le m (least_value e)) (λ z. omega (arith, ints))) (true_if (int_le (greatest_value e) n) (λ z. omega (arith, ints)))
+        and_from (int_le m (least_value e)) (int_le (greatest_value e) n) (true_from_ne_false (int_le m (least_value e)) (λ z. omega (arith, ints))) (true_from_ne_false (int_le (greatest_value e) n) (λ z. omega (arith, ints)))
 
     fewer : (c d : ℕ) → int_lt ((h -ℤ l) +ℤ pos 1) (pos c) ≡ true → c ≤ d → (int_le m n && int_lt ((n -ℤ m) +ℤ pos 1) (pos d)) ≡ true
     fewer c d x y =
-        and_true (int_le m n) (int_lt ((n -ℤ m) +ℤ pos 1) (pos d)) (true_if (int_le m n) (λ z. omega (arith, ints))) (true_if (int_lt ((n -ℤ m) +ℤ pos 1) (pos d)) (λ z. omega (arith, ints)))
+        and_from (int_le m n) (int_lt ((n -ℤ m) +ℤ pos 1) (pos d)) (true_from_ne_false (int_le m n) (λ z. omega (arith, ints))) (true_from_ne_false (int_lt ((n -ℤ m) +ℤ pos 1) (pos d)) (λ z. omega (arith, ints)))
 
 within_ends : (l h : ℤ) (d : Values) → ends_within l h d ≡ true → (l ≤ℤ least_value d) × (greatest_value d ≤ℤ h)
-within_ends l h d e = let p = both (int_le l (least_value d)) (int_le (greatest_value d) h) e in (omega (arith, ints, p.0), omega (arith, ints, p.1))
+within_ends l h d e = let p = and_parts (int_le l (least_value d)) (int_le (greatest_value d) h) e in (omega (arith, ints, p.0), omega (arith, ints, p.1))
 
 -- no item within, so no crowd
 not_crowded : (ds : List Values) (l h : ℤ) → is_crowded ds l h ≡ true → ((d : Values) → Among d ds → ends_within l h d ≡ true → ⊥) → ⊥
 not_crowded ds l h c n =
-    let p = both (int_le l h) (int_lt ((h -ℤ l) +ℤ pos 1) (pos (count_by (ends_within l h) ds))) c in
+    let p = and_parts (int_le l h) (int_lt ((h -ℤ l) +ℤ pos 1) (pos (count_by (ends_within l h) ds))) c in
     clash (count_by (ends_within l h) ds) p.0 p.1 (none_passes (ends_within l h) ds n)
   where
     clash : (c : ℕ) → int_le l h ≡ true → int_lt ((h -ℤ l) +ℤ pos 1) (pos c) ≡ true → c ≡ 0 → ⊥

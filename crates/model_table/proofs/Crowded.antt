@@ -6,6 +6,7 @@ use Rattle.std.specs.List.{list_any, count_by}
 use Rattle.std.proofs.lemmas.Int.{ints}
 use Rattle.std.proofs.lemmas.Bool.Decides.{Decides-int_eq}
 use Rattle.std.proofs.lemmas.List.Sums.{sum_by-cons}
+use Rattle.std.proofs.lemmas.Bool.{or_left, or_right, and_parts}
 use Rattle.qc_model.specs.Lists.{Among, LiesIn}
 use Rattle.qc_model.specs.Domains.{Values, least_value, greatest_value}
 use Rattle.qc_model.specs.Meaning.{all_different}
@@ -13,8 +14,8 @@ use Rattle.qc_model.specs.Holds.{Given, values_at, holds_as, all_differ}
 use Rattle.qc_model.specs.Left.{Lefts, lefts_at, span, is_crowded}
 use Rattle.qc_model.specs.Refuted.{refuted_as}
 use Rattle.qc_model.proofs.Visible.{Fits}
-use Rattle.qc_model.proofs.Sound.{InRange, in_span, differ, both, not_true}
-use Rattle.model_table.proofs.Fits.{many_fits, any_at, or_left, or_right}
+use Rattle.qc_model.proofs.Sound.{InRange, in_span, differ, not_true}
+use Rattle.model_table.proofs.Fits.{many_fits, any_at}
 use Rattle.model_table.proofs.Sums.{same_number}
 
 -- one more where the first passes
@@ -33,7 +34,7 @@ count_none x (v ∷ vs) n = count_step (int_eq x) v vs ∙ by (int_eq x v) refl 
 count_once : (x : ℤ) (vs : List ℤ) → all_differ vs ≡ true → count_by (int_eq x) vs ≤ 1
 count_once x [] a = omega arith
 count_once x (v ∷ vs) a =
-    let p = both (not (list_any (int_eq v) vs)) (all_differ vs) a in
+    let p = and_parts (not (list_any (int_eq v) vs)) (all_differ vs) a in
     subst (λ (n : ℕ). n ≤ 1) (sym (count_step (int_eq x) v vs)) (by p.0 (count_once x vs p.1) (int_eq x v) refl)
   where
     by : not (list_any (int_eq v) vs) ≡ true → count_by (int_eq x) vs ≤ 1 → (b : Bool) → int_eq x v ≡ b → cond b 1 0 + count_by (int_eq x) vs ≤ 1
@@ -101,7 +102,7 @@ distance l h e = (nat_abs (h -ℤ l), omega (arith, ints))
 
 pub crowd_repeats : (l h : ℤ) (vs : List ℤ) (ds : List Values) → LiesIn vs ds → is_crowded ds l h ≡ true → all_differ vs ≡ true → ⊥
 crowd_repeats l h vs ds k c a =
-    let p = both (int_le l h) (int_lt ((h -ℤ l) +ℤ pos 1) (pos (count_by (ends_within l h) ds))) c in
+    let p = and_parts (int_le l h) (int_lt ((h -ℤ l) +ℤ pos 1) (pos (count_by (ends_within l h) ds))) c in
     let d = distance l h (omega (arith, ints)) in
     let m = count_within l h d.0 vs ds d.1 k in
     let n = pigeonhole l (suc d.0) vs a in

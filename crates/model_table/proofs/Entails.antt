@@ -5,6 +5,7 @@ use Rattle.std.specs.Ordering.{int_eq}
 use Rattle.std.specs.List.{list_any}
 use Rattle.std.proofs.lemmas.Int.{ints}
 use Rattle.std.proofs.lemmas.Bool.Decides.{Decides-int_eq}
+use Rattle.std.proofs.lemmas.Bool.{or_cases, or_left, or_right, true_from_ne_false}
 use Rattle.qc_model.specs.declared.problem.Set.{Set}
 use Rattle.qc_model.specs.Lists.{LiesIn}
 use Rattle.qc_model.specs.Domains.{Values, least_value, set_has}
@@ -15,7 +16,7 @@ use Rattle.qc_model.specs.Left.{Lefts, left_at, lefts_at, is_only}
 use Rattle.qc_model.specs.Entailed.{entailed_as}
 use Rattle.qc_model.proofs.Visible.{Fits, one_fits}
 use Rattle.qc_model.proofs.Sound.{lo_of, hi_of, equal_sound, differ}
-use Rattle.model_table.proofs.Fits.{many_fits, members_fit, or_cases, or_left, or_right, all_at, not_unless, true_if}
+use Rattle.model_table.proofs.Fits.{many_fits, members_fit, all_at, not_unless}
 use Rattle.model_table.proofs.Typing.{Kinds, IsLiteral}
 use Rattle.model_table.proofs.Sums.{given_sum_in, sum_given, point_sum, sum_equal_sound}
 use Rattle.model_table.proofs.Compared.{one_value_same}
@@ -31,13 +32,13 @@ at_most_entails : (vs : Given) (ds : Lefts) → Fits vs ds → entailed_as at_mo
 at_most_entails vs ds f e =
     let high = hi_of (value_at vs 0) (left_at ds 0) (one_fits vs ds 0 f) in
     let low = lo_of (value_at vs 1) (left_at ds 1) (one_fits vs ds 1 f) in
-    true_if (int_le (value_at vs 0) (value_at vs 1)) (λ n. omega (arith, ints))
+    true_from_ne_false (int_le (value_at vs 0) (value_at vs 1)) (λ n. omega (arith, ints))
 
 below_entails : (vs : Given) (ds : Lefts) → Fits vs ds → entailed_as below ds ≡ true → holds_as below vs ≡ true
 below_entails vs ds f e =
     let high = hi_of (value_at vs 0) (left_at ds 0) (one_fits vs ds 0 f) in
     let low = lo_of (value_at vs 1) (left_at ds 1) (one_fits vs ds 1 f) in
-    true_if (int_lt (value_at vs 0) (value_at vs 1)) (λ n. omega (arith, ints))
+    true_from_ne_false (int_lt (value_at vs 0) (value_at vs 1)) (λ n. omega (arith, ints))
 
 sum_equal_entails : (vs : Given) (ds : Lefts) → IsLiteral vs ds 2 → Fits vs ds → entailed_as sum_equal ds ≡ true → holds_as sum_equal vs ≡ true
 sum_equal_entails vs ds l f e =
@@ -50,7 +51,7 @@ sum_at_most_entails : (vs : Given) (ds : Lefts) → Fits vs ds → entailed_as s
 sum_at_most_entails vs ds f e =
     let s = given_sum_in vs ds f in
     let low = lo_of (value_at vs 2) (left_at ds 2) (one_fits vs ds 2 f) in
-    true_if (int_le (sum_given vs) (value_at vs 2)) (λ n. omega (arith, ints, s.high))
+    true_from_ne_false (int_le (sum_given vs) (value_at vs 2)) (λ n. omega (arith, ints, s.high))
 
 member_entails : (vs : Given) (ds : Lefts) → Fits vs ds → entailed_as member ds ≡ true → holds_as member vs ≡ true
 member_entails vs ds f e =

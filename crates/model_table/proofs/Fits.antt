@@ -2,13 +2,14 @@
 use Rattle.std.proofs.Common.{◌≡◌, ◌⊎◌, inl, inr, ℕ, zero, suc, Bool, true, false, ◌&&◌, ◌||◌, not, List, [], ◌∷◌, length, map, refl, sym, ap, ◌∙◌, Some}
 use Rattle.std.specs.Prelude.{ℤ}
 use Rattle.std.specs.List.{list_any, list_all}
+use Rattle.std.proofs.lemmas.Bool.{or_cases, or_left, or_right, and_parts}
 use Rattle.qc_model.specs.Lists.{Among, LiesIn}
 use Rattle.qc_model.specs.Domains.{Values, least_value, is_single}
 use Rattle.qc_model.specs.Arguments.{Filled, filled_one, filled_many, filled_numbers, filled_members, as_many, as_numbers, as_members, numbers, members}
 use Rattle.qc_model.specs.Holds.{Given, values_at, last_value}
 use Rattle.qc_model.specs.Left.{Lefts, lefts_at, last_left}
 use Rattle.qc_model.proofs.Visible.{FitsOne, Fits, as_one_fits}
-use Rattle.qc_model.proofs.Sound.{differ, both}
+use Rattle.qc_model.proofs.Sound.{differ}
 
 as_many_fits : (v : Filled ℤ) (d : Filled Values) → FitsOne v d → LiesIn (as_many (Some v)) (as_many (Some d))
 as_many_fits (filled_one v) (filled_one d) h = tt
@@ -78,24 +79,8 @@ only_values [] [] s h = refl
 only_values [] (d ∷ ds) s h = absurd h
 only_values (v ∷ vs) [] s h = absurd h
 only_values (v ∷ vs) (d ∷ ds) s h =
-    let p = both (is_single d) (list_all is_single ds) s in
+    let p = and_parts (is_single d) (list_all is_single ds) s in
     ap (λ x. x ∷ vs) (only_value v d p.0 h.0) ∙ ap (λ xs. least_value d ∷ xs) (only_values vs ds p.1 h.1)
-
-pub or_cases : (a b : Bool) → (a || b) ≡ true → (a ≡ true) ⊎ (b ≡ true)
-or_cases true b e = inl refl
-or_cases false b e = inr e
-
-pub or_left : (a b : Bool) → a ≡ true → (a || b) ≡ true
-or_left true b e = refl
-or_left false b e = absurd (differ e)
-
-pub or_right : (a b : Bool) → b ≡ true → (a || b) ≡ true
-or_right true b e = refl
-or_right false b e = e
-
-pub and_true : (a b : Bool) → a ≡ true → b ≡ true → (a && b) ≡ true
-and_true true b e f = f
-and_true false b e f = e
 
 pub both_false : (b : Bool) → b ≡ true → not b ≡ true → ⊥
 both_false true e f = differ f
@@ -107,7 +92,7 @@ not_unless false f = refl
 
 pub all_at : {X : Type 0} (p : X → Bool) (xs : List X) (x : X) → list_all p xs ≡ true → Among x xs → p x ≡ true
 all_at p [] x e h = absurd h
-all_at p (y ∷ xs) x e h = let s = both (p y) (list_all p xs) e in elim h [ inl q ↦ ap p q ∙ s.0 | inr m ↦ all_at p xs x s.1 m ]
+all_at p (y ∷ xs) x e h = let s = and_parts (p y) (list_all p xs) e in elim h [ inl q ↦ ap p q ∙ s.0 | inr m ↦ all_at p xs x s.1 m ]
 
 pub any_at : {X : Type 0} (p : X → Bool) (xs : List X) → list_any p xs ≡ true → (x : X) × Among x xs × (p x ≡ true)
 any_at p [] e = absurd (differ e)
@@ -121,7 +106,3 @@ pub any_from : {X : Type 0} (p : X → Bool) (xs : List X) (x : X) → Among x x
 any_from p [] x h e = absurd h
 any_from p (y ∷ xs) x h e =
     elim h [ inl q ↦ or_left (p y) (list_any p xs) (ap p (sym q) ∙ e) | inr m ↦ or_right (p y) (list_any p xs) (any_from p xs x m e) ]
-
-pub true_if : (b : Bool) → (b ≡ false → ⊥) → b ≡ true
-true_if true f = refl
-true_if false f = absurd (f refl)

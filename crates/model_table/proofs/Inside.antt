@@ -5,13 +5,13 @@ use Rattle.std.specs.Ordering.{int_eq}
 use Rattle.std.specs.Int.{int_min, int_max}
 use Rattle.std.proofs.lemmas.Int.{ints, clamps}
 use Rattle.std.proofs.lemmas.Bool.Decides.{Decides-int_eq}
+use Rattle.std.proofs.lemmas.Bool.{or_cases, or_left, or_right, and_from, true_from_ne_false, and_parts}
 use Rattle.qc_model.specs.Lists.{Among}
 use Rattle.qc_model.specs.Domains.{Values}
 use Rattle.qc_model.specs.Ranges.{Range, range_of, range_from, range_of_list, point, is_point, ranges_miss, range_sum, product, absolute, absolute_range, smaller_range, greater_range}
 use Rattle.qc_model.specs.Left.{Lefts, left_at, lefts_at, range_at, span, sum_range, sum_at}
 use Rattle.qc_model.specs.Arguments.{numbers}
-use Rattle.qc_model.proofs.Sound.{InRange, both}
-use Rattle.model_table.proofs.Fits.{or_cases, or_left, or_right, and_true, true_if}
+use Rattle.qc_model.proofs.Sound.{InRange}
 use Rattle.model_table.proofs.Products.{times_in, corners}
 use Rattle.model_table.proofs.Sums.{same_number}
 use Rattle.model_table.proofs.Parts.{IsPart, AreParts, Parts, part_at, parts_at, same_numbers, span_low, span_high, span_order}
@@ -46,16 +46,16 @@ to_inside a b i = record { low = omega (arith, ints, i.low, i.order); high = i.h
 pub still_miss : (a b c d : Range) → Within a b → Within c d → ranges_miss b d ≡ true → ranges_miss a c ≡ true
 still_miss a b c d i j e =
     elim (or_cases (int_lt b.to d.from) (int_lt d.to b.from) e) [
-      | inl q ↦ or_left (int_lt a.to c.from) (int_lt c.to a.from) (true_if (int_lt a.to c.from) (λ n. omega (arith, ints, i.high, j.low)))
-      | inr q ↦ or_right (int_lt a.to c.from) (int_lt c.to a.from) (true_if (int_lt c.to a.from) (λ n. omega (arith, ints, i.low, j.high)))
+      | inl q ↦ or_left (int_lt a.to c.from) (int_lt c.to a.from) (true_from_ne_false (int_lt a.to c.from) (λ n. omega (arith, ints, i.high, j.low)))
+      | inr q ↦ or_right (int_lt a.to c.from) (int_lt c.to a.from) (true_from_ne_false (int_lt c.to a.from) (λ n. omega (arith, ints, i.low, j.high)))
     ]
 
 pub still_point : (n : ℤ) (a b : Range) → Inside a b → is_point n b ≡ true → is_point n a ≡ true
 still_point n a b i e =
-    let p = both (int_eq b.from n) (int_eq b.to n) e in
+    let p = and_parts (int_eq b.from n) (int_eq b.to n) e in
     let f = same_number b.from n p.0 in
     let t = same_number b.to n p.1 in
-    and_true (int_eq a.from n) (int_eq a.to n) ((Decides-int_eq a.from n).1 (omega (arith, ints, i.low, i.high, i.order))) ((Decides-int_eq a.to n).1 (omega (arith, ints, i.low, i.high, i.order)))
+    and_from (int_eq a.from n) (int_eq a.to n) ((Decides-int_eq a.from n).1 (omega (arith, ints, i.low, i.high, i.order))) ((Decides-int_eq a.to n).1 (omega (arith, ints, i.low, i.high, i.order)))
 
 pub sum_inside : (a b c d : Range) → Inside a b → Inside c d → Inside (range_sum a c) (range_sum b d)
 sum_inside a b c d i j = record { low = omega (arith, ints, i.low, j.low); high = omega (arith, ints, i.high, j.high); order = omega (arith, ints, i.order, j.order) }

@@ -5,12 +5,12 @@ use Rattle.std.specs.Ordering.{int_eq}
 use Rattle.std.specs.Int.{int_min, int_max}
 use Rattle.std.proofs.lemmas.Int.{ints, clamps}
 use Rattle.std.proofs.lemmas.Bool.Decides.{Decides-int_eq}
+use Rattle.std.proofs.lemmas.Bool.{or_cases, or_left, or_right, and_from, and_parts}
 use Rattle.qc_model.specs.Lists.{Among}
 use Rattle.qc_model.specs.Ranges.{Range, range_of_list, point, ranges_miss, negative_ends, positive_ends, quotient_range, greatest_remainder, is_single_range, remainder_range}
 use Rattle.qc_model.specs.Left.{is_zero_range}
-use Rattle.qc_model.proofs.Sound.{InRange, differ, both}
+use Rattle.qc_model.proofs.Sound.{InRange, differ}
 use Rattle.qc_model.proofs.Moves.{among_either, of_flat_map}
-use Rattle.model_table.proofs.Fits.{or_cases, or_left, or_right, and_true}
 use Rattle.model_table.proofs.Sums.{same_number}
 use Rattle.model_table.proofs.Quotients.{quotient_in, divisor_ends, quotients_by}
 use Rattle.model_table.proofs.Remainders.{wide_ends, remainder_in}
@@ -49,7 +49,7 @@ no_divisor b o e = by (int_lt b.from (pos 0)) refl (int_lt (pos 0) b.to) refl e
     by : (s : Bool) → int_lt b.from (pos 0) ≡ s → (t : Bool) → int_lt (pos 0) b.to ≡ t → cond s (b.from ∷ int_min b.to (negsuc 0) ∷ []) [] ++ cond t (int_max b.from (pos 1) ∷ b.to ∷ []) [] ≡ [] → is_zero_range b ≡ true
     by true p t q e = absurd (nothing b.from _ e)
     by false p true q e = absurd (nothing (int_max b.from (pos 1)) _ e)
-    by false p false q e = and_true (int_eq b.from (pos 0)) (int_eq b.to (pos 0)) ((Decides-int_eq b.from (pos 0)).1 (omega (arith, ints))) ((Decides-int_eq b.to (pos 0)).1 (omega (arith, ints)))
+    by false p false q e = and_from (int_eq b.from (pos 0)) (int_eq b.to (pos 0)) ((Decides-int_eq b.from (pos 0)).1 (omega (arith, ints))) ((Decides-int_eq b.to (pos 0)).1 (omega (arith, ints)))
 
 pub quotient_inside : (a b c d : Range) → Inside a b → Inside c d → (is_zero_range c ≡ true → ⊥) → Inside (quotient_range a c) (quotient_range b d)
 quotient_inside a b c d i j z = by (divisor_ends c) refl
@@ -84,11 +84,11 @@ remainder_from_zero c d j z = by (int_eq c.from (pos 0)) refl (int_eq c.to (pos 
     apart x e q = differ (sym e ∙ (Decides-int_eq x (pos 0)).1 q)
 
     by : (s : Bool) → int_eq c.from (pos 0) ≡ s → (t : Bool) → int_eq c.to (pos 0) ≡ t → pos 0 ≤ℤ greatest_remainder d
-    by true p true q = absurd (z (and_true (int_eq c.from (pos 0)) (int_eq c.to (pos 0)) p q))
+    by true p true q = absurd (z (and_from (int_eq c.from (pos 0)) (int_eq c.to (pos 0)) p q))
     by true p false q = let n = apart c.to q in omega (arith, ints, clamps, j.low, j.high, j.order)
     by false p t q = let n = apart c.from p in omega (arith, ints, clamps, j.low, j.high, j.order)
 
--- the same ends, for ranges that aren't both one number
+-- the same ends, for ranges that aren't and_parts one number
 wide_within : (a b : Range) (m n : ℤ) → Inside a b → m ≤ℤ n → pos 0 ≤ℤ n → Within (wide_ends a m) (wide_ends b n)
 wide_within a b m n i l z = record {
   low = low (int_le (pos 0) a.from) refl (int_le (pos 0) b.from) refl;
@@ -114,20 +114,20 @@ pub remainder_within : (a b c d : Range) → Inside a b → Inside c d → (is_z
 remainder_within a b c d i j z = by (is_single_range a && is_single_range c) refl (is_single_range b && is_single_range d) refl
   where
     lone : is_single_range c ≡ true → c.from ≡ pos 0 → ⊥
-    lone s e = z (and_true (int_eq c.from (pos 0)) (int_eq c.to (pos 0)) ((Decides-int_eq c.from (pos 0)).1 e) ((Decides-int_eq c.to (pos 0)).1 (sym (same_number c.from c.to s) ∙ e)))
+    lone s e = z (and_from (int_eq c.from (pos 0)) (int_eq c.to (pos 0)) ((Decides-int_eq c.from (pos 0)).1 e) ((Decides-int_eq c.to (pos 0)).1 (sym (same_number c.from c.to s) ∙ e)))
 
     around : (x : ℤ) (r : Range) → InRange x r → Within (point x) r
     around x r k = record { low = k.low; high = k.high }
 
     narrow : (is_single_range b && is_single_range d) ≡ true → (is_single_range a && is_single_range c) ≡ true
     narrow e =
-        let p = both (is_single_range b) (is_single_range d) e in
-        and_true (is_single_range a) (is_single_range c) (narrow_single a b i p.0) (narrow_single c d j p.1)
+        let p = and_parts (is_single_range b) (is_single_range d) e in
+        and_from (is_single_range a) (is_single_range c) (narrow_single a b i p.0) (narrow_single c d j p.1)
 
     by : (s : Bool) → (is_single_range a && is_single_range c) ≡ s → (t : Bool) → (is_single_range b && is_single_range d) ≡ t → Within (cond s (point (int_rem a.from c.from)) (wide_ends a (greatest_remainder c))) (remainder_range b d)
     by true p t q =
         around (int_rem a.from c.from) (remainder_range b d)
-        (remainder_in a.from c.from b d (lone (both (is_single_range a) (is_single_range c) p).1) (from_inside a b i) (from_inside c d j))
+        (remainder_in a.from c.from b d (lone (and_parts (is_single_range a) (is_single_range c) p).1) (from_inside a b i) (from_inside c d j))
     by false p true q = absurd (differ (sym p ∙ narrow q))
     by false p false q =
         subst (λ (s : Bool). Within (wide_ends a (greatest_remainder c)) (cond s (point (int_rem b.from d.from)) (wide_ends b (greatest_remainder d)))) (sym q)

@@ -5,6 +5,7 @@ use Rattle.std.specs.Ordering.{int_eq}
 use Rattle.std.specs.Int.{int_min, int_max}
 use Rattle.std.specs.List.{list_any, list_all}
 use Rattle.std.proofs.lemmas.Int.{ints, clamps}
+use Rattle.std.proofs.lemmas.Bool.{or_cases, or_left, or_right, and_from, and_parts}
 use Rattle.qc_model.specs.Lists.{Among, LiesIn, same_values}
 use Rattle.qc_model.specs.Domains.{Values, has_value, misses}
 use Rattle.qc_model.specs.Ranges.{Range}
@@ -14,8 +15,8 @@ use Rattle.qc_model.specs.Holds.{Given, value_at, values_at, holds_as, item_is, 
 use Rattle.qc_model.specs.Left.{Lefts, left_at, lefts_at, range_at, span, some_item_in, some_item_meets, least_range, greatest_range, least_item_range, greatest_item_range, row_fits}
 use Rattle.qc_model.specs.Refuted.{refuted_as}
 use Rattle.qc_model.proofs.Visible.{Fits, one_fits}
-use Rattle.qc_model.proofs.Sound.{InRange, in_span, at_range, apart, differ, both, not_true, has_it, any_of, items_sound, is_false}
-use Rattle.model_table.proofs.Fits.{many_fits, numbers_fit, length_fits, or_cases, or_left, or_right, and_true, any_at, any_from}
+use Rattle.qc_model.proofs.Sound.{InRange, in_span, at_range, apart, differ, not_true, has_it, any_of, items_sound, is_false}
+use Rattle.model_table.proofs.Fits.{many_fits, numbers_fit, length_fits, any_at, any_from}
 use Rattle.model_table.proofs.Sums.{same_number}
 
 pub element_sound : (vs : Given) (ds : Lefts) → Fits vs ds → refuted_as element ds ≡ true → holds_as element vs ≡ true → ⊥
@@ -37,9 +38,9 @@ item_meets k b c [] ds d e h m n t = absurd (differ t)
 item_meets k b c (v ∷ vs) [] d e h m n t = absurd h
 item_meets k b c (v ∷ vs) (f ∷ ds) d e h m n t =
     elim (or_cases (int_eq k b && int_eq v c) (item_is (k +ℤ pos 1) b vs c) t) [
-      | inl q ↦ (let p = both (int_eq k b) (int_eq v c) q in
+      | inl q ↦ (let p = and_parts (int_eq k b) (int_eq v c) q in
           or_left (has_value d k && not (misses f e)) (some_item_meets (k +ℤ pos 1) d ds e)
-          (and_true (has_value d k) (not (misses f e))
+          (and_from (has_value d k) (not (misses f e))
           (has_it d k (subst (λ (x : ℤ). Among x d) (sym (same_number k b p.0)) m))
           (meets_at f e v h.0 (subst (λ (x : ℤ). Among x e) (sym (same_number v c p.1)) n))))
       | inr q ↦ or_right (has_value d k && not (misses f e)) (some_item_meets (k +ℤ pos 1) d ds e) (item_meets (k +ℤ pos 1) b c vs ds d e h.1 m n q)
@@ -75,7 +76,7 @@ least_high m r [] [] h k a = k
 least_high m r [] (d ∷ ds) h k a = absurd h
 least_high m r (v ∷ vs) [] h k a = absurd h
 least_high m r (v ∷ vs) (d ∷ ds) h k a =
-    let p = both (int_le m v) (list_all (λ x. int_le m x) vs) a in
+    let p = and_parts (int_le m v) (list_all (λ x. int_le m x) vs) a in
     let i = in_span v d h.0 in
     above (span d).to (least_range r ds).to m (omega (arith, ints, i.high, p.0)) (least_high m r vs ds h.1 k p.1)
   where
@@ -106,7 +107,7 @@ greatest_low m r [] [] h k a = k
 greatest_low m r [] (d ∷ ds) h k a = absurd h
 greatest_low m r (v ∷ vs) [] h k a = absurd h
 greatest_low m r (v ∷ vs) (d ∷ ds) h k a =
-    let p = both (int_le v m) (list_all (λ x. int_le x m) vs) a in
+    let p = and_parts (int_le v m) (list_all (λ x. int_le x m) vs) a in
     let i = in_span v d h.0 in
     below (span d).from (greatest_range r ds).from m (omega (arith, ints, i.low, p.0)) (greatest_low m r vs ds h.1 k p.1)
   where
@@ -122,8 +123,8 @@ least_in : (m : ℤ) (vs : List ℤ) (ds : List Values) → LiesIn vs ds → is_
 least_in m [] ds h e = absurd (differ e)
 least_in m (v ∷ vs) [] h e = absurd h
 least_in m (v ∷ vs) (d ∷ ds) h e =
-    let p = both (list_any (int_eq m) (v ∷ vs)) (list_all (λ x. int_le m x) (v ∷ vs)) e in
-    let q = both (int_le m v) (list_all (λ x. int_le m x) vs) p.1 in
+    let p = and_parts (list_any (int_eq m) (v ∷ vs)) (list_all (λ x. int_le m x) (v ∷ vs)) e in
+    let q = and_parts (int_le m v) (list_all (λ x. int_le m x) vs) p.1 in
     let i = in_span v d h.0 in
     record {
       low = elim (among_of m (v ∷ vs) p.0) [
@@ -137,8 +138,8 @@ greatest_in : (m : ℤ) (vs : List ℤ) (ds : List Values) → LiesIn vs ds → 
 greatest_in m [] ds h e = absurd (differ e)
 greatest_in m (v ∷ vs) [] h e = absurd h
 greatest_in m (v ∷ vs) (d ∷ ds) h e =
-    let p = both (list_any (int_eq m) (v ∷ vs)) (list_all (λ x. int_le x m) (v ∷ vs)) e in
-    let q = both (int_le v m) (list_all (λ x. int_le x m) vs) p.1 in
+    let p = and_parts (list_any (int_eq m) (v ∷ vs)) (list_all (λ x. int_le x m) (v ∷ vs)) e in
+    let q = and_parts (int_le v m) (list_all (λ x. int_le x m) vs) p.1 in
     let i = in_span v d h.0 in
     record {
       low = greatest_low m (span d) vs ds h.1 (omega (arith, ints, i.low, q.0)) q.1;
@@ -165,8 +166,8 @@ same_fits [] (d ∷ ds) row h e = absurd h
 same_fits (v ∷ vs) [] row h e = absurd h
 same_fits (v ∷ vs) (d ∷ ds) [] h e = e
 same_fits (v ∷ vs) (d ∷ ds) (n ∷ row) h e =
-    let p = both (int_eq v n) (same_values vs row) e in
-    and_true (has_value d n) (row_fits ds row)
+    let p = and_parts (int_eq v n) (same_values vs row) e in
+    and_from (has_value d n) (row_fits ds row)
     (has_it d n (subst (λ (x : ℤ). Among x d) (same_number v n p.0) h.0)) (same_fits vs ds row h.1 p.1)
 
 pub table_sound : (vs : Given) (ds : Lefts) → Fits vs ds → refuted_as table ds ≡ true → holds_as table vs ≡ true → ⊥

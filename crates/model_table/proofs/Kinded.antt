@@ -2,6 +2,7 @@
 use Rattle.std.proofs.Common.{◌≡◌, ℕ, true, ◌&&◌, ◌==◌, List, length, map, slice_get, Some}
 use Rattle.std.specs.Prelude.{ℤ, ⊤}
 use Rattle.std.specs.List.{list_all}
+use Rattle.std.proofs.lemmas.Bool.{and_parts}
 use Rattle.qc_model.specs.declared.problem.Pred.{Pred}
 use Rattle.qc_model.specs.declared.problem.Pred.TheVariants.{IntEq}
 use Rattle.qc_model.specs.declared.problem.Variable.{Variable}
@@ -15,23 +16,22 @@ use Rattle.qc_model.specs.Meaning.{Meaning, sum_equal, sum_different, sum_at_mos
 use Rattle.qc_model.specs.Signature.{arg_kinds_of}
 use Rattle.qc_model.specs.Valid.{are_of_sorts, have_lengths, is_sum, item_count, is_literal, is_constraint, argument_sees}
 use Rattle.qc_model.specs.Visible.{ArgumentsBelow}
-use Rattle.qc_model.proofs.Sound.{both}
 use Rattle.model_table.proofs.Typing.{Kinds, IsTruth, AllTruths, IsLiteral, IsReifiable}
 use Rattle.model_table.proofs.Typed.{given_of, lefts_of, of_sorts, OfSorts, EndsBoolean, truth_at, truths_at, truth_last, literal_at, item_at}
 
 -- a constraint has the arguments of its predicate
 has_sorts : (xs : List Variable) (c : Rule) → is_constraint xs c ≡ true → are_of_sorts xs (arg_kinds_of c.pred) c.args ≡ true
-has_sorts xs c e = (both (are_of_sorts xs (arg_kinds_of c.pred) c.args) (have_lengths (meaning_of c.pred) c.args) (both (are_of_sorts xs (arg_kinds_of c.pred) c.args && have_lengths (meaning_of c.pred) c.args) (list_all (argument_sees xs c.owner.0) c.args) e).0).0
+has_sorts xs c e = (and_parts (are_of_sorts xs (arg_kinds_of c.pred) c.args) (have_lengths (meaning_of c.pred) c.args) (and_parts (are_of_sorts xs (arg_kinds_of c.pred) c.args && have_lengths (meaning_of c.pred) c.args) (list_all (argument_sees xs c.owner.0) c.args) e).0).0
 
 pub has_lengths : (xs : List Variable) (c : Rule) → is_constraint xs c ≡ true → have_lengths (meaning_of c.pred) c.args ≡ true
-has_lengths xs c e = (both (are_of_sorts xs (arg_kinds_of c.pred) c.args) (have_lengths (meaning_of c.pred) c.args) (both (are_of_sorts xs (arg_kinds_of c.pred) c.args && have_lengths (meaning_of c.pred) c.args) (list_all (argument_sees xs c.owner.0) c.args) e).0).1
+has_lengths xs c e = (and_parts (are_of_sorts xs (arg_kinds_of c.pred) c.args) (have_lengths (meaning_of c.pred) c.args) (and_parts (are_of_sorts xs (arg_kinds_of c.pred) c.args && have_lengths (meaning_of c.pred) c.args) (list_all (argument_sees xs c.owner.0) c.args) e).0).1
 
 pub sees_all : (xs : List Variable) (c : Rule) → is_constraint xs c ≡ true → list_all (argument_sees xs c.owner.0) c.args ≡ true
-sees_all xs c e = (both (are_of_sorts xs (arg_kinds_of c.pred) c.args && have_lengths (meaning_of c.pred) c.args) (list_all (argument_sees xs c.owner.0) c.args) e).1
+sees_all xs c e = (and_parts (are_of_sorts xs (arg_kinds_of c.pred) c.args && have_lengths (meaning_of c.pred) c.args) (list_all (argument_sees xs c.owner.0) c.args) e).1
 
 -- the third argument of a sum is a number
 pub sum_literal : (w : List ℤ) (box : Box) (args : List Argument) → is_sum args ≡ true → IsLiteral (given_of w args) (lefts_of box args) 2
-sum_literal w box args e = literal_at w box args 2 (both (item_count (slice_get args 0) == item_count (slice_get args 1)) (is_literal (slice_get args 2)) e).1
+sum_literal w box args e = literal_at w box args 2 (and_parts (item_count (slice_get args 0) == item_count (slice_get args 1)) (is_literal (slice_get args 2)) e).1
 
 -- what a meaning asks of the kinds of the arguments
 abbrev IsBooleanAt : List ArgKind → ℕ → Type 0

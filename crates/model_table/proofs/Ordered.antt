@@ -4,6 +4,7 @@ use Rattle.std.specs.Prelude.{int_lt, int_le, ◌-ℤ◌, nat_abs}
 use Rattle.std.specs.List.{list_all, count_by}
 use Rattle.std.proofs.lemmas.Int.{ints}
 use Rattle.std.proofs.lemmas.Bool.Decides.{nat_tests}
+use Rattle.std.proofs.lemmas.Bool.{and_parts}
 use Rattle.qc_model.specs.declared.problem.Domain.{Domain}
 use Rattle.qc_model.specs.declared.problem.Domain.TheVariants.{Bits, Range, Listed}
 use Rattle.qc_model.specs.declared.problem.Variable.{Variable}
@@ -17,7 +18,7 @@ use Rattle.qc_model.specs.Domains.{domain_values, is_none_left, has_empty}
 use Rattle.qc_model.specs.Valid.{IsValid, is_domain, is_range, is_number, domain_width, is_listed, has_gap, width_of, is_in_order, is_declared_by, arg_sees, argument_sees, is_constraint}
 use Rattle.qc_model.specs.Visible.{ArgBelow, ArgsBelow, ArgumentBelow, ArgumentsBelow}
 use Rattle.qc_model.specs.Table.{IsOrdered}
-use Rattle.qc_model.proofs.Sound.{differ, both, is_false}
+use Rattle.qc_model.proofs.Sound.{differ, is_false}
 use Rattle.model_table.proofs.Fits.{all_at}
 use Rattle.model_table.proofs.Crowded.{count_step}
 use Rattle.model_table.proofs.Kinded.{sees_all}
@@ -36,22 +37,22 @@ among_place (y ∷ xs) (suc k) x e = inr (among_place xs k x e)
 has_values : (d : Domain) → is_domain d ≡ true → is_none_left (domain_values d) ≡ false
 has_values Bits e = refl
 has_values (Range low high) e =
-    let p = both (is_range low high) (nat_le (domain_width (Range low high)) 1048576) e in
-    let q = both (is_number low && is_number high) (int_le low high) p.0 in
+    let p = and_parts (is_range low high) (nat_le (domain_width (Range low high)) 1048576) e in
+    let q = and_parts (is_number low && is_number high) (int_le low high) p.0 in
     by (int_lt high low) refl q.1
   where
     by : (b : Bool) → int_lt high low ≡ b → int_le low high ≡ true → is_none_left (cond b [] (numbers_from low (nat_abs (high -ℤ low) + 1))) ≡ false
     by true f m = absurd (omega (arith, ints))
     by false f m = subst (λ (n : ℕ). is_none_left (numbers_from low n) ≡ false) (sym (add-one (nat_abs (high -ℤ low)))) refl
 has_values (Listed ns) e =
-    let p = both (not (is_none_left ns) && is_listed ns && has_gap ns) (nat_le (width_of ns) 1048576) e in
-    let q = both (not (is_none_left ns) && is_listed ns) (has_gap ns) p.0 in
-    is_false (is_none_left ns) (both (not (is_none_left ns)) (is_listed ns) q.0).0
+    let p = and_parts (not (is_none_left ns) && is_listed ns && has_gap ns) (nat_le (width_of ns) 1048576) e in
+    let q = and_parts (not (is_none_left ns) && is_listed ns) (has_gap ns) p.0 in
+    is_false (is_none_left ns) (and_parts (not (is_none_left ns)) (is_listed ns) q.0).0
 
 none_empty : (xs : List Variable) → list_all (λ x. is_domain x.domain) xs ≡ true → has_empty (map (λ x. domain_values x.domain) xs) ≡ false
 none_empty [] e = refl
 none_empty (x ∷ xs) e =
-    let p = both (is_domain x.domain) (list_all (λ y. is_domain y.domain) xs) e in
+    let p = and_parts (is_domain x.domain) (list_all (λ y. is_domain y.domain) xs) e in
     neither (is_none_left (domain_values x.domain)) (has_empty (map (λ y. domain_values y.domain) xs)) (has_values x.domain p.0) (none_empty xs p.1)
   where
     neither : (a b : Bool) → a ≡ false → b ≡ false → (a || b) ≡ false
@@ -71,19 +72,19 @@ below_of a b e = grind (arith, nat_tests)
 first_lowest : (n i j : ℕ) (is : List ℕ) → is_in_order n (i ∷ is) ≡ true → Among j is → i ≤ j
 first_lowest n i j [] e m = absurd m
 first_lowest n i j (h ∷ is) e m =
-    let p = both (nat_le i h) (is_in_order n (h ∷ is)) e in
+    let p = and_parts (nat_le i h) (is_in_order n (h ∷ is)) e in
     let l = at_most_of i h p.0 in
     elim m [ inl q ↦ omega arith | inr t ↦ (let r = first_lowest n h j is p.1 t in omega arith) ]
 
 rest_in_order : (n i : ℕ) (is : List ℕ) → is_in_order n (i ∷ is) ≡ true → is_in_order n is ≡ true
 rest_in_order n i [] e = refl
-rest_in_order n i (h ∷ is) e = (both (nat_le i h) (is_in_order n (h ∷ is)) e).1
+rest_in_order n i (h ∷ is) e = (and_parts (nat_le i h) (is_in_order n (h ∷ is)) e).1
 
 all_below : (n i : ℕ) (is : List ℕ) → is_in_order n is ≡ true → Among i is → i < n
 all_below n i [] e m = absurd m
 all_below n i (j ∷ []) e m = elim m [ inl q ↦ (let l = below_of j n e in omega arith) | inr t ↦ absurd t ]
 all_below n i (j ∷ h ∷ is) e m =
-    let p = both (nat_le j h) (is_in_order n (h ∷ is)) e in
+    let p = and_parts (nat_le j h) (is_in_order n (h ∷ is)) e in
     elim m [
       | inl q ↦ (let l = at_most_of j h p.0 in let r = all_below n h (h ∷ is) p.1 (inl refl) in omega arith)
       | inr t ↦ all_below n i (h ∷ is) p.1 t
@@ -134,7 +135,7 @@ module _ (xs : List Variable) (n i : ℕ) (o : is_in_order n (scopes_of xs) ≡ 
 
   args_below : (items : List Arg) → list_all (arg_sees xs i) items ≡ true → ArgsBelow (count_before (suc i) xs) items
   args_below [] e = tt
-  args_below (a ∷ items) e = let p = both (arg_sees xs i a) (list_all (arg_sees xs i) items) e in (arg_below a p.0, args_below items p.1)
+  args_below (a ∷ items) e = let p = and_parts (arg_sees xs i a) (list_all (arg_sees xs i) items) e in (arg_below a p.0, args_below items p.1)
 
   argument_below : (a : Argument) → argument_sees xs i a ≡ true → ArgumentBelow (count_before (suc i) xs) a
   argument_below (One a) e = arg_below a e
@@ -145,7 +146,7 @@ module _ (xs : List Variable) (n i : ℕ) (o : is_in_order n (scopes_of xs) ≡ 
   arguments_below : (args : List Argument) → list_all (argument_sees xs i) args ≡ true → ArgumentsBelow (count_before (suc i) xs) args
   arguments_below [] e = tt
   arguments_below (a ∷ args) e =
-      let p = both (argument_sees xs i a) (list_all (argument_sees xs i) args) e in
+      let p = and_parts (argument_sees xs i a) (list_all (argument_sees xs i) args) e in
       (argument_below a p.0, arguments_below args p.1)
 
 -- no variable stands in scope n

@@ -3,6 +3,7 @@ use Rattle.std.proofs.Common.{◌≡◌, inl, inr, ℕ, zero, suc, ◌<◌, Bool
 use Rattle.std.specs.Prelude.{ℤ, pos, ◌≤ℤ◌, int_lt, slice_index_or, ⊤}
 use Rattle.std.specs.List.{list_all}
 use Rattle.std.proofs.lemmas.Int.{ints}
+use Rattle.std.proofs.lemmas.Bool.{and_parts}
 use Rattle.qc_model.specs.declared.problem.Arg.{Arg}
 use Rattle.qc_model.specs.declared.problem.Arg.TheVariants.{Var, Num}
 use Rattle.qc_model.specs.declared.problem.Argument.{Argument}
@@ -13,7 +14,7 @@ use Rattle.qc_model.specs.Arguments.{Filled, filled_one, filled_many, filled_num
 use Rattle.qc_model.specs.Left.{Lefts, left_at, lefts_at, last_left}
 use Rattle.qc_model.specs.Refuted.{left_to}
 use Rattle.qc_model.specs.Visible.{ArgBelow, ArgsBelow, ArgumentBelow, ArgumentsBelow}
-use Rattle.qc_model.proofs.Sound.{differ, both, lo_of, hi_of}
+use Rattle.qc_model.proofs.Sound.{differ, lo_of, hi_of}
 use Rattle.model_table.proofs.Fits.{all_at}
 use Rattle.model_table.proofs.Items.{among_of}
 use Rattle.model_table.proofs.Typed.{lefts_of}
@@ -55,7 +56,7 @@ one_of (v ∷ []) (w ∷ []) n a h s = ap (λ (x : ℤ). x ∷ []) (same v (all_
 one_of (v ∷ x ∷ d) (w ∷ []) n a h s =
     let p = same v (all_at (has_value (w ∷ [])) (v ∷ x ∷ d) v h (inl refl)) in
     let q = same x (all_at (has_value (w ∷ [])) (v ∷ x ∷ d) x h (inr (inl refl))) in
-    let l = (both (int_lt v x) (is_ascending (x ∷ d)) a).0 in
+    let l = (and_parts (int_lt v x) (is_ascending (x ∷ d)) a).0 in
     absurd (omega (arith, ints))
   where
     same : (x : ℤ) → has_value (w ∷ []) x ≡ true → x ≡ w
@@ -107,8 +108,8 @@ box_part : (small large : Box) (k : ℕ) → is_sub_box small large ≡ true →
 box_part [] large k s n l = absurd (omega arith)
 box_part (d ∷ small) [] k s n l = absurd (differ s)
 box_part (d ∷ small) (e ∷ large) k s n l =
-    let p = both (is_ascending d && list_all (has_value e) d) (is_sub_box small large) s in
-    let q = both (is_ascending d) (list_all (has_value e) d) p.0 in
+    let p = and_parts (is_ascending d && list_all (has_value e) d) (is_sub_box small large) s in
+    let q = and_parts (is_ascending d) (list_all (has_value e) d) p.0 in
     let r = neither (is_none_left d) (has_empty small) n in
     by k l (part_of d e r.0 q.0 q.1) (λ j m. box_part small large j p.1 r.1 m)
   where

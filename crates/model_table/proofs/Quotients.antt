@@ -4,12 +4,12 @@ use Rattle.std.specs.Prelude.{ℤ, pos, negsuc, ◌≤ℤ◌, ◌<ℤ◌, int_lt
 use Rattle.std.specs.Int.{int_min, int_max}
 use Rattle.std.proofs.lemmas.Int.{ints, clamps}
 use Rattle.std.proofs.lemmas.Nat.{le-div}
+use Rattle.std.proofs.lemmas.Bool.{true_from_ne_false}
 use Rattle.qc_model.specs.Lists.{Among}
 use Rattle.qc_model.specs.Ranges.{Range, negative_ends, positive_ends, quotient_range}
 use Rattle.qc_model.proofs.Sound.{InRange}
 use Rattle.qc_model.proofs.Moves.{among_left, among_right, among_flat_map}
 use Rattle.model_table.proofs.Products.{Between, between_in, in_hull}
-use Rattle.model_table.proofs.Fits.{true_if}
 
 -- more by the same is more; by more it is less
 nat_up : (a b d : ℕ) → a ≤ b → a / suc d ≤ b / suc d
@@ -84,7 +84,7 @@ record IsEnclosed (v : ℤ) (b : Range) : Type 0 where
 enclosed : (v : ℤ) (b : Range) → (v ≡ pos 0 → ⊥) → InRange v b → IsEnclosed v b
 enclosed (pos zero) b n h = absurd (n refl)
 enclosed (pos (suc v)) b n h =
-    let e : int_lt (pos 0) b.to ≡ true = true_if (int_lt (pos 0) b.to) (λ z. omega (arith, ints, h.high)) in
+    let e : int_lt (pos 0) b.to ≡ true = true_from_ne_false (int_lt (pos 0) b.to) (λ z. omega (arith, ints, h.high)) in
     let at = λ (x : ℤ) (m : Among x (int_max b.from (pos 1) ∷ b.to ∷ [])). among_right x (negative_ends b) (positive_ends b) (subst (λ (xs : List ℤ). Among x xs) (sym (positive_ends_are b e)) m) in
     record {
       low = int_max b.from (pos 1);
@@ -94,7 +94,7 @@ enclosed (pos (suc v)) b n h =
       between = λ x. between_divisors x (int_max b.from (pos 1)) b.to (pos (suc v)) (omega (arith, ints, clamps)) (omega (arith, ints, clamps, h.low)) h.high;
     }
 enclosed (negsuc v) b n h =
-    let e : int_lt b.from (pos 0) ≡ true = true_if (int_lt b.from (pos 0)) (λ z. omega (arith, ints, h.low)) in
+    let e : int_lt b.from (pos 0) ≡ true = true_from_ne_false (int_lt b.from (pos 0)) (λ z. omega (arith, ints, h.low)) in
     let at = λ (x : ℤ) (m : Among x (b.from ∷ int_min b.to (negsuc 0) ∷ [])). among_left x (negative_ends b) (positive_ends b) (subst (λ (xs : List ℤ). Among x xs) (sym (negative_ends_are b e)) m) in
     record {
       low = b.from;

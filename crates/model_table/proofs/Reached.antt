@@ -4,6 +4,7 @@ use Rattle.std.specs.Prelude.{ℤ, pos, ◌+ℤ◌, ◌-ℤ◌, ◌*ℤ◌, ◌�
 use Rattle.std.specs.Int.{int_max}
 use Rattle.std.specs.List.{count_by}
 use Rattle.std.proofs.lemmas.Int.{ints}
+use Rattle.std.proofs.lemmas.Bool.{and_from, true_from_ne_false, false_from_ne_true}
 use Rattle.qc_model.specs.Lists.{Among}
 use Rattle.qc_model.specs.Domains.{is_within}
 use Rattle.qc_model.specs.Ranges.{Range, range_of, range_from, range_of_list, product, absolute, absolute_range, quotient_range, remainder_range}
@@ -11,9 +12,7 @@ use Rattle.qc_model.specs.Holds.{all_differ}
 use Rattle.qc_model.specs.Left.{is_zero_range}
 use Rattle.qc_model.proofs.Sound.{InRange, differ}
 use Rattle.qc_model.proofs.Moves.{of_flat_map}
-use Rattle.qc_model.proofs.Vectors.{false_unless}
 use Rattle.model_table.specs.Spans.{LiesWithin, IsSpan, IsProductOf, IsQuotientOf, IsAbsoluteOf, ReachesEnds}
-use Rattle.model_table.proofs.Fits.{and_true, true_if}
 use Rattle.model_table.proofs.Products.{times_in, corners}
 use Rattle.model_table.proofs.Quotients.{quotient_in, divisor_ends, quotients_by}
 use Rattle.model_table.proofs.Remainders.{remainder_in}
@@ -115,7 +114,7 @@ absolutes_reach a s = by (int_le (pos 0) a.from) refl (int_le a.to (pos 0)) refl
     by : (p : Bool) → int_le (pos 0) a.from ≡ p → (q : Bool) → int_le a.to (pos 0) ≡ q → ReachesEnds (IsAbsoluteOf a) (cond p a (cond q (range_of (absolute a.to) (absolute a.from)) (range_of (pos 0) (int_max (absolute a.from) a.to))))
     by true e q f = ((a.from, own_low a s, omega (arith, ints)), (a.to, own_high a s, omega (arith, ints, s)))
     by false e true f = ((a.to, own_high a s, refl), (a.from, own_low a s, refl))
-    by false e false f = ((pos 0, record { low = omega (arith, ints); high = omega (arith, ints) }, refl), higher (int_lt a.to (absolute a.from)) refl (true_if (int_le (pos 0) a.to) (λ n. omega (arith, ints))))
+    by false e false f = ((pos 0, record { low = omega (arith, ints); high = omega (arith, ints) }, refl), higher (int_lt a.to (absolute a.from)) refl (true_from_ne_false (int_le (pos 0) a.to) (λ n. omega (arith, ints))))
 
 -- how many numbers lie within is how many single values do
 count_within_alone : (l h : ℤ) (vs : List ℤ) → count_by (ends_within l h) (map alone vs) ≡ count_by (is_within l h) vs
@@ -125,7 +124,7 @@ count_within_alone l h (v ∷ vs) =
 
 pub crowds_repeat : (l h : ℤ) (vs : List ℤ) → l ≤ℤ h → ((h -ℤ l) +ℤ pos 1) <ℤ pos (count_by (is_within l h) vs) → all_differ vs ≡ false
 crowds_repeat l h vs o c =
-    false_unless (all_differ vs)
+    false_from_ne_true (all_differ vs)
     (crowd_repeats l h vs (map alone vs) (lie_alone vs)
     (subst (λ (n : ℕ). is_crowd n ≡ true) (sym (count_within_alone l h vs)) (crowd (count_by (is_within l h) vs) c)))
   where
@@ -133,4 +132,4 @@ crowds_repeat l h vs o c =
     is_crowd n = int_le l h && int_lt ((h -ℤ l) +ℤ pos 1) (pos n)
 
     crowd : (n : ℕ) → ((h -ℤ l) +ℤ pos 1) <ℤ pos n → is_crowd n ≡ true
-    crowd n c = and_true (int_le l h) (int_lt ((h -ℤ l) +ℤ pos 1) (pos n)) (true_if (int_le l h) (λ z. omega (arith, ints))) (true_if (int_lt ((h -ℤ l) +ℤ pos 1) (pos n)) (λ z. omega (arith, ints)))
+    crowd n c = and_from (int_le l h) (int_lt ((h -ℤ l) +ℤ pos 1) (pos n)) (true_from_ne_false (int_le l h) (λ z. omega (arith, ints))) (true_from_ne_false (int_lt ((h -ℤ l) +ℤ pos 1) (pos n)) (λ z. omega (arith, ints)))

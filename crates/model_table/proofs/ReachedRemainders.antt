@@ -5,11 +5,11 @@ use Rattle.std.specs.Ordering.{int_eq}
 use Rattle.std.specs.Int.{int_min, int_max}
 use Rattle.std.proofs.lemmas.Int.{ints, clamps}
 use Rattle.std.proofs.lemmas.Bool.Decides.{Decides-int_eq}
+use Rattle.std.proofs.lemmas.Bool.{and_from, and_parts}
 use Rattle.qc_model.specs.Ranges.{Range, point, absolute, is_single_range, greatest_remainder, remainder_range}
 use Rattle.qc_model.specs.Left.{is_zero_range}
-use Rattle.qc_model.proofs.Sound.{differ, both}
+use Rattle.qc_model.proofs.Sound.{differ}
 use Rattle.model_table.specs.Spans.{LiesWithin, IsSpan, IsRemainderOf, ReachesEnds}
-use Rattle.model_table.proofs.Fits.{and_true}
 use Rattle.model_table.proofs.Sums.{same_number}
 use Rattle.model_table.proofs.Remainders.{wide_ends}
 
@@ -28,7 +28,7 @@ far_end : (b : Range) → IsSpan b → is_zero_range b ≡ false → (d : ℤ) �
 far_end b s z = by (int_le (absolute b.from) (absolute b.to)) refl
   where
     no_zeros : b.from ≡ pos 0 → b.to ≡ pos 0 → ⊥
-    no_zeros e f = differ (sym z ∙ and_true (int_eq b.from (pos 0)) (int_eq b.to (pos 0)) ((Decides-int_eq b.from (pos 0)).1 e) ((Decides-int_eq b.to (pos 0)).1 f))
+    no_zeros e f = differ (sym z ∙ and_from (int_eq b.from (pos 0)) (int_eq b.to (pos 0)) ((Decides-int_eq b.from (pos 0)).1 e) ((Decides-int_eq b.to (pos 0)).1 f))
 
     by : (t : Bool) → int_le (absolute b.from) (absolute b.to) ≡ t → (d : ℤ) × IsFarEnd d b
     by true e = (
@@ -86,14 +86,14 @@ pub remainders_reach : (a b : Range) → LiesWithin (pos 0) a → IsSpan b → i
 remainders_reach a b z s n = by (is_single_range a && is_single_range b) refl (far_end b s n)
   where
     lone : is_single_range b ≡ true → b.from ≡ pos 0 → ⊥
-    lone e q = differ (sym n ∙ and_true (int_eq b.from (pos 0)) (int_eq b.to (pos 0)) ((Decides-int_eq b.from (pos 0)).1 q) ((Decides-int_eq b.to (pos 0)).1 (sym (same_number b.from b.to e) ∙ q)))
+    lone e q = differ (sym n ∙ and_from (int_eq b.from (pos 0)) (int_eq b.to (pos 0)) ((Decides-int_eq b.from (pos 0)).1 q) ((Decides-int_eq b.to (pos 0)).1 (sym (same_number b.from b.to e) ∙ q)))
 
     own : IsSpan a → is_single_range b ≡ true → IsRemainderOf a b (int_rem a.from b.from)
     own t e = (a.from, b.from, record { low = omega (arith, ints); high = t }, record { low = omega (arith, ints); high = s }, lone e, refl)
 
     by : (t : Bool) → (is_single_range a && is_single_range b) ≡ t → ((d : ℤ) × IsFarEnd d b) → ReachesEnds (IsRemainderOf a b) (cond t (point (int_rem a.from b.from)) (wide_ends a (greatest_remainder b)))
     by true e f =
-        let p = both (is_single_range a) (is_single_range b) e in
+        let p = and_parts (is_single_range a) (is_single_range b) e in
         let o = own (omega (arith, ints, z.low, z.high)) p.1 in
         (o, o)
     by false e f = wide_reach a b f.0 z f.1

@@ -6,13 +6,14 @@ use Rattle.std.specs.Ordering.{int_eq}
 use Rattle.std.specs.Int.{int_min, int_max}
 use Rattle.std.proofs.lemmas.Int.{ints, clamps}
 use Rattle.std.proofs.lemmas.Bool.Decides.{Decides-int_eq}
+use Rattle.std.proofs.lemmas.Bool.{and_parts}
 use Rattle.qc_model.specs.Ranges.{Range, range_of, point, is_single_range, greatest_remainder, ranges_miss, quotient_range, remainder_range}
 use Rattle.qc_model.specs.Meaning.{quotient, remainder}
 use Rattle.qc_model.specs.Holds.{Given, value_at, holds_as, is_zero}
 use Rattle.qc_model.specs.Left.{Lefts, range_at, is_zero_range}
 use Rattle.qc_model.specs.Refuted.{refuted_as}
 use Rattle.qc_model.proofs.Visible.{Fits}
-use Rattle.qc_model.proofs.Sound.{InRange, at_range, apart, both, or_false, not_true}
+use Rattle.qc_model.proofs.Sound.{InRange, at_range, apart, or_false, not_true}
 use Rattle.model_table.proofs.Sums.{same_number, in_point}
 use Rattle.model_table.proofs.Quotients.{quotient_in}
 
@@ -80,7 +81,7 @@ high_in u v r a b i h k = by (int_le a.to (pos 0)) refl (greatest_remainder b) (
 single_is : (u : ℤ) (a : Range) → is_single_range a ≡ true → InRange u a → u ≡ a.from
 single_is u a s h = let e = same_number a.from a.to s in omega (arith, ints, h.low, h.high)
 
--- the range of remainders by at most m, where dividend and divisor aren't both one number
+-- the range of remainders by at most m, where dividend and divisor aren't and_parts one number
 abbrev pub wide_ends : Range → ℤ → Range
 wide_ends a m =
     range_of (cond (int_le (pos 0) a.from) (pos 0) (int_max a.from (pos 0 -ℤ m))) (cond (int_le a.to (pos 0)) (pos 0) (int_min a.to m))
@@ -90,7 +91,7 @@ remainder_in u v a b n h k = by (is_single_range a && is_single_range b) refl
   where
     by : (t : Bool) → (is_single_range a && is_single_range b) ≡ t → InRange (int_rem u v) (cond t (point (int_rem a.from b.from)) (wide_ends a (greatest_remainder b)))
     by true e =
-        let p = both (is_single_range a) (is_single_range b) e in
+        let p = and_parts (is_single_range a) (is_single_range b) e in
         subst (λ (m : ℤ). InRange m (point (int_rem a.from b.from))) (ap (λ (x : ℤ). int_rem x b.from) (sym (single_is u a p.0 h)) ∙ ap (λ (x : ℤ). int_rem u x) (sym (single_is v b p.1 k))) (in_point (int_rem a.from b.from))
     by false e = record { low = low_in u v (int_rem u v) a b (remainder_is u v n) h k; high = high_in u v (int_rem u v) a b (remainder_is u v n) h k }
 
@@ -100,7 +101,7 @@ not_zero v n e = not_true (is_zero v) n ((Decides-int_eq v (pos 0)).1 e)
 
 zero_range : (v : ℤ) (b : Range) → is_zero_range b ≡ true → InRange v b → v ≡ pos 0
 zero_range v b z h =
-    let p = both (int_eq b.from (pos 0)) (int_eq b.to (pos 0)) z in
+    let p = and_parts (int_eq b.from (pos 0)) (int_eq b.to (pos 0)) z in
     let e = same_number b.from (pos 0) p.0 in
     let f = same_number b.to (pos 0) p.1 in
     omega (arith, ints, h.low, h.high)
@@ -109,7 +110,7 @@ zero_range v b z h =
 module _ (op : ℤ → ℤ → ℤ) (range : Range → Range → Range) (op_in : (u v : ℤ) (a b : Range) → (v ≡ pos 0 → ⊥) → InRange u a → InRange v b → InRange (op u v) (range a b)) where
   divided_apart : (vs : Given) (ds : Lefts) → Fits vs ds → (is_zero_range (range_at ds 1) || ranges_miss (range (range_at ds 0) (range_at ds 1)) (range_at ds 2)) ≡ true → (not (is_zero (value_at vs 1)) && int_eq (op (value_at vs 0) (value_at vs 1)) (value_at vs 2)) ≡ true → ⊥
   divided_apart vs ds f r h =
-      let p = both (not (is_zero (value_at vs 1))) (int_eq (op (value_at vs 0) (value_at vs 1)) (value_at vs 2)) h in
+      let p = and_parts (not (is_zero (value_at vs 1))) (int_eq (op (value_at vs 0) (value_at vs 1)) (value_at vs 2)) h in
       let n = not_zero (value_at vs 1) p.0 in
       or_false (is_zero_range (range_at ds 1)) (ranges_miss (range (range_at ds 0) (range_at ds 1)) (range_at ds 2))
       (λ z. n (zero_range (value_at vs 1) (range_at ds 1) z (at_range vs ds 1 f)))

@@ -6,6 +6,7 @@ use Rattle.std.specs.Int.{int_min, int_max}
 use Rattle.std.specs.List.{list_any, list_all, count_by}
 use Rattle.std.proofs.lemmas.Int.{ints, clamps}
 use Rattle.std.proofs.lemmas.Bool.Decides.{Decides-int_eq, same_from_decides}
+use Rattle.std.proofs.lemmas.Bool.{and_from, true_from_ne_false, not_from_false, and_parts}
 use Rattle.qc_model.specs.Lists.{Among, same_values}
 use Rattle.qc_model.specs.Domains.{Values, least_value, greatest_value, misses, is_single}
 use Rattle.qc_model.specs.Ranges.{point, smaller_range, greater_range}
@@ -14,13 +15,13 @@ use Rattle.qc_model.specs.Meaning.{element, variable_element, minimum, maximum, 
 use Rattle.qc_model.specs.Holds.{Given, value_at, values_at, holds_as, item_is, is_least, is_greatest, odd_ones, all_differ, rows}
 use Rattle.qc_model.specs.Left.{left_at, lefts_at, range_at, some_item_in, some_item_meets, least_range, greatest_range, least_item_range, greatest_item_range, is_crowded, has_crowd, row_fits}
 use Rattle.qc_model.specs.Refuted.{refuted_as}
-use Rattle.qc_model.proofs.Sound.{differ, both}
-use Rattle.model_table.proofs.Fits.{and_true, true_if, any_from}
+use Rattle.qc_model.proofs.Sound.{differ}
+use Rattle.model_table.proofs.Fits.{any_from}
 use Rattle.model_table.proofs.Typing.{HasItem}
 use Rattle.model_table.proofs.Crowded.{count_step, ends_within}
 use Rattle.model_table.proofs.Items.{among_of}
 use Rattle.model_table.proofs.Singles.{alone, singles, lefts_single, range_single, at_single, numbers_single}
-use Rattle.model_table.proofs.SingleNumbers.{or_none, not_of, results_miss}
+use Rattle.model_table.proofs.SingleNumbers.{or_none, results_miss}
 
 items_alone : (k b c : ℤ) (ns : List ℤ) → some_item_in k (alone b) ns (alone c) ≡ item_is k b ns c
 items_alone k b c [] = refl
@@ -89,48 +90,48 @@ greatest_among v (x ∷ xs) = by (int_lt (greatest_of_all v xs) x) refl (greates
 weaken : (m n : ℤ) (xs : List ℤ) → int_le m n ≡ true → list_all (λ x. int_le n x) xs ≡ true → list_all (λ x. int_le m x) xs ≡ true
 weaken m n [] l e = refl
 weaken m n (x ∷ xs) l e =
-    let p = both (int_le n x) (list_all (λ y. int_le n y) xs) e in
-    and_true (int_le m x) (list_all (λ y. int_le m y) xs) (true_if (int_le m x) (λ z. omega (arith, ints, p.0))) (weaken m n xs l p.1)
+    let p = and_parts (int_le n x) (list_all (λ y. int_le n y) xs) e in
+    and_from (int_le m x) (list_all (λ y. int_le m y) xs) (true_from_ne_false (int_le m x) (λ z. omega (arith, ints, p.0))) (weaken m n xs l p.1)
 
 weaken_up : (m n : ℤ) (xs : List ℤ) → int_le n m ≡ true → list_all (λ x. int_le x n) xs ≡ true → list_all (λ x. int_le x m) xs ≡ true
 weaken_up m n [] l e = refl
 weaken_up m n (x ∷ xs) l e =
-    let p = both (int_le x n) (list_all (λ y. int_le y n) xs) e in
-    and_true (int_le x m) (list_all (λ y. int_le y m) xs) (true_if (int_le x m) (λ z. omega (arith, ints, p.0))) (weaken_up m n xs l p.1)
+    let p = and_parts (int_le x n) (list_all (λ y. int_le y n) xs) e in
+    and_from (int_le x m) (list_all (λ y. int_le y m) xs) (true_from_ne_false (int_le x m) (λ z. omega (arith, ints, p.0))) (weaken_up m n xs l p.1)
 
 least_bounds : (v : ℤ) (xs : List ℤ) → (int_le (least_of_all v xs) v ≡ true) × (list_all (λ x. int_le (least_of_all v xs) x) xs ≡ true)
-least_bounds v [] = (true_if (int_le v v) (λ n. omega (arith, ints)), refl)
+least_bounds v [] = (true_from_ne_false (int_le v v) (λ n. omega (arith, ints)), refl)
 least_bounds v (x ∷ xs) =
     let h = least_bounds v xs in
     let m = least_of_all v xs in
-    let l : int_le (int_min x m) m ≡ true = true_if (int_le (int_min x m) m) (λ n. omega (arith, ints, clamps)) in (
-      true_if (int_le (int_min x m) v) (λ n. omega (arith, ints, h.0)),
-      and_true (int_le (int_min x m) x) (list_all (λ y. int_le (int_min x m) y) xs) (true_if (int_le (int_min x m) x) (λ n. omega (arith, ints, clamps))) (weaken (int_min x m) m xs l h.1),
+    let l : int_le (int_min x m) m ≡ true = true_from_ne_false (int_le (int_min x m) m) (λ n. omega (arith, ints, clamps)) in (
+      true_from_ne_false (int_le (int_min x m) v) (λ n. omega (arith, ints, h.0)),
+      and_from (int_le (int_min x m) x) (list_all (λ y. int_le (int_min x m) y) xs) (true_from_ne_false (int_le (int_min x m) x) (λ n. omega (arith, ints, clamps))) (weaken (int_min x m) m xs l h.1),
     )
 
 greatest_bounds : (v : ℤ) (xs : List ℤ) → (int_le v (greatest_of_all v xs) ≡ true) × (list_all (λ x. int_le x (greatest_of_all v xs)) xs ≡ true)
-greatest_bounds v [] = (true_if (int_le v v) (λ n. omega (arith, ints)), refl)
+greatest_bounds v [] = (true_from_ne_false (int_le v v) (λ n. omega (arith, ints)), refl)
 greatest_bounds v (x ∷ xs) =
     let h = greatest_bounds v xs in
     let m = greatest_of_all v xs in
-    let l : int_le m (int_max x m) ≡ true = true_if (int_le m (int_max x m)) (λ n. omega (arith, ints, clamps)) in (
-      true_if (int_le v (int_max x m)) (λ n. omega (arith, ints, h.0)),
-      and_true (int_le x (int_max x m)) (list_all (λ y. int_le y (int_max x m)) xs) (true_if (int_le x (int_max x m)) (λ n. omega (arith, ints, clamps))) (weaken_up (int_max x m) m xs l h.1),
+    let l : int_le m (int_max x m) ≡ true = true_from_ne_false (int_le m (int_max x m)) (λ n. omega (arith, ints, clamps)) in (
+      true_from_ne_false (int_le v (int_max x m)) (λ n. omega (arith, ints, h.0)),
+      and_from (int_le x (int_max x m)) (list_all (λ y. int_le y (int_max x m)) xs) (true_from_ne_false (int_le x (int_max x m)) (λ n. omega (arith, ints, clamps))) (weaken_up (int_max x m) m xs l h.1),
     )
 
 is_least_of_all : (v : ℤ) (xs : List ℤ) → is_least (least_of_all v xs) (v ∷ xs) ≡ true
 is_least_of_all v xs =
     let b = least_bounds v xs in
-    and_true (list_any (int_eq (least_of_all v xs)) (v ∷ xs)) (list_all (λ x. int_le (least_of_all v xs) x) (v ∷ xs))
+    and_from (list_any (int_eq (least_of_all v xs)) (v ∷ xs)) (list_all (λ x. int_le (least_of_all v xs) x) (v ∷ xs))
     (any_from (int_eq (least_of_all v xs)) (v ∷ xs) (least_of_all v xs) (least_among v xs) ((Decides-int_eq (least_of_all v xs) (least_of_all v xs)).1 refl))
-    (and_true (int_le (least_of_all v xs) v) (list_all (λ x. int_le (least_of_all v xs) x) xs) b.0 b.1)
+    (and_from (int_le (least_of_all v xs) v) (list_all (λ x. int_le (least_of_all v xs) x) xs) b.0 b.1)
 
 is_greatest_of_all : (v : ℤ) (xs : List ℤ) → is_greatest (greatest_of_all v xs) (v ∷ xs) ≡ true
 is_greatest_of_all v xs =
     let b = greatest_bounds v xs in
-    and_true (list_any (int_eq (greatest_of_all v xs)) (v ∷ xs)) (list_all (λ x. int_le x (greatest_of_all v xs)) (v ∷ xs))
+    and_from (list_any (int_eq (greatest_of_all v xs)) (v ∷ xs)) (list_all (λ x. int_le x (greatest_of_all v xs)) (v ∷ xs))
     (any_from (int_eq (greatest_of_all v xs)) (v ∷ xs) (greatest_of_all v xs) (greatest_among v xs) ((Decides-int_eq (greatest_of_all v xs) (greatest_of_all v xs)).1 refl))
-    (and_true (int_le v (greatest_of_all v xs)) (list_all (λ x. int_le x (greatest_of_all v xs)) xs) b.0 b.1)
+    (and_from (int_le v (greatest_of_all v xs)) (list_all (λ x. int_le x (greatest_of_all v xs)) xs) b.0 b.1)
 
 -- a number that fails a test isn't the one that passes it
 fails_apart : (p : ℤ → Bool) (x c : ℤ) → p x ≡ true → p c ≡ false → int_eq x c ≡ false
@@ -171,8 +172,8 @@ least_values_alone (v ∷ vs) = ap (λ xs. v ∷ xs) (least_values_alone vs)
 pub odd_items_single : (vs : Given) → holds_as odd_items vs ≡ false → refuted_as odd_items (singles vs) ≡ true
 odd_items_single vs e =
     subst (λ (ds : List Values). (list_all is_single ds && not (odd_ones (map least_value ds))) ≡ true) (sym (lefts_single vs 0))
-    (and_true (list_all is_single (map alone (values_at vs 0))) (not (odd_ones (map least_value (map alone (values_at vs 0))))) (all_alone (values_at vs 0))
-    (not_of (odd_ones (map least_value (map alone (values_at vs 0)))) (ap odd_ones (least_values_alone (values_at vs 0)) ∙ e)))
+    (and_from (list_all is_single (map alone (values_at vs 0))) (not (odd_ones (map least_value (map alone (values_at vs 0))))) (all_alone (values_at vs 0))
+    (not_from_false (odd_ones (map least_value (map alone (values_at vs 0)))) (ap odd_ones (least_values_alone (values_at vs 0)) ∙ e)))
 
 rows_alone : (vs row : List ℤ) → row_fits (map alone vs) row ≡ same_values vs row
 rows_alone [] [] = refl
@@ -196,7 +197,7 @@ table_single vs e =
     subst (λ (ds : List Values). not (list_any (row_fits ds) (rows (length ds) (numbers (singles vs) 1))) ≡ true) (sym (lefts_single vs 0))
     (subst (λ (ns : List ℤ). not (list_any (row_fits (map alone (values_at vs 0))) (rows (length (map alone (values_at vs 0))) ns)) ≡ true) (sym (numbers_single vs 1))
     (subst (λ (n : ℕ). not (list_any (row_fits (map alone (values_at vs 0))) (rows n (numbers vs 1))) ≡ true) (sym (length_alone (values_at vs 0)))
-    (not_of (list_any (row_fits (map alone (values_at vs 0))) (rows (length (values_at vs 0)) (numbers vs 1))) (some_row_alone (values_at vs 0) (rows (length (values_at vs 0)) (numbers vs 1)) ∙ e))))
+    (not_from_false (list_any (row_fits (map alone (values_at vs 0))) (rows (length (values_at vs 0)) (numbers vs 1))) (some_row_alone (values_at vs 0) (rows (length (values_at vs 0)) (numbers vs 1)) ∙ e))))
 
 -- a number that stands twice crowds itself
 count_alone : (v : ℤ) (vs : List ℤ) → Among v vs → 1 ≤ count_by (ends_within v v) (map alone vs)
@@ -206,7 +207,7 @@ count_alone v (x ∷ vs) (inl e) =
     (subst (λ (b : Bool). 1 ≤ cond b 1 0 + count_by (ends_within v v) (map alone vs)) (sym (within_itself x e)) (omega arith))
   where
     within_itself : (x : ℤ) → v ≡ x → ends_within v v (alone x) ≡ true
-    within_itself x e = and_true (int_le v x) (int_le x v) (true_if (int_le v x) (λ n. omega (arith, ints))) (true_if (int_le x v) (λ n. omega (arith, ints)))
+    within_itself x e = and_from (int_le v x) (int_le x v) (true_from_ne_false (int_le v x) (λ n. omega (arith, ints))) (true_from_ne_false (int_le x v) (λ n. omega (arith, ints)))
 count_alone v (x ∷ vs) (inr m) =
     let h = count_alone v vs m in
     subst (λ (n : ℕ). 1 ≤ n) (sym (count_step (ends_within v v) (alone x) (map alone vs))) (omega arith)
@@ -227,11 +228,11 @@ repeats (v ∷ vs) e = by (list_any (int_eq v) vs) refl (all_differ vs) refl (λ
       is_item = inl refl;
       twice = (let h = count_alone v vs (among_of v vs p) in
           subst (λ (c : ℕ). 2 ≤ c) (sym (count_step (ends_within v v) (alone v) (map alone vs)))
-          (subst (λ (b : Bool). 2 ≤ cond b 1 0 + count_by (ends_within v v) (map alone vs)) (sym (and_true (int_le v v) (int_le v v) own own)) (omega arith)));
+          (subst (λ (b : Bool). 2 ≤ cond b 1 0 + count_by (ends_within v v) (map alone vs)) (sym (and_from (int_le v v) (int_le v v) own own)) (omega arith)));
     }
       where
         own : int_le v v ≡ true
-        own = true_if (int_le v v) (λ n. omega (arith, ints))
+        own = true_from_ne_false (int_le v v) (λ n. omega (arith, ints))
     by false p true q f n = absurd (differ (sym n))
     by false p false q f n = let r = f q in record {
       value = r.value;
@@ -254,7 +255,7 @@ crowd_alone vs e =
     (any_from (λ f. is_crowded ds v (greatest_value f)) ds (alone v) m (crowded v (count_by (ends_within v v) ds) h))
   where
     crowded : (v : ℤ) (c : ℕ) → 2 ≤ c → (int_le v v && int_lt ((v -ℤ v) +ℤ pos 1) (pos c)) ≡ true
-    crowded v c h = and_true (int_le v v) (int_lt ((v -ℤ v) +ℤ pos 1) (pos c)) (true_if (int_le v v) (λ n. omega (arith, ints))) (true_if (int_lt ((v -ℤ v) +ℤ pos 1) (pos c)) (λ n. omega (arith, ints)))
+    crowded v c h = and_from (int_le v v) (int_lt ((v -ℤ v) +ℤ pos 1) (pos c)) (true_from_ne_false (int_le v v) (λ n. omega (arith, ints))) (true_from_ne_false (int_lt ((v -ℤ v) +ℤ pos 1) (pos c)) (λ n. omega (arith, ints)))
 
 pub all_different_single : (vs : Given) → holds_as all_different vs ≡ false → refuted_as all_different (singles vs) ≡ true
 all_different_single vs e = subst (λ (ds : List Values). has_crowd ds ≡ true) (sym (lefts_single vs 0)) (crowd_alone (values_at vs 0) e)

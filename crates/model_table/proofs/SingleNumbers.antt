@@ -6,6 +6,7 @@ use Rattle.std.specs.Int.{int_min, int_max}
 use Rattle.std.specs.List.{list_any}
 use Rattle.std.proofs.lemmas.Int.{ints, clamps}
 use Rattle.std.proofs.lemmas.Bool.Decides.{Decides-int_eq}
+use Rattle.std.proofs.lemmas.Bool.{or_left, or_right, and_from, true_from_ne_false, not_from_false}
 use Rattle.qc_model.specs.declared.problem.Set.{Set}
 use Rattle.qc_model.specs.Domains.{Values, least_value, greatest_value, misses, set_has}
 use Rattle.qc_model.specs.Ranges.{Range, range_of, range_of_list, point, is_point, ranges_miss, range_sum, product, absolute, absolute_range, smaller_range, greater_range, quotient_range, remainder_range, greatest_remainder}
@@ -16,7 +17,6 @@ use Rattle.qc_model.specs.Left.{left_at, range_at, sum_range, sum_at, is_zero_ra
 use Rattle.qc_model.specs.Refuted.{refuted_as}
 use Rattle.qc_model.proofs.Sound.{differ}
 use Rattle.model_table.proofs.Typing.{is_wrong_xor}
-use Rattle.model_table.proofs.Fits.{or_left, or_right, and_true, true_if}
 use Rattle.model_table.proofs.Sums.{sum_given}
 use Rattle.model_table.proofs.Quotients.{divisor_ends, quotients_by}
 use Rattle.model_table.proofs.Singles.{alone, singles, left_single, lefts_single, range_single, at_single, numbers_single, members_single}
@@ -25,16 +25,13 @@ pub or_none : (b : Bool) → (b || false) ≡ b
 or_none true = refl
 or_none false = refl
 
-pub not_of : (b : Bool) → b ≡ false → not b ≡ true
-not_of b e = ap not e
-
 of_not : (b : Bool) → not b ≡ false → b ≡ true
 of_not true e = refl
 of_not false e = absurd (differ (sym e))
 
 -- numbers that differ are ranges that miss each other
 points_miss : (x c : ℤ) → int_eq x c ≡ false → ranges_miss (point x) (point c) ≡ true
-points_miss x c e = true_if (ranges_miss (point x) (point c)) (λ n. by (int_lt x c) refl (int_lt c x) refl n)
+points_miss x c e = true_from_ne_false (ranges_miss (point x) (point c)) (λ n. by (int_lt x c) refl (int_lt c x) refl n)
   where
     by : (a : Bool) → int_lt x c ≡ a → (b : Bool) → int_lt c x ≡ b → (a || b) ≡ false → ⊥
     by true p b q n = differ (sym n)
@@ -56,12 +53,12 @@ different_single vs e = at_single vs (λ a b c. are_one_value a b ≡ true) (of_
 pub at_most_single : (vs : Given) → holds_as at_most vs ≡ false → refuted_as at_most (singles vs) ≡ true
 at_most_single vs e =
     at_single vs (λ a b c. int_lt (greatest_value b) (least_value a) ≡ true)
-    (true_if (int_lt (value_at vs 1) (value_at vs 0)) (λ n. omega (arith, ints)))
+    (true_from_ne_false (int_lt (value_at vs 1) (value_at vs 0)) (λ n. omega (arith, ints)))
 
 pub below_single : (vs : Given) → holds_as below vs ≡ false → refuted_as below (singles vs) ≡ true
 below_single vs e =
     at_single vs (λ a b c. int_le (greatest_value b) (least_value a) ≡ true)
-    (true_if (int_le (value_at vs 1) (value_at vs 0)) (λ n. omega (arith, ints)))
+    (true_from_ne_false (int_le (value_at vs 1) (value_at vs 0)) (λ n. omega (arith, ints)))
 
 -- the range of one number, however often
 min_same : (p : ℤ) → int_min p p ≡ p
@@ -88,7 +85,7 @@ pub sum_equal_single : (vs : Given) → holds_as sum_equal vs ≡ false → refu
 sum_equal_single vs e = results_miss (sum_given vs) (value_at vs 2) (sum_at (singles vs)) (range_at (singles vs) 2) (sum_single vs) (range_single vs 2) e
 
 pub is_its_point : (s c : ℤ) (r : Range) (d : Values) → r ≡ point s → d ≡ alone c → int_eq s c ≡ true → is_point (least_value d) r ≡ true
-is_its_point s c r d e f h = subst (λ t. is_point (least_value d) t ≡ true) (sym e) (subst (λ t. is_point (least_value t) (point s) ≡ true) (sym f) (and_true (int_eq s c) (int_eq s c) h h))
+is_its_point s c r d e f h = subst (λ t. is_point (least_value d) t ≡ true) (sym e) (subst (λ t. is_point (least_value t) (point s) ≡ true) (sym f) (and_from (int_eq s c) (int_eq s c) h h))
 
 pub sum_different_single : (vs : Given) → holds_as sum_different vs ≡ false → refuted_as sum_different (singles vs) ≡ true
 sum_different_single vs e =
@@ -98,7 +95,7 @@ pub sum_at_most_single : (vs : Given) → holds_as sum_at_most vs ≡ false → 
 sum_at_most_single vs e =
     subst (λ r. int_lt (greatest_value (left_at (singles vs) 2)) r.from ≡ true) (sym (sum_single vs))
     (subst (λ d. int_lt (greatest_value d) (sum_given vs) ≡ true) (sym (left_single vs 2))
-    (true_if (int_lt (value_at vs 2) (sum_given vs)) (λ n. omega (arith, ints))))
+    (true_from_ne_false (int_lt (value_at vs 2) (sum_given vs)) (λ n. omega (arith, ints))))
 
 -- the range of an operation on single numbers is its result
 module _ (op : ℤ → ℤ → ℤ) (range : Range → Range → Range) (exact : (a b : ℤ) → range (point a) (point b) ≡ point (op a b)) where
@@ -153,7 +150,7 @@ quotient_point a b e = ap (λ ds. range_of_list (flat_map (quotients_by (point a
 
 remainder_point : (a b : ℤ) → remainder_range (point a) (point b) ≡ point (int_rem a b)
 remainder_point a b =
-    ap (λ (t : Bool). cond t (point (int_rem a b)) wide) (and_true (int_eq a a) (int_eq b b) ((Decides-int_eq a a).1 refl) ((Decides-int_eq b b).1 refl))
+    ap (λ (t : Bool). cond t (point (int_rem a b)) wide) (and_from (int_eq a a) (int_eq b b) ((Decides-int_eq a a).1 refl) ((Decides-int_eq b b).1 refl))
   where
     wide : Range
     wide = range_of (cond (int_le (pos 0) a) (pos 0) (int_max a (pos 0 -ℤ greatest_remainder (point b)))) (cond (int_le a (pos 0)) (pos 0) (int_min a (greatest_remainder (point b))))
@@ -165,7 +162,7 @@ module _ (op : ℤ → ℤ → ℤ) (range : Range → Range → Range) (exact :
       by : (z : Bool) → is_zero (value_at vs 1) ≡ z → (not z && int_eq (op (value_at vs 0) (value_at vs 1)) (value_at vs 2)) ≡ false → (is_zero_range (range_at (singles vs) 1) || ranges_miss (range (range_at (singles vs) 0) (range_at (singles vs) 1)) (range_at (singles vs) 2)) ≡ true
       by true q n =
           or_left (is_zero_range (range_at (singles vs) 1)) (ranges_miss (range (range_at (singles vs) 0) (range_at (singles vs) 1)) (range_at (singles vs) 2))
-          (subst (λ r. is_zero_range r ≡ true) (sym (range_single vs 1)) (and_true (is_zero (value_at vs 1)) (is_zero (value_at vs 1)) q q))
+          (subst (λ r. is_zero_range r ≡ true) (sym (range_single vs 1)) (and_from (is_zero (value_at vs 1)) (is_zero (value_at vs 1)) q q))
       by false q n =
           or_right (is_zero_range (range_at (singles vs) 1)) (ranges_miss (range (range_at (singles vs) 0) (range_at (singles vs) 1)) (range_at (singles vs) 2))
           (results_miss (op (value_at vs 0) (value_at vs 1)) (value_at vs 2) (range (range_at (singles vs) 0) (range_at (singles vs) 1)) (range_at (singles vs) 2)
@@ -186,4 +183,4 @@ pub exactly_one_single : (vs : Given) → holds_as exactly_one vs ≡ false → 
 exactly_one_single vs e =
     at_single vs
     (λ a b c. is_wrong_xor a b c ≡ true)
-    (not_of (same_truth (is_one (value_at vs 2)) (not (int_eq (value_at vs 0) (value_at vs 1)))) e)
+    (not_from_false (same_truth (is_one (value_at vs 2)) (not (int_eq (value_at vs 0) (value_at vs 1)))) e)

@@ -4,6 +4,7 @@ use Rattle.std.specs.Prelude.{ℤ, pos, int_lt, int_le}
 use Rattle.std.specs.Ordering.{int_eq}
 use Rattle.std.specs.Int.{int_min, int_max}
 use Rattle.std.specs.List.{list_any, list_all}
+use Rattle.std.proofs.lemmas.Bool.{and_from}
 use Rattle.qc_model.specs.declared.problem.Set.{Set}
 use Rattle.qc_model.specs.Domains.{Values, least_value, greatest_value, misses, set_has}
 use Rattle.qc_model.specs.Ranges.{Range, point, ranges_miss, smaller_range, greater_range}
@@ -14,7 +15,6 @@ use Rattle.qc_model.specs.Left.{left_at, lefts_at, range_at, sum_at, is_only, le
 use Rattle.qc_model.specs.Refuted.{refuted_as}
 use Rattle.qc_model.specs.Entailed.{entailed_as}
 use Rattle.qc_model.proofs.Sound.{differ}
-use Rattle.model_table.proofs.Fits.{and_true}
 use Rattle.model_table.proofs.Typing.{number_of, IsTruth, AllTruths, IsReifiable, by_truth, by_truths}
 use Rattle.model_table.proofs.Truths.{min_of_truths, max_of_truths}
 use Rattle.model_table.proofs.Sums.{sum_given}
@@ -89,7 +89,7 @@ only_others : (n : ℤ) (p : ℤ → Bool) → ((b : Bool) → p (number_of b) �
 only_others n p f [] t e = refl
 only_others n p f (v ∷ vs) t e =
     let q = both_not (p v) (list_any p vs) e in
-    and_true (is_only n (alone v)) (list_all (is_only n) (map alone vs))
+    and_from (is_only n (alone v)) (list_all (is_only n) (map alone vs))
     (by_truth (λ (x : ℤ). p x ≡ false → is_only n (alone x) ≡ true) f v t.0 q.0) (only_others n p f vs t.1 q.1)
   where
     both_not : (a b : Bool) → (a || b) ≡ false → (a ≡ false) × (b ≡ false)
@@ -114,7 +114,7 @@ clause_single vs t e =
     by true p b q n = absurd (differ (sym n))
     by false p true q n = absurd (differ (sym n))
     by false p false q n =
-        and_true (list_all (is_only (pos 0)) (map alone (values_at vs 0))) (list_all (is_only (pos 1)) (map alone (values_at vs 1)))
+        and_from (list_all (is_only (pos 0)) (map alone (values_at vs 0))) (list_all (is_only (pos 1)) (map alone (values_at vs 1)))
         (only_others (pos 0) is_one not_one (values_at vs 0) t.0 p) (only_others (pos 1) is_zero not_zero (values_at vs 1) t.1 q)
 
 -- what holds is entailed
@@ -140,7 +140,7 @@ entailed_single sum_at_most vs i e =
     (subst (λ (d : Values). int_le (sum_given vs) (least_value d) ≡ true) (sym (left_single vs 2)) e)
 entailed_single member vs i e =
     subst (λ (s : Set). list_all (set_has s) (left_at (singles vs) 0) ≡ true) (sym (members_single vs 1))
-    (at_single vs (λ a b c. list_all (set_has (members vs 1)) a ≡ true) (and_true (set_has (members vs 1) (value_at vs 0)) true e refl))
+    (at_single vs (λ a b c. list_all (set_has (members vs 1)) a ≡ true) (and_from (set_has (members vs 1) (value_at vs 0)) true e refl))
 entailed_single clause vs i e =
     ap₂ ◌||◌ (ap (list_any (is_only (pos 1))) (lefts_single vs 0) ∙ some_only (pos 1) (values_at vs 0)) (ap (list_any (is_only (pos 0))) (lefts_single vs 1) ∙ some_only (pos 0) (values_at vs 1)) ∙ e
 entailed_single m vs i e = absurd i

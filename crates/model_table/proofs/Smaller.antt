@@ -4,6 +4,7 @@ use Rattle.std.specs.Prelude.{ℤ, pos, ◌≤ℤ◌, int_lt, int_le, ⊤}
 use Rattle.std.specs.Ordering.{int_eq}
 use Rattle.std.specs.List.{list_any, list_all}
 use Rattle.std.proofs.lemmas.Int.{ints}
+use Rattle.std.proofs.lemmas.Bool.{or_cases, or_left, or_right, and_from, true_from_ne_false}
 use Rattle.qc_model.specs.declared.problem.Set.{Set}
 use Rattle.qc_model.specs.Content.{Game, Rule}
 use Rattle.qc_model.specs.Lists.{Among}
@@ -21,7 +22,7 @@ use Rattle.qc_model.specs.Visible.{ArgumentsBelow}
 use Rattle.qc_model.proofs.Sound.{differ}
 use Rattle.qc_model.proofs.Sound as Sound
 use Rattle.model_table.proofs.Typing.{is_contradicted, is_wrong_xor}
-use Rattle.model_table.proofs.Fits.{or_cases, or_left, or_right, and_true, any_at, any_from, all_at, true_if}
+use Rattle.model_table.proofs.Fits.{any_at, any_from, all_at}
 use Rattle.model_table.proofs.Typed.{lefts_of}
 use Rattle.model_table.proofs.Kinded.{sum_literal, has_lengths}
 use Rattle.model_table.proofs.Ordered.{constraint_at}
@@ -64,12 +65,12 @@ module _ (ds es : Lefts) (p : Parts ds es) where
     where
       all_from : (d : Values) → ((v : ℤ) → Among v d → set_has (members es 1) v ≡ true) → list_all (set_has (members es 1)) d ≡ true
       all_from [] f = refl
-      all_from (v ∷ d) f = and_true (set_has (members es 1) v) (list_all (set_has (members es 1)) d) (f v (inl refl)) (all_from d (λ w m. f w (inr m)))
+      all_from (v ∷ d) f = and_from (set_has (members es 1) v) (list_all (set_has (members es 1)) d) (f v (inl refl)) (all_from d (λ w m. f w (inr m)))
 
   still_truth : (refuted entailed refuted_still entailed_still : Bool) → (refuted ≡ true → refuted_still ≡ true) → (entailed ≡ true → entailed_still ≡ true) → is_contradicted (last_left es) refuted entailed ≡ true → is_contradicted (last_left ds) refuted_still entailed_still ≡ true
   still_truth refuted entailed refuted_still entailed_still f g e =
       let q = Sound.both (not (has_value (last_left es) (pos 1)) || refuted) (not (has_value (last_left es) (pos 0)) || entailed) e in
-      and_true (not (has_value (last_left ds) (pos 1)) || refuted_still) (not (has_value (last_left ds) (pos 0)) || entailed_still)
+      and_from (not (has_value (last_left ds) (pos 1)) || refuted_still) (not (has_value (last_left ds) (pos 0)) || entailed_still)
       (either_still (pos 1) refuted refuted_still f q.0) (either_still (pos 0) entailed entailed_still g q.1)
     where
       either_still : (n : ℤ) (a b : Bool) → (a ≡ true → b ≡ true) → (not (has_value (last_left es) n) || a) ≡ true → (not (has_value (last_left ds) n) || b) ≡ true
@@ -101,10 +102,10 @@ Literals (reified m) ds es = Literals m ds es
 Literals _ ds es = ⊤
 
 still_at_most : (a b c d : ℤ) → a ≤ℤ b → c ≤ℤ d → int_le b c ≡ true → int_le a d ≡ true
-still_at_most a b c d p q e = true_if (int_le a d) (λ z. omega (arith, ints))
+still_at_most a b c d p q e = true_from_ne_false (int_le a d) (λ z. omega (arith, ints))
 
 still_below : (a b c d : ℤ) → a ≤ℤ b → c ≤ℤ d → int_lt b c ≡ true → int_lt a d ≡ true
-still_below a b c d p q e = true_if (int_lt a d) (λ z. omega (arith, ints))
+still_below a b c d p q e = true_from_ne_false (int_lt a d) (λ z. omega (arith, ints))
 
 pub still_entailed : (m : Meaning) (ds es : Lefts) → Parts ds es → Literals m ds es → entailed_as m es ≡ true → entailed_as m ds ≡ true
 still_entailed equal ds es p l e = still_one_value (left_at ds 0) (left_at es 0) (left_at ds 1) (left_at es 1) (part_at ds es 0 p) (part_at ds es 1 p) e
@@ -161,7 +162,7 @@ still_refuted odd_items ds es p l e =
     subst (λ (xs : List Values). (list_all is_single xs && not (odd_ones (map least_value xs))) ≡ true) (sym (all_same (lefts_at ds 0) (lefts_at es 0) (parts_at ds es 0 p) q.0)) e
 still_refuted clause ds es p l e =
     let q = Sound.both (list_all (is_only (pos 0)) (lefts_at es 0)) (list_all (is_only (pos 1)) (lefts_at es 1)) e in
-    and_true (list_all (is_only (pos 0)) (lefts_at ds 0)) (list_all (is_only (pos 1)) (lefts_at ds 1))
+    and_from (list_all (is_only (pos 0)) (lefts_at ds 0)) (list_all (is_only (pos 1)) (lefts_at ds 1))
     (still_all_only (pos 0) (lefts_at ds 0) (lefts_at es 0) (parts_at ds es 0 p) q.0) (still_all_only (pos 1) (lefts_at ds 1) (lefts_at es 1) (parts_at ds es 1 p) q.1)
 still_refuted all_different ds es p l e = still_crowd (lefts_at ds 0) (lefts_at es 0) (parts_at ds es 0 p) e
 still_refuted table ds es p l e =

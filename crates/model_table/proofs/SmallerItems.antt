@@ -4,12 +4,13 @@ use Rattle.std.specs.Prelude.{ℤ, pos, ◌+ℤ◌, ◌-ℤ◌, ◌≤ℤ◌, in
 use Rattle.std.specs.Ordering.{int_eq}
 use Rattle.std.specs.List.{list_any, list_all, count_by}
 use Rattle.std.proofs.lemmas.Int.{ints}
+use Rattle.std.proofs.lemmas.Bool.{or_cases, or_left, or_right, and_from, true_from_ne_false, and_parts}
 use Rattle.qc_model.specs.Lists.{Among}
 use Rattle.qc_model.specs.Domains.{Values, least_value, greatest_value, has_value, misses, is_single}
 use Rattle.qc_model.specs.Ranges.{Range, point}
 use Rattle.qc_model.specs.Left.{span, are_one_value, some_item_in, some_item_meets, least_range, greatest_range, least_item_range, greatest_item_range, is_only, has_crowd, row_fits}
-use Rattle.qc_model.proofs.Sound.{both, has_it}
-use Rattle.model_table.proofs.Fits.{or_cases, or_left, or_right, and_true, any_at, not_unless, both_false, true_if}
+use Rattle.qc_model.proofs.Sound.{has_it}
+use Rattle.model_table.proofs.Fits.{any_at, not_unless, both_false}
 use Rattle.model_table.proofs.Items.{among_of, meets_at}
 use Rattle.model_table.proofs.Crowded.{count_step, ends_within}
 use Rattle.model_table.proofs.CrowdEnds.{crowd_of_ends, crowd_has_ends}
@@ -45,20 +46,20 @@ more_meet a b c d p q n = let r = share a c n in meets_at b d r.0 (p.each r.0 r.
 
 pub still_one_value : (a b c d : Values) → IsPart a b → IsPart c d → are_one_value b d ≡ true → are_one_value a c ≡ true
 still_one_value a b c d p q e =
-    let r = both (is_single b && is_single d) (int_eq (least_value b) (least_value d)) e in
-    let s = both (is_single b) (is_single d) r.0 in
+    let r = and_parts (is_single b && is_single d) (int_eq (least_value b) (least_value d)) e in
+    let s = and_parts (is_single b) (is_single d) r.0 in
     subst (λ (x : Values). are_one_value x c ≡ true) (sym (p.only s.0)) (subst (λ (x : Values). are_one_value b x ≡ true) (sym (q.only s.1)) e)
 
 still_only : (n : ℤ) (d e : Values) → IsPart d e → is_only n e ≡ true → is_only n d ≡ true
-still_only n d e p o = ap (is_only n) (p.only (both (is_single e) (int_eq (least_value e) n) o).0) ∙ o
+still_only n d e p o = ap (is_only n) (p.only (and_parts (is_single e) (int_eq (least_value e) n) o).0) ∙ o
 
 pub still_all_only : (n : ℤ) (ds es : List Values) → AreParts ds es → list_all (is_only n) es ≡ true → list_all (is_only n) ds ≡ true
 still_all_only n [] [] p e = refl
 still_all_only n [] (e ∷ es) p o = absurd p
 still_all_only n (d ∷ ds) [] p e = absurd p
 still_all_only n (d ∷ ds) (e ∷ es) p o =
-    let q = both (is_only n e) (list_all (is_only n) es) o in
-    and_true (is_only n d) (list_all (is_only n) ds) (still_only n d e p.0 q.0) (still_all_only n ds es p.1 q.1)
+    let q = and_parts (is_only n e) (list_all (is_only n) es) o in
+    and_from (is_only n d) (list_all (is_only n) ds) (still_only n d e p.0 q.0) (still_all_only n ds es p.1 q.1)
 
 pub still_some_only : (n : ℤ) (ds es : List Values) → AreParts ds es → list_any (is_only n) es ≡ true → list_any (is_only n) ds ≡ true
 still_some_only n [] [] p e = e
@@ -74,14 +75,14 @@ pub all_same : (ds es : List Values) → AreParts ds es → list_all is_single e
 all_same [] [] p e = refl
 all_same [] (e ∷ es) p o = absurd p
 all_same (d ∷ ds) [] p e = absurd p
-all_same (d ∷ ds) (e ∷ es) p o = let q = both (is_single e) (list_all is_single es) o in ap₂ ◌∷◌ (p.0.only q.0) (all_same ds es p.1 q.1)
+all_same (d ∷ ds) (e ∷ es) p o = let q = and_parts (is_single e) (list_all is_single es) o in ap₂ ◌∷◌ (p.0.only q.0) (all_same ds es p.1 q.1)
 
 pub more_items : (k : ℤ) (a b c d : Values) (ns : List ℤ) → IsPart a b → IsPart c d → some_item_in k a ns c ≡ true → some_item_in k b ns d ≡ true
 more_items k a b c d [] p q e = e
 more_items k a b c d (n ∷ ns) p q e =
     elim (or_cases (has_value a k && has_value c n) (some_item_in (k +ℤ pos 1) a ns c) e) [
-      | inl h ↦ (let r = both (has_value a k) (has_value c n) h in
-          or_left (has_value b k && has_value d n) (some_item_in (k +ℤ pos 1) b ns d) (and_true (has_value b k) (has_value d n) (more_values a b p k r.0) (more_values c d q n r.1)))
+      | inl h ↦ (let r = and_parts (has_value a k) (has_value c n) h in
+          or_left (has_value b k && has_value d n) (some_item_in (k +ℤ pos 1) b ns d) (and_from (has_value b k) (has_value d n) (more_values a b p k r.0) (more_values c d q n r.1)))
       | inr h ↦ or_right (has_value b k && has_value d n) (some_item_in (k +ℤ pos 1) b ns d) (more_items (k +ℤ pos 1) a b c d ns p q h)
     ]
 
@@ -91,8 +92,8 @@ more_variable_items k a b c d [] (y ∷ es) p q s e = absurd s
 more_variable_items k a b c d (x ∷ ds) [] p q s e = absurd s
 more_variable_items k a b c d (x ∷ ds) (y ∷ es) p q s e =
     elim (or_cases (has_value a k && not (misses x c)) (some_item_meets (k +ℤ pos 1) a ds c) e) [
-      | inl h ↦ (let r = both (has_value a k) (not (misses x c)) h in
-          or_left (has_value b k && not (misses y d)) (some_item_meets (k +ℤ pos 1) b es d) (and_true (has_value b k) (not (misses y d)) (more_values a b p k r.0) (more_meet x y c d s.0 q r.1)))
+      | inl h ↦ (let r = and_parts (has_value a k) (not (misses x c)) h in
+          or_left (has_value b k && not (misses y d)) (some_item_meets (k +ℤ pos 1) b es d) (and_from (has_value b k) (not (misses y d)) (more_values a b p k r.0) (more_meet x y c d s.0 q r.1)))
       | inr h ↦ or_right (has_value b k && not (misses y d)) (some_item_meets (k +ℤ pos 1) b es d) (more_variable_items (k +ℤ pos 1) a b c d ds es p q s.1 h)
     ]
 
@@ -146,13 +147,13 @@ count_still l h (d ∷ ds) (e ∷ es) p =
 pub still_crowd : (ds es : List Values) → AreParts ds es → has_crowd es ≡ true → has_crowd ds ≡ true
 still_crowd ds es p e =
     let r = crowd_has_ends es e in
-    let q = both (int_le r.0 r.1) (int_lt ((r.1 -ℤ r.0) +ℤ pos 1) (pos (count_by (ends_within r.0 r.1) es))) r.2 in
+    let q = and_parts (int_le r.0 r.1) (int_lt ((r.1 -ℤ r.0) +ℤ pos 1) (pos (count_by (ends_within r.0 r.1) es))) r.2 in
     crowd_of_ends ds r.0 r.1
-    (and_true (int_le r.0 r.1) (int_lt ((r.1 -ℤ r.0) +ℤ pos 1) (pos (count_by (ends_within r.0 r.1) ds))) q.0
+    (and_from (int_le r.0 r.1) (int_lt ((r.1 -ℤ r.0) +ℤ pos 1) (pos (count_by (ends_within r.0 r.1) ds))) q.0
     (fewer (r.1 -ℤ r.0) (count_by (ends_within r.0 r.1) es) (count_by (ends_within r.0 r.1) ds) q.1 (count_still r.0 r.1 ds es p)))
   where
     fewer : (n : ℤ) (c d : ℕ) → int_lt (n +ℤ pos 1) (pos c) ≡ true → c ≤ d → int_lt (n +ℤ pos 1) (pos d) ≡ true
-    fewer n c d e l = true_if (int_lt (n +ℤ pos 1) (pos d)) (λ z. omega (arith, ints))
+    fewer n c d e l = true_from_ne_false (int_lt (n +ℤ pos 1) (pos d)) (λ z. omega (arith, ints))
 
 pub same_length : (ds es : List Values) → AreParts ds es → length ds ≡ length es
 same_length [] [] p = refl
@@ -166,5 +167,5 @@ more_rows [] (e ∷ es) row p o = absurd p
 more_rows (d ∷ ds) [] row p e = absurd p
 more_rows (d ∷ ds) (e ∷ es) [] p o = o
 more_rows (d ∷ ds) (e ∷ es) (n ∷ row) p o =
-    let q = both (has_value d n) (row_fits ds row) o in
-    and_true (has_value e n) (row_fits es row) (more_values d e p.0 n q.0) (more_rows ds es row p.1 q.1)
+    let q = and_parts (has_value d n) (row_fits ds row) o in
+    and_from (has_value e n) (row_fits es row) (more_values d e p.0 n q.0) (more_rows ds es row p.1 q.1)

@@ -4,6 +4,7 @@ use Rattle.std.specs.Prelude.{ℤ, pos, ◌*ℤ◌}
 use Rattle.std.specs.Ordering.{int_eq}
 use Rattle.std.proofs.lemmas.Int.{ints}
 use Rattle.std.proofs.lemmas.Bool.Decides.{Decides-int_eq}
+use Rattle.std.proofs.lemmas.Bool.{and_parts}
 use Rattle.qc_model.specs.Lists.{LiesIn}
 use Rattle.qc_model.specs.Domains.{Values, least_value}
 use Rattle.qc_model.specs.Ranges.{Range, point, product}
@@ -13,7 +14,7 @@ use Rattle.qc_model.specs.Holds.{Given, value_at, values_at, sum_of_products, ho
 use Rattle.qc_model.specs.Left.{Lefts, left_at, lefts_at, range_at, span, sum_range, sum_at}
 use Rattle.qc_model.specs.Refuted.{refuted_as}
 use Rattle.qc_model.proofs.Visible.{Fits, one_fits}
-use Rattle.qc_model.proofs.Sound.{InRange, in_span, at_range, add_in, apart, hi_of, both, not_true}
+use Rattle.qc_model.proofs.Sound.{InRange, in_span, at_range, add_in, apart, hi_of, not_true}
 use Rattle.model_table.proofs.Products.{times_in}
 use Rattle.model_table.proofs.Fits.{many_fits, numbers_fit}
 use Rattle.model_table.proofs.Typing.{IsLiteral}
@@ -44,7 +45,7 @@ same_number a b e = (Decides-int_eq a b).0 e
 -- the range is one number, so the sum is
 pub point_sum : (vs : Given) (ds : Lefts) (n : ℤ) → Fits vs ds → (int_eq (sum_at ds).from n && int_eq (sum_at ds).to n) ≡ true → sum_given vs ≡ n
 point_sum vs ds n f e =
-    let p = both (int_eq (sum_at ds).from n) (int_eq (sum_at ds).to n) e in
+    let p = and_parts (int_eq (sum_at ds).from n) (int_eq (sum_at ds).to n) e in
     one_number (sum_given vs) (sum_at ds) n (given_sum_in vs ds f) (same_number (sum_at ds).from n p.0) (same_number (sum_at ds).to n p.1)
   where
     one_number : (m : ℤ) (r : Range) (n : ℤ) → InRange m r → r.from ≡ n → r.to ≡ n → m ≡ n

@@ -3,6 +3,7 @@ use Rattle.std.proofs.Common.{◌≡◌, inl, inr, ℕ, zero, suc, ◌<◌, true
 use Rattle.std.specs.Prelude.{ℤ, pos, slice_index_or, ⊤}
 use Rattle.std.specs.Ordering.{int_eq}
 use Rattle.std.specs.List.{list_all}
+use Rattle.std.proofs.lemmas.Bool.{or_cases, and_parts}
 use Rattle.qc_model.specs.declared.problem.Domain.{Domain}
 use Rattle.qc_model.specs.declared.problem.Domain.TheVariants.{Bits, Range, Listed}
 use Rattle.qc_model.specs.declared.problem.Variable.{Variable}
@@ -20,8 +21,7 @@ use Rattle.qc_model.specs.declared.signature.ArgKind.{ArgKind}
 use Rattle.qc_model.specs.declared.signature.ArgKind.TheVariants.{Boolean as boolean, Integers as integers, Booleans as booleans}
 use Rattle.qc_model.specs.Valid.{is_bits, is_variable_with, is_boolean, is_of_sort, are_of_sorts, item_count, is_literal}
 use Rattle.qc_model.specs.Visible.{ArgBelow, ArgsBelow, ArgumentBelow, ArgumentsBelow}
-use Rattle.qc_model.proofs.Sound.{differ, both}
-use Rattle.model_table.proofs.Fits.{or_cases}
+use Rattle.qc_model.proofs.Sound.{differ}
 use Rattle.model_table.proofs.Typing.{IsTruth, AllTruths, HasItem}
 use Rattle.model_table.proofs.Sums.{same_number}
 
@@ -52,7 +52,7 @@ module _ (xs : List Variable) (w : List ℤ) (b : InBox w (map (λ x. domain_val
   arg_truths : (items : List Arg) → ArgsBelow (length w) items → list_all (is_boolean xs) items ≡ true → AllTruths (map (arg_value w) items)
   arg_truths [] l e = tt
   arg_truths (a ∷ items) l e =
-      let p = both (is_boolean xs a) (list_all (is_boolean xs) items) e in
+      let p = and_parts (is_boolean xs a) (list_all (is_boolean xs) items) e in
       (arg_truth a l.0 p.0, arg_truths items l.1 p.1)
 
 -- a truth value, or an array of such, where the sort asks for it
@@ -69,7 +69,7 @@ OfSorts (s ∷ sorts) (v ∷ vs) = OfSort s v × OfSorts sorts vs
 
 of_sort : (xs : List Variable) (w : List ℤ) → InBox w (map (λ x. domain_values x.domain) xs) → (s : ArgKind) (a : Argument) → ArgumentBelow (length w) a → is_of_sort xs s a ≡ true → OfSort s (fill (arg_value w) a)
 of_sort xs w b boolean (One a) l e = arg_truth xs w b a l e
-of_sort xs w b booleans (Many items) l e = arg_truths xs w b items l (both (nat_le (length items) 1000) (list_all (is_boolean xs) items) e).1
+of_sort xs w b booleans (Many items) l e = arg_truths xs w b items l (and_parts (nat_le (length items) 1000) (list_all (is_boolean xs) items) e).1
 of_sort xs w b s a l e = tt
 
 pub of_sorts : (xs : List Variable) (w : List ℤ) → InBox w (map (λ x. domain_values x.domain) xs) → (sorts : List ArgKind) (args : List Argument) → ArgumentsBelow (length w) args → are_of_sorts xs sorts args ≡ true → OfSorts sorts (given_of w args)
@@ -77,7 +77,7 @@ of_sorts xs w b [] [] l e = tt
 of_sorts xs w b [] (a ∷ args) l e = absurd (differ e)
 of_sorts xs w b (s ∷ sorts) [] l e = absurd (differ e)
 of_sorts xs w b (s ∷ sorts) (a ∷ args) l e =
-    let p = both (is_of_sort xs s a) (are_of_sorts xs sorts args) e in
+    let p = and_parts (is_of_sort xs s a) (are_of_sorts xs sorts args) e in
     (of_sort xs w b s a l.0 p.0, of_sorts xs w b sorts args l.1 p.1)
 
 pub truth_at : (sorts : List ArgKind) (vs : Given) (k : ℕ) → OfSorts sorts vs → slice_get sorts k ≡ Some boolean → IsTruth (value_at vs k)
@@ -143,7 +143,7 @@ item_at xs w [] [] k o s e = absurd (differ e)
 item_at xs w [] (a ∷ args) k o s e = absurd (differ o)
 item_at xs w (t ∷ sorts) [] k o s e = absurd (differ o)
 item_at xs w (t ∷ sorts) (a ∷ args) zero o s e =
-    at a (subst (λ (q : ArgKind). is_of_sort xs q a ≡ true) (some_same t integers s) (both (is_of_sort xs t a) (are_of_sorts xs sorts args) o).0) e
+    at a (subst (λ (q : ArgKind). is_of_sort xs q a ≡ true) (some_same t integers s) (and_parts (is_of_sort xs t a) (are_of_sorts xs sorts args) o).0) e
   where
     some_same : (s t : ArgKind) → Some s ≡ Some t → s ≡ t
     some_same s t e = cc
@@ -154,4 +154,4 @@ item_at xs w (t ∷ sorts) (a ∷ args) zero o s e =
     at (Many (x ∷ items)) o e = tt
     at (Numbers ns) o e = absurd (differ o)
     at (Members s) o e = absurd (differ o)
-item_at xs w (t ∷ sorts) (a ∷ args) (suc k) o s e = item_at xs w sorts args k (both (is_of_sort xs t a) (are_of_sorts xs sorts args) o).1 s e
+item_at xs w (t ∷ sorts) (a ∷ args) (suc k) o s e = item_at xs w sorts args k (and_parts (is_of_sort xs t a) (are_of_sorts xs sorts args) o).1 s e

@@ -45,10 +45,6 @@ are_keeps g (kept ∷ keeps) found are e =
     (λ keep h. keep_within g kept (place_named g kept.name.now) keep refl are.0 h)
     (λ more h. are_keeps g keeps more are.1 h) e
 
-pub if_ok : {T E : Type 0} (r : Result T E) (P Q : T → Type 0) → ((x : T) → P x → Q x) → IfOk r P → IfOk r Q
-if_ok (Ok x) P Q f h = f x h
-if_ok (Err e) P Q f h = tt
-
 -- those before are put before those that are left
 abbrev pub put_all : List Keep → Option (List Keep) → Option (List Keep)
 put_all before later = option_map (λ ks. before ++ ks) later

@@ -9,7 +9,3 @@ first_part a b held before front e h = subst (λ p. Moves a b held (p ++ front))
 pub prefix_rest : (a b c : Option (List ℕ)) (all held : List ℕ) → Moves a b held all → AppendsPrefix b c held → AppendsPrefix a c all
 prefix_rest a b c all held moved h =
     subst (AppendsPrefix a c) (append-nil all) (prefix_then a b c all held [] moved (subst (AppendsPrefix b c) (sym (append-nil held)) h))
-
-pub err_weaker : {T E P Q : Type 0} (r : Result T E) → (P → Q) → OnErr r P → OnErr r Q
-err_weaker (Ok x) f h = tt
-err_weaker (Err e) f h = f h

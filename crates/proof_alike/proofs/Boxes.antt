@@ -3,6 +3,7 @@ use Rattle.std.proofs.Common.{◌≡◌, ◌⊎◌, inl, inr, ℕ, zero, suc, �
 use Rattle.std.specs.Prelude.{nat_le, nat_lt}
 use Rattle.std.proofs.lemmas.Bool.Decides.{nat_tests}
 use Rattle.std.proofs.lemmas.List.{length-set, get_or_past}
+use Rattle.std.proofs.lemmas.Bool.{or_left, and_parts}
 use Rattle.qc_model.specs.Content.{Game, Rule}
 use Rattle.qc_model.specs.Lists.{Among}
 use Rattle.qc_model.specs.Domains.{Values, Box, values_left, values_outside, box_without, is_none_left, is_single, has_empty}
@@ -10,17 +11,9 @@ use Rattle.qc_model.specs.Game.{before}
 use Rattle.qc_model.proofs.Before.{before_up}
 use Rattle.qc_model.specs.Holds.{holds_on}
 use Rattle.qc_model.specs.Refuted.{refuted_by}
-use Rattle.model_arguments.proofs.Bools.{or_left, clash}
+use Rattle.model_arguments.proofs.Bools.{clash}
 use Rattle.proof_tree.specs.Place.{position}
 use Rattle.proof_alike.specs.Alike.{is_seen, is_looked_at}
-
-pub both : (a b : Bool) → (a && b) ≡ true → (a ≡ true) × (b ≡ true)
-both true b e = (refl, e)
-both false b e = cc
-
-pub join : (a b : Bool) → a ≡ true → b ≡ true → (a && b) ≡ true
-join true b h k = k
-join false b h k = cc
 
 pub and_both : (a b c d : Bool) → a ≡ c → b ≡ d → (a && b) ≡ (c && d)
 and_both a b c d p q = ap (λ z. z && b) p ∙ ap (λ z. c && z) q
@@ -28,17 +21,13 @@ and_both a b c d p q = ap (λ z. z && b) p ∙ ap (λ z. c && z) q
 pub or_both : (a b c d : Bool) → a ≡ c → b ≡ d → (a || b) ≡ (c || d)
 or_both a b c d p q = ap (λ z. z || b) p ∙ ap (λ z. c || z) q
 
-pub either : (a b : Bool) → (a || b) ≡ true → (a ≡ true) ⊎ (b ≡ true)
-either true b e = inl refl
-either false b e = inr e
-
 -- u and w leave the same to each variable that is looked at from scope i on, and to each other one what a and b do
 pub record Varied (g : Game) (i : ℕ) (a b u w : Box) : Type 0 where
   pub same : (x : ℕ) → is_looked_at g i x ≡ true → values_left u x ≡ values_left w x
   pub first : (x : ℕ) → is_looked_at g i x ≡ false → values_left u x ≡ values_left a x
   pub second : (x : ℕ) → is_looked_at g i x ≡ false → values_left w x ≡ values_left b x
 
--- the constraint refutes both boxes or neither, and holds at both of their positions or at neither
+-- the constraint refutes and_parts boxes or neither, and holds at and_parts of their positions or at neither
 pub record SameRule (g : Game) (i : ℕ) (c : Rule) (u w : Box) : Type 0 where
   pub refutes : refuted_by c u ≡ refuted_by c w
   pub holds : (k : ℕ) → before g i ≤ before g k → holds_on c (position g k u) ≡ holds_on c (position g k w)
@@ -48,7 +37,7 @@ abbrev pub RuleAlike : Game → ℕ → Rule → Box → Box → Type 0
 RuleAlike g i c a b = (u w : Box) → Varied g i a b u w → SameRule g i c u w
 
 -- The boxes of a node of scope i, below one of scope top whose tree is gone through in two boxes: as AreAlike from scope top
--- on, but that a variable that is looked at may have no value left, where it has none in both. What is asked of constraints
+-- on, but that a variable that is looked at may have no value left, where it has none in and_parts. What is asked of constraints
 -- stays so as steps and cases take values away, since these are of variables that are looked at.
 pub record Look (g : Game) (top i : ℕ) (a b : Box) : Type 0 where
   pub below : top ≤ i
@@ -89,7 +78,7 @@ look_next g top i a b l = record { below = next top i l.below; size = l.size; sa
 pub owned_below : (top i k : ℕ) → top ≤ i → nat_le i k ≡ true → nat_le top k ≡ true
 owned_below top i k h e = grind (arith, nat_tests)
 
--- a domain that is given to x in both
+-- a domain that is given to x in and_parts
 set_both : (a b : Box) (x y : ℕ) (us : Values) → length a ≡ length b → values_left a y ≡ values_left b y → values_left (set a x us) y ≡ values_left (set b x us) y
 set_both [] [] x y us l h = refl
 set_both [] (e ∷ b) x y us l h = cc

@@ -5,6 +5,7 @@ use Rattle.std.specs.List.{list_any, list_all}
 use Rattle.std.specs.Ordering.{int_eq}
 use Rattle.std.proofs.lemmas.Bool.Decides.{nat_tests}
 use Rattle.std.proofs.lemmas.Int.{ints}
+use Rattle.std.proofs.lemmas.Bool.{or_left, or_right, or_cases, and_left, and_right}
 use Rattle.qc_model.specs.declared.problem.Arg.{Arg}
 use Rattle.qc_model.specs.declared.problem.Arg.TheVariants.{Var, Num}
 use Rattle.qc_model.specs.Arguments.{fill, many, variables_of}
@@ -15,23 +16,14 @@ use Rattle.qc_model.specs.Holds.{arg_value, is_one, is_zero, holds_as}
 use Rattle.qc_model.specs.Left.{is_only}
 use Rattle.qc_model.specs.Meaning.{Meaning, clause, meaning_of}
 use Rattle.qc_model.specs.Refuted.{left_to, refuted_as}
-use Rattle.model_arguments.proofs.Bools.{or_left, or_right}
 use Rattle.proof_tree.specs.Place.{position}
 use Rattle.proof_alike.specs.Alike.{is_among, is_looked_at, AreAlike}
 use Rattle.proof_alike.specs.Reading.{as_clause, reading_of, known_value, is_known_as, is_satisfied, own_values}
 use Rattle.proof_alike.proofs.Arrays.{items_of, many_filled}
-use Rattle.proof_alike.proofs.Boxes.{either, Varied, SameRule}
+use Rattle.proof_alike.proofs.Boxes.{Varied, SameRule}
 use Rattle.proof_alike.proofs.ByValue.{same_by_value}
 use Rattle.proof_alike.proofs.Positions.{early_value, has_value_at}
 use Rattle.proof_alike.proofs.Starting.{early, least_same}
-
-and_left : (a b : Bool) → a ≡ false → (a && b) ≡ false
-and_left true b h = cc
-and_left false b h = refl
-
-and_right : (a b : Bool) → b ≡ false → (a && b) ≡ false
-and_right true b h = h
-and_right false b h = refl
 
 same_int : (m n : ℤ) → int_eq m n ≡ true → m ≡ n
 same_int m n e = grind (arith, ints)
@@ -77,7 +69,7 @@ module _ (g : Game) (i : ℕ) (a u : Box) (single : (x : ℕ) → x < length a �
   -- one of the literals has the known value n: not all have m alone
   not_only : (n m : ℤ) (xs : List Arg) → int_eq n m ≡ false → list_any (is_known_as n) (map known xs) ≡ true → list_all (is_only m) (map (left_to u) xs) ≡ false
   not_only n m [] d h = cc
-  not_only n m (x ∷ xs) d h = elim (either (is_known_as n (known x)) (list_any (is_known_as n) (map known xs)) h) [
+  not_only n m (x ∷ xs) d h = elim (or_cases (is_known_as n (known x)) (list_any (is_known_as n) (map known xs)) h) [
     | inl k ↦ and_left (is_only m (left_to u x)) (list_all (is_only m) (map (left_to u) xs)) (ap (is_only m) (literal n x k).left ∙ d)
     | inr k ↦ and_right (is_only m (left_to u x)) (list_all (is_only m) (map (left_to u) xs)) (not_only n m xs d k)
   ]
@@ -85,7 +77,7 @@ module _ (g : Game) (i : ℕ) (a u : Box) (single : (x : ℕ) → x < length a �
   -- and one has the value at each later position
   some_value : (n : ℤ) (k : ℕ) (xs : List Arg) → before g i ≤ before g k → list_any (is_known_as n) (map known xs) ≡ true → list_any (λ z. int_eq z n) (map (arg_value (position g k u)) xs) ≡ true
   some_value n k [] p h = cc
-  some_value n k (x ∷ xs) p h = elim (either (is_known_as n (known x)) (list_any (is_known_as n) (map known xs)) h) [
+  some_value n k (x ∷ xs) p h = elim (or_cases (is_known_as n (known x)) (list_any (is_known_as n) (map known xs)) h) [
     | inl e ↦
         or_left (int_eq (arg_value (position g k u) x) n) (list_any (λ z. int_eq z n) (map (arg_value (position g k u)) xs))
         (ap (λ z. int_eq z n) ((literal n x e).value k p) ∙ same_itself n)
@@ -107,7 +99,7 @@ module _ (g : Game) (i : ℕ) (a u : Box) (single : (x : ℕ) → x < length a �
   satisfied_stays c h =
       ap (λ xs. list_all (is_only (pos 0)) xs && list_all (is_only (pos 1)) (many (map (fill (left_to u)) c.args) 1)) (many_filled (left_to u) c.args 0)
       ∙ ap (λ xs. list_all (is_only (pos 0)) (map (left_to u) (items c 0)) && list_all (is_only (pos 1)) xs) (many_filled (left_to u) c.args 1)
-      ∙ elim (either (list_any (is_known_as (pos 1)) (map known (items c 0))) (list_any (is_known_as (pos 0)) (map known (items c 1))) (sym (satisfied_by c) ∙ h)) [
+      ∙ elim (or_cases (list_any (is_known_as (pos 1)) (map known (items c 0))) (list_any (is_known_as (pos 0)) (map known (items c 1))) (sym (satisfied_by c) ∙ h)) [
         | inl k ↦ and_left (list_all (is_only (pos 0)) (map (left_to u) (items c 0))) (list_all (is_only (pos 1)) (map (left_to u) (items c 1))) (not_only (pos 1) (pos 0) (items c 0) refl k)
         | inr k ↦ and_right (list_all (is_only (pos 0)) (map (left_to u) (items c 0))) (list_all (is_only (pos 1)) (map (left_to u) (items c 1))) (not_only (pos 0) (pos 1) (items c 1) refl k)
       ]
@@ -117,7 +109,7 @@ module _ (g : Game) (i : ℕ) (a u : Box) (single : (x : ℕ) → x < length a �
       let f = arg_value (position g k u) in
       ap (λ xs. list_any is_one xs || list_any is_zero (many (map (fill f) c.args) 1)) (many_filled f c.args 0)
       ∙ ap (λ xs. list_any is_one (map f (items c 0)) || list_any is_zero xs) (many_filled f c.args 1)
-      ∙ elim (either (list_any (is_known_as (pos 1)) (map known (items c 0))) (list_any (is_known_as (pos 0)) (map known (items c 1))) (sym (satisfied_by c) ∙ h)) [
+      ∙ elim (or_cases (list_any (is_known_as (pos 1)) (map known (items c 0))) (list_any (is_known_as (pos 0)) (map known (items c 1))) (sym (satisfied_by c) ∙ h)) [
         | inl e ↦ or_left (list_any is_one (map f (items c 0))) (list_any is_zero (map f (items c 1))) (some_value (pos 1) k (items c 0) p e)
         | inr e ↦ or_right (list_any is_one (map f (items c 0))) (list_any is_zero (map f (items c 1))) (some_value (pos 0) k (items c 1) p e)
       ]
@@ -132,7 +124,7 @@ equal_numbers j k e = grind (arith, nat_tests)
 -- two functions that do the same at each of the numbers
 same_at : (f h : ℕ → ℤ) (xs : List ℕ) (x : ℕ) → map f xs ≡ map h xs → is_among xs x ≡ true → f x ≡ h x
 same_at f h [] x e m = cc
-same_at f h (y ∷ xs) x e m = elim (either (y == x) (is_among xs x) m) [
+same_at f h (y ∷ xs) x e m = elim (or_cases (y == x) (is_among xs x) m) [
   | inl q ↦ subst (λ z. f z ≡ h z) (equal_numbers y x q) (first_same (f y) (h y) (map f xs) (map h xs) e)
   | inr n ↦ same_at f h xs x (rest_same (f y) (h y) (map f xs) (map h xs) e) n
 ]

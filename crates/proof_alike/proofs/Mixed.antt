@@ -4,14 +4,15 @@ use Rattle.std.specs.Prelude.{int_lt}
 use Rattle.std.specs.List.{list_any, list_all}
 use Rattle.std.specs.Ordering.{int_eq}
 use Rattle.std.proofs.lemmas.Int.{ints}
+use Rattle.std.proofs.lemmas.Bool.{or_left, or_parts, false_from_ne_true, and_parts, and_from}
 use Rattle.qc_model.specs.Content.{Game}
 use Rattle.qc_model.specs.Domains.{Values, Box, values_left, is_none_left, is_single, has_value, has_empty, is_ascending, is_sub_box}
 use Rattle.qc_model.specs.Block.{constraints_within}
 use Rattle.qc_model.specs.Closed.{keeps_ends, is_closed, NoClosedWithin}
-use Rattle.model_arguments.proofs.Bools.{or_left, neither, clash, never, not_false}
+use Rattle.model_arguments.proofs.Bools.{clash, not_false}
 use Rattle.model_arguments.proofs.Boxes.{sub_length}
 use Rattle.proof_alike.specs.Alike.{is_looked_at}
-use Rattle.proof_alike.proofs.Boxes.{both, join, Varied, Look, rule_on}
+use Rattle.proof_alike.proofs.Boxes.{Varied, Look, rule_on}
 use Rattle.proof_alike.proofs.Rules.{closed_same}
 
 -- the first of the values alone, where there is one
@@ -39,7 +40,7 @@ first_ascends (v ∷ e) = refl
 
 first_within : (e : Values) → list_all (has_value e) (first_alone e) ≡ true
 first_within [] = refl
-first_within (v ∷ e) = join (int_eq v v || list_any (int_eq v) e) true (or_left (int_eq v v) (list_any (int_eq v) e) (same v)) refl
+first_within (v ∷ e) = and_from (int_eq v v || list_any (int_eq v) e) true (or_left (int_eq v v) (list_any (int_eq v) e) (same v)) refl
   where
     same : (n : ℤ) → int_eq n n ≡ true
     same n = grind (arith, ints)
@@ -57,8 +58,8 @@ mix_same p (d ∷ c) (e ∷ b) (suc x) l h = mix_same (λ y. p (suc y)) c b x (o
 
 head_within : (d f : Values) (c a : Box) → is_sub_box (d ∷ c) (f ∷ a) ≡ true → (is_ascending d ≡ true) × (list_all (has_value f) d ≡ true) × (is_sub_box c a ≡ true)
 head_within d f c a s =
-    let q = both (is_ascending d && list_all (has_value f) d) (is_sub_box c a) s in
-    let r = both (is_ascending d) (list_all (has_value f) d) q.0 in
+    let q = and_parts (is_ascending d && list_all (has_value f) d) (is_sub_box c a) s in
+    let r = and_parts (is_ascending d) (list_all (has_value f) d) q.0 in
     (r.0, r.1, q.1)
 
 mix_sub : (p : ℕ → Bool) (a b c : Box) → Same p a b → is_sub_box c a ≡ true → is_sub_box (mix p c b) b ≡ true
@@ -68,14 +69,14 @@ mix_sub p (u ∷ a) b [] s h = cc
 mix_sub p [] b (d ∷ c) s h = cc
 mix_sub p (u ∷ a) [] (d ∷ c) s h = let l = s.size in cc
 mix_sub p (u ∷ a) (e ∷ b) (d ∷ c) s h =
-    join (is_ascending (cond (p 0) d (first_alone e)) && list_all (has_value e) (cond (p 0) d (first_alone e))) (is_sub_box (mix (λ x. p (suc x)) c b) b)
+    and_from (is_ascending (cond (p 0) d (first_alone e)) && list_all (has_value e) (cond (p 0) d (first_alone e))) (is_sub_box (mix (λ x. p (suc x)) c b) b)
     (by (p 0) (s.same 0)) (mix_sub (λ x. p (suc x)) a b c (same_rest p u e a b s) (head_within d u c a h).2)
   where
     by : (q : Bool) → (q ≡ true → u ≡ e) → (is_ascending (cond q d (first_alone e)) && list_all (has_value e) (cond q d (first_alone e))) ≡ true
     by true k =
         let r = head_within d u c a h in
-        join (is_ascending d) (list_all (has_value e) d) r.0 (subst (λ vs. list_all (has_value vs) d ≡ true) (k refl) r.1)
-    by false k = join (is_ascending (first_alone e)) (list_all (has_value e) (first_alone e)) (first_ascends e) (first_within e)
+        and_from (is_ascending d) (list_all (has_value e) d) r.0 (subst (λ vs. list_all (has_value vs) d ≡ true) (k refl) r.1)
+    by false k = and_from (is_ascending (first_alone e)) (list_all (has_value e) (first_alone e)) (first_ascends e) (first_within e)
 
 -- the box within b that looks the same as c, which lies within a
 abbrev mixed : Game → ℕ → Box → Box → Box
@@ -99,13 +100,13 @@ mix_other p (d ∷ c) (e ∷ b) (suc x) l h s = mix_other (λ y. p (suc y)) c b 
 
 only_within : (d : Values) (v : ℤ) → is_none_left d ≡ false → is_ascending d ≡ true → list_all (has_value (v ∷ [])) d ≡ true → d ≡ v ∷ []
 only_within [] v f k h = cc
-only_within (u ∷ []) v f k h = ap (λ z. z ∷ []) (same_value u v (both (int_eq u v || false) true h).0)
+only_within (u ∷ []) v f k h = ap (λ z. z ∷ []) (same_value u v (and_parts (int_eq u v || false) true h).0)
   where
     same_value : (m n : ℤ) → (int_eq m n || false) ≡ true → m ≡ n
     same_value m n e = grind (arith, ints)
 only_within (u ∷ w ∷ d) v f k h =
-    let r = both (int_eq u v || false) (list_all (has_value (v ∷ [])) (w ∷ d)) h in
-    absurd (apart u w v r.0 (both (int_eq w v || false) (list_all (has_value (v ∷ [])) d) r.1).0 (both (int_lt u w) (is_ascending (w ∷ d)) k).0)
+    let r = and_parts (int_eq u v || false) (list_all (has_value (v ∷ [])) (w ∷ d)) h in
+    absurd (apart u w v r.0 (and_parts (int_eq w v || false) (list_all (has_value (v ∷ [])) d) r.1).0 (and_parts (int_lt u w) (is_ascending (w ∷ d)) k).0)
   where
     apart : (m n z : ℤ) → (int_eq m z || false) ≡ true → (int_eq n z || false) ≡ true → int_lt m n ≡ true → ⊥
     apart m n z e f g = grind (arith, ints)
@@ -121,8 +122,8 @@ sub_single [] (e ∷ a) x h f s = cc
 sub_single (d ∷ c) [] x h f s = cc
 sub_single (d ∷ c) (e ∷ a) zero h f s =
     let r = head_within d e c a h in
-    single_within d e (neither (is_none_left d) (has_empty c) f).0 r.0 r.1 (s (omega arith))
-sub_single (d ∷ c) (e ∷ a) (suc x) h f s = sub_single c a x (head_within d e c a h).2 (neither (is_none_left d) (has_empty c) f).1 (λ n. s (omega arith))
+    single_within d e (or_parts (is_none_left d) (has_empty c) f).0 r.0 r.1 (s (omega arith))
+sub_single (d ∷ c) (e ∷ a) (suc x) h f s = sub_single c a x (head_within d e c a h).2 (or_parts (is_none_left d) (has_empty c) f).1 (λ n. s (omega arith))
 
 mixed_looks : (g : Game) (top i : ℕ) (a b c : Box) → Look g top i a b → is_sub_box c a ≡ true → has_empty c ≡ false → Look g top i c (mixed g top b c)
 mixed_looks g top i a b c l within full = record {
@@ -148,9 +149,9 @@ mixed_looks g top i a b c l within full = record {
 
 -- where no box within b is closed, none within a is
 pub none_closed : (g : Game) (top i stop : ℕ) (a b : Box) → Look g top i a b → NoClosedWithin (constraints_within g i stop) b → NoClosedWithin (constraints_within g i stop) a
-none_closed g top i stop a b l none c within = never (is_closed (constraints_within g i stop) c) (λ e.
+none_closed g top i stop a b l none c within = false_from_ne_true (is_closed (constraints_within g i stop) c) (λ e.
     let rules = constraints_within g i stop in
     let other = mixed g top b c in
-    let full = not_false (has_empty c) (both (not (has_empty c)) (list_all (keeps_ends c) rules) e).0 in
+    let full = not_false (has_empty c) (and_parts (not (has_empty c)) (list_all (keeps_ends c) rules) e).0 in
     clash (is_closed rules other) (sym (closed_same g top i stop c other (mixed_looks g top i a b c l within full)) ∙ e)
     (none other (mix_sub (is_looked_at g top) a b c (same_looks g top i a b l) within)))

@@ -3,6 +3,7 @@ use Rattle.std.proofs.Common.{◌≡◌, inl, inr, ℕ, zero, suc, ◌==◌, Boo
 use Rattle.std.specs.Prelude.{slice_get, ⊤}
 use Rattle.std.specs.List.{list_any}
 use Rattle.std.proofs.lemmas.Bool.Decides.{nat_tests}
+use Rattle.std.proofs.lemmas.Bool.{or_left, or_right}
 use Rattle.qc_model.specs.declared.problem.Kind.{Kind}
 use Rattle.qc_model.specs.declared.problem.Kind.TheVariants.{Exists, Forall}
 use Rattle.qc_model.specs.declared.problem.Target.{Target}
@@ -15,7 +16,6 @@ use Rattle.qc_model.specs.Lists.{Among}
 use Rattle.qc_model.specs.Value.{inner_target}
 use Rattle.qc_model.specs.Demands.{names, with_naming, first_namings, target_within, demand_within, demands_after, demands_from, demands}
 use Rattle.qc_model.specs.Block.{of_kind, no_condition_to}
-use Rattle.model_arguments.proofs.Bools.{or_left, or_right}
 use Rattle.proof_tree.specs.Place.{Tracked, next_scopes, list_after, owner_of, tracked_target, tracked_first, tracked_variable}
 use Rattle.proof_alike.specs.Alike.{constrains, is_variable, mentions, condition_mentions, is_named, is_seen, is_looked_at}
 use Rattle.proof_alike.proofs.Filling.{any_of, get_among}

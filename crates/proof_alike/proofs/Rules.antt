@@ -3,6 +3,7 @@ use Rattle.std.proofs.Common.{◌≡◌, inl, inr, ℕ, zero, suc, ◌<◌, ◌�
 use Rattle.std.specs.Prelude.{nat_le, nat_lt}
 use Rattle.std.specs.List.{list_all}
 use Rattle.std.proofs.lemmas.Bool.Decides.{nat_tests}
+use Rattle.std.proofs.lemmas.Bool.{and_parts}
 use Rattle.qc_model.specs.Arguments.{variables_of}
 use Rattle.qc_model.specs.Content.{Game, Rule}
 use Rattle.qc_model.specs.Lists.{Among}
@@ -14,7 +15,7 @@ use Rattle.qc_model.specs.Game.{allows}
 use Rattle.qc_model.specs.Block.{is_owned_within, constraints_within}
 use Rattle.proof_tree.specs.Place.{position}
 use Rattle.proof_alike.specs.Alike.{is_looked_at}
-use Rattle.proof_alike.proofs.Boxes.{both, and_both, SameRule, Look, look_set, owned_below, empty_same, before_below}
+use Rattle.proof_alike.proofs.Boxes.{and_both, SameRule, Look, look_set, owned_below, empty_same, before_below}
 
 -- what a constraint of the current scope or a later one does in the two boxes themselves
 rule_same : (g : Game) (top i : ℕ) (a b : Box) (c : Rule) → Among c g.constraints → nat_le i c.owner.0 ≡ true → Look g top i a b → SameRule g top c a b
@@ -39,7 +40,7 @@ greatest_alone [] e = cc
 greatest_alone (v ∷ []) e = refl
 greatest_alone (v ∷ w ∷ vs) e = cc
 
--- an end of a variable is refuted in both boxes or in neither: of one that isn't looked at it is all that it has
+-- an end of a variable is refuted in and_parts boxes or in neither: of one that isn't looked at it is all that it has
 module _ (g : Game) (top i : ℕ) (a b : Box) (c : Rule) (m : Among c g.constraints) (e : nat_le i c.owner.0 ≡ true) (l : Look g top i a b) where
   least_same : (x : ℕ) (p : Bool) → is_looked_at g top x ≡ p → refutes_at c a x (least_value (values_left a x)) ≡ refutes_at c b x (least_value (values_left b x))
   least_same x true q =
@@ -79,7 +80,7 @@ keeps_same g top i a b c m e l =
     (ap not (least_same g top i a b c m e l x (is_looked_at g top x) refl))
     (ap not (greatest_same g top i a b c m e l x (is_looked_at g top x) refl)))
 
--- those that are kept pass both tests or neither
+-- those that are kept pass and_parts tests or neither
 filtered_same : {X : Type 0} (p f h : X → Bool) (xs : List X) → ((x : X) → Among x xs → p x ≡ true → f x ≡ h x) → list_all f (filter p xs) ≡ list_all h (filter p xs)
 filtered_same p f h [] e = refl
 filtered_same p f h (x ∷ xs) e = by (p x) (e x (inl refl)) (filtered_same p f h xs (λ y m. e y (inr m)))
@@ -94,9 +95,9 @@ closed_same g top i stop a b l =
     and_both (not (has_empty a)) (list_all (keeps_ends a) (constraints_within g i stop)) (not (has_empty b)) (list_all (keeps_ends b) (constraints_within g i stop))
     (ap not (empty_same g top i a b l))
     (filtered_same (is_owned_within i stop) (keeps_ends a) (keeps_ends b) g.constraints
-    (λ c m e. keeps_same g top i a b c m (both (nat_le i c.owner.0) (nat_lt c.owner.0 stop) e).0 l))
+    (λ c m e. keeps_same g top i a b c m (and_parts (nat_le i c.owner.0) (nat_lt c.owner.0 stop) e).0 l))
 
--- the constraints of the current scope hold at both positions, or some at neither
+-- the constraints of the current scope hold at and_parts positions, or some at neither
 pub allows_same : (g : Game) (top i k : ℕ) (a b : Box) → i ≤ k → Look g top i a b → allows g i (position g k a) ≡ allows g i (position g k b)
 allows_same g top i k a b h l =
     filtered_same (λ c. c.owner.0 == i) (λ c. holds_on c (position g k a)) (λ c. holds_on c (position g k b)) g.constraints

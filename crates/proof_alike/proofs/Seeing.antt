@@ -2,15 +2,15 @@
 use Rattle.std.proofs.Common.{◌≡◌, ℕ, true, not, [], ◌∷◌, refl, arith, ap, ℤ, pos}
 use Rattle.std.specs.Prelude.{nat_le, slice_index_or}
 use Rattle.std.specs.List.{list_any}
+use Rattle.std.proofs.lemmas.Bool.{or_left, or_right, and_from}
 use Rattle.qc_model.specs.Content.{Game, Rule}
 use Rattle.qc_model.specs.Domains.{Box}
 use Rattle.qc_model.specs.Game.{before}
 use Rattle.qc_model.specs.Lists.{Among}
-use Rattle.model_arguments.proofs.Bools.{or_left, or_right}
 use Rattle.proof_tree.specs.Place.{position}
 use Rattle.proof_alike.specs.Alike.{is_among, constrains, is_named, is_seen, is_looked_at, AreAlike}
 use Rattle.proof_alike.specs.Reading.{Reading, as_sum, as_plus, as_clause, by_value, reading, variables_by_value, read_alone, seen_as, known_sum, known_plus}
-use Rattle.proof_alike.proofs.Boxes.{join, SameRule, RuleAlike, Look}
+use Rattle.proof_alike.proofs.Boxes.{SameRule, RuleAlike, Look}
 use Rattle.proof_alike.proofs.ByValue.{same_by_value}
 use Rattle.proof_alike.proofs.Clauses.{same_clause}
 use Rattle.proof_alike.proofs.Filling.{any_of}
@@ -22,7 +22,7 @@ rule_looks : (g : Game) (i : ℕ) (c : Rule) → Among c g.constraints → nat_l
 rule_looks g i c m e x a =
     or_right (nat_le (before g i) x) (is_seen g i x)
     (or_left (list_any (constrains i x) g.constraints) (is_named g x)
-    (any_of (constrains i x) g.constraints c m (join (nat_le i c.owner.0) (is_among (read_alone c) x) e a)))
+    (any_of (constrains i x) g.constraints c m (and_from (nat_le i c.owner.0) (is_among (read_alone c) x) e a)))
 
 same_head : (p q : ℤ) → (p ∷ []) ≡ (q ∷ []) → p ≡ q
 same_head p q e = ap (λ vs. slice_index_or vs 0 (pos 0)) e

@@ -3,17 +3,17 @@ use Rattle.std.proofs.Common.{◌≡◌, ℕ, ◌<◌, ◌≤◌, Bool, true, fa
 use Rattle.std.specs.Prelude.{nat_le, nat_lt}
 use Rattle.std.proofs.lemmas.Bool.Decides.{nat_tests}
 use Rattle.std.proofs.lemmas.List.{get_or_past}
+use Rattle.std.proofs.lemmas.Bool.{or_parts}
 use Rattle.qc_model.specs.Content.{Game}
 use Rattle.qc_model.specs.Domains.{Values, Box, values_left, is_single, least_value}
 use Rattle.qc_model.specs.Game.{before}
-use Rattle.model_arguments.proofs.Bools.{neither}
 use Rattle.proof_alike.specs.Alike.{is_seen, is_looked_at, AreAlike}
 use Rattle.proof_alike.proofs.Boxes.{past_same}
 use Rattle.proof_alike.proofs.Terms.{IsOne}
 
 -- a variable that isn't looked at stands before scope i
 pub early : (g : Game) (i x : ℕ) → is_looked_at g i x ≡ false → x < before g i
-early g i x e = below (before g i) x (neither (nat_le (before g i) x) (is_seen g i x) e).0
+early g i x e = below (before g i) x (or_parts (nat_le (before g i) x) (is_seen g i x) e).0
   where
     below : (m k : ℕ) → nat_le m k ≡ false → k < m
     below m k h = grind (arith, nat_tests)

@@ -2,6 +2,7 @@
 use Rattle.std.proofs.Common.{◌≡◌, inl, ℕ, suc, ◌+◌, true, false, List, [], ◌∷◌, ◌++◌, length, refl, sym, subst, arith, Option, Some, None}
 use Rattle.std.specs.Prelude.{ℤ, ◌==◌}
 use Rattle.std.proofs.lemmas.Bool.Decides.{nat_tests}
+use Rattle.std.proofs.lemmas.Bool.{and_parts}
 use Rattle.qc_model.specs.declared.problem.Scope.{Scope}
 use Rattle.qc_model.specs.Content.{Game}
 use Rattle.qc_model.specs.Lists.{Among}
@@ -16,7 +17,6 @@ use Rattle.proof_meaning.proofs.Boxes.{differ}
 use Rattle.proof_meaning.proofs.HorizonHolds.{horizon_holds}
 use Rattle.proof_meaning.proofs.Narrowed.{IsWithin, within_in}
 use Rattle.proof_meaning.proofs.Passing.{passes}
-use Rattle.proof_meaning.proofs.Places.{both}
 
 pub blocked_less : (g : Game) (i : ℕ) (a : List ℤ) (box small : Box) (h : Option ℕ) → ((w : List ℤ) → InBox w small → InBox w box) → IsBlocked g i a box h → IsBlocked g i a small h
 blocked_less g i a box small None f b = tt
@@ -32,8 +32,8 @@ pub blocked_below : (g : Game) (sound : IsTableSound g) (ordered : IsOrdered g) 
     horizon_in_place g z later i box h ≡ true → IsBlocked g i a box h → IsBlocked g i a box (horizon_below z h)
 blocked_below g sound ordered None later i a box h len within full e b = b
 blocked_below g sound ordered (Some z) later i a box h len within full e b = λ n w s m q.
-    let p = both _ (has_empty (after_steps z.steps box)) e in
-    let p1 = both _ (are_legal g i (suc z.scope.0) None z.steps box) p.0 in
+    let p = and_parts _ (has_empty (after_steps z.steps box)) e in
+    let p1 = and_parts _ (are_legal g i (suc z.scope.0) None z.steps box) p.0 in
     horizon_holds g sound i (suc z.scope.0) w (passes g ordered n i (suc z.scope.0) a w len (within_in w box (declared_box g) within q) s m) z.steps box p1.1 full p.1 q
 
 -- at a horizon nobody passes the scope

@@ -2,10 +2,10 @@
 use Rattle.std.proofs.Common.{◌≡◌, ◌⊎◌, inl, inr, ℕ, zero, suc, ◌<◌, Bool, true, false, ◌||◌, not, List, [], ◌∷◌, ◌++◌, length, map, take, drop, set, get_or, filter, refl, sym, ap, ◌∙◌, subst, arith, cond}
 use Rattle.std.specs.Prelude.{ℤ}
 use Rattle.std.specs.List.{list_all, list_any}
+use Rattle.std.proofs.lemmas.Bool.{and_parts}
 use Rattle.qc_model.specs.Lists.{Among, LiesIn}
 use Rattle.qc_model.specs.Domains.{Box, InBox, is_single, is_none_left, least_value}
 use Rattle.qc_model.proofs.Moves.{among_either}
-use Rattle.proof_meaning.proofs.Places.{both}
 
 -- each domain has its one value
 abbrev pub singles : List ℤ → Box
@@ -59,7 +59,7 @@ singles_only (x ∷ u) (v ∷ w) h =
 pub singles_of : (ds : Box) → list_all is_single ds ≡ true → ds ≡ singles (map least_value ds)
 singles_of [] e = refl
 singles_of (d ∷ ds) e =
-    let p = both (is_single d) (list_all is_single ds) e in
+    let p = and_parts (is_single d) (list_all is_single ds) e in
     let k : d ≡ least_value d ∷ [] = one d p.0 in
     let r : ds ≡ singles (map least_value ds) = singles_of ds p.1 in
     ap (λ x. x ∷ ds) k ∙ ap (λ xs. (least_value d ∷ []) ∷ xs) r

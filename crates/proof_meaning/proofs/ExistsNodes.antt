@@ -3,6 +3,7 @@ use Rattle.std.proofs.Common.{◌≡◌, inl, inr, ℕ, suc, Bool, true, false, 
 use Rattle.std.specs.Prelude.{ℤ, pos}
 use Rattle.std.specs.Ordering.{int_eq}
 use Rattle.std.proofs.lemmas.Bool.Decides.{Decides-int_eq}
+use Rattle.std.proofs.lemmas.Bool.{or_parts, and_parts}
 use Rattle.qc_model.specs.declared.problem.Kind.TheVariants.{Exists}
 use Rattle.qc_model.specs.declared.problem.Scope.{Scope}
 use Rattle.qc_model.specs.declared.problem.Condition.{Condition}
@@ -19,7 +20,7 @@ use Rattle.qc_model.specs.Verdict.{Verdict, lost, exact, at_most, unknown, Seen,
 use Rattle.qc_model.specs.ExistsVerdict.{best_vector, without_own, some_open, exists_verdict, exists_own}
 use Rattle.qc_model.proofs.Vectors.{AllLong}
 use Rattle.qc_model.proofs.ExistsMeans.{SomeAllows, exact_is_best}
-use Rattle.model_laws.proofs.Better.{or_none, not_better}
+use Rattle.model_laws.proofs.Better.{not_better}
 use Rattle.model_laws.proofs.Existence.{neither_better}
 use Rattle.model_laws.proofs.Choosing.{best_one, vector_long, choose_vector}
 use Rattle.proof_tree.specs.Finding.{Leaf, seen_of, all_replies, exists_finding}
@@ -28,7 +29,6 @@ use Rattle.proof_meaning.proofs.Once.{kind_once}
 use Rattle.proof_meaning.proofs.Boxes.{differ}
 use Rattle.proof_meaning.proofs.GoodValues.{pass_good}
 use Rattle.proof_meaning.proofs.LeafWords.{exists_lost, none_skipped, decide_reached}
-use Rattle.proof_meaning.proofs.Places.{both}
 use Rattle.proof_meaning.proofs.Reach.{reach, lies_to, lies_from, plan_good}
 use Rattle.proof_meaning.proofs.Frames.{stop_of, FairNode}
 use Rattle.proof_meaning.proofs.Entering.{all_good}
@@ -94,10 +94,10 @@ exact_by None [] xs v l h =
     (some, no_value (exact_vectors xs) (best_vector [] (exact_vectors xs)) l (best_one [] (exact_vectors xs) some) ∙ sym q.1)
 exact_by None (c ∷ d) xs v l h =
     let q = exact_rule (each_node is_lost xs && is_none_of (bounds xs)) (some_open xs) _ true _ v _ h in
-    ((both (not (is_none_of (exact_vectors xs))) _ q.0).0, q.1)
+    ((and_parts (not (is_none_of (exact_vectors xs))) _ q.0).0, q.1)
 exact_by (Some c) d xs v l h =
     let q = exact_rule (each_node is_lost xs && is_none_of (bounds xs)) (some_open xs) _ false _ v (pos 0) h in
-    ((both (not (is_none_of (exact_vectors xs))) _ q.0).0, q.1)
+    ((and_parts (not (is_none_of (exact_vectors xs))) _ q.0).0, q.1)
 
 -- and no vector that is left possible beats it
 unbeaten_by : (x : Option Condition) (d : List Condition) (xs : List Seen) (v w : List ℤ) → AllLong (with_condition x d) (exact_vectors xs) → exists_verdict x (with_condition x d) xs ≡ exact v →
@@ -111,10 +111,10 @@ lost_by : (x : Option Condition) (d : List Condition) (ls : List Leaf) → (with
     (each_node is_lost (map seen_of ls) ≡ true) × (is_unmarked ls ≡ true)
 lost_by None [] ls n h = (exists_lost (map seen_of ls) (ap is_lost h), n refl)
 lost_by None (c ∷ d) ls n h =
-    let q = both (each_node is_lost (map seen_of ls)) (is_none_of (bounds (map seen_of ls))) (lost_rule _ (some_open (map seen_of ls)) _ true _ _ h) in
+    let q = and_parts (each_node is_lost (map seen_of ls)) (is_none_of (bounds (map seen_of ls))) (lost_rule _ (some_open (map seen_of ls)) _ true _ _ h) in
     (q.0, unmarked_of ls q.1)
 lost_by (Some c) d ls n h =
-    let q = both (each_node is_lost (map seen_of ls)) (is_none_of (bounds (map seen_of ls))) (lost_rule _ (some_open (map seen_of ls)) _ false _ (pos 0) h) in
+    let q = and_parts (each_node is_lost (map seen_of ls)) (is_none_of (bounds (map seen_of ls))) (lost_rule _ (some_open (map seen_of ls)) _ false _ (pos 0) h) in
     (q.0, unmarked_of ls q.1)
 
 module _ (g : Game) (later : List Scope) (i : ℕ) (a : List ℤ) (box : Box) where
@@ -153,7 +153,7 @@ module _ (g : Game) (later : List Scope) (i : ℕ) (a : List ℤ) (box : Box) wh
       parts : (u : List ℤ) (r : Plan) → Within u r → (is_better c.sense (value g r c.target (a ++ u)) (value g s c.target (a ++ t)) ≡ false)
           × (int_eq (value g r c.target (a ++ u)) (value g s c.target (a ++ t)) && is_better_vector d (vector g d (a ++ u) r) (vector g d (a ++ t) s) ≡ false)
       parts u r w =
-          or_none (is_better c.sense (value g r c.target (a ++ u)) (value g s c.target (a ++ t))) _
+          or_parts (is_better c.sense (value g r c.target (a ++ u)) (value g s c.target (a ++ t))) _
           (subst (λ z. is_better_vector (c ∷ d) (vector g (c ∷ d) (a ++ u) r) z ≡ false) (sym h.has_vector) (f u r w))
 
       same : (x y : ℤ) (q : Bool) → x ≡ y → (int_eq x y && q) ≡ false → q ≡ false

@@ -3,6 +3,7 @@ use Rattle.std.proofs.Common.{◌≡◌, ◌⊎◌, inl, inr, ℕ, suc, Bool, tr
 use Rattle.std.specs.Prelude.{ℤ}
 use Rattle.std.specs.List.{list_all}
 use Rattle.std.proofs.Math.Seq.{drop-append_seam}
+use Rattle.std.proofs.lemmas.Bool.{and_parts}
 use Rattle.qc_model.specs.declared.problem.Kind.{Kind}
 use Rattle.qc_model.specs.declared.problem.Kind.TheVariants.{Exists, Forall}
 use Rattle.qc_model.specs.declared.problem.Scope.{Scope}
@@ -34,7 +35,6 @@ use Rattle.proof_meaning.proofs.Once.{kind_once}
 use Rattle.proof_meaning.proofs.Boxes.{differ}
 use Rattle.proof_meaning.proofs.ForallRules.{any_forall_lost, any_forall_exact}
 use Rattle.proof_meaning.proofs.LeafWords.{Reached, not_skipped, same_true, same_self, answer_tuples, answer_each, none_skipped as none_left_out}
-use Rattle.proof_meaning.proofs.Places.{both}
 use Rattle.proof_meaning.proofs.Frames.{FairNode, front_in}
 use Rattle.proof_meaning.proofs.Entering.{declared_move, rest_declared}
 use Rattle.proof_meaning.proofs.LeafLists.{EachLeaf, EachLoses, claim, LeavesMean, tuple_lies, reached_tuple}
@@ -90,7 +90,7 @@ module _ (g : Game) (later : List Scope) (i : ℕ) (a : List ℤ) (box : Box) (e
   strategy_best w (leaf_skipped ∷ ls) h q r = absurd (differ q)
   strategy_best w (leaf_bound m ∷ ls) h q r = strategy_best w ls h q r
   strategy_best w (leaf_node u f ∷ ls) h q r =
-      let p = both (is_exact f.verdict) (each_node is_exact (map seen_of ls)) q in
+      let p = and_parts (is_exact f.verdict) (each_node is_exact (map seen_of ls)) q in
       pick (same_values u w) refl (exact_one f.verdict p.0) r (strategy_best w ls h.1 p.1)
     where
       pick : (b : Bool) → same_values u w ≡ b → (v : List ℤ) × (f.verdict ≡ exact v) → (u ≡ w) ⊎ Reached w ls → (Reached w ls → Optimal g later (suc i) w (strategy_at w ls) × IsBestVector g e w (Optimal g later (suc i) w) (vector g e w (strategy_at w ls))) →

@@ -2,6 +2,7 @@
 use Rattle.std.proofs.Common.{◌≡◌, ℕ, zero, suc, ◌+◌, Bool, true, false, List, [], ◌∷◌, ◌++◌, length, drop, refl, sym, ap, subst, arith, Option, Some, None}
 use Rattle.std.specs.Prelude.{ℤ, slice_get}
 use Rattle.std.proofs.lemmas.List.{length-drop}
+use Rattle.std.proofs.lemmas.Bool.{and_parts}
 use Rattle.qc_model.specs.declared.problem.Kind.TheVariants.{Forall}
 use Rattle.qc_model.specs.declared.problem.Scope.{Scope}
 use Rattle.qc_model.specs.Content.{Game}
@@ -28,7 +29,6 @@ use Rattle.proof_meaning.proofs.FairForms.{box_of_frame, node_of, node_all, part
 use Rattle.proof_meaning.proofs.Frames.{FairNode, FairPart, prune_stays, narrow_fair}
 use Rattle.proof_meaning.proofs.HorizonHolds.{none_empty_set}
 use Rattle.proof_meaning.proofs.Passing.{GoodAfter}
-use Rattle.proof_meaning.proofs.Places.{both}
 use Rattle.proof_meaning.proofs.Premises.{sound_of}
 use Rattle.proof_meaning.proofs.Standing.{sees_from, asked_from}
 use Rattle.proof_meaning.proofs.StepRules.{step_fair}
@@ -90,10 +90,10 @@ module _ (g : Game) (valid : IsValid g) (s : Scope) (later : List Scope) (i : �
   moves_stay : (b : Bool) (taken : List Taken) (a : List ℤ) (box : Box) (st : Step) → IsFairWithin g b i taken a box → is_legal g i (force_stop (s ∷ later) i) tracked st box ≡ true → HoldsMoves taken a (after_step st box)
   moves_stay b taken a box (Prune x lo hi c) f e q t m agrees =
       let r = sound_of g valid in
-      let p = both (removes_some box x.0 lo hi) (is_refuted_within i (force_stop (s ∷ later) i) (slice_get g.constraints c.0) (box_within box x.0 lo hi)) e in
+      let p = and_parts (removes_some box x.0 lo hi) (is_refuted_within i (force_stop (s ∷ later) i) (slice_get g.constraints c.0) (box_within box x.0 lo hi)) e in
       prune_stays g r.table r.ordered s.kind later i a box x.0 lo hi c.0 left p.1 (part b taken a box f).frame t (a ++ t) m (subst (λ k. GoodAfter k g later i (a ++ t) (a ++ t)) (sym q) refl)
       (moves_in b taken a box f q t m agrees)
-  moves_stay b taken a box (Bound x lo hi) f e q t m agrees = absurd (none_tracked q x.0 (both (removes_some box x.0 lo hi) (is_tracked x.0 tracked) e).1)
+  moves_stay b taken a box (Bound x lo hi) f e q t m agrees = absurd (none_tracked q x.0 (and_parts (removes_some box x.0 lo hi) (is_tracked x.0 tracked) e).1)
 
   pub step_handed : (b : Bool) (taken : List Taken) (a : List ℤ) (box : Box) (st : Step) → IsFairWithin g b i taken a box → is_legal g i (force_stop (s ∷ later) i) tracked st box ≡ true → has_empty (after_step st box) ≡ false →
       IsFairWithin g (bounded_after st b) i taken a (after_step st box)

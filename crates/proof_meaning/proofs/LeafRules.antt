@@ -4,6 +4,7 @@ use Rattle.std.specs.Prelude.{ℤ, IsTrue}
 use Rattle.std.specs.List.{list_all}
 use Rattle.std.proofs.lemmas.List.{map-append}
 use Rattle.std.proofs.lemmas.List.Folds.{list_all-append}
+use Rattle.std.proofs.lemmas.Bool.{and_parts}
 use Rattle.qc_model.specs.declared.problem.Kind.{Kind}
 use Rattle.qc_model.specs.declared.problem.Kind.TheVariants.{Exists, Forall}
 use Rattle.qc_model.specs.declared.problem.Scope.{Scope}
@@ -31,7 +32,6 @@ use Rattle.proof_meaning.proofs.GoodValues.{good_front, after_front}
 use Rattle.proof_meaning.proofs.LeafWords.{not_skipped, reached_left, reached_right}
 use Rattle.qc_model.proofs.Moves.{among_left, among_right}
 use Rattle.proof_meaning.proofs.Passing.{GoodAfter, move_count}
-use Rattle.proof_meaning.proofs.Places.{both}
 use Rattle.proof_meaning.proofs.Taken.{apart}
 use Rattle.proof_meaning.proofs.Reach.{reach, lies_to, lies_from, plan_good}
 use Rattle.proof_meaning.proofs.Frames.{Frame, FairPart}
@@ -212,7 +212,7 @@ case_mean g b k later i e a box x us vs ks ls n high new one rest = record {
       (each_wider g k later i e a others whole ls (λ w. set_widen box x vs (us ++ vs) w (λ z. among_right z us vs)) rest.each);
   loses = λ q u. loses_append g later i ks ls (one.loses q (λ j. (unmarked u j).0)) (rest.loses q (λ j. (unmarked u j).1));
   complete = λ u z t w m good j.
-      let y = both (list_all not_skipped ks) (list_all not_skipped ls) (sym (list_all-append not_skipped ks ls) ∙ z) in
+      let y = and_parts (list_all not_skipped ks) (list_all not_skipped ls) (sym (list_all-append not_skipped ks ls) ∙ z) in
       elim (values_split box x us vs w j) [
         | inl r ↦ reached_left (a ++ t) ks ls (one.complete (λ p. (unmarked u p).0) y.0 t w m good r)
         | inr r ↦ reached_right (a ++ t) ks ls (rest.complete (λ p. (unmarked u p).1) y.1 t w m good r)
@@ -242,4 +242,4 @@ case_mean g b k later i e a box x us vs ks ls n high new one rest = record {
     others = set box x vs
 
     unmarked : (k ≡ Exists → is_unmarked (ks ++ ls) ≡ true) → k ≡ Exists → (is_unmarked ks ≡ true) × (is_unmarked ls ≡ true)
-    unmarked u q = both (is_unmarked ks) (is_unmarked ls) (sym (unmarked_append ks ls) ∙ u q)
+    unmarked u q = and_parts (is_unmarked ks) (is_unmarked ls) (sym (unmarked_append ks ls) ∙ u q)

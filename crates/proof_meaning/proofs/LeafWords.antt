@@ -4,13 +4,13 @@ use Rattle.std.specs.Prelude.{ℤ}
 use Rattle.std.specs.List.{list_all}
 use Rattle.std.specs.Ordering.{int_eq}
 use Rattle.std.proofs.lemmas.Bool.Decides.{Decides-int_eq}
+use Rattle.std.proofs.lemmas.Bool.{and_parts}
 use Rattle.qc_model.specs.Lists.{Among, same_values}
 use Rattle.qc_model.specs.Plan.{Plan, entry_tuples, EachEntry}
 use Rattle.qc_model.specs.Verdict.{Verdict, lost, exact, unknown, Seen, is_exact, is_lost, some_node, each_node}
 use Rattle.qc_model.specs.ExistsVerdict.{plain_exists}
 use Rattle.proof_tree.specs.Finding.{Leaf, leaf_barred, leaf_skipped, leaf_bound, leaf_node, seen_of, strategy_at, answers}
 use Rattle.proof_meaning.proofs.Boxes.{differ}
-use Rattle.proof_meaning.proofs.Places.{both}
 
 -- a leaf goes on with these values
 abbrev pub Reached : List ℤ → List Leaf → Type 0
@@ -45,14 +45,14 @@ none_skipped p [] e = refl
 none_skipped p (leaf_barred ∷ ls) e = none_skipped p ls e
 none_skipped p (leaf_skipped ∷ ls) e = cc
 none_skipped p (leaf_bound m ∷ ls) e = none_skipped p ls e
-none_skipped p (leaf_node w f ∷ ls) e = none_skipped p ls (both (p f.verdict) (each_node p (map seen_of ls)) e).1
+none_skipped p (leaf_node w f ∷ ls) e = none_skipped p ls (and_parts (p f.verdict) (each_node p (map seen_of ls)) e).1
 
 pub same_true : (u w : List ℤ) → same_values u w ≡ true → u ≡ w
 same_true [] [] e = refl
 same_true [] (y ∷ w) e = cc
 same_true (x ∷ u) [] e = cc
 same_true (x ∷ u) (y ∷ w) e =
-    let p = both (int_eq x y) (same_values u w) e in
+    let p = and_parts (int_eq x y) (same_values u w) e in
     let h : x ≡ y = (Decides-int_eq x y).0 p.0 in
     let k : u ≡ w = same_true u w p.1 in cc
 

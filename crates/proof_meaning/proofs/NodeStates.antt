@@ -2,6 +2,7 @@
 use Rattle.std.proofs.Common.{◌≡◌, ℕ, suc, ◌+◌, ◌<◌, ◌≤◌, Bool, false, ◌&&◌, not, List, [], ◌∷◌, ◌++◌, length, set, refl, sym, subst, arith, Option, None}
 use Rattle.std.specs.Prelude.{ℤ, IsTrue}
 use Rattle.std.proofs.lemmas.List.{take-append-drop}
+use Rattle.std.proofs.lemmas.Bool.{and_parts}
 use Rattle.qc_model.specs.declared.problem.Scope.{Scope}
 use Rattle.qc_model.specs.declared.problem.Condition.{Condition}
 use Rattle.qc_model.specs.Content.{Game}
@@ -23,7 +24,7 @@ use Rattle.proof_tree.specs.Fair.{bounded_within}
 use Rattle.proof_meaning.proofs.Blocks.{blocked_less, blocked_next, blocked_below}
 use Rattle.proof_meaning.proofs.Boxes.{some_widen}
 use Rattle.proof_meaning.proofs.Narrowed.{steps_widen}
-use Rattle.proof_meaning.proofs.Places.{both, not_true}
+use Rattle.proof_meaning.proofs.Places.{not_true}
 use Rattle.proof_meaning.proofs.Widths.{in_scope}
 use Rattle.proof_meaning.proofs.Premises.{IsSound}
 use Rattle.proof_meaning.proofs.Taken.{get_distinct, distinct_parts}
@@ -112,7 +113,7 @@ past_steps g r steps b h s later i d a box e p =
 pub all_values : (g : Game) (i : ℕ) (a : List ℤ) (box : Box) (x : ℕ) (b : Bool) (h : Option ℕ) (s : Scope) (later : List Scope) (d : List Condition) → IsTrue (not (has_empty box) && is_of_scope g i x) → PartState g b h s later i d a box →
     CasesState g i box x (values_left box x)
 all_values g i a box x b h s later d e p =
-    let q = both (not (has_empty box)) (is_of_scope g i x) e in
+    let q = and_parts (not (has_empty box)) (is_of_scope g i x) e in
     let w = in_scope g i x q.1 in
     record { full = not_true (has_empty box) q.0; low = w.0; high = w.1; distinct = get_distinct box x p.fair.frame.distinct; some = λ u k. k }
 
@@ -142,8 +143,8 @@ into_case g x us b h s later i d a box c p = record {
 pub next_node : (g : Game) (b : Bool) (h : Option ℕ) (s : Scope) (later : List Scope) (i : ℕ) (d : List Condition) (a : List ℤ) (box : Box) → IsTrue (not (has_empty box) && is_fixed g i box && allows g i (position g (suc i) box)) →
     PartState g b h s later i d a box → NodeState g b h later (suc i) (list_after g (s ∷ later) d) (position g (suc i) box) box
 next_node g b h s later i d a box e p =
-    let e1 = both (not (has_empty box) && is_fixed g i box) (allows g i (position g (suc i) box)) e in
-    let e2 = both (not (has_empty box)) (is_fixed g i box) e1.0 in
+    let e1 = and_parts (not (has_empty box) && is_fixed g i box) (allows g i (position g (suc i) box)) e in
+    let e2 = and_parts (not (has_empty box)) (is_fixed g i box) e1.0 in
     let full = not_true (has_empty box) e2.0 in
     let w = position g (suc i) box in
     let m = the_move g i a box p.fair.frame full e2.1 e1.1 in

@@ -2,6 +2,7 @@
 use Rattle.std.proofs.Common.{◌≡◌, true, false, ◌&&◌, not, List, [], ◌∷◌, map, take, refl, sym, ap, ◌∙◌, subst, arith, Option, Some, None}
 use Rattle.std.specs.Prelude.{ℤ, IsTrue, is_some}
 use Rattle.std.proofs.lemmas.Bool.Decides.{Decides-int_eq}
+use Rattle.std.proofs.lemmas.Bool.{and_parts}
 use Rattle.qc_model.specs.declared.problem.Kind.{Kind}
 use Rattle.qc_model.specs.declared.problem.Kind.TheVariants.{Exists, Forall}
 use Rattle.qc_model.specs.declared.problem.Scope.{Scope}
@@ -27,7 +28,6 @@ use Rattle.proof_tree.specs.Read.{root_finding, strategy_of, counter_of}
 use Rattle.proof_tree.specs.Proves.{optimises_first, is_value, shows, proves}
 use Rattle.proof_tree.specs.Meaning.{LostMeans, VerdictMeans, OptimumBy, IsOptimum, TrueMeans, FalseMeans, OutcomeMeans}
 use Rattle.proof_meaning.proofs.Boxes.{differ}
-use Rattle.proof_meaning.proofs.Places.{both}
 use Rattle.proof_meaning.proofs.Premises.{sound_of}
 use Rattle.qc_model.specs.Valid.{IsValid}
 use Rattle.proof_meaning.proofs.Frames.{FairNode}
@@ -94,19 +94,19 @@ optimum_is g f v (s ∷ later) q h own x o = by s.kind s.condition q h own
 
 pub outcome_means : (g : Game) (outcome : Outcome) (optimum : Option ℤ) (t : Tree) → IsValid g → IsTrue (proves g outcome optimum t) → OutcomeMeans outcome optimum g t
 outcome_means g True None t r e =
-    let p = both (root_in_place g t) (shows g t (root_finding g t) True None) e in
-    let q = both (is_exact (root_finding g t).verdict) (not (optimises_first g.scopes)) p.1 in
+    let p = and_parts (root_in_place g t) (shows g t (root_finding g t) True None) e in
+    let q = and_parts (is_exact (root_finding g t).verdict) (not (optimises_first g.scopes)) p.1 in
     root_true g t r p.0 q.0
 outcome_means g True (Some v) t r e =
-    let p = both (root_in_place g t) (shows g t (root_finding g t) True (Some v)) e in
-    let q = both (is_exact (root_finding g t).verdict && optimises_first g.scopes) (is_value v (root_finding g t).own) p.1 in
-    let q1 = both (is_exact (root_finding g t).verdict) (optimises_first g.scopes) q.0 in
+    let p = and_parts (root_in_place g t) (shows g t (root_finding g t) True (Some v)) e in
+    let q = and_parts (is_exact (root_finding g t).verdict && optimises_first g.scopes) (is_value v (root_finding g t).own) p.1 in
+    let q1 = and_parts (is_exact (root_finding g t).verdict) (optimises_first g.scopes) q.0 in
     let m = root_true g t r p.0 q1.0 in
     (m, optimum_is g (root_finding g t) v g.scopes refl q1.1 (root_means g t r p.0).own (own_is v (root_finding g t).own q.1) m.optimal)
 outcome_means g False None t r e =
-    let p = both (root_in_place g t) (shows g t (root_finding g t) False None) e in
+    let p = and_parts (root_in_place g t) (shows g t (root_finding g t) False None) e in
     root_false g t r p.0 p.1
 outcome_means g False (Some v) t r e =
-    let p = both (root_in_place g t) false e in
+    let p = and_parts (root_in_place g t) false e in
     absurd (differ p.1)
 outcome_means g (Open n) v t r e = tt

@@ -4,6 +4,7 @@ use Rattle.std.specs.Prelude.{IsTrue, ℤ, nat_le, nat_lt, ◌==◌, slice_get}
 use Rattle.std.specs.List.{list_all}
 use Rattle.std.proofs.lemmas.Bool.Decides.{nat_tests}
 use Rattle.std.proofs.lemmas.List.{length-take, length-drop}
+use Rattle.std.proofs.lemmas.Bool.{and_parts}
 use Rattle.qc_model.specs.declared.problem.Kind.{Kind}
 use Rattle.qc_model.specs.declared.problem.Kind.TheVariants.{Exists, Forall}
 use Rattle.qc_model.specs.declared.problem.Scope.{Scope}
@@ -24,7 +25,6 @@ use Rattle.qc_model.proofs.Visible.{holds_visible}
 use Rattle.proof_tree.specs.Good.{Good, GoodThrough, MovesOn}
 use Rattle.qc_model.specs.Table.{IsOrdered}
 use Rattle.proof_meaning.proofs.HorizonHolds.{Passes}
-use Rattle.proof_meaning.proofs.Places.{both}
 
 -- good values after a tuple of a scope of this kind; a universal scope looks at its own restriction alone
 abbrev pub GoodAfter : Kind → Game → List Scope → ℕ → List ℤ → List ℤ → Type 0
@@ -81,7 +81,7 @@ get_among (y ∷ xs) (suc k) x e = inr (get_among xs k x e)
 
 all_to : {X : Type 0} (p : X → Bool) (d : List X) → list_all p d ≡ true → (v : X) → Among v d → p v ≡ true
 all_to p [] e v m = absurd m
-all_to p (x ∷ d) e v m = let r = both (p x) (list_all p d) e in elim m [ inl h ↦ ap p h ∙ r.0 | inr n ↦ all_to p d r.1 v n ]
+all_to p (x ∷ d) e v m = let r = and_parts (p x) (list_all p d) e in elim m [ inl h ↦ ap p h ∙ r.0 | inr n ↦ all_to p d r.1 v n ]
 
 same_owner : (m n : ℕ) → m ≡ n → (m == n) ≡ true
 same_owner m n e = grind (arith, nat_tests)
@@ -128,7 +128,7 @@ passes g p n i stop a w len d s h = record {
 
     one : (k : ℕ) (c : Rule) → slice_get g.constraints k ≡ Some c → is_owned_within i stop c ≡ true → ArgumentsBelow (length w) c.args × (holds_on c w ≡ true)
     one k c e o =
-        let q = both (nat_le i c.owner.0) (nat_lt c.owner.0 stop) o in
+        let q = and_parts (nat_le i c.owner.0) (nat_lt c.owner.0 stop) o in
         let low : i ≤ c.owner.0 = le_from i c.owner.0 q.0 in
         let high : c.owner.0 < stop = lt_from c.owner.0 stop q.1 in
         passes_one g p n i a w len h k c e low (omega arith)

@@ -2,6 +2,7 @@
 use Rattle.std.proofs.Common.{◌≡◌, inl, inr, ℕ, suc, Bool, true, false, List, [], ◌∷◌, ◌++◌, length, map, drop, refl, sym, ap, ◌∙◌, subst, cond, arith}
 use Rattle.std.specs.Prelude.{ℤ}
 use Rattle.std.proofs.Math.Seq.{drop-append_seam}
+use Rattle.std.proofs.lemmas.Bool.{or_parts, and_parts}
 use Rattle.qc_model.specs.declared.problem.Kind.{Kind}
 use Rattle.qc_model.specs.declared.problem.Scope.{Scope}
 use Rattle.qc_model.specs.declared.problem.Condition.{Condition}
@@ -18,12 +19,10 @@ use Rattle.qc_model.specs.ExistsVerdict.{best_number, some_open}
 use Rattle.qc_model.proofs.Moves.{among_left, among_right, among_map}
 use Rattle.qc_model.proofs.Vectors.{AllLong}
 use Rattle.qc_model.proofs.ExistsMeans.{SomeAllows, cover}
-use Rattle.model_laws.proofs.Better.{or_none}
 use Rattle.model_laws.proofs.Choosing.{best_weaker, vector_long}
 use Rattle.proof_tree.specs.Finding.{Leaf, leaf_barred, leaf_skipped, leaf_bound, leaf_node, seen_of, is_exact_at, first_choice, all_replies}
 use Rattle.proof_meaning.proofs.Boxes.{differ}
 use Rattle.proof_meaning.proofs.LeafWords.{Reached, same_true, same_self}
-use Rattle.proof_meaning.proofs.Places.{both}
 use Rattle.proof_meaning.proofs.LeafLists.{Shown, EachLeaf, EachLoses, is_unmarked}
 
 exact_at_is : (v : List ℤ) (x : Verdict) → is_exact_at v x ≡ true → x ≡ exact v
@@ -117,7 +116,7 @@ replies g later i a t (leaf_barred ∷ ls) h e r = replies g later i a t ls h e 
 replies g later i a t (leaf_skipped ∷ ls) h e r = absurd (differ e)
 replies g later i a t (leaf_bound m ∷ ls) h e r = replies g later i a t ls h e r
 replies g later i a t (leaf_node w f ∷ ls) h e r =
-    let p = both (is_lost f.verdict) (each_node is_lost (map seen_of ls)) e in
+    let p = and_parts (is_lost f.verdict) (each_node is_lost (map seen_of ls)) e in
     elim r [
       | inl q ↦ inl (ap (drop (length a)) q ∙ drop-append_seam a t, subst (λ u. CounterWins g later (suc i) u f.counter) q (h.0 p.0))
       | inr m ↦ inr (replies g later i a t ls h.1 p.1 m)
@@ -127,7 +126,7 @@ replies g later i a t (leaf_node w f ∷ ls) h e r =
 first_no_better : (c : Condition) (d : List Condition) (w v : List ℤ) → length w ≡ length (c ∷ d) → length v ≡ length (c ∷ d) → is_better_vector (c ∷ d) w v ≡ false → is_better c.sense (first_value w) (first_value v) ≡ false
 first_no_better c d [] v lw lv h = absurd (omega arith)
 first_no_better c d (x ∷ w) [] lw lv h = absurd (omega arith)
-first_no_better c d (x ∷ w) (y ∷ v) lw lv h = (or_none (is_better c.sense x y) _ h).0
+first_no_better c d (x ∷ w) (y ∷ v) lw lv h = (or_parts (is_better c.sense x y) _ h).0
 
 long_one : (e : List Condition) (vs : List (List ℤ)) (v : List ℤ) → AllLong e vs → Among v vs → length v ≡ length e
 long_one e [] v l m = absurd m

@@ -5,6 +5,7 @@ use Rattle.std.specs.List.{sum_by}
 use Rattle.std.proofs.lemmas.List.{length-map, length-drop}
 use Rattle.std.proofs.lemmas.List.Sums.{sum_by-cons}
 use Rattle.std.proofs.lemmas.Bool.Decides.{nat_tests}
+use Rattle.std.proofs.lemmas.Bool.{and_parts}
 use Rattle.qc_model.specs.declared.problem.Scope.{Scope}
 use Rattle.qc_model.specs.declared.problem.Condition.{Condition}
 use Rattle.qc_model.specs.declared.problem.Variable.{Variable}
@@ -18,7 +19,6 @@ use Rattle.qc_model.specs.Sees.{SeesRight}
 use Rattle.qc_model.specs.Valid.{IsValid, is_in_order}
 use Rattle.model_laws.proofs.Better.{and_second}
 use Rattle.model_laws.proofs.Seen.{demands_visible}
-use Rattle.proof_meaning.proofs.Places.{both}
 use Rattle.proof_meaning.proofs.Trees.{Asked}
 
 sees_dropped : (g : Game) (scopes : List Scope) (n i : ℕ) → SeesRight g scopes i → SeesRight g (drop n scopes) (n + i)
@@ -55,7 +55,7 @@ first_below n i [] e = lt i n e
     lt : (i n : ℕ) → nat_lt i n ≡ true → i < n
     lt i n e = grind (arith, nat_tests)
 first_below n i (h ∷ is) e =
-    let p = both (nat_le i h) (is_in_order n (h ∷ is)) e in
+    let p = and_parts (nat_le i h) (is_in_order n (h ∷ is)) e in
     let l = le i h p.0 in
     let r = first_below n h is p.1 in omega arith
   where
@@ -64,7 +64,7 @@ first_below n i (h ∷ is) e =
 
 rest_in_order : (n i : ℕ) (is : List ℕ) → is_in_order n (i ∷ is) ≡ true → is_in_order n is ≡ true
 rest_in_order n i [] e = refl
-rest_in_order n i (h ∷ is) e = (both (nat_le i h) (is_in_order n (h ∷ is)) e).1
+rest_in_order n i (h ∷ is) e = (and_parts (nat_le i h) (is_in_order n (h ∷ is)) e).1
 
 all_stand : (n : ℕ) (xs : List Variable) → is_in_order n (owners xs) ≡ true → sum_by (stands n) xs ≡ length xs
 all_stand n [] e = refl

@@ -2,6 +2,7 @@
 use Rattle.std.proofs.Common.{◌≡◌, ◌⊎◌, inl, inr, ℕ, zero, suc, ◌+◌, ◌<◌, ◌≤◌, Bool, true, false, not, List, [], ◌∷◌, ◌++◌, length, map, set, refl, sym, ap, ◌∙◌, subst, arith, cond, Option, Some, None}
 use Rattle.std.specs.Prelude.{ℤ, pos, slice_get, slice_index_or, ◌==◌, int_lt}
 use Rattle.std.proofs.lemmas.Bool.Decides.{nat_tests}
+use Rattle.std.proofs.lemmas.Bool.{and_parts}
 use Rattle.qc_model.specs.declared.problem.Kind.{Kind}
 use Rattle.qc_model.specs.declared.problem.Kind.TheVariants.{Exists, Forall}
 use Rattle.qc_model.specs.declared.problem.Sense.{Sense}
@@ -33,7 +34,7 @@ use Rattle.proof_tree.specs.Finding.{Leaf, leaf_bound}
 use Rattle.proof_tree.specs.Fair.{free_stop, bounded_after}
 use Rattle.proof_meaning.proofs.Boxes.{differ, filter_widen, filter_split}
 use Rattle.proof_meaning.proofs.Narrowed.{past_set}
-use Rattle.proof_meaning.proofs.Places.{both, not_true}
+use Rattle.proof_meaning.proofs.Places.{not_true}
 use Rattle.proof_meaning.proofs.Premises.{IsSound}
 use Rattle.proof_meaning.proofs.Owners.{bound_free}
 use Rattle.proof_meaning.proofs.Reach.{reach, value_reach}
@@ -113,12 +114,12 @@ module _ (g : Game) (r : IsSound g) (s : Scope) (later : List Scope) (i : ℕ) (
   pub step_fair : (t : Option Tracked) → tracked_variable g (s ∷ later) i e ≡ t → (st : Step) (b : Bool) (box : Box) → legal t st box ≡ true → FairPart g b s.kind later i a box →
       FairPart g (bounded_after st b) s.kind later i a (after_step st box)
   step_fair t q (Prune x lo hi c) b box h f =
-      let p = both (removes_some box x.0 lo hi) (is_refuted_within i (force_stop (s ∷ later) i) (slice_get g.constraints c.0) (box_within box x.0 lo hi)) h in
-      let p1 = both (not (has_empty box)) (not (is_none_left (values_within lo hi (values_left box x.0)))) p.0 in
+      let p = and_parts (removes_some box x.0 lo hi) (is_refuted_within i (force_stop (s ∷ later) i) (slice_get g.constraints c.0) (box_within box x.0 lo hi)) h in
+      let p1 = and_parts (not (has_empty box)) (not (is_none_left (values_within lo hi (values_left box x.0)))) p.0 in
       prune_fair g r.table r.ordered b s.kind later i a box x.0 lo hi c.0 len p.1 (not_true (has_empty box) p1.0) f
   step_fair t q (Bound x lo hi) b box h f =
-      let p = both (removes_some box x.0 lo hi) (is_tracked x.0 t) h in
-      let p1 = both (not (has_empty box)) (not (is_none_left (values_within lo hi (values_left box x.0)))) p.0 in
+      let p = and_parts (removes_some box x.0 lo hi) (is_tracked x.0 t) h in
+      let p1 = and_parts (not (has_empty box)) (not (is_none_left (values_within lo hi (values_left box x.0)))) p.0 in
       let u = bounded t x.0 q p.1 in
       subst (λ k. FairPart g true k later i a (box_without box x.0 lo hi)) (sym u.3)
       (bound_fair g b later i a box x.0 lo hi (subst (λ n. n < before g (free_stop later (suc i))) u.2 u.4) (not_true (has_empty box) p1.0) (subst (λ k. FairPart g b k later i a box) u.3 f))
@@ -127,25 +128,25 @@ module _ (g : Game) (r : IsSound g) (s : Scope) (later : List Scope) (i : ℕ) (
       FairPart g (flag_after steps b) s.kind later i a (after_steps steps box)
   steps_fair t q [] b box h f = f
   steps_fair t q (st ∷ steps) b box h f =
-      let p = both (legal t st box) (are_legal g i (force_stop (s ∷ later) i) t steps (after_step st box)) h in
+      let p = and_parts (legal t st box) (are_legal g i (force_stop (s ∷ later) i) t steps (after_step st box)) h in
       steps_fair t q steps (bounded_after st b) (after_step st box) p.1 (step_fair t q st b box p.0 f)
 
   pub steps_mean : (t : Option Tracked) → tracked_variable g (s ∷ later) i e ≡ t → (steps : List Step) (b : Bool) (box : Box) (ls : List Leaf) → are_legal g i (force_stop (s ∷ later) i) t steps box ≡ true → FairPart g b s.kind later i a box →
       LeavesMean g (flag_after steps b) s.kind later i e a (after_steps steps box) ls → LeavesMean g b s.kind later i e a box (map leaf_bound (step_marks t steps box) ++ ls)
   steps_mean t q [] b box ls h f m = m
   steps_mean t q (Prune x lo hi c ∷ steps) b box ls h f m =
-      let p = both (legal t (Prune x lo hi c) box) (are_legal g i (force_stop (s ∷ later) i) t steps (after_step (Prune x lo hi c) box)) h in
-      let p1 = both (removes_some box x.0 lo hi) (is_refuted_within i (force_stop (s ∷ later) i) (slice_get g.constraints c.0) (box_within box x.0 lo hi)) p.0 in
+      let p = and_parts (legal t (Prune x lo hi c) box) (are_legal g i (force_stop (s ∷ later) i) t steps (after_step (Prune x lo hi c) box)) h in
+      let p1 = and_parts (removes_some box x.0 lo hi) (is_refuted_within i (force_stop (s ∷ later) i) (slice_get g.constraints c.0) (box_within box x.0 lo hi)) p.0 in
       same_mean g b s.kind later i e a (box_without box x.0 lo hi) box (map leaf_bound (step_marks t steps (box_without box x.0 lo hi)) ++ ls)
       (λ w. filter_widen (λ z. not (is_within lo hi z)) box x.0 w)
       (prune_stays g r.table r.ordered s.kind later i a box x.0 lo hi c.0 len p1.1 f.frame)
       (steps_mean t q steps b (box_without box x.0 lo hi) ls p.1 (step_fair t q (Prune x lo hi c) b box p.0 f) m)
   steps_mean None q (Bound x lo hi ∷ steps) b box ls h f m =
-      let p = both (legal None (Bound x lo hi) box) (are_legal g i (force_stop (s ∷ later) i) None steps (after_step (Bound x lo hi) box)) h in
-      absurd (differ (both (removes_some box x.0 lo hi) false p.0).1)
+      let p = and_parts (legal None (Bound x lo hi) box) (are_legal g i (force_stop (s ∷ later) i) None steps (after_step (Bound x lo hi) box)) h in
+      absurd (differ (and_parts (removes_some box x.0 lo hi) false p.0).1)
   steps_mean (Some u) q (Bound x lo hi ∷ steps) b box ls h f m =
-      let p = both (legal (Some u) (Bound x lo hi) box) (are_legal g i (force_stop (s ∷ later) i) (Some u) steps (after_step (Bound x lo hi) box)) h in
-      let p1 = both (removes_some box x.0 lo hi) (is_tracked x.0 (Some u)) p.0 in
+      let p = and_parts (legal (Some u) (Bound x lo hi) box) (are_legal g i (force_stop (s ∷ later) i) (Some u) steps (after_step (Bound x lo hi) box)) h in
+      let p1 = and_parts (removes_some box x.0 lo hi) (is_tracked x.0 (Some u)) p.0 in
       let d = some_demand g s.kind later (suc i) e u q in
       let small = box_without box x.0 lo hi in
       let rest : List Leaf = map leaf_bound (step_marks (Some u) steps small) ++ ls in

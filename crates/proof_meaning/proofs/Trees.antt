@@ -2,6 +2,7 @@
 use Rattle.std.proofs.Common.{◌≡◌, ℕ, suc, ◌+◌, ◌<◌, ◌≤◌, Bool, true, false, ◌&&◌, not, List, [], ◌∷◌, ◌++◌, length, set, refl, sym, ◌∙◌, subst, arith, Option, Some, None}
 use Rattle.std.specs.Prelude.{ℤ, IsTrue, ⊤, nat_lt}
 use Rattle.std.proofs.lemmas.List.{set-get_or, take-append-drop}
+use Rattle.std.proofs.lemmas.Bool.{and_parts}
 use Rattle.qc_model.specs.declared.problem.Kind.{Kind}
 use Rattle.qc_model.specs.declared.problem.Kind.TheVariants.{Exists, Forall}
 use Rattle.qc_model.specs.declared.problem.Scope.{Scope}
@@ -36,7 +37,7 @@ use Rattle.proof_meaning.proofs.Boxes.{differ, some_widen}
 use Rattle.proof_meaning.proofs.GoodValues.{declared_keeps}
 use Rattle.proof_meaning.proofs.Narrowed.{steps_widen}
 use Rattle.proof_meaning.proofs.Passing.{move_count}
-use Rattle.proof_meaning.proofs.Places.{both, not_true}
+use Rattle.proof_meaning.proofs.Places.{not_true}
 use Rattle.proof_meaning.proofs.Widths.{in_scope}
 use Rattle.proof_meaning.proofs.Premises.{IsSound}
 use Rattle.proof_meaning.proofs.Taken.{get_distinct, distinct_parts}
@@ -110,7 +111,7 @@ mutual
   pub tree_means : (g : Game) (r : IsSound g) (t : Tree) (later : List Scope) (i : ℕ) (d : List Condition) (box : Box) (b : Bool) (h : Option ℕ) → i + length later ≡ length g.scopes → SeesRight g later i → Asked g later i d → has_empty box ≡ false →
       FairNode g b later i (position g i box) box → IsBlocked g i (position g i box) box h → IsTrue (in_place g t later i d box h) → NodeMeans g b later i d (position g i box) box (read g t later i d box)
   tree_means g r (tree z c) later i d box b h len sees v full f blocked e =
-      let p = both (horizon_in_place g z later i box h) (body_in_place g c later i d box (horizon_below z h)) e in
+      let p = and_parts (horizon_in_place g z later i box h) (body_in_place g c later i d box (horizon_below z h)) e in
       body_means g r c later i d box b (horizon_below z h) len sees v full f
       (blocked_below g r.table r.ordered z later i (position g i box) box h f.frame.count f.frame.within full p.0 blocked) p.1
 
@@ -120,14 +121,14 @@ mutual
       record { verdict = stuck_node g r.ordered later i d (position g i box) box b h len blocked e full f; own = stuck_own g later d (position g i box); once = stuck_once later g d (position g i box) }
   body_means g r goal [] i d box b h len sees v full f blocked e =
       record { verdict = goal_node g i d (position g i box) box b v.0 (front_in g i (position g i box) box f.frame full); own = tt; once = tt }
-  body_means g r goal (s ∷ later) i d box b h len sees v full f blocked e = absurd (differ (both (not (is_horizon h i)) false e).1)
+  body_means g r goal (s ∷ later) i d box b h len sees v full f blocked e = absurd (differ (and_parts (not (is_horizon h i)) false e).1)
   body_means g r (cases steps end) [] i d box b h len sees v full f blocked e =
-      let p = both _ (ending_in_place g end [] i d (after_steps steps box) h) e in
-      let p1 = both _ (steps_in_place g [] i d steps box) p.0 in
-      absurd (differ (both (not (is_horizon h i)) false p1.0).1)
+      let p = and_parts _ (ending_in_place g end [] i d (after_steps steps box) h) e in
+      let p1 = and_parts _ (steps_in_place g [] i d steps box) p.0 in
+      absurd (differ (and_parts (not (is_horizon h i)) false p1.0).1)
   body_means g r (cases steps end) (s ∷ later) i d box b h len sees v full f blocked e =
-      let p = both _ (ending_in_place g end (s ∷ later) i d (after_steps steps box) h) e in
-      let p1 = both _ (steps_in_place g (s ∷ later) i d steps box) p.0 in
+      let p = and_parts _ (ending_in_place g end (s ∷ later) i d (after_steps steps box) h) e in
+      let p1 = and_parts _ (steps_in_place g (s ∷ later) i d steps box) p.0 in
       let a = position g i box in
       let after = after_steps steps box in
       let x = list_after g (s ∷ later) d in
@@ -145,13 +146,13 @@ mutual
       LeavesMean g b s.kind later i (list_after g (s ∷ later) d) a box (leaves g end (s ∷ later) i d box)
   ending_means g r empty s later i d box a b h len sees v f blocked e = empty_mean g b s.kind later i (list_after g (s ∷ later) d) a box r.ordered.no_empty f e
   ending_means g r barred s later i d box a b h len sees v f blocked e =
-      let p = both (not (has_empty box) && is_fixed g i box) (not (allows g i (position g (suc i) box))) e in
-      let q = both (not (has_empty box)) (is_fixed g i box) p.0 in
+      let p = and_parts (not (has_empty box) && is_fixed g i box) (not (allows g i (position g (suc i) box))) e in
+      let q = and_parts (not (has_empty box)) (is_fixed g i box) p.0 in
       barred_mean g b s.kind later i (list_after g (s ∷ later) d) a box f.frame (all_fixed g i a box f.frame (not_true (has_empty box) q.0) q.1) (not_true (allows g i (position g (suc i) box)) p.1)
   ending_means g r (next u) s later i d box a b h len sees v f blocked e =
-      let p = both _ (in_place g u later (suc i) (list_after g (s ∷ later) d) box h) e in
-      let p2 = both _ (allows g i (position g (suc i) box)) p.0 in
-      let q = both (not (has_empty box)) (is_fixed g i box) p2.0 in
+      let p = and_parts _ (in_place g u later (suc i) (list_after g (s ∷ later) d) box h) e in
+      let p2 = and_parts _ (allows g i (position g (suc i) box)) p.0 in
+      let q = and_parts (not (has_empty box)) (is_fixed g i box) p2.0 in
       let full = not_true (has_empty box) q.0 in
       let fixed = all_fixed g i a box f.frame full q.1 in
       let m = the_move g i a box f.frame full q.1 p2.1 in
@@ -161,9 +162,9 @@ mutual
       (blocked_next g i a m.tuple w box h m.after m.is_move blocked) p.1 in
       next_mean g b s.kind later i x a w box (read g u later (suc i) x box) f.frame fixed refl m (child_all g b s.kind later i a w box f m) child.verdict child.once
   ending_means g r (branch x bs) s later i d box a b h len sees v f blocked e =
-      let p = both _ (branches_in_place g bs x.0 (values_left box x.0) (s ∷ later) i d box h) e in
-      let p1 = both _ (not (is_single (values_left box x.0))) p.0 in
-      let p2 = both (not (has_empty box)) (is_of_scope g i x.0) p1.0 in
+      let p = and_parts _ (branches_in_place g bs x.0 (values_left box x.0) (s ∷ later) i d box h) e in
+      let p1 = and_parts _ (not (is_single (values_left box x.0))) p.0 in
+      let p2 = and_parts (not (has_empty box)) (is_of_scope g i x.0) p1.0 in
       let q = in_scope g i x.0 p2.1 in
       let m = branches_mean g r bs x.0 (values_left box x.0) s later i d box a b h len sees v f blocked (not_true (has_empty box) p2.0) q.0 q.1 (get_distinct box x.0 f.frame.distinct) (λ u k. k) p.1 in
       subst (λ c. LeavesMean g b s.kind later i (list_after g (s ∷ later) d) a c (branch_leaves g bs x.0 (values_left box x.0) (s ∷ later) i d box)) (set-get_or box x.0 []) m
@@ -178,8 +179,8 @@ mutual
       let us = covered upto vs in
       let rest = uncovered upto vs in
       let q : us ++ rest ≡ vs = take-append-drop (cover upto vs) vs in
-      let p = both _ (branches_in_place g bs x rest (s ∷ later) i d box h) e in
-      let p1 = both (is_cover upto vs) (case_in_place g c x us (s ∷ later) i d box h) p.0 in
+      let p = and_parts _ (branches_in_place g bs x rest (s ∷ later) i d box h) e in
+      let p1 = and_parts (is_cover upto vs) (case_in_place g c x us (s ∷ later) i d box h) p.0 in
       let parts = distinct_parts us rest (subst Distinct (sym q) new) in
       let y = list_after g (s ∷ later) d in
       let one = case_means g r c x us s later i d box a b h len sees v f blocked full low high parts.first (λ u k. sub u (subst (Among u) q (among_left u us rest k))) p1.1 in
@@ -196,8 +197,8 @@ mutual
   case_means g r (go steps end) x us s later i d box a b h len sees v f blocked full low high new sub e =
       let small = set box x us in
       let after = after_steps steps small in
-      let p = both _ (ending_in_place g end (s ∷ later) i d after h) e in
-      let p1 = both (nat_lt (length us) (length (values_left box x))) (steps_in_place g (s ∷ later) i d steps small) p.0 in
+      let p = and_parts _ (ending_in_place g end (s ∷ later) i d after h) e in
+      let p1 = and_parts (nat_lt (length us) (length (values_left box x))) (steps_in_place g (s ∷ later) i d steps small) p.0 in
       let y = list_after g (s ∷ later) d in
       let t = tracked_variable g (s ∷ later) i y in
       let w = after_asked g later s.kind s.condition i d v sees.0 in

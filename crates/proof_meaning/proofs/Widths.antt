@@ -3,10 +3,10 @@ use Rattle.std.proofs.Common.{◌≡◌, ℕ, suc, ◌+◌, ◌-◌, ◌<◌, �
 use Rattle.std.specs.Prelude.{nat_le, nat_lt}
 use Rattle.std.proofs.lemmas.List.{take-append-drop, drop-take, take-take, drop-drop}
 use Rattle.std.proofs.lemmas.Bool.Decides.{nat_tests}
+use Rattle.std.proofs.lemmas.Bool.{and_parts}
 use Rattle.qc_model.specs.Content.{Game}
 use Rattle.qc_model.specs.Game.{before, part, is_of_scope}
 use Rattle.qc_model.proofs.Before.{before_up}
-use Rattle.proof_meaning.proofs.Places.{both}
 
 -- how many variables scope i has
 abbrev pub width : Game → ℕ → ℕ
@@ -37,7 +37,7 @@ pub in_scope : (g : Game) (i x : ℕ) → is_of_scope g i x ≡ true → (before
 in_scope g i x e = between (before g i) x (before g (suc i)) e
   where
     between : (a x b : ℕ) → (nat_le a x && nat_lt x b) ≡ true → (a ≤ x) × (x < b)
-    between a x b e = let p = both (nat_le a x) (nat_lt x b) e in (le_from a x p.0, lt_from x b p.1)
+    between a x b e = let p = and_parts (nat_le a x) (nat_lt x b) e in (le_from a x p.0, lt_from x b p.1)
       where
         le_from : (a x : ℕ) → nat_le a x ≡ true → a ≤ x
         le_from a x e = grind (arith, nat_tests)

@@ -4,6 +4,7 @@ use Rattle.std.specs.Prelude.{ℤ, pos, IsTrue, nat_lt}
 use Rattle.std.proofs.Math.Nat.{mul-le-mul, mul-le-mul_right}
 use Rattle.std.proofs.lemmas.List.{length-drop}
 use Rattle.std.proofs.lemmas.Bool.Decides.{nat_tests}
+use Rattle.std.proofs.lemmas.Bool.{and_parts, and_from}
 use Rattle.qc_model.specs.declared.problem.Condition.{Condition}
 use Rattle.qc_model.specs.declared.problem.Scope.{Scope}
 use Rattle.qc_model.specs.Content.{Game}
@@ -20,14 +21,6 @@ use Rattle.proof_tree.specs.Place.{list_after}
 use Rattle.proof_tree.specs.Steps.{after_steps}
 use Rattle.proof_tree.specs.InPlace.{horizon_below, is_horizon, horizon_in_place, steps_in_place, in_place, body_in_place, ending_in_place, branches_in_place, case_in_place, root_in_place}
 use Rattle.proof_tree.proofs.BoxSizes.{unfixed_count, box_product, box_size, smaller_size, steps_smaller, one_count, cases_size, same_size, declared_count, declared_product}
-
-both : (a b : Bool) → (a && b) ≡ true → (a ≡ true) × (b ≡ true)
-both true b e = (refl, e)
-both false b e = cc
-
-two : (a b : Bool) → a ≡ true → b ≡ true → (a && b) ≡ true
-two true b e f = f
-two false b e f = cc
 
 not_true : (a : Bool) → not a ≡ true → a ≡ false
 not_true true e = cc
@@ -58,10 +51,10 @@ sum_few c b k l m h i j = let q = mul-le-mul_right (1 + k) j in omega (arith, q,
 covers_some : (upto : Option ℤ) (vs : Values) → is_cover upto vs ≡ true → 1 + length (uncovered upto vs) ≤ length vs
 covers_some None [] h = cc
 covers_some None (v ∷ vs) h = omega arith
-covers_some (Some high) [] h = absurd (differ (both (has_value [] high) (nat_lt 1 0) h).0)
+covers_some (Some high) [] h = absurd (differ (and_parts (has_value [] high) (nat_lt 1 0) h).0)
 covers_some (Some high) (v ∷ vs) h =
     let n = cover (Some high) (v ∷ vs) in
-    let p = both (has_value (v ∷ vs) high) (nat_lt 1 n) h in
+    let p = and_parts (has_value (v ∷ vs) high) (nat_lt 1 n) h in
     let q : 1 < n = grind (arith, nat_tests) in
     let l = length-drop n (v ∷ vs) in
     omega (arith, l, q)
@@ -86,9 +79,9 @@ module _ (p q : Option ℤ → Case → Branches → Bool) (less : (upto : Optio
     branches_less : (bs : Branches) → IsTrue (branches_each p bs) → IsTrue (branches_each q bs)
     branches_less no_more e = refl
     branches_less (piece upto c bs) e =
-        let r = both (p upto c bs && inner_each p c) (branches_each p bs) e in
-        let s = both (p upto c bs) (inner_each p c) r.0 in
-        two (q upto c bs && inner_each q c) (branches_each q bs) (two (q upto c bs) (inner_each q c) (less upto c bs s.0) (inner_less c s.1)) (branches_less bs r.1)
+        let r = and_parts (p upto c bs && inner_each p c) (branches_each p bs) e in
+        let s = and_parts (p upto c bs) (inner_each p c) r.0 in
+        and_from (q upto c bs && inner_each q c) (branches_each q bs) (and_from (q upto c bs) (inner_each q c) (less upto c bs s.0) (inner_less c s.1)) (branches_less bs r.1)
 
     inner_less : (c : Case) → IsTrue (inner_each p c) → IsTrue (inner_each q c)
     inner_less skip e = refl
@@ -106,17 +99,17 @@ module _ (g : Game) where
   mutual
     tree_small : (t : Tree) (later : List Scope) (i : ℕ) (d : List Condition) (box : Box) (h : Option ℕ) → IsTrue (in_place g t later i d box h) → IsTrue (each_case goes_at_one t) → IsSmall (cases_of t) (depth_of t) box (length later)
     tree_small (tree z c) later i d box h e o =
-        body_small c later i d box (horizon_below z h) (both (horizon_in_place g z later i box h) (body_in_place g c later i d box (horizon_below z h)) e).1 o
+        body_small c later i d box (horizon_below z h) (and_parts (horizon_in_place g z later i box h) (body_in_place g c later i d box (horizon_below z h)) e).1 o
 
     body_small : (c : Body) (later : List Scope) (i : ℕ) (d : List Condition) (box : Box) (h : Option ℕ) → IsTrue (body_in_place g c later i d box h) → IsTrue (body_each goes_at_one c) → IsSmall (body_count any c) (body_depth c) box (length later)
     body_small stuck later i d box h e o = no_case box (length later)
     body_small goal later i d box h e o = no_case box (length later)
     body_small (cases steps end) [] i d box h e o =
-        let p = both _ (ending_in_place g end [] i d (after_steps steps box) h) e in
-        let p1 = both _ (steps_in_place g [] i d steps box) p.0 in
-        absurd (differ (both (not (is_horizon h i)) false p1.0).1)
+        let p = and_parts _ (ending_in_place g end [] i d (after_steps steps box) h) e in
+        let p1 = and_parts _ (steps_in_place g [] i d steps box) p.0 in
+        absurd (differ (and_parts (not (is_horizon h i)) false p1.0).1)
     body_small (cases steps end) (s ∷ later) i d box h e o =
-        let p = both _ (ending_in_place g end (s ∷ later) i d (after_steps steps box) h) e in
+        let p = and_parts _ (ending_in_place g end (s ∷ later) i d (after_steps steps box) h) e in
         let less = steps_smaller steps box in
         wider (ending_count any end) (ending_depth end) (after_steps steps box) box (suc (length later)) (smaller_size (after_steps steps box) box less) less.count
         (ending_small end s later i d (after_steps steps box) h p.1 o)
@@ -126,14 +119,14 @@ module _ (g : Game) where
     ending_small empty s later i d box h e o = no_case box (suc (length later))
     ending_small barred s later i d box h e o = no_case box (suc (length later))
     ending_small (next t) s later i d box h e o =
-        let p = both _ (in_place g t later (suc i) (list_after g (s ∷ later) d) box h) e in
+        let p = and_parts _ (in_place g t later (suc i) (list_after g (s ∷ later) d) box h) e in
         let r = tree_small t later (suc i) (list_after g (s ∷ later) d) box h p.1 o in
         record { few = r.few; shallow = let q = r.shallow in omega (arith, q) }
     ending_small (branch x bs) s later i d box h e o =
-        let p = both _ (branches_in_place g bs x.0 (values_left box x.0) (s ∷ later) i d box h) e in
-        let p1 = both _ (not (is_single (values_left box x.0))) p.0 in
-        let p2 = both (not (has_empty box)) (is_of_scope g i x.0) p1.0 in
-        by (values_left box x.0) refl (not_true (is_single (values_left box x.0)) p1.1) (not_true (has_empty box) p2.0) p.1 (λ two f. branches_small bs x.0 (values_left box x.0) s later i d box h two f o)
+        let p = and_parts _ (branches_in_place g bs x.0 (values_left box x.0) (s ∷ later) i d box h) e in
+        let p1 = and_parts _ (not (is_single (values_left box x.0))) p.0 in
+        let p2 = and_parts (not (has_empty box)) (is_of_scope g i x.0) p1.0 in
+        by (values_left box x.0) refl (not_true (is_single (values_left box x.0)) p1.1) (not_true (has_empty box) p2.0) p.1 (λ and_from f. branches_small bs x.0 (values_left box x.0) s later i d box h and_from f o)
       where
         none_left : (bs : Branches) → IsTrue (branches_in_place g bs x.0 [] (s ∷ later) i d box h) → (branch_count any bs ≡ 0) × (branch_depth bs ≡ 0)
         none_left no_more e = (refl, refl)
@@ -149,43 +142,43 @@ module _ (g : Game) where
             record { few = omega (arith, r.0); shallow = omega (arith, r.1) }
         by (v ∷ []) q single full e f = absurd (differ (sym single ∙ ap is_single q))
         by (v ∷ w ∷ vs) q single full e f =
-            let two : 2 ≤ length (values_left box x.0) = subst (λ us. 2 ≤ length us) (sym q) (omega arith) in
-            let r = f two e in
-            let few = cases_size box x.0 (pos 0) full two in
+            let and_from : 2 ≤ length (values_left box x.0) = subst (λ us. 2 ≤ length us) (sym q) (omega arith) in
+            let r = f and_from e in
+            let few = cases_size box x.0 (pos 0) full and_from in
             record { few = omega (arith, r.0, few); shallow = omega (arith, r.1) }
 
-    -- the cases from one on, where two values or more are left to x
+    -- the cases from one on, where and_from values or more are left to x
     branches_small : (bs : Branches) (x : ℕ) (vs : Values) (s : Scope) (later : List Scope) (i : ℕ) (d : List Condition) (box : Box) (h : Option ℕ) → 2 ≤ length (values_left box x) →
         IsTrue (branches_in_place g bs x vs (s ∷ later) i d box h) → IsTrue (branches_each goes_at_one bs) →
         (branch_count any bs ≤ length vs * (1 + box_size (set box x (pos 0 ∷ [])))) × (1 + branch_depth bs ≤ unfixed_count box + suc (length later))
-    branches_small no_more x vs s later i d box h two e o = (omega arith, omega arith)
-    branches_small (piece upto c bs) x vs s later i d box h two e o =
-        let p = both _ (branches_in_place g bs x (uncovered upto vs) (s ∷ later) i d box h) e in
-        let p1 = both (is_cover upto vs) (case_in_place g c x (covered upto vs) (s ∷ later) i d box h) p.0 in
-        let q = both _ (branches_each goes_at_one bs) o in
-        let q1 = both (goes_at_one upto c bs) (inner_each goes_at_one c) q.0 in
-        let one = case_small upto c bs x vs s later i d box h two p1.0 p1.1 q1.0 q1.1 in
-        let rest = branches_small bs x (uncovered upto vs) s later i d box h two p.1 q.1 in
+    branches_small no_more x vs s later i d box h and_from e o = (omega arith, omega arith)
+    branches_small (piece upto c bs) x vs s later i d box h and_from e o =
+        let p = and_parts _ (branches_in_place g bs x (uncovered upto vs) (s ∷ later) i d box h) e in
+        let p1 = and_parts (is_cover upto vs) (case_in_place g c x (covered upto vs) (s ∷ later) i d box h) p.0 in
+        let q = and_parts _ (branches_each goes_at_one bs) o in
+        let q1 = and_parts (goes_at_one upto c bs) (inner_each goes_at_one c) q.0 in
+        let one = case_small upto c bs x vs s later i d box h and_from p1.0 p1.1 q1.0 q1.1 in
+        let rest = branches_small bs x (uncovered upto vs) s later i d box h and_from p.1 q.1 in
         let some = covers_some upto vs p1.0 in
         (sum_few (case_count any c) (branch_count any bs) (box_size (set box x (pos 0 ∷ []))) (length (uncovered upto vs)) (length vs) one.0 rest.0 some, omega (arith, one.1, rest.1))
 
     case_small : (upto : Option ℤ) (c : Case) (bs : Branches) (x : ℕ) (vs : Values) (s : Scope) (later : List Scope) (i : ℕ) (d : List Condition) (box : Box) (h : Option ℕ) → 2 ≤ length (values_left box x) →
         is_cover upto vs ≡ true → IsTrue (case_in_place g c x (covered upto vs) (s ∷ later) i d box h) → goes_at_one upto c bs ≡ true → IsTrue (inner_each goes_at_one c) →
         (case_count any c ≤ 1 + box_size (set box x (pos 0 ∷ []))) × (1 + case_depth c ≤ unfixed_count box + suc (length later))
-    case_small upto skip bs x vs s later i d box h two k e o u = (omega arith, omega arith)
-    case_small upto left_open bs x vs s later i d box h two k e o u = (omega arith, omega arith)
-    case_small (Some n) (go steps end) bs x vs s later i d box h two k e o u = absurd (differ o)
-    case_small None (go steps end) bs x [] s later i d box h two k e o u = absurd (differ k)
-    case_small None (go steps end) bs x (v ∷ vs) s later i d box h two k e o u =
+    case_small upto skip bs x vs s later i d box h and_from k e o u = (omega arith, omega arith)
+    case_small upto left_open bs x vs s later i d box h and_from k e o u = (omega arith, omega arith)
+    case_small (Some n) (go steps end) bs x vs s later i d box h and_from k e o u = absurd (differ o)
+    case_small None (go steps end) bs x [] s later i d box h and_from k e o u = absurd (differ k)
+    case_small None (go steps end) bs x (v ∷ vs) s later i d box h and_from k e o u =
         let small = set box x (v ∷ []) in
         let after = after_steps steps small in
-        let p = both _ (ending_in_place g end (s ∷ later) i d after h) e in
+        let p = and_parts _ (ending_in_place g end (s ∷ later) i d after h) e in
         let r = ending_small end s later i d after h p.1 u in
         let less = steps_smaller steps small in
         let size = smaller_size after small less in
         let count = less.count in
         let same = same_size box x v (pos 0) in
-        let fixed = one_count box x v two in
+        let fixed = one_count box x v and_from in
         let few = r.few in
         let shallow = r.shallow in
         (omega (arith, few, size, same), omega (arith, shallow, count, fixed))

@@ -3,6 +3,7 @@ use Rattle.std.proofs.Common.{◌≡◌, ℕ, suc, ◌≤◌, Bool, true, false,
 use Rattle.std.specs.Prelude.{nat_lt, nat_le}
 use Rattle.std.proofs.lemmas.Bool.Decides.{nat_tests}
 use Rattle.std.proofs.lemmas.List.{length-map}
+use Rattle.std.proofs.lemmas.Bool.{and_from}
 use Rattle.qc_model.specs.declared.problem.Scope.{Scope}
 use Rattle.qc_model.specs.declared.problem.Condition.{Condition}
 use Rattle.qc_model.specs.Content.{Game}
@@ -23,10 +24,6 @@ second false b e = cc
 first : (a b : Bool) → (a && b) ≡ true → a ≡ true
 first true b e = cc
 first false b e = e
-
-join : (a b : Bool) → a ≡ true → b ≡ true → (a && b) ≡ true
-join true b h k = k
-join false b h k = cc
 
 module _ (g : Game) where
   abbrev count : ℕ
@@ -58,14 +55,14 @@ module _ (g : Game) where
     ending_names (branch x bs) later i d box h e =
         let p = first _ (branches_in_place g bs x.0 (values_left box x.0) later i d box h) e in
         let q = first _ (not (is_single (values_left box x.0))) p in
-        join (nat_lt x.0 count) (cases_within count bs) (of_game i x.0 (second (not (has_empty box)) (is_of_scope g i x.0) q))
+        and_from (nat_lt x.0 count) (cases_within count bs) (of_game i x.0 (second (not (has_empty box)) (is_of_scope g i x.0) q))
         (branches_names bs x.0 (values_left box x.0) later i d box h (second _ (branches_in_place g bs x.0 (values_left box x.0) later i d box h) e))
 
     branches_names : (bs : Branches) (x : ℕ) (vs : Values) (later : List Scope) (i : ℕ) (d : List Condition) (box : Box) (h : Option ℕ) → branches_in_place g bs x vs later i d box h ≡ true → cases_within count bs ≡ true
     branches_names no_more x vs later i d box h e = refl
     branches_names (piece upto c bs) x vs later i d box h e =
         let p = first _ (branches_in_place g bs x (uncovered upto vs) later i d box h) e in
-        join (case_within count c) (cases_within count bs) (case_names c x (covered upto vs) later i d box h (second (is_cover upto vs) _ p))
+        and_from (case_within count c) (cases_within count bs) (case_names c x (covered upto vs) later i d box h (second (is_cover upto vs) _ p))
         (branches_names bs x (uncovered upto vs) later i d box h (second _ (branches_in_place g bs x (uncovered upto vs) later i d box h) e))
 
     case_names : (c : Case) (x : ℕ) (vs : Values) (later : List Scope) (i : ℕ) (d : List Condition) (box : Box) (h : Option ℕ) → case_in_place g c x vs later i d box h ≡ true → case_within count c ≡ true

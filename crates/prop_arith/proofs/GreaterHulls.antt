@@ -4,6 +4,7 @@ use Rattle.std.specs.Prelude.{negsuc, pos, ◌≤ℤ◌, ◌<ℤ◌, int_lt}
 use Rattle.std.specs.Int.{int_max}
 use Rattle.std.proofs.lemmas.Int.{ints, clamps}
 use Rattle.std.proofs.lemmas.List.{get_or-set_same}
+use Rattle.std.proofs.lemmas.Bool.{or_left, or_right, or_from, or_parts}
 use Rattle.qc_model.specs.declared.problem.Arg.{Arg}
 use Rattle.qc_model.specs.declared.problem.Arg.TheVariants.{Var}
 use Rattle.qc_model.specs.declared.problem.VarId.{VarId}
@@ -13,7 +14,6 @@ use Rattle.qc_model.specs.Domains.{Values, Box, values_left, values_within, box_
 use Rattle.qc_model.specs.Refuted.{left_to, refuted_by}
 use Rattle.qc_model.specs.Valid.{is_number}
 use Rattle.model_arguments.specs.Repeats.{same_variable}
-use Rattle.model_arguments.proofs.Bools.{or_left, or_right, or_none, neither}
 use Rattle.model_arguments.proofs.Items.{other_left}
 use Rattle.model_arguments.proofs.Kept.{passes, was_left, at_least, at_most, through, ordered, lower, is_lower, not_lower, reaches, apart, over_low, under_high, small_of}
 use Rattle.model_arguments.proofs.Values.{has_least, has_greatest}
@@ -64,7 +64,7 @@ under_one d e f h =
 
 meets : (d e f : Values) → least_value f ≤ℤ int_max (greatest_value d) (greatest_value e) → int_max (least_value d) (least_value e) ≤ℤ greatest_value f → has_no_greater d e f ≡ false
 meets d e f h k =
-    or_none (int_lt (int_max (greatest_value d) (greatest_value e)) (least_value f)) (int_lt (greatest_value f) (int_max (least_value d) (least_value e)))
+    or_from (int_lt (int_max (greatest_value d) (greatest_value e)) (least_value f)) (int_lt (greatest_value f) (int_max (least_value d) (least_value e)))
     (not_lower (int_max (greatest_value d) (greatest_value e)) (least_value f) h)
     (not_lower (greatest_value f) (int_max (least_value d) (least_value e)) k)
 
@@ -72,7 +72,7 @@ meets d e f h k =
 reached : (d e f : Values) → has_no_greater d e f ≡ false → int_max (least_value d) (least_value e) ≤ℤ greatest_value f
 reached d e f h =
     reaches (greatest_value f) (int_max (least_value d) (least_value e))
-    (neither (int_lt (int_max (greatest_value d) (greatest_value e)) (least_value f)) (int_lt (greatest_value f) (int_max (least_value d) (least_value e))) h).1
+    (or_parts (int_lt (int_max (greatest_value d) (greatest_value e)) (least_value f)) (int_lt (greatest_value f) (int_max (least_value d) (least_value e))) h).1
 
 -- the first two may change places
 pub no_greater_turned : (d e f : Values) → has_no_greater d e f ≡ has_no_greater e d f

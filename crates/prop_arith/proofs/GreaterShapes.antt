@@ -1,6 +1,7 @@
 -- The constraint that an integer is the greater of two.
 use Rattle.std.proofs.Common.{◌≡◌, true, false, ◌&&◌, ◌||◌, List, [], ◌∷◌, refl, sym, ap, ◌∙◌, subst}
 use Rattle.std.specs.List.{list_all}
+use Rattle.std.proofs.lemmas.Bool.{or_parts, and_from}
 use Rattle.qc_model.specs.declared.problem.Arg.{Arg}
 use Rattle.qc_model.specs.declared.problem.Arg.TheVariants.{Var}
 use Rattle.qc_model.specs.declared.problem.Argument.{Argument}
@@ -14,11 +15,10 @@ use Rattle.qc_model.specs.Meaning.{meaning_of}
 use Rattle.qc_model.specs.Ranges.{ranges_miss, greater_range}
 use Rattle.qc_model.specs.Refuted.{left_to, refuted_as}
 use Rattle.qc_model.specs.Valid.{is_domain}
-use Rattle.qc_model.proofs.Readable.{first, second, together}
+use Rattle.qc_model.proofs.Readable.{first, second}
 use Rattle.model_arguments.specs.Asked.{IsAsked}
 use Rattle.model_arguments.specs.Repeats.{same_variable}
 use Rattle.model_arguments.specs.Written.{arg_at}
-use Rattle.model_arguments.proofs.Bools.{neither}
 use Rattle.model_arguments.proofs.Items.{flipped}
 use Rattle.model_arguments.proofs.Written.{left_written}
 use Rattle.qc_refuter.specs.Met.{lefts, is_open, are_met}
@@ -48,7 +48,7 @@ written_own g c box at a e =
     let s = three_shape g.variables c IntMax a.rule e refl in
     let P : List Argument → Type 0 = λ args. keeps_arg c box (arg_at args 0) ≡ true → keeps_arg c box (arg_at args 1) ≡ true → keeps_arg c box (arg_at args 2) ≡ true → list_all (keeps_argument c box) args ≡ true in
     subst P (sym s.is)
-    (λ p q r. together (keeps_arg c box s.a) (keeps_arg c box s.b && (keeps_arg c box s.c && true)) p (together (keeps_arg c box s.b) (keeps_arg c box s.c && true) q (together (keeps_arg c box s.c) true r refl)))
+    (λ p q r. and_from (keeps_arg c box s.a) (keeps_arg c box s.b && (keeps_arg c box s.c && true)) p (and_from (keeps_arg c box s.b) (keeps_arg c box s.c && true) q (and_from (keeps_arg c box s.c) true r refl)))
 
 pub greater_is : (g : Game) (c : Rule) (box : Box) (t : Greater) → IsAsked g c box → IsGreaterRule t c → IsGreater c t
 greater_is g c at t a h = record {
@@ -96,8 +96,8 @@ record AreApart (t : Greater) : Type 0 where
 
 apart_of : (t : Greater) → has_twice t ≡ false → AreApart t
 apart_of t h =
-    let p = neither (same_variable t.first t.second) (same_variable t.first t.third || same_variable t.second t.third) h in
-    let q = neither (same_variable t.first t.third) (same_variable t.second t.third) p.1 in
+    let p = or_parts (same_variable t.first t.second) (same_variable t.first t.third || same_variable t.second t.third) h in
+    let q = or_parts (same_variable t.first t.third) (same_variable t.second t.third) p.1 in
     record { first_second = p.0; first_third = q.0; second_third = q.1 }
 
 -- what the third may keep, and each of the others, where the box isn't refuted

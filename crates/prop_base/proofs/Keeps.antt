@@ -3,6 +3,7 @@ use Rattle.std.proofs.Common.{◌≡◌, ℕ, Bool, true, false, not, ◌&&◌, 
 use Rattle.std.specs.Prelude.{flat_map}
 use Rattle.std.specs.List.{list_all}
 use Rattle.std.proofs.lemmas.List.Folds.{list_all-append}
+use Rattle.std.proofs.lemmas.Bool.{not_from_false}
 use Rattle.qc_model.specs.declared.problem.Arg.{Arg}
 use Rattle.qc_model.specs.declared.problem.Arg.TheVariants.{Var, Num}
 use Rattle.qc_model.specs.declared.problem.Argument.{Argument}
@@ -12,7 +13,6 @@ use Rattle.qc_model.specs.Closed.{refutes_at, keeps_ends}
 use Rattle.qc_model.specs.Content.{Rule}
 use Rattle.qc_model.specs.Domains.{Values, Box, values_left, values_within, box_within, box_at, is_none_left, is_ascending, has_value}
 use Rattle.qc_model.specs.Refuted.{refuted_by}
-use Rattle.model_arguments.proofs.Bools.{not_true}
 use Rattle.prop_base.specs.Closed.{keeps_at, keeps_arg, keeps_argument}
 use Rattle.model_arguments.proofs.Values.{only_within}
 
@@ -25,7 +25,7 @@ within_one box x v a h = ap (set box x) (only_within v (values_left box x) a h)
 pub keeps_end : (c : Rule) (box : Box) (x : ℕ) (v w : ℤ) → v ≡ w → is_ascending (values_left box x) ≡ true → has_value (values_left box x) w ≡ true → refuted_by c (box_within box x v v) ≡ false →
     not (refutes_at c box x w) ≡ true
 keeps_end c box x v w e a h f =
-    not_true (refutes_at c box x w) (sym (ap (refuted_by c) (within_one box x w a h)) ∙ (ap (λ z. refuted_by c (box_within box x z z)) (sym e) ∙ f))
+    not_from_false (refutes_at c box x w) (sym (ap (refuted_by c) (within_one box x w a h)) ∙ (ap (λ z. refuted_by c (box_within box x z z)) (sym e) ∙ f))
 
 keeps_one : (c : Rule) (box : Box) (a : Arg) → list_all (keeps_at c box) (arg_variables a) ≡ keeps_arg c box a
 keeps_one c box (Var x) = and_true (keeps_at c box x.0)

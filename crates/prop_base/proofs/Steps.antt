@@ -4,13 +4,14 @@ use Rattle.std.specs.Prelude.{slice_get, ◌==◌}
 use Rattle.std.proofs.lemmas.List.{get_or-set_same}
 use Rattle.std.proofs.lemmas.Bool.Decides.{nat_tests}
 use Rattle.std.proofs.lemmas.List.Filters.{length-filter_both}
+use Rattle.std.proofs.lemmas.Bool.{not_from_false, and_from}
 use Rattle.qc_model.specs.declared.problem.ConId.{ConId}
 use Rattle.qc_model.specs.declared.problem.VarId.{VarId}
 use Rattle.qc_model.specs.Content.{Game, Rule}
 use Rattle.qc_model.specs.Domains.{Values, Box, values_left, values_within, values_outside, box_within, box_without, is_none_left, has_empty, is_within, is_sub_box}
 use Rattle.qc_model.specs.Valid.{is_number}
-use Rattle.qc_model.proofs.Readable.{first, second, together}
-use Rattle.model_arguments.proofs.Bools.{not_true, not_false}
+use Rattle.qc_model.proofs.Readable.{first, second}
+use Rattle.model_arguments.proofs.Bools.{not_false}
 use Rattle.proof_tree.specs.declared.tree.Step.{Step}
 use Rattle.proof_tree.specs.declared.tree.Step.TheVariants.{Prune, Bound}
 use Rattle.proof_tree.specs.Steps.{removes_some, after_step, after_steps}
@@ -28,7 +29,7 @@ pruned-append : (ok : ℕ → Bool) (g : Game) (xs ys : List Step) (box : Box) �
     are_pruned_by ok g (xs ++ ys) box ≡ true
 pruned-append ok g [] ys box p q = q
 pruned-append ok g (s ∷ xs) ys box p q =
-    together (is_pruned_by ok g s box) (are_pruned_by ok g (xs ++ ys) (after_step s box))
+    and_from (is_pruned_by ok g s box) (are_pruned_by ok g (xs ++ ys) (after_step s box))
     (first (is_pruned_by ok g s box) (are_pruned_by ok g xs (after_step s box)) p)
     (pruned-append ok g xs ys (after_step s box) (second (is_pruned_by ok g s box) (are_pruned_by ok g xs (after_step s box)) p) q)
 
@@ -73,12 +74,12 @@ pruning_cut g r s t a b k c e f h q w l = record {
   more = Prune k.x k.lo k.hi c ∷ [];
   appended = l;
   legal =
-      together (is_pruned_by (is_just c.0) g (Prune k.x k.lo k.hi c) s.box) true
-      (together ((removes_some s.box k.x.0 k.lo k.hi && (is_number k.lo && is_number k.hi)) && (c.0 == c.0)) (is_refuted_by (slice_get g.constraints c.0) (box_within s.box k.x.0 k.lo k.hi))
-      (together (removes_some s.box k.x.0 k.lo k.hi && (is_number k.lo && is_number k.hi)) (c.0 == c.0)
-      (together (removes_some s.box k.x.0 k.lo k.hi) (is_number k.lo && is_number k.hi)
-      (together (not (has_empty s.box)) (not (is_none_left (values_within k.lo k.hi (values_left s.box k.x.0)))) (not_true (has_empty s.box) f) (not_true (is_none_left (values_within k.lo k.hi (values_left s.box k.x.0))) h.some))
-      (together (is_number k.lo) (is_number k.hi) h.low h.high))
+      and_from (is_pruned_by (is_just c.0) g (Prune k.x k.lo k.hi c) s.box) true
+      (and_from ((removes_some s.box k.x.0 k.lo k.hi && (is_number k.lo && is_number k.hi)) && (c.0 == c.0)) (is_refuted_by (slice_get g.constraints c.0) (box_within s.box k.x.0 k.lo k.hi))
+      (and_from (removes_some s.box k.x.0 k.lo k.hi && (is_number k.lo && is_number k.hi)) (c.0 == c.0)
+      (and_from (removes_some s.box k.x.0 k.lo k.hi) (is_number k.lo && is_number k.hi)
+      (and_from (not (has_empty s.box)) (not (is_none_left (values_within k.lo k.hi (values_left s.box k.x.0)))) (not_from_false (has_empty s.box) f) (not_from_false (is_none_left (values_within k.lo k.hi (values_left s.box k.x.0))) h.some))
+      (and_from (is_number k.lo) (is_number k.hi) h.low h.high))
       (same_number c.0))
       (ap (λ o. is_refuted_by o (box_within s.box k.x.0 k.lo k.hi)) e ∙ h.refuted))
       refl;

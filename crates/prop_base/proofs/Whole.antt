@@ -4,6 +4,7 @@ use Rattle.std.specs.Prelude.{pos, negsuc}
 use Rattle.std.specs.List.{list_all}
 use Rattle.std.proofs.lemmas.Int.{ints}
 use Rattle.std.proofs.lemmas.Bool.Decides.{nat_tests}
+use Rattle.std.proofs.lemmas.Bool.{or_right}
 use Rattle.qc_model.specs.declared.problem.VarId.{VarId}
 use Rattle.qc_model.specs.Content.{Game, Rule}
 use Rattle.qc_model.specs.Domains.{Values, Box, values_left, values_outside, box_without, is_within, is_none_left, has_empty}
@@ -14,7 +15,6 @@ use Rattle.qc_model.specs.Valid.{is_number, is_domain, are_of_sorts, have_length
 use Rattle.qc_model.proofs.Readable.{first, second}
 use Rattle.model_arguments.specs.Asked.{IsAsked}
 use Rattle.model_arguments.proofs.Boxes.{some_left, left_small, within_all}
-use Rattle.model_arguments.proofs.Bools.{or_right}
 use Rattle.model_arguments.proofs.Kept.{within_at}
 use Rattle.prop_base.specs.Closed.{IsCut}
 

@@ -4,15 +4,15 @@ use Rattle.std.specs.Prelude.{slice_get, ◌==◌}
 use Rattle.std.specs.List.{list_all, list_any}
 use Rattle.std.proofs.lemmas.List.Folds.{list_all-append, list_any-append}
 use Rattle.std.proofs.lemmas.Bool.Decides.{nat_tests}
+use Rattle.std.proofs.lemmas.Bool.{or_left, or_right, false_from_ne_true, and_from}
 use Rattle.qc_model.specs.declared.problem.Arg.{Arg}
 use Rattle.qc_model.specs.declared.problem.Arg.TheVariants.{Var, Num}
 use Rattle.qc_model.specs.Domains.{Box, values_left, has_value}
 use Rattle.qc_model.specs.Holds.{same_truth}
 use Rattle.qc_model.specs.Left.{is_only}
 use Rattle.qc_model.specs.Refuted.{left_to}
-use Rattle.qc_model.proofs.Readable.{first, second, together}
+use Rattle.qc_model.proofs.Readable.{first, second}
 use Rattle.model_arguments.specs.Repeats.{is_variable, same_variable}
-use Rattle.model_arguments.proofs.Bools.{never, or_left, or_right}
 use Rattle.prop_bool.specs.declared.chances.Chance.{Chance}
 use Rattle.prop_bool.specs.declared.literals.Literal.{Literal}
 use Rattle.prop_bool.specs.Literals.{truth_number, both_truths, surely_holds, surely_fails, IsUnfixed, same_literal}
@@ -47,7 +47,7 @@ fails_stays box y v l k h =
 -- lists
 pub all_weaker : (p q : Literal → Bool) → ((l : Literal) → p l ≡ true → q l ≡ true) → (ls : List Literal) → list_all p ls ≡ true → list_all q ls ≡ true
 all_weaker p q f [] h = refl
-all_weaker p q f (l ∷ ls) h = together (q l) (list_all q ls) (f l (first (p l) (list_all p ls) h)) (all_weaker p q f ls (second (p l) (list_all p ls) h))
+all_weaker p q f (l ∷ ls) h = and_from (q l) (list_all q ls) (f l (first (p l) (list_all p ls) h)) (all_weaker p q f ls (second (p l) (list_all p ls) h))
 
 pub any_weaker : (p q : Literal → Bool) → ((l : Literal) → p l ≡ true → q l ≡ true) → (ls : List Literal) → list_any p ls ≡ true → list_any q ls ≡ true
 any_weaker p q f [] h = cc
@@ -83,7 +83,7 @@ none_other p q f (l ∷ ls) h = by (q l) (f l (first (p l) (list_all p ls) h)) (
     by false e k = k
 
 pub all_more : (p : Literal → Bool) (ls : List Literal) (l : Literal) → list_all p ls ≡ true → p l ≡ true → list_all p (ls ++ l ∷ []) ≡ true
-all_more p ls l h k = list_all-append p ls (l ∷ []) ∙ together (list_all p ls) (p l && true) h (together (p l) true k refl)
+all_more p ls l h k = list_all-append p ls (l ∷ []) ∙ and_from (list_all p ls) (p l && true) h (and_from (p l) true k refl)
 
 all_last : (p : Literal → Bool) (ls : List Literal) (l : Literal) → list_all p (ls ++ l ∷ []) ≡ true → p l ≡ true
 all_last p ls l h = first (p l) true (second (list_all p ls) (p l && true) (sym (list_all-append p ls (l ∷ [])) ∙ h))
@@ -115,7 +115,7 @@ unfixed_variable box (Var x) h = number_same x.0
 unfixed_variable box (Num n) h = cc
 
 pub same_self : (box : Box) (l : Literal) → IsUnfixed box l → same_literal l l ≡ true
-same_self box l h = together (same_variable l.arg l.arg) (same_truth l.positive l.positive) (unfixed_variable box l.arg h) (truth_same l.positive)
+same_self box l h = and_from (same_variable l.arg l.arg) (same_truth l.positive l.positive) (unfixed_variable box l.arg h) (truth_same l.positive)
 
 pub chance_first : (box : Box) (ls : List Literal) (l : Literal) → IsUnfixed box l → list_all (surely_fails box) ls ≡ true → IsLast box (ls ++ l ∷ []) l
 chance_first box ls l h k = record {
@@ -214,7 +214,7 @@ both_fail box l m y v p q s k f h = by (is_variable l.arg y) (is_variable m.arg 
 pub chance_other : (box : Box) (ls : List Literal) (l m : Literal) → IsLast box ls l → IsUnfixed box m → same_literal l m ≡ false → CanHold box (ls ++ m ∷ [])
 chance_other box ls l m p q s y v k =
     let new = set box y (v ∷ []) in
-    never (list_all (surely_fails new) (ls ++ m ∷ []))
+    false_from_ne_true (list_all (surely_fails new) (ls ++ m ∷ []))
     (λ h. both_fail box l m y v p.unfixed q s k
     (all_there (surely_fails new) l (λ n e. same_fails new l n e) ls p.there (all_before (surely_fails new) ls m h))
     (all_last (surely_fails new) ls m h))

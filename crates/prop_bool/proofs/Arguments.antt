@@ -3,7 +3,7 @@ use Rattle.std.proofs.Common.{◌≡◌, ℕ, zero, suc, ◌≤◌, ◌+◌, Boo
 use Rattle.std.specs.Prelude.{pos, slice_get, nat_le}
 use Rattle.std.specs.List.{list_all, list_any}
 use Rattle.std.specs.Ordering.{int_eq}
-use Rattle.std.proofs.lemmas.Bool.{leb-true}
+use Rattle.std.proofs.lemmas.Bool.{leb-true, and_from}
 use Rattle.std.proofs.lemmas.List.{length-map}
 use Rattle.std.proofs.lemmas.List.Folds.{list_all-append, list_any-append}
 use Rattle.qc_model.specs.declared.problem.Arg.{Arg}
@@ -21,7 +21,7 @@ use Rattle.qc_model.specs.Meaning.{meaning_of}
 use Rattle.qc_model.specs.Refuted.{left_to}
 use Rattle.qc_model.specs.Signature.{arg_kinds_of}
 use Rattle.qc_model.specs.Valid.{is_truth, is_bits, is_boolean, is_variable_with, is_of_sort, are_of_sorts, have_lengths, argument_sees}
-use Rattle.qc_model.proofs.Readable.{first, second, together}
+use Rattle.qc_model.proofs.Readable.{first, second}
 use Rattle.model_arguments.specs.Asked.{IsAsked}
 use Rattle.model_arguments.specs.Written.{arg_at, args_at}
 use Rattle.prop_bool.specs.declared.literals.Literal.{Literal}
@@ -71,7 +71,7 @@ sorted g c box a =
 of_bits : (d : Values) → list_all (has_value (pos 0 ∷ pos 1 ∷ [])) d ≡ true → list_all is_truth d ≡ true
 of_bits [] h = refl
 of_bits (v ∷ d) h =
-    together (is_truth v) (list_all is_truth d) (one (int_eq v (pos 0)) (int_eq v (pos 1)) (first (has_value (pos 0 ∷ pos 1 ∷ []) v) (list_all (has_value (pos 0 ∷ pos 1 ∷ [])) d) h))
+    and_from (is_truth v) (list_all is_truth d) (one (int_eq v (pos 0)) (int_eq v (pos 1)) (first (has_value (pos 0 ∷ pos 1 ∷ []) v) (list_all (has_value (pos 0 ∷ pos 1 ∷ [])) d) h))
     (of_bits d (second (has_value (pos 0 ∷ pos 1 ∷ []) v) (list_all (has_value (pos 0 ∷ pos 1 ∷ [])) d) h))
   where
     one : (a b : Bool) → (a || (b || false)) ≡ true → (a || b) ≡ true
@@ -92,8 +92,8 @@ variable_truth (x ∷ xs) (d ∷ box) (suc k) b s f =
 variable_truth (x ∷ xs) (d ∷ box) zero b s f =
     let e = domain_values x.domain in
     let p = first (is_ascending d && list_all (has_value e) d) (is_sub_box box (map (λ y. domain_values y.domain) xs)) s in
-    together (not (is_none_left d) && is_ascending d) (list_all is_truth d)
-    (together (not (is_none_left d)) (is_ascending d) (some (is_none_left d) (has_empty box) f) (first (is_ascending d) (list_all (has_value e) d) p))
+    and_from (not (is_none_left d) && is_ascending d) (list_all is_truth d)
+    (and_from (not (is_none_left d)) (is_ascending d) (some (is_none_left d) (has_empty box) f) (first (is_ascending d) (list_all (has_value e) d) p))
     (of_bits d (subst (λ vs. list_all (has_value vs) d ≡ true) (bits x b) (second (is_ascending d) (list_all (has_value e) d) p)))
   where
     some : (a b : Bool) → (a || b) ≡ false → not a ≡ true
@@ -110,12 +110,12 @@ variable_truth (x ∷ xs) (d ∷ box) zero b s f =
 
 pub truth_of : (g : Game) (c : Rule) (box : Box) → IsAsked g c box → (a : Arg) → is_boolean g.variables a ≡ true → is_truth_left (left_to box a) ≡ true
 truth_of g c box a (Var x) h = variable_truth g.variables box x.0 h a.declared a.full
-truth_of g c box a (Num n) h = together true (is_truth n && true) refl (together (is_truth n) true h refl)
+truth_of g c box a (Num n) h = and_from true (is_truth n && true) refl (and_from (is_truth n) true h refl)
 
 pub truths_of : (g : Game) (c : Rule) (box : Box) → IsAsked g c box → (f : Arg → Literal) → ((b : Arg) → (f b).arg ≡ b) → (xs : List Arg) → list_all (is_boolean g.variables) xs ≡ true → list_all (is_truth_at box) (map f xs) ≡ true
 truths_of g c box a f e [] h = refl
 truths_of g c box a f e (b ∷ xs) h =
-    together (is_truth_at box (f b)) (list_all (is_truth_at box) (map f xs))
+    and_from (is_truth_at box (f b)) (list_all (is_truth_at box) (map f xs))
     (ap (λ z. is_truth_left (left_to box z)) (e b) ∙ truth_of g c box a b (first (is_boolean g.variables b) (list_all (is_boolean g.variables) xs) h))
     (truths_of g c box a f e xs (second (is_boolean g.variables b) (list_all (is_boolean g.variables) xs) h))
 
@@ -146,7 +146,7 @@ any_left p box (a ∷ xs) = ap (λ b. p (left_to box a) || b) (any_left p box xs
 pub truths_left : (g : Game) (c : Rule) (box : Box) → IsAsked g c box → (xs : List Arg) → list_all (is_boolean g.variables) xs ≡ true → list_all is_truth_left (map (left_to box) xs) ≡ true
 truths_left g c box a [] h = refl
 truths_left g c box a (b ∷ xs) h =
-    together (is_truth_left (left_to box b)) (list_all is_truth_left (map (left_to box) xs)) (truth_of g c box a b (first (is_boolean g.variables b) (list_all (is_boolean g.variables) xs) h))
+    and_from (is_truth_left (left_to box b)) (list_all is_truth_left (map (left_to box) xs)) (truth_of g c box a b (first (is_boolean g.variables b) (list_all (is_boolean g.variables) xs) h))
     (truths_left g c box a xs (second (is_boolean g.variables b) (list_all (is_boolean g.variables) xs) h))
 
 pub few_of : (xs : List Variable) (items : List Arg) → (nat_le (length items) 1000 && list_all (is_boolean xs) items) ≡ true → length items ≤ 1000
@@ -158,7 +158,7 @@ booleans_of xs items h = second (nat_le (length items) 1000) (list_all (is_boole
 pub literals_truths : (g : Game) (c : Rule) (box : Box) → IsAsked g c box → (xs ys : List Arg) → list_all (is_boolean g.variables) xs ≡ true → list_all (is_boolean g.variables) ys ≡ true → list_all (is_truth_at box) (literals xs ys) ≡ true
 literals_truths g c box a xs ys h k =
     list_all-append (is_truth_at box) (map plain xs) (map negated ys)
-    ∙ together (list_all (is_truth_at box) (map plain xs)) (list_all (is_truth_at box) (map negated ys)) (truths_of g c box a plain (λ b. refl) xs h) (truths_of g c box a negated (λ b. refl) ys k)
+    ∙ and_from (list_all (is_truth_at box) (map plain xs)) (list_all (is_truth_at box) (map negated ys)) (truths_of g c box a plain (λ b. refl) xs h) (truths_of g c box a negated (λ b. refl) ys k)
 
 pub literals_length : (xs ys : List Arg) → length (literals xs ys) ≡ length xs + length ys
 literals_length xs ys = length-append (map plain xs) (map negated ys) ∙ (ap (λ n. n + length (map negated ys)) (length-map xs plain) ∙ ap (λ n. length xs + n) (length-map ys negated))

@@ -1,6 +1,7 @@
 -- Constraints that no value of a variable, given alone, makes refute the box.
 use Rattle.std.proofs.Common.{◌≡◌, ℕ, ◌<◌, true, false, not, List, [], ◌∷◌, length, set, refl, ℤ}
 use Rattle.std.specs.List.{list_all}
+use Rattle.std.proofs.lemmas.Bool.{not_from_false, and_from}
 use Rattle.qc_model.specs.declared.problem.Arg.{Arg}
 use Rattle.qc_model.specs.declared.problem.Arg.TheVariants.{Var, Num}
 use Rattle.qc_model.specs.declared.problem.Argument.{Argument}
@@ -10,11 +11,10 @@ use Rattle.qc_model.specs.Content.{Game, Rule}
 use Rattle.qc_model.specs.Domains.{Box, values_left, has_value, least_value, greatest_value}
 use Rattle.qc_model.specs.Refuted.{refuted_by}
 use Rattle.qc_model.specs.Valid.{arg_sees, argument_sees}
-use Rattle.qc_model.proofs.Readable.{first, second, together}
+use Rattle.qc_model.proofs.Readable.{first, second}
 use Rattle.model_arguments.specs.Asked.{IsAsked}
 use Rattle.model_arguments.proofs.Boxes.{some_left, seen_place}
 use Rattle.model_arguments.proofs.Values.{has_least, has_greatest}
-use Rattle.model_arguments.proofs.Bools.{not_true}
 use Rattle.prop_base.specs.Closed.{keeps_at, keeps_arg, keeps_argument}
 use Rattle.prop_base.proofs.Keeps.{keeps_all}
 use Rattle.prop_base.proofs.Whole.{all_seen}
@@ -26,9 +26,9 @@ kept_at : (g : Game) (c : Rule) (box : Box) (y : ℕ) → IsAsked g c box → Ne
 kept_at g c box y a f l =
     let d = values_left box y in
     let n = some_left box y a.full l in
-    together (not (refutes_at c box y (least_value d))) (not (refutes_at c box y (greatest_value d)))
-    (not_true (refutes_at c box y (least_value d)) (f y (least_value d) (has_least d n)))
-    (not_true (refutes_at c box y (greatest_value d)) (f y (greatest_value d) (has_greatest d n)))
+    and_from (not (refutes_at c box y (least_value d))) (not (refutes_at c box y (greatest_value d)))
+    (not_from_false (refutes_at c box y (least_value d)) (f y (least_value d) (has_least d n)))
+    (not_from_false (refutes_at c box y (greatest_value d)) (f y (greatest_value d) (has_greatest d n)))
 
 pub kept_arg : (g : Game) (c : Rule) (box : Box) → IsAsked g c box → NeverRefuted c box → (b : Arg) → arg_sees g.variables c.owner.0 b ≡ true → keeps_arg c box b ≡ true
 kept_arg g c box a f (Var x) h = kept_at g c box x.0 a f (seen_place g box c.owner.0 x.0 a.declared h)
@@ -38,7 +38,7 @@ kept_items : (g : Game) (c : Rule) (box : Box) → IsAsked g c box → NeverRefu
 kept_items g c box a f [] h = refl
 kept_items g c box a f (x ∷ xs) h =
     let sees = arg_sees g.variables c.owner.0 in
-    together (keeps_arg c box x) (list_all (keeps_arg c box) xs) (kept_arg g c box a f x (first (sees x) (list_all sees xs) h)) (kept_items g c box a f xs (second (sees x) (list_all sees xs) h))
+    and_from (keeps_arg c box x) (list_all (keeps_arg c box) xs) (kept_arg g c box a f x (first (sees x) (list_all sees xs) h)) (kept_items g c box a f xs (second (sees x) (list_all sees xs) h))
 
 kept_argument : (g : Game) (c : Rule) (box : Box) → IsAsked g c box → NeverRefuted c box → (b : Argument) → argument_sees g.variables c.owner.0 b ≡ true → keeps_argument c box b ≡ true
 kept_argument g c box a f (One b) h = kept_arg g c box a f b h
@@ -50,7 +50,7 @@ kept_arguments : (g : Game) (c : Rule) (box : Box) → IsAsked g c box → Never
 kept_arguments g c box a f [] h = refl
 kept_arguments g c box a f (b ∷ bs) h =
     let sees = argument_sees g.variables c.owner.0 in
-    together (keeps_argument c box b) (list_all (keeps_argument c box) bs) (kept_argument g c box a f b (first (sees b) (list_all sees bs) h)) (kept_arguments g c box a f bs (second (sees b) (list_all sees bs) h))
+    and_from (keeps_argument c box b) (list_all (keeps_argument c box) bs) (kept_argument g c box a f b (first (sees b) (list_all sees bs) h)) (kept_arguments g c box a f bs (second (sees b) (list_all sees bs) h))
 
 pub closed_by : (g : Game) (c : Rule) (box : Box) → IsAsked g c box → NeverRefuted c box → keeps_ends box c ≡ true
 closed_by g c box a f = keeps_all c box (kept_arguments g c box a f c.args (all_seen g c box a))

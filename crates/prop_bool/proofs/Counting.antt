@@ -5,15 +5,15 @@ use Rattle.std.specs.List.{list_all, list_any}
 use Rattle.std.proofs.lemmas.List.{map-append, get_or-set_same}
 use Rattle.std.proofs.lemmas.List.Folds.{list_all-append, list_any-append}
 use Rattle.std.proofs.lemmas.Bool.Decides.{nat_tests}
+use Rattle.std.proofs.lemmas.Bool.{false_from_ne_true, and_from}
 use Rattle.qc_model.specs.declared.problem.Arg.{Arg}
 use Rattle.qc_model.specs.declared.problem.Arg.TheVariants.{Var, Num}
 use Rattle.qc_model.specs.declared.problem.VarId.{VarId}
 use Rattle.qc_model.specs.Domains.{Values, Box, values_left, has_value, is_single, least_value}
 use Rattle.qc_model.specs.Holds.{odd_ones, is_one}
 use Rattle.qc_model.specs.Refuted.{left_to}
-use Rattle.qc_model.proofs.Readable.{first, second, together}
+use Rattle.qc_model.proofs.Readable.{first, second}
 use Rattle.model_arguments.specs.Repeats.{is_variable}
-use Rattle.model_arguments.proofs.Bools.{never}
 use Rattle.prop_bool.specs.declared.tallies.Tally.{Tally}
 use Rattle.prop_bool.specs.declared.tallies.Tally.TheVariants.{Decided, Open, Free, Unknown}
 use Rattle.prop_bool.specs.Literals.{truth_number, both_truths}
@@ -52,7 +52,7 @@ odd_with box xs a v e =
 single_with : (box : Box) (xs : List Arg) (a : Arg) (v : ℤ) → left_to box a ≡ v ∷ [] → are_single box xs ≡ true → are_single box (xs ++ a ∷ []) ≡ true
 single_with box xs a v e h =
     let p : Arg → Bool = λ b. is_single (left_to box b) in
-    list_all-append p xs (a ∷ []) ∙ together (list_all p xs) (p a && true) h (together (p a) true (one_single (left_to box a) v e) refl)
+    list_all-append p xs (a ∷ []) ∙ and_from (list_all p xs) (p a && true) h (and_from (p a) true (one_single (left_to box a) v e) refl)
 
 -- what is single stays, and so does how many are 1
 pub singles_stay : (box : Box) (y : ℕ) (v : ℤ) (xs : List Arg) → has_value (values_left box y) v ≡ true → are_single box xs ≡ true → are_single (set box y (v ∷ [])) xs ≡ true
@@ -60,7 +60,7 @@ singles_stay box y v [] k h = refl
 singles_stay box y v (a ∷ xs) k h =
     let new = set box y (v ∷ []) in
     let s = first (is_single (left_to box a)) (are_single box xs) h in
-    together (is_single (left_to new a)) (are_single new xs)
+    and_from (is_single (left_to new a)) (are_single new xs)
     (one_single (left_to new a) (least_value (left_to box a)) (fixed_stays box y v a (least_value (left_to box a)) k (single_is (left_to box a) s)))
     (singles_stay box y v xs k (second (is_single (left_to box a)) (are_single box xs) h))
 
@@ -156,7 +156,7 @@ same_number : (a b : ℕ) → (a == b) ≡ true → a ≡ b
 same_number a b h = grind (arith, nat_tests)
 
 other_open : (box : Box) (xs : List Arg) (x y : VarId) (odd : Bool) → IsOpen box xs x odd → values_left box y.0 ≡ both_truths → (x.0 == y.0) ≡ false → IsTally Free box (xs ++ Var y ∷ [])
-other_open box xs x y odd p u n z v k = never (are_single new (xs ++ Var y ∷ [])) (λ h. by (x.0 == z) refl h)
+other_open box xs x y odd p u n z v k = false_from_ne_true (are_single new (xs ++ Var y ∷ [])) (λ h. by (x.0 == z) refl h)
   where
     new : Box
     new = set box z (v ∷ [])

@@ -2,6 +2,7 @@
 use Rattle.std.proofs.Common.{◌≡◌, Bool, true, false, ◌&&◌, ◌||◌, List, [], ◌∷◌, length, map, refl, sym, ap, ◌∙◌, subst}
 use Rattle.std.specs.Prelude.{pos, nat_le, ⊤}
 use Rattle.std.specs.List.{list_all, list_any}
+use Rattle.std.proofs.lemmas.Bool.{and_from}
 use Rattle.qc_model.specs.declared.problem.Arg.{Arg}
 use Rattle.qc_model.specs.declared.problem.Pred.{Pred}
 use Rattle.qc_model.specs.declared.problem.Pred.TheVariants.{IntEq}
@@ -15,7 +16,6 @@ use Rattle.qc_model.specs.Ranges.{Range, point, ranges_miss, smaller_range, grea
 use Rattle.qc_model.specs.Refuted.{left_to, refuted_as}
 use Rattle.qc_model.specs.Signature.{arg_kinds_of}
 use Rattle.qc_model.specs.Valid.{is_boolean, are_of_sorts}
-use Rattle.qc_model.proofs.Readable.{together}
 use Rattle.model_arguments.specs.Asked.{IsAsked}
 use Rattle.model_arguments.specs.Written.{arg_at, args_at}
 use Rattle.model_arguments.proofs.Written.{left_written, lefts_written}
@@ -76,7 +76,7 @@ some_says g c box xs r a h k =
     ∙ ap (λ z. (is_only (pos 0) e && list_any (surely_holds box) (literals xs [])) || (is_only (pos 1) e && z)) n)
 
 pub heads_truths : (g : Game) (c : Rule) (box : Box) (l : Literal) (xs ys : List Arg) → IsAsked g c box → is_boolean g.variables l.arg ≡ true → list_all (is_boolean g.variables) xs ≡ true → list_all (is_boolean g.variables) ys ≡ true → list_all (is_truth_at box) (l ∷ literals xs ys) ≡ true
-heads_truths g c box l xs ys a h k m = together (is_truth_at box l) (list_all (is_truth_at box) (literals xs ys)) (truth_of g c box a l.arg h) (literals_truths g c box a xs ys k m)
+heads_truths g c box l xs ys a h k m = and_from (is_truth_at box l) (list_all (is_truth_at box) (literals xs ys)) (truth_of g c box a l.arg h) (literals_truths g c box a xs ys k m)
 
 -- an array and a result
 abbrev array_kinds : List ArgKind
@@ -144,8 +144,8 @@ two_args c = arg_at c.args 0 ∷ arg_at c.args 1 ∷ []
 
 pub two_boolean : (g : Game) (c : Rule) → are_of_sorts g.variables three_kinds c.args ≡ true → list_all (is_boolean g.variables) (two_args c) ≡ true
 two_boolean g c s =
-    together (is_boolean g.variables (arg_at c.args 0)) (is_boolean g.variables (arg_at c.args 1) && true) (one_boolean g.variables three_kinds c.args 0 s refl)
-    (together (is_boolean g.variables (arg_at c.args 1)) true (one_boolean g.variables three_kinds c.args 1 s refl) refl)
+    and_from (is_boolean g.variables (arg_at c.args 0)) (is_boolean g.variables (arg_at c.args 1) && true) (one_boolean g.variables three_kinds c.args 0 s refl)
+    (and_from (is_boolean g.variables (arg_at c.args 1)) true (one_boolean g.variables three_kinds c.args 1 s refl) refl)
 
 spans_at : (op : Range → Range → Range) (c : Rule) (box : Box) →
     ranges_miss (op (range_at (lefts box c.args) 0) (range_at (lefts box c.args) 1)) (range_at (lefts box c.args) 2)

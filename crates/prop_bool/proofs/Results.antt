@@ -2,6 +2,7 @@
 use Rattle.std.proofs.Common.{◌≡◌, ◌<◌, ℕ, ℤ, length, sym, Bool, true, false, not, ◌&&◌, ◌||◌, List, [], ◌∷◌, set, refl, ap, ◌∙◌, subst}
 use Rattle.std.specs.List.{list_all, list_any}
 use Rattle.std.proofs.lemmas.List.{get_or-set_same}
+use Rattle.std.proofs.lemmas.Bool.{or_right, false_from_ne_true, and_left, and_right}
 use Rattle.qc_model.specs.declared.problem.Arg.TheVariants.{Var}
 use Rattle.qc_model.specs.declared.problem.VarId.{VarId}
 use Rattle.qc_model.specs.Closed.{keeps_ends}
@@ -9,7 +10,6 @@ use Rattle.qc_model.specs.Content.{Game, Rule}
 use Rattle.qc_model.specs.Domains.{Box, values_left, has_value}
 use Rattle.qc_model.specs.Refuted.{left_to, refuted_by}
 use Rattle.model_arguments.specs.Asked.{IsAsked}
-use Rattle.model_arguments.proofs.Bools.{never, or_right}
 use Rattle.prop_bool.specs.declared.findings.Finding.TheVariants.{Loses}
 use Rattle.prop_bool.specs.declared.literals.Literal.{Literal}
 use Rattle.prop_bool.specs.Literals.{truth_number, both_truths, surely_holds, surely_fails, IsUnfixed, same_literal, IsDisjunction}
@@ -42,14 +42,6 @@ second_only p q r s h k = ap (λ b. (p && q) || (b && s)) h ∙ or_right (p && q
 neither : (p q r s : Bool) → (p && q) ≡ false → (r && s) ≡ false → ((p && q) || (r && s)) ≡ false
 neither p q r s h k = ap (λ b. b || (r && s)) h ∙ k
 
-not_first : (p q : Bool) → p ≡ false → (p && q) ≡ false
-not_first true q h = cc
-not_first false q h = refl
-
-not_second : (p q : Bool) → q ≡ false → (p && q) ≡ false
-not_second true q h = h
-not_second false q h = refl
-
 pub unfixed_values : (box : Box) (l : Literal) (x : VarId) → l.arg ≡ Var x → IsUnfixed box l → values_left box x.0 ≡ both_truths
 unfixed_values box l x e u = subst (λ a. left_to box a ≡ both_truths) e u
 
@@ -68,18 +60,18 @@ module _ (g : Game) (c : Rule) (ls : List Literal) (r : Literal) (d : IsDisjunct
       closed_by g c box a
       (λ y v k. let new = set box y (v ∷ []) in
       not_refuted new (asked_at g c box y v a k)
-      (not_first (surely_fails new r) (list_any (surely_holds new) ls) (holds_not_fails new r (holds_stays box y v r k h)))
-      (not_second (surely_holds new r) (list_all (surely_fails new) ls) (f y v k)))
+      (and_left (surely_fails new r) (list_any (surely_holds new) ls) (holds_not_fails new r (holds_stays box y v r k h)))
+      (and_right (surely_holds new r) (list_all (surely_fails new) ls) (f y v k)))
 
   pub closed_false : (box : Box) → IsAsked g c box → surely_fails box r ≡ true → list_all (surely_fails box) ls ≡ true → keeps_ends box c ≡ true
   closed_false box a h f =
       closed_by g c box a
       (λ y v k. let new = set box y (v ∷ []) in
       not_refuted new (asked_at g c box y v a k)
-      (not_second (surely_fails new r) (list_any (surely_holds new) ls)
+      (and_right (surely_fails new r) (list_any (surely_holds new) ls)
       (none_other (surely_fails new) (surely_holds new) (λ l e. fails_not_holds new l e) ls
       (all_weaker (surely_fails box) (surely_fails new) (λ l e. fails_stays box y v l k e) ls f)))
-      (not_first (surely_holds new r) (list_all (surely_fails new) ls) (fails_not_holds new r (fails_stays box y v r k h))))
+      (and_left (surely_holds new r) (list_all (surely_fails new) ls) (fails_not_holds new r (fails_stays box y v r k h))))
 
   -- an unfixed head, and literals that decide nothing
   pub closed_unfixed : (box : Box) → IsAsked g c box → IsUnfixed box r → list_all (agrees r) ls ≡ true → list_any (surely_holds box) ls ≡ false → list_all (surely_fails box) ls ≡ false → keeps_ends box c ≡ true
@@ -93,22 +85,22 @@ module _ (g : Game) (c : Rule) (ls : List Literal) (r : Literal) (d : IsDisjunct
           let new = set box y (v ∷ []) in
           let still : IsUnfixed new r = left_other box y (v ∷ []) r.arg e ∙ u in
           not_refuted new (asked_at g c box y v a k)
-          (not_first (surely_fails new r) (list_any (surely_holds new) ls) (unfixed_not_fails new r still))
-          (not_first (surely_holds new r) (list_all (surely_fails new) ls) (unfixed_not_holds new r still))
+          (and_left (surely_fails new r) (list_any (surely_holds new) ls) (unfixed_not_fails new r still))
+          (and_left (surely_holds new r) (list_all (surely_fails new) ls) (unfixed_not_holds new r still))
       by y v k true e =
           let p = has_place box y v k in
           let both : has_value both_truths v ≡ true = subst (λ d. has_value d v ≡ true) (sym (left_before box y r.arg e) ∙ u) k in
           by_value (λ z. has_value (values_left box y) z ≡ true → refuted_by c (set box y (z ∷ [])) ≡ false) r.positive
           (λ l. let new = set box y (truth_number r.positive ∷ []) in
           not_refuted new (asked_at g c box y (truth_number r.positive) a l)
-          (not_first (surely_fails new r) (list_any (surely_holds new) ls) (holds_not_fails new r (is_one (truth_number r.positive) (left_to new r.arg) (there y e p r.positive))))
-          (not_second (surely_holds new r) (list_all (surely_fails new) ls)
-          (never (list_all (surely_fails new) ls) (λ f. contrary (list_all (surely_fails box) ls) (all_both (agrees r) (surely_fails new) (surely_fails box) (λ q i j. back_fails box y r q e p i j) ls w f) m))))
+          (and_left (surely_fails new r) (list_any (surely_holds new) ls) (holds_not_fails new r (is_one (truth_number r.positive) (left_to new r.arg) (there y e p r.positive))))
+          (and_right (surely_holds new r) (list_all (surely_fails new) ls)
+          (false_from_ne_true (list_all (surely_fails new) ls) (λ f. contrary (list_all (surely_fails box) ls) (all_both (agrees r) (surely_fails new) (surely_fails box) (λ q i j. back_fails box y r q e p i j) ls w f) m))))
           (λ l. let new = set box y (truth_number (not r.positive) ∷ []) in
           not_refuted new (asked_at g c box y (truth_number (not r.positive)) a l)
-          (not_second (surely_fails new r) (list_any (surely_holds new) ls)
-          (never (list_any (surely_holds new) ls) (λ f. contrary (list_any (surely_holds box) ls) (any_both (agrees r) (surely_holds new) (surely_holds box) (λ q i j. back_holds box y r q e p i j) ls w f) n)))
-          (not_first (surely_holds new r) (list_all (surely_fails new) ls) (fails_not_holds new r (is_one (truth_number (not r.positive)) (left_to new r.arg) (there y e p (not r.positive))))))
+          (and_right (surely_fails new r) (list_any (surely_holds new) ls)
+          (false_from_ne_true (list_any (surely_holds new) ls) (λ f. contrary (list_any (surely_holds box) ls) (any_both (agrees r) (surely_holds new) (surely_holds box) (λ q i j. back_holds box y r q e p i j) ls w f) n)))
+          (and_left (surely_holds new r) (list_all (surely_fails new) ls) (fails_not_holds new r (is_one (truth_number (not r.positive)) (left_to new r.arg) (there y e p (not r.positive))))))
           v both k
 
   -- x is given a value of both

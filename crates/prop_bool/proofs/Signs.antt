@@ -4,15 +4,15 @@ use Rattle.std.specs.Prelude.{pos}
 use Rattle.std.specs.List.{list_all, list_any}
 use Rattle.std.specs.Ordering.{int_eq}
 use Rattle.std.proofs.lemmas.List.Folds.{list_all-append}
+use Rattle.std.proofs.lemmas.Bool.{or_left, or_right, and_from}
 use Rattle.qc_model.specs.declared.problem.Arg.{Arg}
 use Rattle.qc_model.specs.Domains.{Box, has_value}
 use Rattle.qc_model.specs.Holds.{same_truth}
 use Rattle.qc_model.specs.Left.{is_only}
 use Rattle.qc_model.specs.Refuted.{left_to}
 use Rattle.qc_model.specs.Valid.{is_truth}
-use Rattle.qc_model.proofs.Readable.{first, second, together}
+use Rattle.qc_model.proofs.Readable.{first, second}
 use Rattle.model_arguments.specs.Repeats.{is_variable, same_variable}
-use Rattle.model_arguments.proofs.Bools.{or_left, or_right}
 use Rattle.prop_bool.specs.declared.literals.Literal.{Literal}
 use Rattle.prop_bool.specs.Literals.{truth_number, both_truths, surely_holds, surely_fails, plain, negated, literals, is_opposed}
 use Rattle.prop_bool.proofs.Adding.{holds_not_fails, fails_not_holds, both_of, truth_is}
@@ -33,7 +33,7 @@ agrees h l = not (same_variable h.arg l.arg) || same_truth h.positive l.positive
 
 all_agree : (h : Literal) (f : Arg → Literal) → ((a : Arg) → (f a).arg ≡ a) → ((a : Arg) → (f a).positive ≡ h.positive) → (xs : List Arg) → list_all (agrees h) (map f xs) ≡ true
 all_agree h f e p [] = refl
-all_agree h f e p (a ∷ xs) = together (agrees h (f a)) (list_all (agrees h) (map f xs)) (or_right (not (same_variable h.arg (f a).arg)) (same_truth h.positive (f a).positive) (ap (same_truth h.positive) (p a) ∙ alike h.positive)) (all_agree h f e p xs)
+all_agree h f e p (a ∷ xs) = and_from (agrees h (f a)) (list_all (agrees h) (map f xs)) (or_right (not (same_variable h.arg (f a).arg)) (same_truth h.positive (f a).positive) (ap (same_truth h.positive) (p a) ∙ alike h.positive)) (all_agree h f e p xs)
   where
     alike : (b : Bool) → same_truth b b ≡ true
     alike true = refl
@@ -42,7 +42,7 @@ all_agree h f e p (a ∷ xs) = together (agrees h (f a)) (list_all (agrees h) (m
 none_agree : (h : Literal) (f : Arg → Literal) → ((a : Arg) → (f a).arg ≡ a) → (xs : List Arg) → list_any (same_variable h.arg) xs ≡ false → list_all (agrees h) (map f xs) ≡ true
 none_agree h f e [] k = refl
 none_agree h f e (a ∷ xs) k =
-    together (agrees h (f a)) (list_all (agrees h) (map f xs))
+    and_from (agrees h (f a)) (list_all (agrees h) (map f xs))
     (ap (λ z. not (same_variable h.arg z) || same_truth h.positive (f a).positive) (e a) ∙ ap (λ b. not b || same_truth h.positive (f a).positive) (this (same_variable h.arg a) (list_any (same_variable h.arg) xs) k))
     (none_agree h f e xs (that (same_variable h.arg a) (list_any (same_variable h.arg) xs) k))
   where
@@ -60,14 +60,14 @@ not_opposed h xs ys k =
     ∙ by h.positive refl k
   where
     by : (b : Bool) → h.positive ≡ b → cond b (list_any (same_variable h.arg) ys) (list_any (same_variable h.arg) xs) ≡ false → (list_all (agrees h) (map plain xs) && list_all (agrees h) (map negated ys)) ≡ true
-    by true e n = together (list_all (agrees h) (map plain xs)) (list_all (agrees h) (map negated ys)) (all_agree h plain (λ a. refl) (λ a. sym e) xs) (none_agree h negated (λ a. refl) ys n)
-    by false e n = together (list_all (agrees h) (map plain xs)) (list_all (agrees h) (map negated ys)) (none_agree h plain (λ a. refl) xs n) (all_agree h negated (λ a. refl) (λ a. sym e) ys)
+    by true e n = and_from (list_all (agrees h) (map plain xs)) (list_all (agrees h) (map negated ys)) (all_agree h plain (λ a. refl) (λ a. sym e) xs) (none_agree h negated (λ a. refl) ys n)
+    by false e n = and_from (list_all (agrees h) (map plain xs)) (list_all (agrees h) (map negated ys)) (none_agree h plain (λ a. refl) xs n) (all_agree h negated (λ a. refl) (λ a. sym e) ys)
 
 -- two tests of the same literals
 pub all_both : (p q r : Literal → Bool) → ((l : Literal) → p l ≡ true → q l ≡ true → r l ≡ true) → (ls : List Literal) → list_all p ls ≡ true → list_all q ls ≡ true → list_all r ls ≡ true
 all_both p q r f [] h k = refl
 all_both p q r f (l ∷ ls) h k =
-    together (r l) (list_all r ls) (f l (first (p l) (list_all p ls) h) (first (q l) (list_all q ls) k)) (all_both p q r f ls (second (p l) (list_all p ls) h) (second (q l) (list_all q ls) k))
+    and_from (r l) (list_all r ls) (f l (first (p l) (list_all p ls) h) (first (q l) (list_all q ls) k)) (all_both p q r f ls (second (p l) (list_all p ls) h) (second (q l) (list_all q ls) k))
 
 pub any_both : (p q r : Literal → Bool) → ((l : Literal) → p l ≡ true → q l ≡ true → r l ≡ true) → (ls : List Literal) → list_all p ls ≡ true → list_any q ls ≡ true → list_any r ls ≡ true
 any_both p q r f [] h k = cc

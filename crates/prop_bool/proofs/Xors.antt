@@ -3,6 +3,7 @@ use Rattle.std.proofs.Common.{◌≡◌, Bool, true, false, not, ◌&&◌, List,
 use Rattle.std.specs.Prelude.{pos}
 use Rattle.std.specs.Ordering.{int_eq}
 use Rattle.std.specs.List.{list_all}
+use Rattle.std.proofs.lemmas.Bool.{and_from}
 use Rattle.qc_model.specs.declared.problem.Arg.{Arg}
 use Rattle.qc_model.specs.declared.signature.ArgKind.TheVariants.{Booleans as booleans}
 use Rattle.qc_model.specs.Content.{Game, Rule}
@@ -12,7 +13,6 @@ use Rattle.qc_model.specs.Left.{left_at}
 use Rattle.qc_model.specs.Meaning.{exactly_one, odd_items, meaning_of}
 use Rattle.qc_model.specs.Refuted.{left_to, refuted_as}
 use Rattle.qc_model.specs.Valid.{is_boolean}
-use Rattle.qc_model.proofs.Readable.{together}
 use Rattle.model_arguments.specs.Asked.{IsAsked}
 use Rattle.model_arguments.specs.Written.{arg_at, args_at}
 use Rattle.model_arguments.proofs.Written.{left_written, lefts_written}
@@ -83,8 +83,8 @@ exactly_one_says g c box a e =
           let y = truth other (arg_at c.args 1) b second in
           let z = truth other (arg_at c.args 2) b third in
           let t : Arg → Bool = λ k. is_truth_left (left_to other k) in
-          together (t (arg_at c.args 0)) (t (arg_at c.args 1) && (t (arg_at c.args 2) && true)) x
-          (together (t (arg_at c.args 1)) (t (arg_at c.args 2) && true) y (together (t (arg_at c.args 2)) true z refl));
+          and_from (t (arg_at c.args 0)) (t (arg_at c.args 1) && (t (arg_at c.args 2) && true)) x
+          (and_from (t (arg_at c.args 1)) (t (arg_at c.args 2) && true) y (and_from (t (arg_at c.args 2)) true z refl));
       refuted = λ other b.
           ap (λ m. refuted_as m (lefts other c.args)) e
           ∙ (ap (λ d. said_by d (left_at (lefts other c.args) 1) (left_at (lefts other c.args) 2)) (left_written other c.args 0)

@@ -1,10 +1,11 @@
--- The tests of comparisons: they stay true of fewer values, and never both refute and entail.
+-- The tests of comparisons: they stay true of fewer values, and false_from_ne_true both refute and entail.
 use Rattle.std.proofs.Common.{◌≡◌, ◌⊎◌, inl, inr, Bool, true, false, not, ◌&&◌, ◌||◌, [], ◌∷◌, Option, Some, None, refl, sym, ap, ◌∙◌, subst, ℤ, arith}
 use Rattle.std.specs.Prelude.{IfNone, IfSome, is_some, pos, ◌+ℤ◌, ◌≤ℤ◌, int_lt}
 use Rattle.std.specs.List.{list_all}
 use Rattle.std.specs.Ordering.{int_eq}
 use Rattle.std.proofs.lemmas.Int.{ints}
 use Rattle.std.proofs.lemmas.Bool.Decides.{Decides-int_eq}
+use Rattle.std.proofs.lemmas.Bool.{false_from_ne_true}
 use Rattle.qc_model.specs.Domains.{Values, is_none_left, is_single, is_ascending, has_value, least_value, greatest_value, misses}
 use Rattle.qc_model.specs.Left.{are_one_value}
 use Rattle.qc_model.specs.Valid.{is_truth}
@@ -12,7 +13,6 @@ use Rattle.qc_model.proofs.Readable.{first, second}
 use Rattle.qc_model.proofs.Sound.{misses_apart}
 use Rattle.model_arguments.proofs.Values.{has_least}
 use Rattle.model_arguments.proofs.Kept.{among_of, low_end, high_end, lower, reaches, is_lower}
-use Rattle.model_arguments.proofs.Bools.{never}
 use Rattle.qc_refuter.proofs.Domains.{none_common, some_common, some_left, ascending_left}
 use Rattle.qc_refuter.specs.Met.{is_domain_left}
 use Rattle.prop_compare.specs.Compared.{is_over}
@@ -127,7 +127,7 @@ never_other k false d e n m h o = never_both k d e n m o h
 
 -- where one of both tests says yes the other says no
 pub other_fails : (k : Comparison) (t : Bool) (d e : Values) → is_none_left d ≡ false → is_none_left e ≡ false → refuting_as k t d e ≡ true → refuting_as k (not t) d e ≡ false
-other_fails k t d e n m h = never (refuting_as k (not t) d e) (never_other k t d e n m h)
+other_fails k t d e n m h = false_from_ne_true (refuting_as k (not t) d e) (never_other k t d e n m h)
 
 -- what is told by one truth value, and by both
 pub mistold_one : (k : Comparison) (t : Bool) (d e : Values) → is_mistold k d e (truth_of t ∷ []) ≡ refuting_as k t d e

@@ -4,11 +4,12 @@ use Rattle.std.specs.Prelude.{pos, ◌+ℤ◌, ◌-ℤ◌, ◌≤ℤ◌, ◌<ℤ
 use Rattle.std.specs.Ordering.{int_eq}
 use Rattle.std.proofs.lemmas.Int.{ints}
 use Rattle.std.proofs.lemmas.Bool.Decides.{Decides-int_eq}
+use Rattle.std.proofs.lemmas.Bool.{or_right, not_from_false, false_from_ne_true, and_from}
 use Rattle.qc_model.specs.Domains.{Values, values_within, values_outside, is_within, has_value, is_none_left, is_single, least_value, greatest_value}
-use Rattle.qc_model.proofs.Readable.{first, second, together}
+use Rattle.qc_model.proofs.Readable.{first, second}
 use Rattle.model_arguments.proofs.Values.{has_first}
 use Rattle.model_arguments.proofs.Kept.{keeps, some_of, low_end, high_end, inside, at_least, at_most, out_low, out_high, is_out_low, is_out_high}
-use Rattle.model_arguments.proofs.Bools.{not_true, never, bools_same, or_right}
+use Rattle.model_arguments.proofs.Bools.{bools_same}
 
 -- one filter after another
 pub filter_twice : (p q : ℤ → Bool) (vs : Values) → filter q (filter p vs) ≡ filter (λ v. p v && q v) vs
@@ -54,13 +55,13 @@ outside_both lo hi vs =
         (from_before lo v (out_high l (lo -ℤ pos 1) v (first (not (is_within l (lo -ℤ pos 1) v)) (not (is_within (hi +ℤ pos 1) g v)) b) h))
         (to_after hi v (out_low (hi +ℤ pos 1) g v (second (not (is_within l (lo -ℤ pos 1) v)) (not (is_within (hi +ℤ pos 1) g v)) b) k)))
         (λ b.
-        together (not (is_within l (lo -ℤ pos 1) v)) (not (is_within (hi +ℤ pos 1) g v))
+        and_from (not (is_within l (lo -ℤ pos 1) v)) (not (is_within (hi +ℤ pos 1) g v))
         (is_out_high l (lo -ℤ pos 1) v (before lo v (at_least lo hi v b)))
         (is_out_low (hi +ℤ pos 1) g v (after hi v (at_most lo hi v b))))
 
 -- nothing lies within
 pub none_taken : (lo hi : ℤ) (vs : Values) → is_none_left (values_within lo hi vs) ≡ true → values_outside lo hi vs ≡ vs
-none_taken lo hi vs h = filter_alike (λ v. not (is_within lo hi v)) (λ v. true) vs (λ v k. not_true (is_within lo hi v) (never (is_within lo hi v) (λ w. clash (is_none_left (values_within lo hi vs)) h (some_of (values_within lo hi vs) v (keeps (is_within lo hi) vs v w k))))) ∙ all vs
+none_taken lo hi vs h = filter_alike (λ v. not (is_within lo hi v)) (λ v. true) vs (λ v k. not_from_false (is_within lo hi v) (false_from_ne_true (is_within lo hi v) (λ w. clash (is_none_left (values_within lo hi vs)) h (some_of (values_within lo hi vs) v (keeps (is_within lo hi) vs v w k))))) ∙ all vs
   where
     clash : (b : Bool) → b ≡ true → b ≡ false → ⊥
     clash true h k = cc

@@ -4,6 +4,7 @@ use Rattle.std.specs.Prelude.{◌≤ℤ◌, int_lt}
 use Rattle.std.specs.Ordering.{int_eq}
 use Rattle.std.proofs.lemmas.Int.{ints}
 use Rattle.std.proofs.lemmas.Bool.Decides.{Decides-int_eq}
+use Rattle.std.proofs.lemmas.Bool.{not_from_false, false_from_ne_true}
 use Rattle.qc_model.specs.declared.problem.Arg.{Arg}
 use Rattle.qc_model.specs.declared.problem.Arg.TheVariants.{Var, Num}
 use Rattle.qc_model.specs.declared.problem.VarId.{VarId}
@@ -14,7 +15,7 @@ use Rattle.qc_model.specs.Left.{are_one_value}
 use Rattle.qc_model.specs.Refuted.{left_to, refuted_by}
 use Rattle.qc_model.proofs.Readable.{first}
 use Rattle.model_arguments.proofs.Values.{has_first, only_within, has_greatest}
-use Rattle.model_arguments.proofs.Bools.{never, bools_same, not_true}
+use Rattle.model_arguments.proofs.Bools.{bools_same}
 use Rattle.model_arguments.proofs.Kept.{lower, keeps, some_of, least_kept, greatest_kept, at_least, at_most}
 use Rattle.qc_refuter.proofs.Domains.{some_left, ascending_left}
 use Rattle.qc_refuter.specs.Met.{is_domain_left}
@@ -51,7 +52,7 @@ one_false true false i f = refl
 one_false false q i f = refl
 
 differ : (a b : ℤ) → (a ≡ b → ⊥) → int_eq a b ≡ false
-differ a b f = never (int_eq a b) (λ h. f ((Decides-int_eq a b).0 h))
+differ a b f = false_from_ne_true (int_eq a b) (λ h. f ((Decides-int_eq a b).0 h))
 
 -- the value alone is refuted
 pub value_refuted : (g : Game) (c : Rule) (box : Box) (a b : Arg) (v : ℤ) → IsPair g c box a b → IsTested c box a b are_one_value → is_single (left_to box a) ≡ true → v ≡ least_value (left_to box a) →
@@ -98,7 +99,7 @@ others_stay g c box a b v p s h d = by (left_to box b) p.open_second refl
     same_end a b h k = grind (arith, ints)
 
     out : (w v : ℤ) → (w ≡ v → ⊥) → not (is_within v v w) ≡ true
-    out w v f = not_true (is_within v v w) (never (is_within v v w) (λ t. f (same_end w v (at_most v v w t) (at_least v v w t))))
+    out w v f = not_from_false (is_within v v w) (false_from_ne_true (is_within v v w) (λ t. f (same_end w v (at_most v v w t) (at_least v v w t))))
 
     above : (x y v : ℤ) → int_lt x y ≡ true → x ≡ v → y ≡ v → ⊥
     above x y v h e f = omega (arith, ints, lower x y h, e, f)

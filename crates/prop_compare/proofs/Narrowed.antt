@@ -3,6 +3,7 @@ use Rattle.std.proofs.Common.{◌≡◌, ◌<◌, ◌+◌, Bool, true, false, no
 use Rattle.std.specs.Prelude.{pos, negsuc, ◌+ℤ◌, ◌-ℤ◌, ◌≤ℤ◌, ◌<ℤ◌, int_lt, int_le, filter}
 use Rattle.std.specs.List.{list_all}
 use Rattle.std.proofs.lemmas.Int.{ints}
+use Rattle.std.proofs.lemmas.Bool.{not_from_false, false_from_ne_true, and_from}
 use Rattle.qc_model.specs.declared.problem.Arg.{Arg}
 use Rattle.qc_model.specs.declared.problem.Arg.TheVariants.{Var, Num}
 use Rattle.qc_model.specs.declared.problem.VarId.{VarId}
@@ -10,9 +11,9 @@ use Rattle.qc_model.specs.Content.{Rule}
 use Rattle.qc_model.specs.Domains.{Values, Box, values_left, values_within, values_outside, box_without, is_within, is_none_left, is_ascending, has_value, has_empty, least_value, greatest_value}
 use Rattle.qc_model.specs.Refuted.{left_to, refuted_by}
 use Rattle.qc_model.specs.Valid.{is_number}
-use Rattle.qc_model.proofs.Readable.{second, together}
+use Rattle.qc_model.proofs.Readable.{second}
 use Rattle.model_arguments.proofs.Values.{ascending_kept, all_kept, has_least, has_greatest}
-use Rattle.model_arguments.proofs.Bools.{never, not_true, not_false}
+use Rattle.model_arguments.proofs.Bools.{not_false}
 use Rattle.qc_refuter.proofs.Domains.{some_left, ascending_left, small_left}
 use Rattle.proof_tree.specs.declared.tree.Step.{Step}
 use Rattle.fd_store.specs.Held.{values_from, least_of}
@@ -26,7 +27,7 @@ use Rattle.prop_compare.proofs.Sides.{var_of, open_place, with_twice, with_kept,
 
 -- whether some value is within
 pub some_within : (vs : Values) (lo hi v : ℤ) → Some v ≡ least_of (values_from lo vs) → int_le v hi ≡ not (is_none_left (values_within lo hi vs))
-some_within vs lo hi v h = by (int_le v hi) (is_none_left (values_within lo hi vs)) (λ t. some_of (values_within lo hi vs) v (keeps (is_within lo hi) vs v (together (int_le lo v) (int_le v hi) (up lo v p.up) t) p.there)) (λ n. reach n)
+some_within vs lo hi v h = by (int_le v hi) (is_none_left (values_within lo hi vs)) (λ t. some_of (values_within lo hi vs) v (keeps (is_within lo hi) vs v (and_from (int_le lo v) (int_le v hi) (up lo v p.up) t) p.there)) (λ n. reach n)
   where
     p : IsFrom vs lo v
     p = from_some vs lo v h
@@ -95,7 +96,7 @@ number_same box a n d e = ap (λ z. box_with box z d) (sym e)
 under_part : (lo l u : ℤ) (vs : Values) → u ≡ lo -ℤ pos 1 → is_none_left (values_within l u vs) ≡ false → IsPart (λ v. int_lt v lo) (values_within l u vs) vs
 under_part lo l u vs e n = record {
   some = n;
-  each = λ v h. together (int_lt v lo) (has_value vs v) (is_lower v lo (less v u lo (at_most l u v (passes (is_within l u) vs v h)) e)) (was_left (is_within l u) vs v h);
+  each = λ v h. and_from (int_lt v lo) (has_value vs v) (is_lower v lo (less v u lo (at_most l u v (passes (is_within l u) vs v h)) e)) (was_left (is_within l u) vs v h);
 }
   where
     less : (v u lo : ℤ) → v ≤ℤ u → u ≡ lo -ℤ pos 1 → v <ℤ lo
@@ -104,7 +105,7 @@ under_part lo l u vs e n = record {
 over_part : (hi o g : ℤ) (vs us : Values) → o ≡ hi +ℤ pos 1 → ((v : ℤ) → has_value us v ≡ true → has_value vs v ≡ true) → is_none_left (values_within o g us) ≡ false → IsPart (λ v. int_lt hi v) (values_within o g us) vs
 over_part hi o g vs us e f n = record {
   some = n;
-  each = λ v h. together (int_lt hi v) (has_value vs v) (is_lower hi v (more v o hi (at_least o g v (passes (is_within o g) us v h)) e)) (f v (was_left (is_within o g) us v h));
+  each = λ v h. and_from (int_lt hi v) (has_value vs v) (is_lower hi v (more v o hi (at_least o g v (passes (is_within o g) us v h)) e)) (f v (was_left (is_within o g) us v h));
 }
   where
     more : (v o hi : ℤ) → o ≤ℤ v → o ≡ hi +ℤ pos 1 → hi <ℤ v
@@ -121,7 +122,7 @@ stays_under c box a lo hi l u n e =
     let vs = left_to box a in
     let k = least_kept (is_within lo hi) vs n.some in
     let w = least_value (values_within lo hi vs) in
-    some_of (values_outside l u vs) w (keeps (λ v. not (is_within l u v)) vs w (not_true (is_within l u w) (never (is_within l u w) (λ t. less w u lo (at_most l u w t) e (at_least lo hi w k.0)))) k.1)
+    some_of (values_outside l u vs) w (keeps (λ v. not (is_within l u v)) vs w (not_from_false (is_within l u w) (false_from_ne_true (is_within l u w) (λ t. less w u lo (at_most l u w t) e (at_least lo hi w k.0)))) k.1)
   where
     less : (w u lo : ℤ) → w ≤ℤ u → u ≡ lo -ℤ pos 1 → lo ≤ℤ w → ⊥
     less w u lo h e k = omega (arith, ints, h, e, k)
@@ -132,8 +133,8 @@ left_after c box one a lo hi l u n o e h = ap (λ b. left_to b a) h ∙ with_kep
 
 kept_open : (q : ℤ → Bool) (vs : Values) → is_domain_left vs ≡ true → is_none_left (filter q vs) ≡ false → is_domain_left (filter q vs) ≡ true
 kept_open q vs o n =
-    together (not (is_none_left (filter q vs)) && is_ascending (filter q vs)) (list_all is_number (filter q vs))
-    (together (not (is_none_left (filter q vs))) (is_ascending (filter q vs)) (not_true (is_none_left (filter q vs)) n) (ascending_kept q vs (ascending_left vs o)))
+    and_from (not (is_none_left (filter q vs)) && is_ascending (filter q vs)) (list_all is_number (filter q vs))
+    (and_from (not (is_none_left (filter q vs))) (is_ascending (filter q vs)) (not_from_false (is_none_left (filter q vs)) n) (ascending_kept q vs (ascending_left vs o)))
     (all_kept is_number q vs (second (not (is_none_left vs) && is_ascending vs) (list_all is_number vs) o))
 
 pub open_after : (c : Rule) (box one : Box) (a : Arg) (lo hi l u : ℤ) → IsNarrowing c box a lo hi → is_open box a ≡ true → u ≡ lo -ℤ pos 1 → one ≡ box_with box a (values_outside l u (left_to box a)) → is_open one a ≡ true

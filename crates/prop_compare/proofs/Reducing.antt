@@ -1,6 +1,7 @@
 -- What both arguments keep, as removals of a box.
 use Rattle.std.proofs.Common.{◌≡◌, ◌⊎◌, inl, inr, Bool, true, false, not, [], ◌∷◌, Option, Some, None, refl, sym, ap, ◌∙◌, subst, set, ℤ}
 use Rattle.std.specs.Prelude.{int_lt, IfNone, IfSome}
+use Rattle.std.proofs.lemmas.Bool.{not_from_false, and_from}
 use Rattle.qc_model.specs.declared.problem.Arg.{Arg}
 use Rattle.qc_model.specs.declared.problem.Arg.TheVariants.{Var, Num}
 use Rattle.qc_model.specs.declared.problem.VarId.{VarId}
@@ -8,8 +9,6 @@ use Rattle.qc_model.specs.Closed.{refutes_at}
 use Rattle.qc_model.specs.Content.{Game, Rule}
 use Rattle.qc_model.specs.Domains.{Values, Box, values_left, values_within, is_within, is_none_left, least_value, greatest_value}
 use Rattle.qc_model.specs.Refuted.{left_to, refuted_by}
-use Rattle.qc_model.proofs.Readable.{together}
-use Rattle.model_arguments.proofs.Bools.{not_true}
 use Rattle.qc_refuter.proofs.Domains.{some_left}
 use Rattle.prop_base.specs.Closed.{keeps_arg}
 use Rattle.prop_compare.specs.declared.keeping.Keeping.{Keeping}
@@ -24,9 +23,9 @@ pub keeps_side : (c : Rule) (box : Box) (a : Arg) → ((x : VarId) → a ≡ Var
 keeps_side c box (Num n) f = refl
 keeps_side c box (Var x) f =
     let d = values_left box x.0 in
-    together (not (refutes_at c box x.0 (least_value d))) (not (refutes_at c box x.0 (greatest_value d)))
-    (not_true (refutes_at c box x.0 (least_value d)) (f x refl (least_value d) (inl refl)))
-    (not_true (refutes_at c box x.0 (greatest_value d)) (f x refl (greatest_value d) (inr refl)))
+    and_from (not (refutes_at c box x.0 (least_value d))) (not (refutes_at c box x.0 (greatest_value d)))
+    (not_from_false (refutes_at c box x.0 (least_value d)) (f x refl (least_value d) (inl refl)))
+    (not_from_false (refutes_at c box x.0 (greatest_value d)) (f x refl (greatest_value d) (inr refl)))
 
 -- what the test says where one of both is set
 pub at_first : (c : Rule) (box other : Box) (a b : Arg) (test : Values → Values → Bool) (x : VarId) (d : Values) → IsTested c box a b test → AlikeBut a b box other → same_variable a b ≡ false → is_none_left (left_to other a) ≡ false → a ≡ Var x →

@@ -3,6 +3,7 @@ use Rattle.std.proofs.Common.{◌≡◌, Bool, true, false, ◌&&◌, List, [], 
 use Rattle.std.specs.Prelude.{pos, ◌+ℤ◌, int_lt, int_le}
 use Rattle.std.specs.List.{list_all}
 use Rattle.std.proofs.lemmas.Int.{ints}
+use Rattle.std.proofs.lemmas.Bool.{and_from}
 use Rattle.qc_model.specs.declared.problem.Arg.{Arg}
 use Rattle.qc_model.specs.declared.problem.Argument.{Argument}
 use Rattle.qc_model.specs.declared.problem.Argument.TheVariants.{One, Many, Numbers, Members}
@@ -18,7 +19,7 @@ use Rattle.qc_model.specs.Meaning.{Meaning, equal, different, at_most, below, me
 use Rattle.qc_model.specs.Refuted.{left_to, refuted_as}
 use Rattle.qc_model.specs.Signature.{arg_kinds_of}
 use Rattle.qc_model.specs.Valid.{is_domain, is_of_sort, are_of_sorts, have_lengths, arg_sees, argument_sees, is_constraint}
-use Rattle.qc_model.proofs.Readable.{first, second, together}
+use Rattle.qc_model.proofs.Readable.{first, second}
 use Rattle.model_arguments.specs.Asked.{IsAsked}
 use Rattle.model_arguments.specs.Written.{arg_at}
 use Rattle.model_arguments.proofs.Written.{left_written}
@@ -135,8 +136,8 @@ pair_of g c box k d a m s =
       own = λ other f m n p q.
           keeps_all c other
           (ap (list_all (keeps_argument c other)) t.is
-          ∙ together (keeps_arg c other t.left) (keeps_arg c other t.right && true) (ap (λ l. keeps_arg c other (arg_at l 0)) (sym t.is) ∙ p)
-          (together (keeps_arg c other t.right) true (ap (λ l. keeps_arg c other (arg_at l 1)) (sym t.is) ∙ q) refl));
+          ∙ and_from (keeps_arg c other t.left) (keeps_arg c other t.right && true) (ap (λ l. keeps_arg c other (arg_at l 0)) (sym t.is) ∙ p)
+          (and_from (keeps_arg c other t.right) true (ap (λ l. keeps_arg c other (arg_at l 1)) (sym t.is) ∙ q) refl));
     }
 
 pub tested_of : (c : Rule) (box : Box) (m : Meaning) (test : Values → Values → Bool) → meaning_of c.pred ≡ m → ((args : Lefts) → refuted_as m args ≡ test (left_at args 0) (left_at args 1)) → IsTested c box (arg_at c.args 0) (arg_at c.args 1) test

@@ -4,6 +4,7 @@ use Rattle.std.specs.Prelude.{pos, ◌==◌}
 use Rattle.std.specs.List.{list_all}
 use Rattle.std.proofs.lemmas.List.{get_or-set_same, get_or-set_other}
 use Rattle.std.proofs.lemmas.Bool.Decides.{nat_tests}
+use Rattle.std.proofs.lemmas.Bool.{not_from_false, and_from}
 use Rattle.qc_model.specs.declared.problem.VarId.{VarId}
 use Rattle.qc_model.specs.declared.problem.Arg.TheVariants.{Var}
 use Rattle.qc_model.specs.Arguments.{variables_of}
@@ -12,9 +13,7 @@ use Rattle.qc_model.specs.Content.{Rule}
 use Rattle.qc_model.specs.Domains.{Values, Box, values_left, values_within, values_outside, box_at, box_within, box_without, is_none_left, is_single, has_empty, least_value, greatest_value}
 use Rattle.qc_model.specs.Refuted.{refuted_by}
 use Rattle.qc_model.specs.Valid.{is_number}
-use Rattle.qc_model.proofs.Readable.{together}
 use Rattle.model_arguments.proofs.Boxes.{set_full}
-use Rattle.model_arguments.proofs.Bools.{not_true}
 use Rattle.proof_tree.specs.declared.tree.Step.{Step}
 use Rattle.prop_base.specs.declared.answer.Filtered.{Filtered}
 use Rattle.prop_base.specs.declared.answer.Filtered.TheVariants.{Emptied, Stable, Changed}
@@ -66,7 +65,7 @@ still_full box new x t cut f h q n =
 -- no end is refuted where none of both is
 all_pass : (p : ℕ → Bool) (ys : List ℕ) → ((y : ℕ) → p y ≡ true) → list_all p ys ≡ true
 all_pass p [] f = refl
-all_pass p (y ∷ ys) f = together (p y) (list_all p ys) (f y) (all_pass p ys f)
+all_pass p (y ∷ ys) f = and_from (p y) (list_all p ys) (f y) (all_pass p ys f)
 
 length_set : (box : Box) (y : ℕ) (d : Values) → length (set box y d) ≡ length box
 length_set [] y d = refl
@@ -96,9 +95,9 @@ untold_keeps c box x f b none p q = all_pass (λ y. not (refutes_at c box y (lea
     each y =
         let l = least_value (values_left box y) in
         let g = greatest_value (values_left box y) in
-        together (not (refutes_at c box y l)) (not (refutes_at c box y g))
-        (not_true (refutes_at c box y l) (same_or_not y x.0 (refutes_at c box y l ≡ false) (λ e. ap (λ z. refutes_at c box z (least_value (values_left box z))) e ∙ (ap (λ d. refutes_at c box x.0 (least_value d)) b ∙ q)) (other y l)))
-        (not_true (refutes_at c box y g) (same_or_not y x.0 (refutes_at c box y g ≡ false) (λ e. ap (λ z. refutes_at c box z (greatest_value (values_left box z))) e ∙ (ap (λ d. refutes_at c box x.0 (greatest_value d)) b ∙ p)) (other y g)))
+        and_from (not (refutes_at c box y l)) (not (refutes_at c box y g))
+        (not_from_false (refutes_at c box y l) (same_or_not y x.0 (refutes_at c box y l ≡ false) (λ e. ap (λ z. refutes_at c box z (least_value (values_left box z))) e ∙ (ap (λ d. refutes_at c box x.0 (least_value d)) b ∙ q)) (other y l)))
+        (not_from_false (refutes_at c box y g) (same_or_not y x.0 (refutes_at c box y g ≡ false) (λ e. ap (λ z. refutes_at c box z (greatest_value (values_left box z))) e ∙ (ap (λ d. refutes_at c box x.0 (greatest_value d)) b ∙ p)) (other y g)))
 
 -- one truth value is left
 pub told_single : (box new : Box) (x : VarId) (t : Bool) (cut : Cut) → values_left box x.0 ≡ pos 0 ∷ pos 1 ∷ [] → cut ≡ record { x = x; lo = truth_of t; hi = truth_of t } → new ≡ box_without box cut.x.0 cut.lo cut.hi → is_single (values_left new x.0) ≡ true

@@ -4,6 +4,7 @@ use Rattle.std.specs.Prelude.{pos, ◌+ℤ◌, int_lt, int_le, slice_get}
 use Rattle.std.specs.List.{list_all}
 use Rattle.std.specs.Ordering.{int_eq}
 use Rattle.std.proofs.lemmas.Int.{ints}
+use Rattle.std.proofs.lemmas.Bool.{and_from}
 use Rattle.qc_model.specs.declared.problem.Arg.{Arg}
 use Rattle.qc_model.specs.declared.problem.Arg.TheVariants.{Var, Num}
 use Rattle.qc_model.specs.declared.problem.Argument.{Argument}
@@ -23,7 +24,7 @@ use Rattle.qc_model.specs.Meaning.{Meaning, reified, meaning_of}
 use Rattle.qc_model.specs.Refuted.{left_to, refuted_as}
 use Rattle.qc_model.specs.Signature.{arg_kinds_of}
 use Rattle.qc_model.specs.Valid.{is_domain, is_truth, is_bits, is_boolean, is_variable_with, is_of_sort, are_of_sorts, have_lengths, arg_sees, argument_sees, is_constraint}
-use Rattle.qc_model.proofs.Readable.{first, second, together}
+use Rattle.qc_model.proofs.Readable.{first, second}
 use Rattle.model_arguments.specs.Asked.{IsAsked}
 use Rattle.model_arguments.specs.Written.{arg_at}
 use Rattle.qc_refuter.specs.Met.{lefts, is_open, is_met}
@@ -111,7 +112,7 @@ three_args xs c k h m =
 of_bits : (d : Values) → list_all (has_value (pos 0 ∷ pos 1 ∷ [])) d ≡ true → list_all is_truth d ≡ true
 of_bits [] h = refl
 of_bits (v ∷ d) h =
-    together (is_truth v) (list_all is_truth d) (one (int_eq v (pos 0)) (int_eq v (pos 1)) (first (has_value (pos 0 ∷ pos 1 ∷ []) v) (list_all (has_value (pos 0 ∷ pos 1 ∷ [])) d) h))
+    and_from (is_truth v) (list_all is_truth d) (one (int_eq v (pos 0)) (int_eq v (pos 1)) (first (has_value (pos 0 ∷ pos 1 ∷ []) v) (list_all (has_value (pos 0 ∷ pos 1 ∷ [])) d) h))
     (of_bits d (second (has_value (pos 0 ∷ pos 1 ∷ []) v) (list_all (has_value (pos 0 ∷ pos 1 ∷ [])) d) h))
   where
     one : (a b : Bool) → (a || (b || false)) ≡ true → (a || b) ≡ true
@@ -137,7 +138,7 @@ variable_truths (x ∷ xs) (d ∷ box) zero b s =
 
 pub truths_left : (g : Game) (c : Rule) (box : Box) (r : Arg) → IsAsked g c box → is_boolean g.variables r ≡ true → list_all is_truth (left_to box r) ≡ true
 truths_left g c box (Var x) a h = variable_truths g.variables box x.0 h a.declared
-truths_left g c box (Num n) a h = together (is_truth n) true h refl
+truths_left g c box (Num n) a h = and_from (is_truth n) true h refl
 
 -- the tests of the contrary
 entailed_test : (k : Comparison) (args : Lefts) → entailed_as (meant_by k) args ≡ entailing k (left_at args 0) (left_at args 1)
@@ -182,8 +183,8 @@ telling_of g c box k d i m a b r e t u =
       own = λ other f l q.
           keeps_all c other
           (ap (list_all (keeps_argument c other)) e
-          ∙ together (keeps_arg c other a) (keeps_arg c other b && (keeps_arg c other r && true)) f
-          (together (keeps_arg c other b) (keeps_arg c other r && true) l (together (keeps_arg c other r) true q refl)));
+          ∙ and_from (keeps_arg c other a) (keeps_arg c other b && (keeps_arg c other r && true)) f
+          (and_from (keeps_arg c other b) (keeps_arg c other r && true) l (and_from (keeps_arg c other r) true q refl)));
     }
 
 pub telling_at : (g : Game) (c : Rule) (box : Box) (a b r : Arg) (k : Comparison) → a ≡ arg_at c.args 0 → b ≡ arg_at c.args 1 → r ≡ arg_at c.args 2 → list_all (λ x. is_domain x.domain) g.variables ≡ true → IsAsked g c box → meaning_of c.pred ≡ reified (meant_by k) →

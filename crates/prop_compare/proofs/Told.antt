@@ -1,6 +1,7 @@
 -- What a constraint refutes whose last argument tells whether a comparison of two others holds.
 use Rattle.std.proofs.Common.{◌≡◌, ◌⊎◌, inl, inr, Bool, true, false, not, ◌&&◌, ◌||◌, [], ◌∷◌, set, refl, sym, ap, ◌∙◌, subst, ℤ}
 use Rattle.std.specs.Prelude.{pos}
+use Rattle.std.proofs.lemmas.Bool.{false_from_ne_true}
 use Rattle.qc_model.specs.declared.problem.Arg.{Arg}
 use Rattle.qc_model.specs.declared.problem.Arg.TheVariants.{Var, Num}
 use Rattle.qc_model.specs.declared.problem.VarId.{VarId}
@@ -12,7 +13,7 @@ use Rattle.qc_model.specs.Valid.{is_number}
 use Rattle.qc_model.proofs.Readable.{first}
 use Rattle.model_arguments.proofs.Boxes.{set_full}
 use Rattle.model_arguments.proofs.Values.{has_least, has_greatest}
-use Rattle.model_arguments.proofs.Bools.{never, not_false, clash}
+use Rattle.model_arguments.proofs.Bools.{not_false, clash}
 use Rattle.qc_refuter.proofs.Domains.{some_left}
 use Rattle.prop_base.specs.declared.cuts.Cut.{Cut}
 use Rattle.prop_base.specs.Closed.{IsCut, keeps_arg}
@@ -255,5 +256,5 @@ fixed_pair g c box k a b r t i s =
           (λ x u v w.
           told_by g c box (set other x.0 (v ∷ [])) k a b r (left_to other a) (left_to other b) (truth_of t ∷ []) i (set_there other r a x (v ∷ []) u (flipped a r p.first_last)) (set_there other r b x (v ∷ []) u (flipped b r p.second_last))
           (set_here other r x (v ∷ []) u (ap is_none_left o) ∙ ap (λ z. z ∷ []) (single_value (truth_of t ∷ []) v refl (ap (λ z. has_value z v) (sym o) ∙ end_there (left_to other r) v (ap is_none_left o) w)))
-          ∙ (mistold_one k t (left_to other a) (left_to other b) ∙ never (refuting_as k t (left_to other a) (left_to other b)) (unrefuted g c box other k a b r t i o m n l q))));
+          ∙ (mistold_one k t (left_to other a) (left_to other b) ∙ false_from_ne_true (refuting_as k t (left_to other a) (left_to other b)) (unrefuted g c box other k a b r t i o m n l q))));
     }

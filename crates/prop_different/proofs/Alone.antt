@@ -4,9 +4,9 @@ use Rattle.std.specs.Prelude.{pos, ◌+ℤ◌, ◌≤ℤ◌, ◌<ℤ◌, int_le,
 use Rattle.std.proofs.lemmas.Int.{ints}
 use Rattle.std.proofs.lemmas.Bool.Decides.{nat_tests}
 use Rattle.std.proofs.lemmas.List.Sums.{count_by-le-length}
+use Rattle.std.proofs.lemmas.Bool.{and_from}
 use Rattle.qc_model.specs.Domains.{Values, values_within, least_value, greatest_value, has_value, is_within, is_none_left}
 use Rattle.qc_model.specs.Valid.{is_number}
-use Rattle.qc_model.proofs.Readable.{together}
 use Rattle.model_arguments.proofs.Values.{has_least, has_greatest}
 use Rattle.qc_refuter.proofs.Domains.{some_left}
 use Rattle.qc_refuter.specs.Full.{lies_in, held, IsWidest, AreWidest}
@@ -100,7 +100,7 @@ alone_number ds l m n s e = by (is_among l n m) refl
     by false q = inr (q, q)
 
 some_within : (low high v : ℤ) (vs : Values) → has_value vs v ≡ true → low ≤ℤ v → v ≤ℤ high → is_none_left (values_within low high vs) ≡ false
-some_within low high v vs h a b = by (values_within low high vs) (has_within vs low high v ∙ together (is_within low high v) (has_value vs v) (within a b) h)
+some_within low high v vs h a b = by (values_within low high vs) (has_within vs low high v ∙ and_from (is_within low high v) (has_value vs v) (within a b) h)
   where
     within : low ≤ℤ v → v ≤ℤ high → is_within low high v ≡ true
     within a b = grind (arith, ints, a, b)

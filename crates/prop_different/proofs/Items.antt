@@ -3,6 +3,7 @@ use Rattle.std.proofs.Common.{◌≡◌, ◌⊎◌, inl, inr, ℕ, ◌<◌, Bool
 use Rattle.std.specs.Prelude.{pos, ◌+ℤ◌, ◌≤ℤ◌, ◌<ℤ◌}
 use Rattle.std.proofs.lemmas.Int.{ints}
 use Rattle.std.proofs.lemmas.List.{get_or-map, length-map}
+use Rattle.std.proofs.lemmas.Bool.{and_from}
 use Rattle.qc_model.specs.declared.problem.Arg.{Arg}
 use Rattle.qc_model.specs.declared.problem.Arg.TheVariants.{Var, Num}
 use Rattle.qc_model.specs.declared.problem.VarId.{VarId}
@@ -11,7 +12,7 @@ use Rattle.qc_model.specs.Content.{Game, Rule}
 use Rattle.qc_model.specs.Domains.{Values, Box, values_left, values_within, box_within, box_at, least_value, greatest_value, has_value, is_within, is_none_left}
 use Rattle.qc_model.specs.Left.{has_crowd}
 use Rattle.qc_model.specs.Refuted.{left_to, refuted_by}
-use Rattle.qc_model.proofs.Readable.{first, together}
+use Rattle.qc_model.proofs.Readable.{first}
 use Rattle.model_arguments.proofs.Values.{has_least, has_greatest}
 use Rattle.model_arguments.proofs.Items.{one_left, all_by}
 use Rattle.qc_refuter.specs.Full.{lies_in, held}
@@ -51,7 +52,7 @@ keeps_item : (g : Game) (c : Rule) (xs : List Arg) (box : Box) (k : ℕ) (a : Ar
     ((x : VarId) → a ≡ Var x → x.0 < length box) → keeps_arg c box a ≡ true
 keeps_item g c xs box k (Num n) e d all l q f = refl
 keeps_item g c xs box k (Var x) e d all l q f =
-    together (not (refutes_at c box x.0 (least_value (values_left box x.0)))) (not (refutes_at c box x.0 (greatest_value (values_left box x.0))))
+    and_from (not (refutes_at c box x.0 (least_value (values_left box x.0)))) (not (refutes_at c box x.0 (greatest_value (values_left box x.0))))
     (keeps_value g c xs box k x (least_value (values_left box x.0)) e d all l q (f x refl) (inl refl))
     (keeps_value g c xs box k x (greatest_value (values_left box x.0)) e d all l q (f x refl) (inr refl))
 

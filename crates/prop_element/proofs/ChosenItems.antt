@@ -7,6 +7,7 @@ use Rattle.std.specs.List.{list_any, list_all}
 use Rattle.std.proofs.lemmas.Int.{ints}
 use Rattle.std.proofs.lemmas.List.{get_or-map}
 use Rattle.std.proofs.lemmas.Bool.Decides.{nat_tests}
+use Rattle.std.proofs.lemmas.Bool.{or_left, or_right, or_from, or_parts, not_from_false, cases_lt, and_from}
 use Rattle.qc_model.specs.declared.problem.Arg.{Arg}
 use Rattle.qc_model.specs.declared.problem.Arg.TheVariants.{Var, Num}
 use Rattle.qc_model.specs.declared.problem.VarId.{VarId}
@@ -15,10 +16,10 @@ use Rattle.qc_model.specs.Content.{Rule}
 use Rattle.qc_model.specs.Domains.{Values, Box, values_left, values_within, box_within, is_within, has_value, least_value, greatest_value, misses}
 use Rattle.qc_model.specs.Left.{some_item_meets}
 use Rattle.qc_model.specs.Refuted.{left_to, refuted_by}
-use Rattle.qc_model.proofs.Readable.{first, second, together}
+use Rattle.qc_model.proofs.Readable.{first, second}
 use Rattle.model_arguments.specs.Repeats.{same_variable, has_repeat}
 use Rattle.model_arguments.proofs.Values.{has_first}
-use Rattle.model_arguments.proofs.Bools.{or_left, or_right, or_none, neither, clash, not_true}
+use Rattle.model_arguments.proofs.Bools.{clash}
 use Rattle.model_arguments.proofs.Items.{flipped, other_left, none_at}
 use Rattle.model_arguments.proofs.Kept.{through, reaches, low_end, high_end, apart, at_least, at_most, passes, was_left, same_end}
 use Rattle.qc_refuter.specs.Commons.{IsLeastCommon, IsGreatestCommon}
@@ -57,7 +58,7 @@ some_from n b (d ∷ ds) c (suc k) h p =
 none_from : (n : ℕ) (b : Values) (ds : List Values) (c : Values) → ((k : ℕ) → k < length ds → (has_value b (pos (n + k)) && not (misses (get_or ds k []) c)) ≡ false) → some_item_meets (pos n) b ds c ≡ false
 none_from n b [] c f = refl
 none_from n b (d ∷ ds) c f =
-    or_none (has_value b (pos n) && not (misses d c)) (some_item_meets (pos n +ℤ pos 1) b ds c) (ap (λ z. has_value b (pos z) && not (misses d c)) (plain n) ∙ f 0 (omega arith))
+    or_from (has_value b (pos n) && not (misses d c)) (some_item_meets (pos n +ℤ pos 1) b ds c) (ap (λ z. has_value b (pos z) && not (misses d c)) (plain n) ∙ f 0 (omega arith))
     (ap (λ z. some_item_meets z b ds c) (next_place n) ∙ none_from (n + 1) b ds c (λ k h. ap (λ z. has_value b (pos z) && not (misses (get_or ds k []) c)) (sym (shifted n k)) ∙ f (suc k) (omega arith)))
 
 -- what is left to an item
@@ -88,7 +89,7 @@ met_fits : (box : Box) (a : Arg) (items : List Arg) (r : Arg) (k : ℕ) (v : ℤ
 met_fits box a items r k v m =
     let d = left_to box (item_at items k) in
     let e = left_to box r in
-    together (has_value (left_to box a) (pos (k + 1))) (not (misses d e)) m.left (not_true (misses d e) (some_common d e v m.item m.result))
+    and_from (has_value (left_to box a) (pos (k + 1))) (not (misses d e)) m.left (not_from_false (misses d e) (some_common d e v m.item m.result))
 
 unmet : (box : Box) (a : Arg) (items : List Arg) (r : Arg) (k : ℕ) → ((v : ℤ) → IsMet box a items r k v → ⊥) → item_fits box a items r k ≡ false
 unmet box a items r k f = by (has_value (left_to box a) (pos (k + 1))) refl
@@ -107,15 +108,15 @@ pub record AreApart (a : Arg) (items : List Arg) (r : Arg) : Type 0 where
 items_apart : (items : List Arg) (j k : ℕ) → has_repeat items ≡ false → j < length items → k < length items → j ≢ k → same_variable (item_at items j) (item_at items k) ≡ false
 items_apart [] j k r h l n = absurd (omega arith)
 items_apart (a ∷ items) zero zero r h l n = absurd (n refl)
-items_apart (a ∷ items) zero (suc k) r h l n = none_at (same_variable a) items k (Var (record { 0 = 0 })) (neither (list_any (same_variable a) items) (has_repeat items) r).0 (omega arith)
-items_apart (a ∷ items) (suc j) zero r h l n = flipped a (item_at items j) (none_at (same_variable a) items j (Var (record { 0 = 0 })) (neither (list_any (same_variable a) items) (has_repeat items) r).0 (omega arith))
-items_apart (a ∷ items) (suc j) (suc k) r h l n = items_apart items j k (neither (list_any (same_variable a) items) (has_repeat items) r).1 (omega arith) (omega arith) (λ e. n (ap suc e))
+items_apart (a ∷ items) zero (suc k) r h l n = none_at (same_variable a) items k (Var (record { 0 = 0 })) (or_parts (list_any (same_variable a) items) (has_repeat items) r).0 (omega arith)
+items_apart (a ∷ items) (suc j) zero r h l n = flipped a (item_at items j) (none_at (same_variable a) items j (Var (record { 0 = 0 })) (or_parts (list_any (same_variable a) items) (has_repeat items) r).0 (omega arith))
+items_apart (a ∷ items) (suc j) (suc k) r h l n = items_apart items j k (or_parts (list_any (same_variable a) items) (has_repeat items) r).1 (omega arith) (omega arith) (λ e. n (ap suc e))
 
 apart_of : (a : Arg) (items : List Arg) (r : Arg) → has_repeat (a ∷ r ∷ items) ≡ false → AreApart a items r
 apart_of a items r h =
-    let p = neither (same_variable a r || list_any (same_variable a) items) (list_any (same_variable r) items || has_repeat items) h in
-    let q = neither (same_variable a r) (list_any (same_variable a) items) p.0 in
-    let s = neither (list_any (same_variable r) items) (has_repeat items) p.1 in
+    let p = or_parts (same_variable a r || list_any (same_variable a) items) (list_any (same_variable r) items || has_repeat items) h in
+    let q = or_parts (same_variable a r) (list_any (same_variable a) items) p.0 in
+    let s = or_parts (list_any (same_variable r) items) (has_repeat items) p.1 in
     record {
       ends = q.0;
       first = λ k l. none_at (same_variable a) items k (Var (record { 0 = 0 })) q.1 l;
@@ -138,7 +139,7 @@ kept_place c box x items r k v l e h f q =
     let p = apart_of (Var x) items r e.once in
     let b = set box x.0 (v ∷ []) in
     stays c b (Var x) items r k e h
-    (together (has_value (left_to b (Var x)) (pos (k + 1))) (not (misses (left_to b (item_at items k)) (left_to b r)))
+    (and_from (has_value (left_to b (Var x)) (pos (k + 1))) (not (misses (left_to b (item_at items k)) (left_to b r)))
     (ap (λ us. has_value us (pos (k + 1))) (set_here box x (v ∷ []) l) ∙ subst (λ z. has_value (z ∷ []) (pos (k + 1)) ≡ true) (sym q) (has_first (pos (k + 1)) []))
     (ap (λ d. not (misses d (left_to b r))) (other_left box x (v ∷ []) (item_at items k) (flipped (Var x) (item_at items k) (p.first k h)))
     ∙ (ap (λ d. not (misses (left_to box (item_at items k)) d)) (other_left box x (v ∷ []) r (flipped (Var x) r p.ends))
@@ -246,9 +247,9 @@ others_keep c box a items r p k e h i n f = by (item_at items p) refl
     by : (b : Arg) → item_at items p ≡ b → keeps_arg c box b ≡ true
     by (Num v) q = refl
     by (Var x) q =
-        together (not (refutes_at c box x.0 (least_value (values_left box x.0)))) (not (refutes_at c box x.0 (greatest_value (values_left box x.0))))
-        (not_true (refutes_at c box x.0 (least_value (values_left box x.0))) (other_kept c box x a items r p k (least_value (values_left box x.0)) e h q i n f))
-        (not_true (refutes_at c box x.0 (greatest_value (values_left box x.0))) (other_kept c box x a items r p k (greatest_value (values_left box x.0)) e h q i n f))
+        and_from (not (refutes_at c box x.0 (least_value (values_left box x.0)))) (not (refutes_at c box x.0 (greatest_value (values_left box x.0))))
+        (not_from_false (refutes_at c box x.0 (least_value (values_left box x.0))) (other_kept c box x a items r p k (least_value (values_left box x.0)) e h q i n f))
+        (not_from_false (refutes_at c box x.0 (greatest_value (values_left box x.0))) (other_kept c box x a items r p k (greatest_value (values_left box x.0)) e h q i n f))
 
 -- where it alone is left, it keeps what is met
 same_or_not : (j k : ℕ) → (j ≡ k) ⊎ (j ≢ k)
@@ -431,7 +432,7 @@ place_gone box a items r k h = ap (λ z. z && not (misses (left_to box (item_at 
 
 pub least_met : (box : Box) (a : Arg) (items : List Arg) (r : Arg) (k : ℕ) (v : ℤ) → has_value (left_to box a) (pos (k + 1)) ≡ true → IsLeastCommon (left_to box (item_at items k)) (left_to box r) v → IsLeastMet box a items r k v
 least_met box a items r k v h c = record {
-  fits = together (has_value (left_to box a) (pos (k + 1))) (not (misses (left_to box (item_at items k)) (left_to box r))) h (ap not (some_common (left_to box (item_at items k)) (left_to box r) v c.first c.second));
+  fits = and_from (has_value (left_to box a) (pos (k + 1))) (not (misses (left_to box (item_at items k)) (left_to box r))) h (ap not (some_common (left_to box (item_at items k)) (left_to box r) v c.first c.second));
   least = c;
 }
 
@@ -472,12 +473,8 @@ lower_kept box a items r best k v s c l = record { some = s; was = itself best; 
 pub lower_taken : (box : Box) (a : Arg) (items : List Arg) (r : Arg) (best : ℤ) (k : ℕ) (v : ℤ) → k < length items → IsLeastMet box a items r k v → int_lt v best ≡ true → IsLowerMet box a items r best k v
 lower_taken box a items r best k v h c l = lower_some box a items r best k v h (left_at box a items r k c.fits) c.least l
 
--- the walk over the places
-no_item_by : (j k : ℕ) → (j < k) ⊎ (k ≤ j)
-no_item_by j k = grind (arith, nat_tests)
-
 pub no_item : (box : Box) (a : Arg) (items : List Arg) (r : Arg) (k m : ℕ) → ((j : ℕ) → j < k → item_fits box a items r j ≡ false) → m ≤ k → NoneFrom (left_to box a) (length items) m → NoItem box a items r
-no_item box a items r k m f l g j h = by (no_item_by j k)
+no_item box a items r k m f l g j h = by (cases_lt j k)
   where
     by : (j < k) ⊎ (k ≤ j) → item_fits box a items r j ≡ false
     by (inl i) = f j i
@@ -491,7 +488,7 @@ lowest_start box a items r s v f c j w h m = by (split_last j s h)
     by (inr e) = let n = subst (λ z. IsMet box a items r z w) e m in c.all w n.item n.result
 
 past_last : (box : Box) (a : Arg) (items : List Arg) (r : Arg) (e k j : ℕ) (w : ℤ) → IsLastItem box a items r e → e + 1 ≤ k → j < length items → IsMet box a items r j w → j < k
-past_last box a items r e k j w p l i m = by (no_item_by j k)
+past_last box a items r e k j w p l i m = by (cases_lt j k)
   where
     by : (j < k) ⊎ (k ≤ j) → j < k
     by (inl h) = h

@@ -2,14 +2,13 @@
 use Rattle.std.proofs.Common.{◌≡◌, ◌<◌, true, not, length, sym, subst, arith, ℤ}
 use Rattle.std.specs.Prelude.{◌≤ℤ◌, ◌<ℤ◌, int_lt, ◌-ℤ◌, ◌+ℤ◌, pos, negsuc}
 use Rattle.std.proofs.lemmas.Int.{ints}
+use Rattle.std.proofs.lemmas.Bool.{not_from_false, and_from}
 use Rattle.qc_model.specs.declared.problem.VarId.{VarId}
 use Rattle.qc_model.specs.Closed.{refutes_at}
 use Rattle.qc_model.specs.Content.{Rule}
 use Rattle.qc_model.specs.Domains.{Box, values_left, values_within, is_within, least_value, greatest_value}
 use Rattle.qc_model.specs.Valid.{is_number}
-use Rattle.qc_model.proofs.Readable.{together}
 use Rattle.model_arguments.proofs.Values.{has_least, has_greatest}
-use Rattle.model_arguments.proofs.Bools.{not_true}
 use Rattle.model_arguments.proofs.Kept.{some_of, keeps, over_low, under_high, small_of, lower, inside}
 use Rattle.qc_refuter.proofs.Domains.{some_left, small_left}
 use Rattle.qc_refuter.specs.Met.{is_domain_left}
@@ -84,6 +83,6 @@ kept_at c box x low high l h u e f m n =
     let d = values_left box x.0 in
     let p = subst (λ z. low ≤ℤ z) e m in
     let q = subst (λ z. z ≤ℤ high) f n in
-    together (not (refutes_at c box x.0 (least_value d))) (not (refutes_at c box x.0 (greatest_value d)))
-    (not_true (refutes_at c box x.0 (least_value d)) (u.first p q))
-    (not_true (refutes_at c box x.0 (greatest_value d)) (u.last p q))
+    and_from (not (refutes_at c box x.0 (least_value d))) (not (refutes_at c box x.0 (greatest_value d)))
+    (not_from_false (refutes_at c box x.0 (least_value d)) (u.first p q))
+    (not_from_false (refutes_at c box x.0 (greatest_value d)) (u.last p q))

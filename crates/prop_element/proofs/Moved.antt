@@ -5,6 +5,7 @@ use Rattle.std.specs.List.{list_any, list_all}
 use Rattle.std.proofs.lemmas.Int.{ints}
 use Rattle.std.proofs.lemmas.List.{get_or-set_same}
 use Rattle.std.proofs.lemmas.Bool.Decides.{nat_tests}
+use Rattle.std.proofs.lemmas.Bool.{or_left, or_right, or_from, and_left, and_right, and_from}
 use Rattle.qc_model.specs.declared.problem.Arg.{Arg}
 use Rattle.qc_model.specs.declared.problem.Arg.TheVariants.{Var, Num}
 use Rattle.qc_model.specs.declared.problem.VarId.{VarId}
@@ -13,11 +14,11 @@ use Rattle.qc_model.specs.Refuted.{left_to}
 use Rattle.qc_model.specs.Closed.{refutes_at}
 use Rattle.qc_model.specs.Content.{Rule}
 use Rattle.qc_model.specs.Valid.{is_number}
-use Rattle.qc_model.proofs.Readable.{first, second, together}
+use Rattle.qc_model.proofs.Readable.{first, second}
 use Rattle.model_arguments.proofs.Values.{has_least, has_greatest}
 use Rattle.model_arguments.specs.Repeats.{is_variable, same_variable}
 use Rattle.model_arguments.proofs.Kept.{passes, was_left, at_least, at_most, lower, reaches}
-use Rattle.model_arguments.proofs.Bools.{or_left, or_right, or_none, not_false}
+use Rattle.model_arguments.proofs.Bools.{not_false}
 use Rattle.qc_refuter.specs.Met.{is_open}
 use Rattle.qc_refuter.proofs.Domains.{some_left, small_left}
 use Rattle.qc_refuter.proofs.Terms.{open_at}
@@ -63,14 +64,6 @@ moved box x us a l = by (same_variable (Var x) a) refl
 pub set_here : (box : Box) (x : VarId) (us : Values) → x.0 < length box → left_to (set box x.0 us) (Var x) ≡ us
 set_here box x us l = get_or-set_same box x.0 us [] l
 
-and_left : (a b : Bool) → a ≡ false → (a && b) ≡ false
-and_left true b h = cc
-and_left false b h = refl
-
-and_right : (a b : Bool) → b ≡ false → (a && b) ≡ false
-and_right true b h = h
-and_right false b h = refl
-
 pub any_at : (p : Arg → Bool) (xs : List Arg) (k : ℕ) → k < length xs → p (item_at xs k) ≡ true → list_any p xs ≡ true
 any_at p [] k h t = absurd (omega arith)
 any_at p (x ∷ xs) zero h t = or_left (p x) (list_any p xs) t
@@ -78,11 +71,11 @@ any_at p (x ∷ xs) (suc k) h t = or_right (p x) (list_any p xs) (any_at p xs k 
 
 pub none_any : (p : Arg → Bool) (xs : List Arg) → ((k : ℕ) → k < length xs → p (item_at xs k) ≡ false) → list_any p xs ≡ false
 none_any p [] f = refl
-none_any p (x ∷ xs) f = or_none (p x) (list_any p xs) (f 0 (omega arith)) (none_any p xs (λ k h. f (suc k) (omega arith)))
+none_any p (x ∷ xs) f = or_from (p x) (list_any p xs) (f 0 (omega arith)) (none_any p xs (λ k h. f (suc k) (omega arith)))
 
 pub all_each : (p : Arg → Bool) (xs : List Arg) → ((k : ℕ) → k < length xs → p (item_at xs k) ≡ true) → list_all p xs ≡ true
 all_each p [] f = refl
-all_each p (x ∷ xs) f = together (p x) (list_all p xs) (f 0 (omega arith)) (all_each p xs (λ k h. f (suc k) (omega arith)))
+all_each p (x ∷ xs) f = and_from (p x) (list_all p xs) (f 0 (omega arith)) (all_each p xs (λ k h. f (suc k) (omega arith)))
 
 pub fails_at : (p : Arg → Bool) (xs : List Arg) (k : ℕ) → k < length xs → p (item_at xs k) ≡ false → list_all p xs ≡ false
 fails_at p [] k h t = absurd (omega arith)

@@ -3,6 +3,7 @@ use Rattle.std.proofs.Common.{◌≡◌, ℕ, zero, suc, ◌<◌, ◌≤◌, ◌
 use Rattle.std.specs.Prelude.{pos, ◌≤ℤ◌, int_le}
 use Rattle.std.specs.List.{list_any}
 use Rattle.std.proofs.lemmas.Int.{ints}
+use Rattle.std.proofs.lemmas.Bool.{or_left, or_right, or_from, or_parts, false_from_ne_true, and_from}
 use Rattle.qc_model.specs.declared.problem.Arg.{Arg}
 use Rattle.qc_model.specs.declared.problem.Arg.TheVariants.{Var}
 use Rattle.qc_model.specs.declared.problem.VarId.{VarId}
@@ -13,10 +14,10 @@ use Rattle.qc_model.specs.Holds.{rows}
 use Rattle.qc_model.specs.Left.{row_fits}
 use Rattle.qc_model.specs.Lists.{Among}
 use Rattle.qc_model.specs.Refuted.{left_to, refuted_by}
-use Rattle.qc_model.proofs.Readable.{first, second, together}
+use Rattle.qc_model.proofs.Readable.{first, second}
 use Rattle.qc_model.proofs.Rows.{rows_step}
 use Rattle.model_arguments.proofs.Values.{has_first}
-use Rattle.model_arguments.proofs.Bools.{never, or_left, or_right, or_none, neither, clash, not_false}
+use Rattle.model_arguments.proofs.Bools.{clash, not_false}
 use Rattle.qc_refuter.proofs.Domains.{small_left}
 use Rattle.qc_refuter.specs.Met.{is_open}
 use Rattle.model_arguments.specs.Repeats.{same_variable, has_repeat}
@@ -42,7 +43,7 @@ was_fitting box x us [] [] l g f = refl
 was_fitting box x us [] (n ∷ row) l g f = cc
 was_fitting box x us (a ∷ items) [] l g f = cc
 was_fitting box x us (a ∷ items) (n ∷ row) l g f =
-    together (has_value (left_to box a) n) (row_fits (map (left_to box) items) row)
+    and_from (has_value (left_to box a) n) (row_fits (map (left_to box) items) row)
     (by (moved box x us a l) (first (has_value (left_to (set box x.0 us) a) n) (row_fits (map (left_to (set box x.0 us)) items) row) f))
     (was_fitting box x us items row l g (second (has_value (left_to (set box x.0 us) a) n) (row_fits (map (left_to (set box x.0 us)) items) row) f))
   where
@@ -56,14 +57,14 @@ still_fitting : (box : Box) (x : VarId) (us : Values) (items : List Arg) (row : 
 still_fitting box x us [] row k l o h e f t = absurd (omega arith)
 still_fitting box x us (a ∷ items) [] k l o h e f t = cc
 still_fitting box x us (a ∷ items) (n ∷ row) zero l o h e f t =
-    let p = neither (list_any (same_variable a) items) (has_repeat items) o in
-    together (has_value (left_to (set box x.0 us) a) n) (row_fits (map (left_to (set box x.0 us)) items) row)
+    let p = or_parts (list_any (same_variable a) items) (has_repeat items) o in
+    and_from (has_value (left_to (set box x.0 us) a) n) (row_fits (map (left_to (set box x.0 us)) items) row)
     (ap (λ vs. has_value vs n) (ap (left_to (set box x.0 us)) e ∙ set_here box x us l) ∙ t)
     (ap (λ ds. row_fits ds row) (others_left box x us items (sym (ap (λ z. list_any (same_variable z) items) e) ∙ p.0)) ∙ second (has_value (left_to box a) n) (row_fits (map (left_to box) items) row) f)
 still_fitting box x us (a ∷ items) (n ∷ row) (suc k) l o h e f t =
-    let p = neither (list_any (same_variable a) items) (has_repeat items) o in
+    let p = or_parts (list_any (same_variable a) items) (has_repeat items) o in
     let q = flipped a (Var x) (ap (same_variable a) (sym e) ∙ none_at (same_variable a) items k (Var (record { 0 = 0 })) p.0 (omega arith)) in
-    together (has_value (left_to (set box x.0 us) a) n) (row_fits (map (left_to (set box x.0 us)) items) row)
+    and_from (has_value (left_to (set box x.0 us) a) n) (row_fits (map (left_to (set box x.0 us)) items) row)
     (ap (λ vs. has_value vs n) (with_other box (Var x) a us q) ∙ first (has_value (left_to box a) n) (row_fits (map (left_to box) items) row) f)
     (still_fitting box x us items row k l p.1 (omega arith) e (second (has_value (left_to box a) n) (row_fits (map (left_to box) items) row) f) t)
 
@@ -74,7 +75,7 @@ some_row p (r ∷ rs) row (inr a) t = or_right (p r) (list_any p rs) (some_row p
 
 no_row : (p : List ℤ → Bool) (rs : List (List ℤ)) → ((row : List ℤ) → Among row rs → p row ≡ false) → list_any p rs ≡ false
 no_row p [] f = refl
-no_row p (r ∷ rs) f = or_none (p r) (list_any p rs) (f r (inl refl)) (no_row p rs (λ row a. f row (inr a)))
+no_row p (r ∷ rs) f = or_from (p r) (list_any p rs) (f r (inl refl)) (no_row p rs (λ row a. f row (inr a)))
 
 pub none_refuted : (c : Rule) (box : Box) (items : List Arg) (rs : List (List ℤ)) → IsTable c items rs → NoRow (map (left_to box) items) rs → refuted_by c box ≡ true
 none_refuted c box items rs t f = t.refuted box ∙ ap not (no_row (row_fits (map (left_to box) items)) rs f)
@@ -109,10 +110,10 @@ column_hull c box items rs x k low high o t kl e p q =
     record {
       small_low = small_left d from o s;
       small_high = small_left d to o u;
-      below = λ l h n g. none_refuted c (box_within box x.0 l h) items rs t (λ row a. never (row_fits (map (left_to (box_within box x.0 l h)) items) row) (λ f.
+      below = λ l h n g. none_refuted c (box_within box x.0 l h) items rs t (λ row a. false_from_ne_true (row_fits (map (left_to (box_within box x.0 l h)) items) row) (λ f.
           let w = within_row box x items rs row k l h lx kl e a f in
           apart h from g (through from (get_or row k (pos 0)) h (none_left row (p.all row w.0)) (at_most l h (get_or row k (pos 0)) w.1))));
-      above = λ l h n g. none_refuted c (box_within box x.0 l h) items rs t (λ row a. never (row_fits (map (left_to (box_within box x.0 l h)) items) row) (λ f.
+      above = λ l h n g. none_refuted c (box_within box x.0 l h) items rs t (λ row a. false_from_ne_true (row_fits (map (left_to (box_within box x.0 l h)) items) row) (λ f.
           let w = within_row box x items rs row k l h lx kl e a f in
           apart to l g (through l (get_or row k (pos 0)) to (at_least l h (get_or row k (pos 0)) w.1) (none_left row (q.all row w.0)))));
       first = λ f g. stays c box items rs x low k (least_value d) lx t kl e p.fitting (same_end (least_value d) from (low_end d from s) f);
@@ -137,7 +138,7 @@ pub walk_found : (p : List ℤ → Bool) (rs rest later : List (List ℤ)) (row 
 walk_found p rs rest later row e t w = record { passes = t; walk = subst (λ z. IsWalk p rs z) e w }
 
 pub walk_end : (p : List ℤ → Bool) (rs rest : List (List ℤ)) → rest ≡ [] → IsWalk p rs rest → NoneIs p rs
-walk_end p rs rest e w r a = never (p r) (λ t. none r (subst (λ z. Among r z) e (w.all r a t)))
+walk_end p rs rest e w r a = false_from_ne_true (p r) (λ t. none r (subst (λ z. Among r z) e (w.all r a t)))
   where
     none : (r : List ℤ) → Among r [] → ⊥
     none r b = b
@@ -156,7 +157,7 @@ walk_to p q rs rest later row g n t w = record {
 }
 
 pub walk_out : (p q : List ℤ → Bool) (rs rest : List (List ℤ)) → ((r : List ℤ) → p r ≡ true → q r ≡ true) → NoneIs q rest → IsWalk p rs rest → NoneIs p rs
-walk_out p q rs rest g n w r a = never (p r) (λ t. clash (q r) (g r t) (n r (w.all r a t)))
+walk_out p q rs rest g n w r a = false_from_ne_true (p r) (λ t. clash (q r) (g r t) (n r (w.all r a t)))
 
 -- a row that fits has an entry that is left at each place
 pub has_key : (box : Box) (items : List Arg) (key k : ℕ) (low high from to : ℤ) → key < length items → from ≡ least_value (left_to box (item_at items key)) → to ≡ greatest_value (left_to box (item_at items key)) → (r : List ℤ) →
@@ -169,14 +170,14 @@ has_key box items key k low high from to h e i r t =
 
 -- and none beyond what is left
 pub none_beyond : (box : Box) (items : List Arg) (k : ℕ) (low high : ℤ) (rs : List (List ℤ)) → k < length items → ((v : ℤ) → has_value (left_to box (item_at items k)) v ≡ true → is_within low high v ≡ true) → NoneIs (fits_beyond (map (left_to box) items) k low high) rs
-none_beyond box items k low high rs h s r a = never (fits_beyond (map (left_to box) items) k low high r) (λ t.
+none_beyond box items k low high rs h s r a = false_from_ne_true (fits_beyond (map (left_to box) items) k low high r) (λ t.
     clash (has_entry k low high r)
     (s (get_or r k (pos 0)) (entry_left box items r k h (second (not (has_entry k low high r)) (row_fits (map (left_to box) items) r) t)))
     (not_false (has_entry k low high r) (first (not (has_entry k low high r)) (row_fits (map (left_to box) items) r) t)))
 
 -- no number is from 1 to 0
 beyond_none : (ds : List Values) (k : ℕ) (r : List ℤ) → fits_beyond ds k (pos 1) (pos 0) r ≡ row_fits ds r
-beyond_none ds k r = ap (λ b. not b && row_fits ds r) (never (has_entry k (pos 1) (pos 0) r) (λ h.
+beyond_none ds k r = ap (λ b. not b && row_fits ds r) (false_from_ne_true (has_entry k (pos 1) (pos 0) r) (λ h.
     let n = get_or r k (pos 0) in
     never_less (through (pos 1) n (pos 0) (at_least (pos 1) (pos 0) n h) (at_most (pos 1) (pos 0) n h))))
   where

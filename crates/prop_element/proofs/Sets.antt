@@ -5,6 +5,7 @@ use Rattle.std.specs.List.{list_any}
 use Rattle.std.specs.Ordering.{int_eq}
 use Rattle.std.proofs.lemmas.Int.{ints}
 use Rattle.std.proofs.lemmas.Bool.Decides.{Decides-int_eq, nat_tests}
+use Rattle.std.proofs.lemmas.Bool.{false_from_ne_true}
 use Rattle.qc_model.specs.declared.problem.Arg.{Arg}
 use Rattle.qc_model.specs.declared.problem.Arg.TheVariants.{Var}
 use Rattle.qc_model.specs.declared.problem.VarId.{VarId}
@@ -14,7 +15,7 @@ use Rattle.qc_model.specs.Content.{Rule}
 use Rattle.qc_model.specs.Domains.{Values, Box, values_left, values_within, is_within, has_value, set_has, is_ascending, least_value, greatest_value}
 use Rattle.qc_model.specs.Refuted.{refuted_by, left_to}
 use Rattle.model_arguments.proofs.Values.{value_passes, above_first, ascending_rest, has_first}
-use Rattle.model_arguments.proofs.Bools.{never, clash}
+use Rattle.model_arguments.proofs.Bools.{clash}
 use Rattle.qc_refuter.proofs.Domains.{some_left, small_left}
 use Rattle.qc_refuter.proofs.Listed.{less_by, all_at, listed_at, same_most, less_most}
 use Rattle.qc_refuter.proofs.Walks.{some_found}
@@ -72,10 +73,10 @@ range_none_back d low high h u l m = up_to_none d high u h l (at_most low high u
 
 -- a number of the list that is left, and none before it or after it
 pub left_none : (d : Values) (v : ℤ) → v <ℤ least_value d → has_value d v ≡ false
-left_none d v h = never (has_value d v) (λ k. apart v (least_value d) h (low_end d v k))
+left_none d v h = false_from_ne_true (has_value d v) (λ k. apart v (least_value d) h (low_end d v k))
 
 pub left_none_over : (d : Values) (v : ℤ) → greatest_value d <ℤ v → has_value d v ≡ false
-left_none_over d v h = never (has_value d v) (λ k. apart (greatest_value d) v h (high_end d v k))
+left_none_over d v h = false_from_ne_true (has_value d v) (λ k. apart (greatest_value d) v h (high_end d v k))
 
 -- u is one of the first or among the others
 one_of : (u x : ℤ) (xs : List ℤ) → list_any (int_eq u) (x ∷ xs) ≡ true → (u ≡ x) ⊎ (list_any (int_eq u) xs ≡ true)

@@ -3,7 +3,7 @@ use Rattle.std.proofs.Common.{map, ◌≡◌, ◌⊎◌, inl, inr, ℕ, ◌<◌,
 use Rattle.std.specs.Prelude.{nat_le, nat_lt, pos, slice_get}
 use Rattle.std.specs.List.{list_any, list_all}
 use Rattle.std.proofs.lemmas.List.{length-map}
-use Rattle.std.proofs.lemmas.Bool.{leb-true}
+use Rattle.std.proofs.lemmas.Bool.{leb-true, false_from_ne_true, and_from}
 use Rattle.std.proofs.lemmas.Bool.Decides.{nat_tests}
 use Rattle.qc_model.specs.declared.problem.Arg.{Arg}
 use Rattle.qc_model.specs.declared.problem.Arg.TheVariants.{Var, Num}
@@ -26,12 +26,11 @@ use Rattle.qc_model.specs.Meaning.{member, element, variable_element, meaning_of
 use Rattle.qc_model.specs.Refuted.{left_to, refuted_as, refuted_by}
 use Rattle.qc_model.specs.Signature.{arg_kinds_of}
 use Rattle.qc_model.specs.Valid.{is_number, is_truth, is_bits, is_boolean, is_integer, is_integer_domain, is_variable_with, is_domain, is_set, is_of_sort, are_of_sorts, have_lengths, argument_sees, is_constraint}
-use Rattle.qc_model.proofs.Readable.{first, second, together}
+use Rattle.qc_model.proofs.Readable.{first, second}
 use Rattle.model_arguments.specs.Asked.{IsAsked}
 use Rattle.model_arguments.specs.Written.{arg_at, args_at, ints_at, set_at, last_arg}
 use Rattle.model_arguments.proofs.Written.{left_written, lefts_written, numbers_written, last_written}
 use Rattle.qc_refuter.specs.Met.{lefts, is_open, is_met, are_met}
-use Rattle.model_arguments.proofs.Bools.{never}
 use Rattle.qc_refuter.proofs.Ready.{rule_met}
 use Rattle.qc_refuter.proofs.Walks.{all_passed}
 use Rattle.prop_compare.specs.Telling.{truth_of}
@@ -137,7 +136,7 @@ membership xs c s h e k =
     let S : Set → Type 0 = λ z. IsMembership c t.arg z in
     subst A (sym (ap (λ l. arg_at l 0) t.is)) (subst S (same_set xs c s t k) (record {
       refuted = λ box. ap (λ p. refuted_as (meaning_of p) (lefts box c.args)) e ∙ ap (λ l. refuted_as (meaning_of SetIn) (lefts box l)) t.is;
-      own = λ box q. keeps_all c box (ap (list_all (keeps_argument c box)) t.is ∙ together (keeps_arg c box t.arg) true q refl);
+      own = λ box q. keeps_all c box (ap (list_all (keeps_argument c box)) t.is ∙ and_from (keeps_arg c box t.arg) true q refl);
     }))
 
 record IsMany (a : Argument) : Type 0 where
@@ -185,7 +184,7 @@ over_open g c box d a t =
 
 over_own : (c : Rule) (box : Box) (t : IsOverItems c.args) → keeps_arg c box t.arg ≡ true → list_all (keeps_arg c box) t.items ≡ true → keeps_ends box c ≡ true
 over_own c box t p q =
-    keeps_all c box (ap (list_all (keeps_argument c box)) t.is ∙ together (keeps_arg c box t.arg) (list_all (keeps_arg c box) t.items && true) p (together (list_all (keeps_arg c box) t.items) true q refl))
+    keeps_all c box (ap (list_all (keeps_argument c box)) t.is ∙ and_from (keeps_arg c box t.arg) (list_all (keeps_arg c box) t.items && true) p (and_from (list_all (keeps_arg c box) t.items) true q refl))
 
 some_of : (n : ℕ) → nat_lt 0 n ≡ true → 0 < n
 some_of n h = grind (arith, nat_tests)
@@ -300,11 +299,11 @@ told_set_open g c box d a e =
     let u = ap (are_met box) (sym t.is) ∙ rule_met g box d a.declared a.full c a.rule in
     ap (λ l. is_open box (arg_at l 0)) t.is ∙ first (is_open box t.arg) (is_set t.set && (is_open box t.last && true)) u
 
--- an integer and a truth value are never the same variable
+-- an integer and a truth value are false_from_ne_true the same variable
 pub sorts_apart : (xs : List Variable) (r a : Arg) → is_boolean xs r ≡ true → is_integer xs a ≡ true → same_variable r a ≡ false
 sorts_apart xs (Num n) a h k = refl
 sorts_apart xs (Var x) (Num n) h k = refl
-sorts_apart xs (Var x) (Var y) h k = never (y.0 == x.0) (λ e. no (slice_get xs x.0) h (ap (λ i. is_variable_with is_integer_domain (slice_get xs i)) (sym (same y.0 x.0 e)) ∙ k))
+sorts_apart xs (Var x) (Var y) h k = false_from_ne_true (y.0 == x.0) (λ e. no (slice_get xs x.0) h (ap (λ i. is_variable_with is_integer_domain (slice_get xs i)) (sym (same y.0 x.0 e)) ∙ k))
   where
     same : (a b : ℕ) → (a == b) ≡ true → a ≡ b
     same a b h = grind (arith, nat_tests)
@@ -344,7 +343,7 @@ told_member xs c s h e k =
       own = λ box p q.
           keeps_all c box
           (ap (list_all (keeps_argument c box)) t.is
-          ∙ together (keeps_arg c box t.arg) (keeps_arg c box t.last && true) p (together (keeps_arg c box t.last) true (subst (λ z. keeps_arg c box z ≡ true) last q) refl));
+          ∙ and_from (keeps_arg c box t.arg) (keeps_arg c box t.last && true) p (and_from (keeps_arg c box t.last) true (subst (λ z. keeps_arg c box z ≡ true) last q) refl));
     }))
   where
     answers : (b : Bool) (z : Set) (d : Values) → cond b (not (list_any (set_has z) d)) (list_all (set_has z) d) ≡ not (list_any (is_wanted b z) d)
@@ -420,8 +419,8 @@ element_is xs c h e s =
       own = λ box p q.
           keeps_all c box
           (ap (list_all (keeps_argument c box)) t.is
-          ∙ together (keeps_arg c box t.place) (keeps_arg c box t.last && true) (ap (λ l. keeps_arg c box (arg_at l 0)) (sym t.is) ∙ p)
-          (together (keeps_arg c box t.last) true (ap (λ l. keeps_arg c box (arg_at l 2)) (sym t.is) ∙ q) refl));
+          ∙ and_from (keeps_arg c box t.place) (keeps_arg c box t.last && true) (ap (λ l. keeps_arg c box (arg_at l 0)) (sym t.is) ∙ p)
+          (and_from (keeps_arg c box t.last) true (ap (λ l. keeps_arg c box (arg_at l 2)) (sym t.is) ∙ q) refl));
     }
 
 -- an array and numbers
@@ -458,7 +457,7 @@ table_is xs c h e s =
       own = λ box q.
           keeps_all c box
           (ap (list_all (keeps_argument c box)) t.is
-          ∙ together (list_all (keeps_arg c box) t.items) true (ap (λ l. list_all (keeps_arg c box) (args_at l 0)) (sym t.is) ∙ q) refl);
+          ∙ and_from (list_all (keeps_arg c box) t.items) true (ap (λ l. list_all (keeps_arg c box) (args_at l 0)) (sym t.is) ∙ q) refl);
     }
 
 -- a place, items, and an item
@@ -529,7 +528,7 @@ choice_is xs c h e s =
       own = λ box p q r.
           keeps_all c box
           (ap (list_all (keeps_argument c box)) t.is
-          ∙ together (keeps_arg c box t.place) (list_all (keeps_arg c box) t.items && (keeps_arg c box t.last && true)) (ap (λ l. keeps_arg c box (arg_at l 0)) (sym t.is) ∙ p)
-          (together (list_all (keeps_arg c box) t.items) (keeps_arg c box t.last && true) (ap (λ l. list_all (keeps_arg c box) (args_at l 1)) (sym t.is) ∙ q)
-          (together (keeps_arg c box t.last) true (ap (λ l. keeps_arg c box (arg_at l 2)) (sym t.is) ∙ r) refl)));
+          ∙ and_from (keeps_arg c box t.place) (list_all (keeps_arg c box) t.items && (keeps_arg c box t.last && true)) (ap (λ l. keeps_arg c box (arg_at l 0)) (sym t.is) ∙ p)
+          (and_from (list_all (keeps_arg c box) t.items) (keeps_arg c box t.last && true) (ap (λ l. list_all (keeps_arg c box) (args_at l 1)) (sym t.is) ∙ q)
+          (and_from (keeps_arg c box t.last) true (ap (λ l. keeps_arg c box (arg_at l 2)) (sym t.is) ∙ r) refl)));
     }

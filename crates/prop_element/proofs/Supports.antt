@@ -3,6 +3,7 @@ use Rattle.std.proofs.Common.{◌≡◌, ℕ, zero, suc, ◌+◌, ◌<◌, ◌�
 use Rattle.std.specs.Prelude.{pos, ◌+ℤ◌, ◌≤ℤ◌, ◌<ℤ◌, int_le, int_lt}
 use Rattle.std.proofs.lemmas.Int.{ints}
 use Rattle.std.proofs.lemmas.Bool.Decides.{nat_tests}
+use Rattle.std.proofs.lemmas.Bool.{or_left, or_right, or_from, false_from_ne_true, cases_lt, and_from}
 use Rattle.qc_model.specs.declared.problem.Arg.{Arg}
 use Rattle.qc_model.specs.declared.problem.Arg.TheVariants.{Var}
 use Rattle.qc_model.specs.declared.problem.VarId.{VarId}
@@ -11,9 +12,9 @@ use Rattle.qc_model.specs.Content.{Rule}
 use Rattle.qc_model.specs.Domains.{Values, Box, values_left, values_within, box_within, is_within, has_value, least_value, greatest_value}
 use Rattle.qc_model.specs.Left.{some_item_in}
 use Rattle.qc_model.specs.Refuted.{left_to, refuted_by}
-use Rattle.qc_model.proofs.Readable.{first, second, together}
+use Rattle.qc_model.proofs.Readable.{first, second}
 use Rattle.model_arguments.proofs.Values.{has_first}
-use Rattle.model_arguments.proofs.Bools.{never, or_left, or_right, or_none, clash}
+use Rattle.model_arguments.proofs.Bools.{clash}
 use Rattle.qc_refuter.proofs.Domains.{small_left}
 use Rattle.qc_refuter.specs.Met.{is_open}
 use Rattle.model_arguments.proofs.Kept.{through, low_end, high_end, apart, at_least, at_most, passes, was_left, same_end}
@@ -33,7 +34,7 @@ shifted n k = omega arith
 
 some_from : (n : ℕ) (b : Values) (ns : List ℤ) (c : Values) (k : ℕ) → k < length ns → has_value b (pos (n + k)) ≡ true → has_value c (get_or ns k (pos 0)) ≡ true → some_item_in (pos n) b ns c ≡ true
 some_from n b [] c k h p q = absurd (omega arith)
-some_from n b (x ∷ ns) c zero h p q = or_left (has_value b (pos n) && has_value c x) (some_item_in (pos n +ℤ pos 1) b ns c) (together (has_value b (pos n)) (has_value c x) (ap (λ z. has_value b (pos z)) (plain n) ∙ p) q)
+some_from n b (x ∷ ns) c zero h p q = or_left (has_value b (pos n) && has_value c x) (some_item_in (pos n +ℤ pos 1) b ns c) (and_from (has_value b (pos n)) (has_value c x) (ap (λ z. has_value b (pos z)) (plain n) ∙ p) q)
   where
     plain : (n : ℕ) → n ≡ n + 0
     plain n = omega arith
@@ -44,7 +45,7 @@ some_from n b (x ∷ ns) c (suc k) h p q =
 none_from : (n : ℕ) (b : Values) (ns : List ℤ) (c : Values) → ((k : ℕ) → k < length ns → (has_value b (pos (n + k)) && has_value c (get_or ns k (pos 0))) ≡ false) → some_item_in (pos n) b ns c ≡ false
 none_from n b [] c f = refl
 none_from n b (x ∷ ns) c f =
-    or_none (has_value b (pos n) && has_value c x) (some_item_in (pos n +ℤ pos 1) b ns c) (ap (λ z. has_value b (pos z) && has_value c x) (plain n) ∙ f 0 (omega arith))
+    or_from (has_value b (pos n) && has_value c x) (some_item_in (pos n +ℤ pos 1) b ns c) (ap (λ z. has_value b (pos z) && has_value c x) (plain n) ∙ f 0 (omega arith))
     (ap (λ z. some_item_in z b ns c) (next_place n) ∙ none_from (n + 1) b ns c (λ k h. ap (λ z. has_value b (pos z) && has_value c (get_or ns k (pos 0))) (sym (shifted n k)) ∙ f (suc k) (omega arith)))
   where
     plain : (n : ℕ) → n ≡ n + 0
@@ -87,7 +88,7 @@ was_fit c box x ns r l h j lx e f =
     let n = get_or ns j (pos 0) in
     let p = sym (ap (λ us. has_value us (pos (j + 1))) (set_here box x (values_within l h d) lx)) ∙ first (has_value (left_to (box_within box x.0 l h) (Var x)) (pos (j + 1))) (has_value (left_to (box_within box x.0 l h) r) n) f in
     let q = sym (ap (λ us. has_value us n) (with_other box (Var x) r (values_within l h d) e.apart)) ∙ second (has_value (left_to (box_within box x.0 l h) (Var x)) (pos (j + 1))) (has_value (left_to (box_within box x.0 l h) r) n) f in
-    (together (has_value d (pos (j + 1))) (has_value (left_to box r) n) (was_left (is_within l h) d (pos (j + 1)) p) q, passes (is_within l h) d (pos (j + 1)) p)
+    (and_from (has_value d (pos (j + 1))) (has_value (left_to box r) n) (was_left (is_within l h) d (pos (j + 1)) p) q, passes (is_within l h) d (pos (j + 1)) p)
 
 pub place_hull : (c : Rule) (box : Box) (x : VarId) (ns : List ℤ) (r : Arg) (k m : ℕ) → is_open box (Var x) ≡ true → IsElement c (Var x) ns r → IsFirstPlace (values_left box x.0) ns (left_to box r) k → IsLastPlace (values_left box x.0) ns (left_to box r) m →
     IsHull c box x.0 (pos (k + 1)) (pos (m + 1))
@@ -100,10 +101,10 @@ place_hull c box x ns r k m o e p q =
     record {
       small_low = small_left d (pos (k + 1)) o s;
       small_high = small_left d (pos (m + 1)) o t;
-      below = λ l h n u. none_refuted c (box_within box x.0 l h) (Var x) ns r e (λ j i. never (place_fits (left_to (box_within box x.0 l h) (Var x)) ns (left_to (box_within box x.0 l h) r) j) (λ w.
+      below = λ l h n u. none_refuted c (box_within box x.0 l h) (Var x) ns r e (λ j i. false_from_ne_true (place_fits (left_to (box_within box x.0 l h) (Var x)) ns (left_to (box_within box x.0 l h) r) j) (λ w.
           let z = was_fit c box x ns r l h j lx e w in
           apart h (pos (k + 1)) u (through (pos (k + 1)) (pos (j + 1)) h (from_first d ns f k j p z.0) (at_most l h (pos (j + 1)) z.1))));
-      above = λ l h n u. none_refuted c (box_within box x.0 l h) (Var x) ns r e (λ j i. never (place_fits (left_to (box_within box x.0 l h) (Var x)) ns (left_to (box_within box x.0 l h) r) j) (λ w.
+      above = λ l h n u. none_refuted c (box_within box x.0 l h) (Var x) ns r e (λ j i. false_from_ne_true (place_fits (left_to (box_within box x.0 l h) (Var x)) ns (left_to (box_within box x.0 l h) r) j) (λ w.
           let z = was_fit c box x ns r l h j lx e w in
           apart (pos (m + 1)) l u (through l (pos (j + 1)) (pos (m + 1)) (at_least l h (pos (j + 1)) z.1) (up_to_last d ns f m j q i z.0))));
       first = λ u w. kept_place c box x ns r k (least_value d) lx e p.place p.fits (same_end (least_value d) (pos (k + 1)) (low_end d (pos (k + 1)) s) u);
@@ -124,7 +125,7 @@ was_number c box x ns a l h j lx e f =
     let n = get_or ns j (pos 0) in
     let p = sym (ap (λ us. has_value us (pos (j + 1))) (with_other box (Var x) a (values_within l h d) (flipped a (Var x) e.apart))) ∙ first (has_value (left_to (box_within box x.0 l h) a) (pos (j + 1))) (has_value (left_to (box_within box x.0 l h) (Var x)) n) f in
     let q = sym (ap (λ us. has_value us n) (set_here box x (values_within l h d) lx)) ∙ second (has_value (left_to (box_within box x.0 l h) a) (pos (j + 1))) (has_value (left_to (box_within box x.0 l h) (Var x)) n) f in
-    (together (has_value (left_to box a) (pos (j + 1))) (has_value d n) p (was_left (is_within l h) d n q), passes (is_within l h) d n q)
+    (and_from (has_value (left_to box a) (pos (j + 1))) (has_value d n) p (was_left (is_within l h) d n q), passes (is_within l h) d n q)
 
 pub number_hull : (c : Rule) (box : Box) (x : VarId) (ns : List ℤ) (a : Arg) (k m : ℕ) → is_open box (Var x) ≡ true → IsElement c a ns (Var x) → IsLowestPlace (left_to box a) ns (values_left box x.0) k → IsHighestPlace (left_to box a) ns (values_left box x.0) m →
     IsHull c box x.0 (get_or ns k (pos 0)) (get_or ns m (pos 0))
@@ -139,10 +140,10 @@ number_hull c box x ns a k m o e p q =
     record {
       small_low = small_left d low o s;
       small_high = small_left d high o t;
-      below = λ l h n u. none_refuted c (box_within box x.0 l h) a ns (Var x) e (λ j i. never (place_fits (left_to (box_within box x.0 l h) a) ns (left_to (box_within box x.0 l h) (Var x)) j) (λ w.
+      below = λ l h n u. none_refuted c (box_within box x.0 l h) a ns (Var x) e (λ j i. false_from_ne_true (place_fits (left_to (box_within box x.0 l h) a) ns (left_to (box_within box x.0 l h) (Var x)) j) (λ w.
           let z = was_number c box x ns a l h j lx e w in
           apart h low u (through low (get_or ns j (pos 0)) h (p.all j i z.0) (at_most l h (get_or ns j (pos 0)) z.1))));
-      above = λ l h n u. none_refuted c (box_within box x.0 l h) a ns (Var x) e (λ j i. never (place_fits (left_to (box_within box x.0 l h) a) ns (left_to (box_within box x.0 l h) (Var x)) j) (λ w.
+      above = λ l h n u. none_refuted c (box_within box x.0 l h) a ns (Var x) e (λ j i. false_from_ne_true (place_fits (left_to (box_within box x.0 l h) a) ns (left_to (box_within box x.0 l h) (Var x)) j) (λ w.
           let z = was_number c box x ns a l h j lx e w in
           apart high l u (through l (get_or ns j (pos 0)) high (at_least l h (get_or ns j (pos 0)) z.1) (q.all j i z.0))));
       first = λ u w. kept_number c box x ns a k (least_value d) lx e p.place p.fits (same_end (least_value d) low (low_end d low s) u);
@@ -219,11 +220,8 @@ unfit_by_number b ns c k h = by (has_value b (pos (k + 1))) (has_value c (get_or
     by true q e = e
     by false q e = refl
 
-before_or_not : (j k : ℕ) → (j < k) ⊎ (k ≤ j)
-before_or_not j k = grind (arith, nat_tests)
-
 pub no_place : (b : Values) (ns : List ℤ) (c : Values) (k m : ℕ) → ((j : ℕ) → j < k → place_fits b ns c j ≡ false) → m ≤ k → NoneFrom b (length ns) m → NoPlace b ns c
-no_place b ns c k m f l g j h = by (before_or_not j k)
+no_place b ns c k m f l g j h = by (cases_lt j k)
   where
     by : (j < k) ⊎ (k ≤ j) → place_fits b ns c j ≡ false
     by (inl i) = f j i

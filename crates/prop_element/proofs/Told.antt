@@ -2,6 +2,7 @@
 use Rattle.std.proofs.Common.{◌≡◌, ℕ, ◌<◌, Bool, true, false, not, ◌&&◌, ◌||◌, List, [], ◌∷◌, Option, None, Some, length, set, refl, sym, ap, ◌∙◌, subst, ℤ}
 use Rattle.std.specs.Prelude.{pos, IfNone}
 use Rattle.std.specs.List.{list_all, list_any}
+use Rattle.std.proofs.lemmas.Bool.{not_from_false, and_from}
 use Rattle.qc_model.specs.declared.problem.Arg.{Arg}
 use Rattle.qc_model.specs.declared.problem.Arg.TheVariants.{Var, Num}
 use Rattle.qc_model.specs.declared.problem.Argument.{Argument}
@@ -20,10 +21,9 @@ use Rattle.qc_model.specs.Meaning.{member, meaning_of}
 use Rattle.qc_model.specs.Refuted.{left_to, refuted_by}
 use Rattle.qc_model.specs.Signature.{arg_kinds_of}
 use Rattle.qc_model.specs.Valid.{are_of_sorts, have_lengths, arg_sees, argument_sees}
-use Rattle.qc_model.proofs.Readable.{first, second, together}
+use Rattle.qc_model.proofs.Readable.{first, second}
 use Rattle.model_arguments.specs.Asked.{IsAsked}
 use Rattle.model_arguments.specs.Written.{arg_at, last_arg}
-use Rattle.model_arguments.proofs.Bools.{not_true}
 use Rattle.model_arguments.proofs.Boxes.{some_left, seen_place, set_same}
 use Rattle.model_arguments.proofs.Items.{flipped}
 use Rattle.model_arguments.proofs.Written.{left_written}
@@ -79,9 +79,9 @@ told_truth c e = ap (λ p. last_of (arg_kinds_of p)) e
 keeps_fixed : (c : Rule) (box : Box) (r : Arg) (v : ℤ) → left_to box r ≡ v ∷ [] → refuted_by c box ≡ false → keeps_arg c box r ≡ true
 keeps_fixed c box (Num n) v h f = refl
 keeps_fixed c box (Var x) v h f =
-    together (not (refutes_at c box x.0 (least_value (values_left box x.0)))) (not (refutes_at c box x.0 (greatest_value (values_left box x.0))))
-    (not_true (refutes_at c box x.0 (least_value (values_left box x.0))) (at (least_value (values_left box x.0)) (ap least_value h)))
-    (not_true (refutes_at c box x.0 (greatest_value (values_left box x.0))) (at (greatest_value (values_left box x.0)) (ap greatest_value h)))
+    and_from (not (refutes_at c box x.0 (least_value (values_left box x.0)))) (not (refutes_at c box x.0 (greatest_value (values_left box x.0))))
+    (not_from_false (refutes_at c box x.0 (least_value (values_left box x.0))) (at (least_value (values_left box x.0)) (ap least_value h)))
+    (not_from_false (refutes_at c box x.0 (greatest_value (values_left box x.0))) (at (greatest_value (values_left box x.0)) (ap greatest_value h)))
   where
     at : (w : ℤ) → w ≡ v → refutes_at c box x.0 w ≡ false
     at w e = ap (refuted_by c) (set_same box x.0 (w ∷ []) (ap (λ z. z ∷ []) e ∙ sym h)) ∙ f

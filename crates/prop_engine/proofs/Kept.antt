@@ -3,6 +3,7 @@ use Rattle.std.proofs.Common.{◌≡◌, ◌≢◌, ℕ, zero, suc, ◌<◌, ◌
 use Rattle.std.specs.Prelude.{slice_get, Some, nat_le, nat_lt, ◌==◌}
 use Rattle.std.specs.List.{list_any, list_all}
 use Rattle.std.proofs.lemmas.Bool.Decides.{nat_tests}
+use Rattle.std.proofs.lemmas.Bool.{false_from_ne_true}
 use Rattle.qc_model.specs.declared.problem.ConId.{ConId}
 use Rattle.qc_model.specs.Closed.{keeps_ends}
 use Rattle.qc_model.specs.Content.{Game, Rule}
@@ -84,12 +85,8 @@ not_both : (b : Bool) → b ≡ true → b ≡ false → ⊥
 not_both true h k = cc
 not_both false h k = cc
 
-none_of : (b : Bool) → (b ≡ true → ⊥) → b ≡ false
-none_of true f = absurd (f refl)
-none_of false f = refl
-
 pub less_marked : (v w : Waiting) (k : ℕ) → ((k : ℕ) → is_marked v k ≡ true → is_marked w k ≡ true) → is_marked w k ≡ false → is_marked v k ≡ false
-less_marked v w k f u = none_of (is_marked v k) (λ m. not_both (is_marked w k) (f k m) u)
+less_marked v w k f u = false_from_ne_true (is_marked v k) (λ m. not_both (is_marked w k) (f k m) u)
 
 -- a constraint that waits or keeps its ends, while marks stay
 pub spared_more : (g : Game) (v w : Waiting) (box : Box) (k : ℕ) → ((k : ℕ) → is_marked v k ≡ true → is_marked w k ≡ true) → IsSpared g v box k → IsSpared g w box k

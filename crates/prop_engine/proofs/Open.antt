@@ -7,6 +7,7 @@ use Rattle.std.proofs.lemmas.Bool.Decides.{nat_tests}
 use Rattle.std.proofs.lemmas.Int.{ints}
 use Rattle.std.proofs.lemmas.List.{get_or-set_other, length-set}
 use Rattle.std.proofs.lemmas.Option.{same_Some}
+use Rattle.std.proofs.lemmas.Bool.{not_from_false, false_from_ne_true, and_left, and_right, and_from}
 use Rattle.qc_model.specs.declared.problem.Arg.{Arg}
 use Rattle.qc_model.specs.declared.problem.Arg.TheVariants.{Var, Num}
 use Rattle.qc_model.specs.declared.problem.Argument.{Argument}
@@ -22,10 +23,10 @@ use Rattle.qc_model.specs.Left.{is_only, lefts_at}
 use Rattle.qc_model.specs.Meaning.{meaning_of}
 use Rattle.qc_model.specs.Refuted.{left_to, refuted_as, refuted_by}
 use Rattle.qc_model.specs.Valid.{IsValid, arg_sees, argument_sees}
-use Rattle.qc_model.proofs.Readable.{first, second, together}
+use Rattle.qc_model.proofs.Readable.{first, second}
 use Rattle.model_arguments.specs.Repeats.{has_place}
 use Rattle.model_arguments.specs.Written.{args_at}
-use Rattle.model_arguments.proofs.Bools.{clash, never, not_true}
+use Rattle.model_arguments.proofs.Bools.{clash}
 use Rattle.model_arguments.proofs.Boxes.{seen_place}
 use Rattle.model_arguments.proofs.Written.{lefts_written}
 use Rattle.prop_base.specs.Pruning.{is_just}
@@ -43,14 +44,6 @@ use Rattle.prop_engine.proofs.Watched.{all_weaker, rule_sees}
 other_fails : (a b : Bool) → a ≡ true → (a && b) ≡ false → b ≡ false
 other_fails true b h k = k
 other_fails false b h k = cc
-
-pub first_fails : (a b : Bool) → a ≡ false → (a && b) ≡ false
-first_fails true b h = cc
-first_fails false b h = refl
-
-pub second_fails : (a b : Bool) → b ≡ false → (a && b) ≡ false
-second_fails true b h = h
-second_fails false b h = refl
 
 -- a variable that has one value is given this one, or another is given one
 still_holds : (box : Box) (x y : ℕ) (n v : ℤ) → is_single (values_left box x) ≡ true → is_only n (values_left box x) ≡ false → IsLeft box y v → is_only n (values_left (box_at box y v) x) ≡ false
@@ -74,8 +67,8 @@ two_numbers (v ∷ []) = by (int_eq v (pos 0)) (not_one v)
 two_numbers (v ∷ w ∷ d) = refl
 
 flipped : (a b : Bool) → (a && b) ≡ false → (b && a) ≡ false
-flipped true b h = first_fails b true h
-flipped false b h = second_fails b false refl
+flipped true b h = and_left b true h
+flipped false b h = and_right b false refl
 
 opposed : (p q : Bool) (d : Values) → same_truth p q ≡ false → (is_only (failing p) d && is_only (failing q) d) ≡ false
 opposed true true d h = cc
@@ -92,7 +85,7 @@ apart j k h e = grind (arith, nat_tests)
 -- what isn't given a value keeps both
 unfixed_kept : (box : Box) (x y : ℕ) (n v : ℤ) → x ≢ y → is_single (values_left box x) ≡ false → is_only n (values_left (box_at box y v) x) ≡ false
 unfixed_kept box x y n v e s =
-    ap (is_only n) (get_or-set_other box y x (v ∷ []) [] e) ∙ first_fails (is_single (values_left box x)) (int_eq (least_value (values_left box x)) n) s
+    ap (is_only n) (get_or-set_other box y x (v ∷ []) [] e) ∙ and_left (is_single (values_left box x)) (int_eq (least_value (values_left box x)) n) s
 
 -- one value given makes only one of two literals fail
 one_fails : (box : Box) (x z y : ℕ) (p q : Bool) (v : ℤ) → is_single (values_left box x) ≡ false → is_single (values_left box z) ≡ false → ((z == x) && same_truth p q) ≡ false →
@@ -104,9 +97,9 @@ one_fails box x z y p q v s t h = by (z == x) refl
 
     beside : (b : Bool) → (y == x) ≡ b → z ≢ x → (left (box_at box y v) x (failing p) && left (box_at box y v) z (failing q)) ≡ false
     beside true e n =
-        second_fails (left (box_at box y v) x (failing p)) (left (box_at box y v) z (failing q)) (unfixed_kept box z y (failing q) v (λ m. n (m ∙ equal_numbers y x e)) t)
+        and_right (left (box_at box y v) x (failing p)) (left (box_at box y v) z (failing q)) (unfixed_kept box z y (failing q) v (λ m. n (m ∙ equal_numbers y x e)) t)
     beside false e n =
-        first_fails (left (box_at box y v) x (failing p)) (left (box_at box y v) z (failing q)) (unfixed_kept box x y (failing p) v (λ m. apart y x e (sym m)) s)
+        and_left (left (box_at box y v) x (failing p)) (left (box_at box y v) z (failing q)) (unfixed_kept box x y (failing p) v (λ m. apart y x e (sym m)) s)
 
     by : (b : Bool) → (z == x) ≡ b → (left (box_at box y v) x (failing p) && left (box_at box y v) z (failing q)) ≡ false
     by true e =
@@ -131,7 +124,7 @@ each_fails box plain negated l i h = by l.positive i.there
 -- one literal holds
 pub one_shows : (box : Box) (plain negated : List Arg) (l : Literal) → IsLiteralOf plain negated l → is_fixed box l ≡ true → surely_fails box l ≡ false → StaysOpen box plain negated
 one_shows box plain negated l i s f y v h =
-    never (all_fail (box_at box y v) plain negated)
+    false_from_ne_true (all_fail (box_at box y v) plain negated)
     (λ t. clash (surely_fails (box_at box y v) l) (each_fails (box_at box y v) plain negated l i t) (still_holds box l.x.0 y (failing l.positive) v s f h))
 
 -- neither of two different ones fails
@@ -139,9 +132,9 @@ pub both_show : (box : Box) (plain negated : List Arg) (l m : Literal) → IsLit
     StaysOpen box plain negated
 both_show box plain negated l m i j s t d y v h =
     let b = box_at box y v in
-    never (all_fail b plain negated)
+    false_from_ne_true (all_fail b plain negated)
     (λ a. clash (surely_fails b l && surely_fails b m)
-    (together (surely_fails b l) (surely_fails b m) (each_fails b plain negated l i a) (each_fails b plain negated m j a))
+    (and_from (surely_fails b l) (surely_fails b m) (each_fails b plain negated l i a) (each_fails b plain negated m j a))
     (one_fails box l.x.0 m.x.0 y l.positive m.positive v s t d))
 
 -- a clause is refuted where all its literals fail
@@ -166,14 +159,14 @@ one_value (v ∷ w ∷ d) h = cc
 
 all_true : (p : ℕ → Bool) (xs : List ℕ) → ((x : ℕ) → p x ≡ true) → list_all p xs ≡ true
 all_true p [] f = refl
-all_true p (x ∷ xs) f = together (p x) (list_all p xs) (f x) (all_true p xs f)
+all_true p (x ∷ xs) f = and_from (p x) (list_all p xs) (f x) (all_true p xs f)
 
 pub keeps_open : (c : Rule) (box : Box) → c.pred ≡ BoolClause → StaysOpen box (args_at c.args 0) (args_at c.args 1) → keeps_ends box c ≡ true
 keeps_open c box e o =
     all_true (λ x. not (refutes_at c box x (least_value (values_left box x))) && not (refutes_at c box x (greatest_value (values_left box x)))) (variables_of c.args)
-    (λ x. together (not (refutes_at c box x (least_value (values_left box x)))) (not (refutes_at c box x (greatest_value (values_left box x))))
-    (not_true (refutes_at c box x (least_value (values_left box x))) (clause_refuted c (box_at box x (least_value (values_left box x))) e ∙ o x (least_value (values_left box x)) (λ s. refl)))
-    (not_true (refutes_at c box x (greatest_value (values_left box x))) (clause_refuted c (box_at box x (greatest_value (values_left box x))) e ∙ o x (greatest_value (values_left box x)) (one_value (values_left box x)))))
+    (λ x. and_from (not (refutes_at c box x (least_value (values_left box x)))) (not (refutes_at c box x (greatest_value (values_left box x))))
+    (not_from_false (refutes_at c box x (least_value (values_left box x))) (clause_refuted c (box_at box x (least_value (values_left box x))) e ∙ o x (least_value (values_left box x)) (λ s. refl)))
+    (not_from_false (refutes_at c box x (greatest_value (values_left box x))) (clause_refuted c (box_at box x (greatest_value (values_left box x))) e ∙ o x (greatest_value (values_left box x)) (one_value (values_left box x)))))
 
 pub just_kept : (g : Game) (k : ℕ) (c : Rule) (box : Box) → slice_get g.constraints k ≡ Some c → c.pred ≡ BoolClause → StaysOpen box (args_at c.args 0) (args_at c.args 1) → EachRule (is_just k) g (keeps_ends box)
 just_kept g k c box s e o j r i t =
@@ -182,31 +175,31 @@ just_kept g k c box s e o j r i t =
 -- x has the one value by which a literal of the clause holds
 some_stays : (n : ℤ) (box : Box) (xs : List Arg) (x : ℕ) → has_number (flat_map arg_variables xs) x ≡ true → is_only n (values_left box x) ≡ false → list_all (λ a. is_only n (left_to box a)) xs ≡ false
 some_stays n box [] x h f = cc
-some_stays n box (Num m ∷ xs) x h f = second_fails (is_only n (m ∷ [])) (list_all (λ a. is_only n (left_to box a)) xs) (some_stays n box xs x h f)
+some_stays n box (Num m ∷ xs) x h f = and_right (is_only n (m ∷ [])) (list_all (λ a. is_only n (left_to box a)) xs) (some_stays n box xs x h f)
 some_stays n box (Var z ∷ xs) x h f = by (z.0 == x) refl (some_stays n box xs x) h
   where
     by : (b : Bool) → (z.0 == x) ≡ b → (has_number (flat_map arg_variables xs) x ≡ true → is_only n (values_left box x) ≡ false → list_all (λ a. is_only n (left_to box a)) xs ≡ false) →
         (b || has_number (flat_map arg_variables xs) x) ≡ true → (is_only n (values_left box z.0) && list_all (λ a. is_only n (left_to box a)) xs) ≡ false
     by true e g k =
-        first_fails (is_only n (values_left box z.0)) (list_all (λ a. is_only n (left_to box a)) xs) (subst (λ y. is_only n (values_left box y) ≡ false) (sym (equal_numbers z.0 x e)) f)
-    by false e g k = second_fails (is_only n (values_left box z.0)) (list_all (λ a. is_only n (left_to box a)) xs) (g k f)
+        and_left (is_only n (values_left box z.0)) (list_all (λ a. is_only n (left_to box a)) xs) (subst (λ y. is_only n (values_left box y) ≡ false) (sym (equal_numbers z.0 x e)) f)
+    by false e g k = and_right (is_only n (values_left box z.0)) (list_all (λ a. is_only n (left_to box a)) xs) (g k f)
 
 -- by the number n, which isn't m, in the first array or the second
 differs : (n m : ℤ) (d : Values) → least_value d ≡ n → int_eq n m ≡ false → is_only m d ≡ false
-differs n m d e h = second_fails (is_single d) (int_eq (least_value d) m) (ap (λ z. int_eq z m) e ∙ h)
+differs n m d e h = and_right (is_single d) (int_eq (least_value d) m) (ap (λ z. int_eq z m) e ∙ h)
 
 held_by_one : (c : Rule) (box : Box) (x : ℕ) → IsHeld by_one c x → IsNow by_one box x → keeps_ends box c ≡ true
 held_by_one c box x h n =
     keeps_open c box h.0
     (λ y v l.
-    first_fails (list_all (λ a. is_only (pos 0) (left_to (box_at box y v) a)) (args_at c.args 0)) (list_all (λ a. is_only (pos 1) (left_to (box_at box y v) a)) (args_at c.args 1))
+    and_left (list_all (λ a. is_only (pos 0) (left_to (box_at box y v) a)) (args_at c.args 0)) (list_all (λ a. is_only (pos 1) (left_to (box_at box y v) a)) (args_at c.args 1))
     (some_stays (pos 0) (box_at box y v) (args_at c.args 0) x h.1 (still_holds box x y (pos 0) v n.0 (differs (pos 1) (pos 0) (values_left box x) n.1 refl) l)))
 
 held_by_zero : (c : Rule) (box : Box) (x : ℕ) → IsHeld by_zero c x → IsNow by_zero box x → keeps_ends box c ≡ true
 held_by_zero c box x h n =
     keeps_open c box h.0
     (λ y v l.
-    second_fails (list_all (λ a. is_only (pos 0) (left_to (box_at box y v) a)) (args_at c.args 0)) (list_all (λ a. is_only (pos 1) (left_to (box_at box y v) a)) (args_at c.args 1))
+    and_right (list_all (λ a. is_only (pos 0) (left_to (box_at box y v) a)) (args_at c.args 0)) (list_all (λ a. is_only (pos 1) (left_to (box_at box y v) a)) (args_at c.args 1))
     (some_stays (pos 1) (box_at box y v) (args_at c.args 1) x h.1 (still_holds box x y (pos 1) v n.0 (differs (pos 0) (pos 1) (values_left box x) n.1 refl) l)))
 
 pub one_kept : (g : Game) (x : ℕ) (w : Watch) (box : Box) → IsRight g x w → w.held_by ≡ by_one → IsNow by_one box x → EachRule (is_just w.c.0) g (keeps_ends box)

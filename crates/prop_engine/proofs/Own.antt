@@ -5,6 +5,7 @@ use Rattle.std.specs.List.{list_any, list_all}
 use Rattle.std.proofs.lemmas.Bool.Decides.{nat_tests}
 use Rattle.std.proofs.lemmas.List.Folds.{list_any-append}
 use Rattle.std.proofs.lemmas.List.{get_or-set_other, length-set}
+use Rattle.std.proofs.lemmas.Bool.{or_left, or_right, or_parts}
 use Rattle.qc_model.specs.declared.problem.Arg.{Arg}
 use Rattle.qc_model.specs.declared.problem.Arg.TheVariants.{Var, Num}
 use Rattle.qc_model.specs.declared.problem.Argument.{Argument}
@@ -15,7 +16,6 @@ use Rattle.qc_model.specs.Content.{Rule}
 use Rattle.qc_model.specs.Domains.{Values, Box, values_left, box_at, least_value, greatest_value, box_without, values_outside}
 use Rattle.qc_model.specs.Meaning.{meaning_of}
 use Rattle.qc_model.specs.Refuted.{left_to, refuted_as}
-use Rattle.model_arguments.proofs.Bools.{or_left, or_right, neither}
 use Rattle.proof_tree.specs.declared.tree.Step.{Step}
 use Rattle.proof_tree.specs.declared.tree.Step.TheVariants.{Prune, Bound}
 use Rattle.proof_tree.specs.Steps.{after_steps}
@@ -108,8 +108,8 @@ after_length (Bound x lo hi ∷ steps) box = after_length steps (box_without box
 pub after_others : (steps : List Step) (box : Box) (y : ℕ) → names (changed_by steps) y ≡ false → values_left (after_steps steps box) y ≡ values_left box y
 after_others [] box y h = refl
 after_others (Prune x lo hi c ∷ steps) box y h =
-    let p = neither (x.0 == y) (names (changed_by steps) y) h in
+    let p = or_parts (x.0 == y) (names (changed_by steps) y) h in
     after_others steps (box_without box x.0 lo hi) y p.1 ∙ get_or-set_other box x.0 y (values_outside lo hi (values_left box x.0)) [] (apart x.0 y p.0)
 after_others (Bound x lo hi ∷ steps) box y h =
-    let p = neither (x.0 == y) (names (changed_by steps) y) h in
+    let p = or_parts (x.0 == y) (names (changed_by steps) y) h in
     after_others steps (box_without box x.0 lo hi) y p.1 ∙ get_or-set_other box x.0 y (values_outside lo hi (values_left box x.0)) [] (apart x.0 y p.0)

@@ -4,6 +4,7 @@ use Rattle.std.specs.Prelude.{slice_get, slice_index_or, Some, ◌==◌, pos}
 use Rattle.std.specs.List.{list_all}
 use Rattle.std.proofs.lemmas.Bool.Decides.{nat_tests}
 use Rattle.std.proofs.lemmas.Option.{same_Some}
+use Rattle.std.proofs.lemmas.Bool.{and_left, and_right}
 use Rattle.qc_model.specs.declared.problem.Pred.TheVariants.{BoolClause}
 use Rattle.qc_model.specs.Arguments.{variables_of}
 use Rattle.qc_model.specs.Closed.{refutes_at, keeps_ends}
@@ -16,7 +17,7 @@ use Rattle.prop_engine.specs.Closing.{is_between}
 use Rattle.prop_engine.specs.Skipping.{AlwaysKeeps, ArePassed, IsSkipOf, next_of}
 use Rattle.prop_engine.specs.Watching.{Waiting, is_marked, IsSpared}
 use Rattle.prop_engine.proofs.Kept.{spared_more}
-use Rattle.prop_engine.proofs.Open.{first_fails, second_fails, keeps_open}
+use Rattle.prop_engine.proofs.Open.{keeps_open}
 use Rattle.prop_engine.proofs.Rules.{each_of}
 
 equal_numbers : (j k : ℕ) → (j == k) ≡ true → j ≡ k
@@ -25,8 +26,8 @@ equal_numbers j k h = grind (arith, nat_tests)
 -- one that fails
 pub all_but_one : {X : Type 0} (p : X → Bool) (xs : List X) (i : ℕ) (d : X) → i < length xs → p (get_or xs i d) ≡ false → list_all p xs ≡ false
 all_but_one p [] i d l h = absurd (omega (arith, l))
-all_but_one p (x ∷ xs) zero d l h = first_fails (p x) (list_all p xs) h
-all_but_one p (x ∷ xs) (suc i) d l h = second_fails (p x) (list_all p xs) (all_but_one p xs i d (omega (arith, l)) h)
+all_but_one p (x ∷ xs) zero d l h = and_left (p x) (list_all p xs) h
+all_but_one p (x ∷ xs) (suc i) d l h = and_right (p x) (list_all p xs) (all_but_one p xs i d (omega (arith, l)) h)
 
 -- a constraint without variables has no end to refute
 pub none_keeps : (c : Rule) → variables_of c.args ≡ [] → AlwaysKeeps c
@@ -37,12 +38,12 @@ none_keeps c e box =
 pub plain_keeps : (c : Rule) → c.pred ≡ BoolClause → ((box : Box) → list_all (λ a. is_only (pos 0) (left_to box a)) (args_at c.args 0) ≡ false) → AlwaysKeeps c
 plain_keeps c e f box =
     keeps_open c box e
-    (λ y v l. first_fails (list_all (λ a. is_only (pos 0) (left_to (box_at box y v) a)) (args_at c.args 0)) (list_all (λ a. is_only (pos 1) (left_to (box_at box y v) a)) (args_at c.args 1)) (f (box_at box y v)))
+    (λ y v l. and_left (list_all (λ a. is_only (pos 0) (left_to (box_at box y v) a)) (args_at c.args 0)) (list_all (λ a. is_only (pos 1) (left_to (box_at box y v) a)) (args_at c.args 1)) (f (box_at box y v)))
 
 pub negated_keeps : (c : Rule) → c.pred ≡ BoolClause → ((box : Box) → list_all (λ a. is_only (pos 1) (left_to box a)) (args_at c.args 1) ≡ false) → AlwaysKeeps c
 negated_keeps c e f box =
     keeps_open c box e
-    (λ y v l. second_fails (list_all (λ a. is_only (pos 0) (left_to (box_at box y v) a)) (args_at c.args 0)) (list_all (λ a. is_only (pos 1) (left_to (box_at box y v) a)) (args_at c.args 1)) (f (box_at box y v)))
+    (λ y v l. and_right (list_all (λ a. is_only (pos 0) (left_to (box_at box y v) a)) (args_at c.args 0)) (list_all (λ a. is_only (pos 1) (left_to (box_at box y v) a)) (args_at c.args 1)) (f (box_at box y v)))
 
 -- none is passed, and one more
 pub passed_none : (g : Game) (k n : ℕ) → n ≤ k → ArePassed g k n

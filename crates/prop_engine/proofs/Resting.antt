@@ -8,6 +8,7 @@ use Rattle.std.proofs.lemmas.Bool.Decides.{nat_tests}
 use Rattle.std.proofs.lemmas.Int.{ints, clamps}
 use Rattle.std.proofs.lemmas.List.{get_or-set_other}
 use Rattle.std.proofs.lemmas.Option.{same_Some}
+use Rattle.std.proofs.lemmas.Bool.{or_left, not_from_false, and_from}
 use Rattle.qc_model.specs.declared.problem.Arg.{Arg}
 use Rattle.qc_model.specs.declared.problem.Arg.TheVariants.{Var, Num}
 use Rattle.qc_model.specs.declared.problem.Argument.{Argument}
@@ -22,9 +23,9 @@ use Rattle.qc_model.specs.Left.{span, sum_range, sum_at, lefts_at}
 use Rattle.qc_model.specs.Meaning.{meaning_of}
 use Rattle.qc_model.specs.Ranges.{point, product}
 use Rattle.qc_model.specs.Refuted.{left_to, refuted_as}
-use Rattle.qc_model.proofs.Readable.{first, second, together}
+use Rattle.qc_model.proofs.Readable.{first, second}
 use Rattle.model_arguments.specs.Written.{arg_at, args_at, ints_at}
-use Rattle.model_arguments.proofs.Bools.{or_left, clash, not_true, not_false}
+use Rattle.model_arguments.proofs.Bools.{clash, not_false}
 use Rattle.model_arguments.proofs.Kept.{keeps, passes, was_left, some_of, inside, at_least, at_most, reaches, same_end, low_end, high_end, ordered}
 use Rattle.model_arguments.proofs.Values.{has_least, has_greatest}
 use Rattle.model_arguments.proofs.Written.{left_written, lefts_written, numbers_written}
@@ -197,7 +198,7 @@ greatest_lower b e n x i r = record { rises = λ p. i.greatest x; falls = λ p. 
 
 all_still : {X : Type 0} (p q : X → Bool) (xs : List X) → ((x : X) → p x ≡ true → q x ≡ true) → list_all p xs ≡ true → list_all q xs ≡ true
 all_still p q [] f h = refl
-all_still p q (x ∷ xs) f h = together (q x) (list_all q xs) (f x (first (p x) (list_all p xs) h)) (all_still p q xs f (second (p x) (list_all p xs) h))
+all_still p q (x ∷ xs) f h = and_from (q x) (list_all q xs) (f x (first (p x) (list_all p xs) h)) (all_still p q xs f (second (p x) (list_all p xs) h))
 
 -- a sum at most keeps its ends
 pub sum_keeps : (c : Rule) (m : ℤ) (b e : Box) → c.pred ≡ IntLinLe → arg_at c.args 2 ≡ Num m → IsBetweenEnds b e → AreResting (ints_at c.args 0) (args_at c.args 1) b e → keeps_ends e c ≡ true → keeps_ends b c ≡ true
@@ -209,11 +210,11 @@ sum_keeps c m b e p a i r h =
     (λ x k.
     let low = not (refutes_at c e x (least_value (values_left e x))) in
     let high = not (refutes_at c e x (greatest_value (values_left e x))) in
-    together (not (refutes_at c b x (least_value (values_left b x)))) (not (refutes_at c b x (greatest_value (values_left b x))))
-    (not_true (refutes_at c b x (least_value (values_left b x)))
+    and_from (not (refutes_at c b x (least_value (values_left b x)))) (not (refutes_at c b x (greatest_value (values_left b x))))
+    (not_from_false (refutes_at c b x (least_value (values_left b x)))
     (value_kept c m b e p a i.count r x (least_value (values_left b x)) (least_value (values_left e x)) (λ j n y s t q. least_lower b e n x i (at_equal b e n x y.0 q (r j n y s t)))
     (not_false (refutes_at c e x (least_value (values_left e x))) (first low high k))))
-    (not_true (refutes_at c b x (greatest_value (values_left b x)))
+    (not_from_false (refutes_at c b x (greatest_value (values_left b x)))
     (value_kept c m b e p a i.count r x (greatest_value (values_left b x)) (greatest_value (values_left e x)) (λ j n y s t q. greatest_lower b e n x i (at_equal b e n x y.0 q (r j n y s t)))
     (not_false (refutes_at c e x (greatest_value (values_left e x))) (second low high k)))))
     h

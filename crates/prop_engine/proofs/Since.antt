@@ -5,15 +5,16 @@ use Rattle.std.specs.Prelude.{slice_get, Some, ◌==◌, pos, int_lt}
 use Rattle.std.specs.List.{list_all}
 use Rattle.std.specs.Ordering.{int_eq}
 use Rattle.std.proofs.lemmas.Bool.Decides.{nat_tests}
+use Rattle.std.proofs.lemmas.Bool.{or_left, or_right, and_from}
 use Rattle.qc_model.specs.declared.problem.Arg.TheVariants.{Var}
 use Rattle.qc_model.specs.declared.problem.VarId.{VarId}
 use Rattle.qc_model.specs.Arguments.{variables_of}
 use Rattle.qc_model.specs.Closed.{keeps_ends}
 use Rattle.qc_model.specs.Content.{Game, Rule}
 use Rattle.qc_model.specs.Domains.{Values, Box, declared_box, values_left, is_none_left, least_value, greatest_value, has_empty, has_value, is_ascending, is_sub_box}
-use Rattle.qc_model.proofs.Readable.{first, second, together}
+use Rattle.qc_model.proofs.Readable.{first, second}
 use Rattle.model_arguments.specs.Written.{arg_at, args_at, ints_at}
-use Rattle.model_arguments.proofs.Bools.{clash, or_left, or_right}
+use Rattle.model_arguments.proofs.Bools.{clash}
 use Rattle.model_arguments.proofs.Kept.{some_of, low_end, high_end, reaches, same_end, through}
 use Rattle.model_arguments.proofs.Values.{value_passes, has_first, has_least, has_greatest}
 use Rattle.prop_engine.specs.Watching.{Waiting, Watches, is_watched, IsWatchOf, KeepsUnmarked, names, moved_ever, IsBoundedSum, IsStill, MayRest, WasKept}
@@ -24,15 +25,15 @@ use Rattle.prop_engine.proofs.Resting.{AreResting, between_ends, some_or_none, s
 -- a box that lies within another lies within itself, and has the other's values alone
 all_of : (p : ℤ → Bool) (vs : Values) → ((v : ℤ) → has_value vs v ≡ true → p v ≡ true) → list_all p vs ≡ true
 all_of p [] f = refl
-all_of p (v ∷ vs) f = together (p v) (list_all p vs) (f v (has_first v vs)) (all_of p vs (λ w h. f w (or_right (int_eq w v) (has_value vs w) h)))
+all_of p (v ∷ vs) f = and_from (p v) (list_all p vs) (f v (has_first v vs)) (all_of p vs (λ w h. f w (or_right (int_eq w v) (has_value vs w) h)))
 
 sub_self : (box large : Box) → is_sub_box box large ≡ true → is_sub_box box box ≡ true
 sub_self [] large h = refl
 sub_self (d ∷ ds) [] h = cc
 sub_self (d ∷ ds) (e ∷ es) h =
     let p = is_ascending d && list_all (has_value e) d in
-    together (is_ascending d && list_all (has_value d) d) (is_sub_box ds ds)
-    (together (is_ascending d) (list_all (has_value d) d) (first (is_ascending d) (list_all (has_value e) d) (first p (is_sub_box ds es) h)) (all_of (has_value d) d (λ v q. q)))
+    and_from (is_ascending d && list_all (has_value d) d) (is_sub_box ds ds)
+    (and_from (is_ascending d) (list_all (has_value d) d) (first (is_ascending d) (list_all (has_value e) d) (first p (is_sub_box ds es) h)) (all_of (has_value d) d (λ v q. q)))
     (sub_self ds es (second p (is_sub_box ds es) h))
 
 sub_had : (box large : Box) (y : ℕ) (v : ℤ) → is_sub_box box large ≡ true → has_value (values_left box y) v ≡ true → has_value (values_left large y) v ≡ true

@@ -4,7 +4,7 @@ use Rattle.std.specs.Prelude.{◌==◌, slice_get, Some}
 use Rattle.std.specs.List.{list_any}
 use Rattle.std.proofs.lemmas.Bool.Decides.{nat_tests}
 use Rattle.qc_model.specs.declared.problem.VarId.{VarId}
-use Rattle.std.proofs.lemmas.Option.{same_Some}
+use Rattle.std.proofs.lemmas.Option.{same_Some, slice_get-get_or}
 use Rattle.qc_model.specs.Closed.{keeps_ends}
 use Rattle.qc_model.specs.Content.{Game}
 use Rattle.qc_model.specs.Domains.{Box}
@@ -85,11 +85,6 @@ pub rest_all : (g : Game) (v w : Waiting) (box : Box) (m : Moved) (x : ℕ) (ws 
 rest_all g v w box m x ws i k d l n f h t =
     elim (any_more (λ a. a.c.0 == k) ws i d l t) [ inl a ↦ rest_more g v w box m x k n (f a) | inr a ↦ h (equal_numbers (get_or ws i d).c.0 k a) ]
 
-pub got : {X : Type 0} (xs : List X) (i : ℕ) (d : X) → i < length xs → slice_get xs i ≡ Some (get_or xs i d)
-got [] i d l = absurd (omega arith)
-got (x ∷ xs) zero d l = refl
-got (x ∷ xs) (suc i) d l = got xs i d (omega (arith, l))
-
 -- one that waits already, or is woken
 pub spared_marked : (g : Game) (w : Waiting) (box : Box) (k : ℕ) → is_marked w k ≡ true → IsSpared g w box k
 spared_marked g w box k m u = absurd (clash (is_marked w k) m u)
@@ -113,7 +108,7 @@ at_or_before (suc i) zero h = absurd (omega (arith, h))
 at_or_before (suc i) (suc n) h = elim (at_or_before i n (omega (arith, h))) [ inl m ↦ inl (omega (arith, m)) | inr m ↦ inr (ap suc m) ]
 
 pub got_same : {X : Type 0} (xs : List X) (i : ℕ) (d s : X) → i < length xs → slice_get xs i ≡ Some s → get_or xs i d ≡ s
-got_same xs i d s l h = same_Some (get_or xs i d) s (sym (got xs i d l) ∙ h)
+got_same xs i d s l h = same_Some (get_or xs i d) s (sym (slice_get-get_or xs i d l) ∙ h)
 
 pub got_below : {X : Type 0} (xs : List X) (i : ℕ) (s : X) → slice_get xs i ≡ Some s → i < length xs
 got_below [] i s h = cc

@@ -8,14 +8,15 @@ use Rattle.qc_model.specs.declared.problem.Arg.{Arg}
 use Rattle.qc_model.specs.declared.problem.Argument.{Argument}
 use Rattle.qc_model.specs.declared.problem.Argument.TheVariants.{Many}
 use Rattle.std.proofs.lemmas.List.Folds.{list_all-append, list_any-append}
+use Rattle.std.proofs.lemmas.Bool.{or_left, or_right, and_from}
 use Rattle.qc_model.specs.Arguments.{arg_variables, argument_variables, variables_of}
 use Rattle.qc_model.specs.Content.{Rule, Game}
 use Rattle.qc_model.specs.Valid.{IsValid, is_constraint, argument_sees, are_of_sorts, have_lengths}
 use Rattle.qc_model.specs.Meaning.{meaning_of}
 use Rattle.qc_model.specs.Signature.{arg_kinds_of}
-use Rattle.qc_model.proofs.Readable.{first, second, together}
+use Rattle.qc_model.proofs.Readable.{first, second}
 use Rattle.model_arguments.specs.Written.{args_at, items_of}
-use Rattle.model_arguments.proofs.Bools.{or_left, or_right, clash}
+use Rattle.model_arguments.proofs.Bools.{clash}
 use Rattle.prop_engine.specs.declared.watching.HeldBy.{HeldBy}
 use Rattle.prop_engine.specs.declared.watching.Watch.{Watch}
 use Rattle.prop_engine.specs.Watching.{Watches, watchers, is_watched, has_number, ascends, has_watch, HasGrown, AscendTo, IsHeld, IsRight, AreRight}
@@ -29,16 +30,16 @@ grown_more a b c p q = record {
 
 pub all_weaker : {X : Type 0} (p q : X → Bool) (xs : List X) → ((x : X) → p x ≡ true → q x ≡ true) → list_all p xs ≡ true → list_all q xs ≡ true
 all_weaker p q [] f h = refl
-all_weaker p q (x ∷ xs) f h = together (q x) (list_all q xs) (f x (first (p x) (list_all p xs) h)) (all_weaker p q xs f (second (p x) (list_all p xs) h))
+all_weaker p q (x ∷ xs) f h = and_from (q x) (list_all q xs) (f x (first (p x) (list_all p xs) h)) (all_weaker p q xs f (second (p x) (list_all p xs) h))
 
 one_more : (i : ℕ) → i + 1 ≡ suc i
 one_more i = omega arith
 
 all_suc : {X : Type 0} (p : X → Bool) (xs : List X) (i : ℕ) (d : X) → i < length xs → list_all p (take i xs) ≡ true → p (get_or xs i d) ≡ true → list_all p (take (suc i) xs) ≡ true
 all_suc p [] i d l h e = absurd (omega arith)
-all_suc p (x ∷ xs) zero d l h e = together (p x) true e refl
+all_suc p (x ∷ xs) zero d l h e = and_from (p x) true e refl
 all_suc p (x ∷ xs) (suc i) d l h e =
-    together (p x) (list_all p (take (suc i) xs)) (first (p x) (list_all p (take i xs)) h) (all_suc p xs i d (omega arith) (second (p x) (list_all p (take i xs)) h) e)
+    and_from (p x) (list_all p (take (suc i) xs)) (first (p x) (list_all p (take i xs)) h) (all_suc p xs i d (omega arith) (second (p x) (list_all p (take i xs)) h) e)
 
 all_more : {X : Type 0} (p : X → Bool) (xs : List X) (i : ℕ) (d : X) → i < length xs → list_all p (take i xs) ≡ true → p (get_or xs i d) ≡ true → list_all p (take (i + 1) xs) ≡ true
 all_more p xs i d l h e = ap (λ n. list_all p (take n xs)) (one_more i) ∙ all_suc p xs i d l h e
@@ -56,7 +57,7 @@ pub all_flat : {X : Type 0} (p : ℕ → Bool) (f : X → List ℕ) (xs : List X
 all_flat p f [] h = refl
 all_flat p f (x ∷ xs) h =
     list_all-append p (f x) (flat_map f xs)
-    ∙ together (list_all p (f x)) (list_all p (flat_map f xs)) (first (list_all p (f x)) (list_all (λ a. list_all p (f a)) xs) h) (all_flat p f xs (second (list_all p (f x)) (list_all (λ a. list_all p (f a)) xs) h))
+    ∙ and_from (list_all p (f x)) (list_all p (flat_map f xs)) (first (list_all p (f x)) (list_all (λ a. list_all p (f a)) xs) h) (all_flat p f xs (second (list_all p (f x)) (list_all (λ a. list_all p (f a)) xs) h))
 
 pub all_flat_ok : {X T E : Type 0} (r : Result T E) (p : ℕ → Bool) (f : X → List ℕ) (xs : List X) → OnOk r (list_all (λ a. list_all p (f a)) xs ≡ true) → OnOk r (list_all p (flat_map f xs) ≡ true)
 all_flat_ok (Ok t) p f xs h = all_flat p f xs h
@@ -170,13 +171,13 @@ array_at args k xs x e h = ap (λ o. has_number (flat_map arg_variables (items_o
 
 -- one more at the end of a list that ascends
 all_last : {X : Type 0} (p : X → Bool) (xs : List X) (x : X) → list_all p xs ≡ true → p x ≡ true → list_all p (xs ++ x ∷ []) ≡ true
-all_last p xs x h e = list_all-append p xs (x ∷ []) ∙ together (list_all p xs) (p x && true) h (together (p x) true e refl)
+all_last p xs x h e = list_all-append p xs (x ∷ []) ∙ and_from (list_all p xs) (p x && true) h (and_from (p x) true e refl)
 
 ascends_last : (ws : List Watch) (w : Watch) → list_all (λ v. nat_le v.c.0 w.c.0) ws ≡ true → ascends ws ≡ true → ascends (ws ++ w ∷ []) ≡ true
 ascends_last [] w h a = refl
 ascends_last (v ∷ ws) w h a =
     let later = list_all (λ u. nat_le v.c.0 u.c.0) in
-    together (later (ws ++ w ∷ [])) (ascends (ws ++ w ∷ []))
+    and_from (later (ws ++ w ∷ [])) (ascends (ws ++ w ∷ []))
     (all_last (λ u. nat_le v.c.0 u.c.0) ws w (first (later ws) (ascends ws) a) (first (nat_le v.c.0 w.c.0) (list_all (λ u. nat_le u.c.0 w.c.0) ws) h))
     (ascends_last ws w (second (nat_le v.c.0 w.c.0) (list_all (λ u. nat_le u.c.0 w.c.0) ws) h) (second (later ws) (ascends ws) a))
 

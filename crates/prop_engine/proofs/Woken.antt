@@ -3,6 +3,7 @@ use Rattle.std.proofs.Common.{◌≡◌, ℕ, zero, suc, Bool, true, false, ◌|
 use Rattle.std.specs.Prelude.{slice_get, Some, ◌==◌}
 use Rattle.std.proofs.lemmas.Bool.Decides.{nat_tests}
 use Rattle.std.proofs.lemmas.Option.{same_Some}
+use Rattle.std.proofs.lemmas.Bool.{or_from}
 use Rattle.qc_model.specs.declared.problem.ConId.{ConId}
 use Rattle.qc_model.specs.Arguments.{variables_of}
 use Rattle.qc_model.specs.Closed.{keeps_ends}
@@ -36,13 +37,10 @@ gather (y ∷ xs) P Q f =
 equal_numbers : (j k : ℕ) → (j == k) ≡ true → j ≡ k
 equal_numbers j k h = grind (arith, nat_tests)
 
-neither : (a b : Bool) → a ≡ false → b ≡ false → (a || b) ≡ false
-neither a b p q = ap (λ z. z || b) p ∙ q
-
 -- steps of other variables name none of these
 none_named : (steps : List Step) (p : ℕ → Bool) (x : ℕ) → ((i : ℕ) (z : Step) → slice_get steps i ≡ Some z → p (step_variable z).0 ≡ false) → p x ≡ true → names (changed_by steps) x ≡ false
 none_named [] p x f h = refl
-none_named (z ∷ steps) p x f h = neither ((step_variable z).0 == x) (names (changed_by steps) x) (by ((step_variable z).0 == x) refl) (none_named steps p x (λ i y q. f (suc i) y q) h)
+none_named (z ∷ steps) p x f h = or_from ((step_variable z).0 == x) (names (changed_by steps) x) (by ((step_variable z).0 == x) refl) (none_named steps p x (λ i y q. f (suc i) y q) h)
   where
     by : (b : Bool) → ((step_variable z).0 == x) ≡ b → b ≡ false
     by true e = absurd (clash (p x) h (subst (λ k. p k ≡ false) (equal_numbers (step_variable z).0 x e) (f 0 z refl)))

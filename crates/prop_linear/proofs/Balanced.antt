@@ -2,6 +2,7 @@
 use Rattle.std.proofs.Common.{◌≡◌, ℕ, ◌<◌, true, false, not, List, length, get_or, map, [], ◌∷◌, refl, sym, ap, ◌∙◌, subst, arith, ℤ}
 use Rattle.std.specs.Prelude.{pos, ◌+ℤ◌, ◌-ℤ◌, ◌≤ℤ◌, int_lt}
 use Rattle.std.proofs.lemmas.Int.{ints}
+use Rattle.std.proofs.lemmas.Bool.{or_left, or_right, or_from, not_from_false, and_from}
 use Rattle.qc_model.specs.declared.problem.Arg.{Arg}
 use Rattle.qc_model.specs.declared.problem.Arg.TheVariants.{Var, Num}
 use Rattle.qc_model.specs.declared.problem.VarId.{VarId}
@@ -11,9 +12,7 @@ use Rattle.qc_model.specs.Domains.{Box, values_left, box_at, least_value, greate
 use Rattle.qc_model.specs.Left.{sum_range}
 use Rattle.qc_model.specs.Ranges.{Range}
 use Rattle.qc_model.specs.Refuted.{left_to, refuted_by}
-use Rattle.qc_model.proofs.Readable.{together}
 use Rattle.model_arguments.proofs.Items.{all_by}
-use Rattle.model_arguments.proofs.Bools.{not_true, or_none, or_right, or_left}
 use Rattle.model_arguments.proofs.Kept.{not_lower}
 use Rattle.prop_base.specs.Closed.{keeps_arg}
 use Rattle.model_arguments.specs.Repeats.{has_repeat}
@@ -27,9 +26,9 @@ balanced_value : (c : Rule) (ns : List ℤ) (xs : List Arg) (bound : ℤ) (s t :
     least_sum ns xs (box_at box x.0 v) ≤ℤ (least_sum ns xs box +ℤ pos s) → least_sum (signed true ns) xs (box_at box x.0 v) ≤ℤ (least_sum (signed true ns) xs box +ℤ pos t) → not (refutes_at c box x.0 v) ≡ true
 balanced_value c ns xs bound s t box x v b a e f m n =
     let at = box_at box x.0 v in
-    not_true (refutes_at c box x.0 v)
+    not_from_false (refutes_at c box x.0 v)
     (b.refuted at a
-    ∙ or_none (int_lt (greatest_sum ns xs at) bound) (int_lt bound (least_sum ns xs at))
+    ∙ or_from (int_lt (greatest_sum ns xs at) bound) (int_lt bound (least_sum ns xs at))
     (not_lower (greatest_sum ns xs at) bound (high (greatest_sum ns xs at) (greatest_sum ns xs box) (least_sum (signed true ns) xs at) (least_sum (signed true ns) xs box) (sum_opposite ns xs at) (sum_opposite ns xs box) f n))
     (not_lower bound (least_sum ns xs at) (low (least_sum ns xs at) (least_sum ns xs box) e m)))
   where
@@ -49,7 +48,7 @@ balanced_place c ns xs bound s t box k (Var x) b r l h q f e g near far =
     let n = get_or ns k (pos 0) in
     let m = get_or ms k (pos 0) in
     let w = signed_length true ns ∙ l in
-    together (not (refutes_at c box x.0 (least_value d))) (not (refutes_at c box x.0 (greatest_value d)))
+    and_from (not (refutes_at c box x.0 (least_value d))) (not (refutes_at c box x.0 (greatest_value d)))
     (balanced_value c ns xs bound s t box x (least_value d) b (alike_at xs box k x (least_value d ∷ []) (Num (pos 0)) h q) e g (value_near ns xs s box k x (least_value d) r l h q (f x refl) near (times_low n d)) (value_near ms xs t box k x (least_value d) r w h q (f x refl) far (times_low m d)))
     (balanced_value c ns xs bound s t box x (greatest_value d) b (alike_at xs box k x (greatest_value d ∷ []) (Num (pos 0)) h q) e g (value_near ns xs s box k x (greatest_value d) r l h q (f x refl) near (times_high n d)) (value_near ms xs t box k x (greatest_value d) r w h q (f x refl) far (times_high m d)))
 
@@ -60,7 +59,7 @@ pub balanced_keeps : (c : Rule) (ns : List ℤ) (xs : List Arg) (bound : ℤ) (s
 balanced_keeps c ns xs bound s t box b r l f e g near far =
     b.own box (alike_same xs box)
     (b.refuted box (alike_same xs box)
-    ∙ or_none (int_lt (greatest_sum ns xs box) bound) (int_lt bound (least_sum ns xs box))
+    ∙ or_from (int_lt (greatest_sum ns xs box) bound) (int_lt bound (least_sum ns xs box))
     (not_lower (greatest_sum ns xs box) bound (above (greatest_sum ns xs box) g))
     (not_lower bound (least_sum ns xs box) (within (least_sum ns xs box) e)))
     (all_by (keeps_arg c box) xs (Num (pos 0))

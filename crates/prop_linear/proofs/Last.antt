@@ -7,6 +7,7 @@ use Rattle.std.specs.Ordering.{int_eq}
 use Rattle.std.proofs.lemmas.Int.{ints, clamps}
 use Rattle.std.proofs.lemmas.List.{get_or-set_same}
 use Rattle.std.proofs.lemmas.Bool.Decides.{Decides-int_eq, nat_tests}
+use Rattle.std.proofs.lemmas.Bool.{or_parts, false_from_ne_true, and_from}
 use Rattle.qc_model.specs.declared.problem.Arg.{Arg}
 use Rattle.qc_model.specs.declared.problem.Arg.TheVariants.{Var, Num}
 use Rattle.qc_model.specs.declared.problem.VarId.{VarId}
@@ -17,10 +18,10 @@ use Rattle.qc_model.specs.Left.{sum_range}
 use Rattle.qc_model.specs.Ranges.{Range, is_point}
 use Rattle.qc_model.specs.Refuted.{left_to, refuted_by}
 use Rattle.qc_model.specs.Valid.{is_number}
-use Rattle.qc_model.proofs.Readable.{first, second, together}
+use Rattle.qc_model.proofs.Readable.{first, second}
 use Rattle.model_arguments.proofs.Values.{value_passes, has_least, has_greatest}
 use Rattle.model_arguments.proofs.Kept.{keeps, passes, was_left, some_of}
-use Rattle.model_arguments.proofs.Bools.{not_false, neither, never}
+use Rattle.model_arguments.proofs.Bools.{not_false}
 use Rattle.model_arguments.proofs.Items.{none_at, other_left, flipped, all_by}
 use Rattle.qc_refuter.proofs.Domains.{some_left}
 use Rattle.qc_refuter.specs.Met.{is_domain_left, is_open}
@@ -40,9 +41,9 @@ use Rattle.prop_linear.proofs.Spread.{low_of, high_of}
 no_repeat_at : (xs : List Arg) (j p : ℕ) (e : Arg) → has_repeat xs ≡ false → j < length xs → p < length xs → j ≢ p → same_variable (get_or xs j e) (get_or xs p e) ≡ false
 no_repeat_at [] j p e r h k n = absurd (omega arith)
 no_repeat_at (a ∷ xs) zero zero e r h k n = absurd (n refl)
-no_repeat_at (a ∷ xs) zero (suc p) e r h k n = none_at (same_variable a) xs p e (neither (list_any (same_variable a) xs) (has_repeat xs) r).0 (omega arith)
-no_repeat_at (a ∷ xs) (suc j) zero e r h k n = flipped a (get_or xs j e) (none_at (same_variable a) xs j e (neither (list_any (same_variable a) xs) (has_repeat xs) r).0 (omega arith))
-no_repeat_at (a ∷ xs) (suc j) (suc p) e r h k n = no_repeat_at xs j p e (neither (list_any (same_variable a) xs) (has_repeat xs) r).1 (omega arith) (omega arith) (λ q. n (ap suc q))
+no_repeat_at (a ∷ xs) zero (suc p) e r h k n = none_at (same_variable a) xs p e (or_parts (list_any (same_variable a) xs) (has_repeat xs) r).0 (omega arith)
+no_repeat_at (a ∷ xs) (suc j) zero e r h k n = flipped a (get_or xs j e) (none_at (same_variable a) xs j e (or_parts (list_any (same_variable a) xs) (has_repeat xs) r).0 (omega arith))
+no_repeat_at (a ∷ xs) (suc j) (suc p) e r h k n = no_repeat_at xs j p e (or_parts (list_any (same_variable a) xs) (has_repeat xs) r).1 (omega arith) (omega arith) (λ q. n (ap suc q))
 
 -- what is left to the others stays
 left_other : (xs : List Arg) (box : Box) (j p : ℕ) (x : VarId) (us : Values) (e : Arg) → has_repeat xs ≡ false → j < length xs → p < length xs → j ≢ p → get_or xs p e ≡ Var x → left_to (set box x.0 us) (get_or xs j e) ≡ left_to box (get_or xs j e)
@@ -116,7 +117,7 @@ hit_of ns xs box p x v bound r l k q m h =
 open_set : (box : Box) (x : VarId) (v : ℤ) (xs : List Arg) → x.0 < length box → is_number v ≡ true → list_all (is_open box) xs ≡ true → list_all (is_open (box_at box x.0 v)) xs ≡ true
 open_set box x v [] m n o = refl
 open_set box x v (a ∷ xs) m n o =
-    together (is_open (box_at box x.0 v) a) (list_all (is_open (box_at box x.0 v)) xs)
+    and_from (is_open (box_at box x.0 v) a) (list_all (is_open (box_at box x.0 v)) xs)
     (one (same_variable a (Var x)) a refl (first (is_open box a) (list_all (is_open box) xs) o))
     (open_set box x v xs m n (second (is_open box a) (list_all (is_open box) xs) o))
   where
@@ -152,7 +153,7 @@ hit_cut c ns xs bound box p x v u r l k q m o dom t h hit =
       some = stays d v asc h;
       refuted =
           ap (refuted_by c) (within_one box x.0 v asc h)
-          ∙ (u.refuted at (alike_at xs box p x (v ∷ []) (Num (pos 0)) k q) ∙ together (int_eq s.from bound) (int_eq s.to bound) ((Decides-int_eq s.from bound).1 low) ((Decides-int_eq s.to bound).1 (sym same ∙ low)));
+          ∙ (u.refuted at (alike_at xs box p x (v ∷ []) (Num (pos 0)) k q) ∙ and_from (int_eq s.from bound) (int_eq s.to bound) ((Decides-int_eq s.from bound).1 low) ((Decides-int_eq s.to bound).1 (sym same ∙ low)));
     }
   where
     cancel : (a u w f : ℤ) → a +ℤ f ≡ u +ℤ w → u +ℤ w ≡ bound +ℤ f → a ≡ bound
@@ -194,7 +195,7 @@ sum_off : (ns : List ℤ) (xs : List Arg) (bound : ℤ) (box : Box) (p : ℕ) (x
     int_eq (get_or ns p (pos 0)) (pos 0) ≡ false → ((w : ℤ) → has_value us w ≡ true → IsHit (least_sum ns xs box) (get_or ns p (pos 0)) (values_left box x.0) bound w → ⊥) → is_point bound (sum_range ns (map (left_to (set box x.0 us)) xs)) ≡ false
 sum_off ns xs bound box p x [] r l k q m o z f = cc
 sum_off ns xs bound box p x (w ∷ []) r l k q m o z f =
-    never (is_point bound (sum_range ns (map (left_to (set box x.0 (w ∷ []))) xs))) (λ h. f w (self w) (hit_of ns xs box p x w bound r l k q m h))
+    false_from_ne_true (is_point bound (sum_range ns (map (left_to (set box x.0 (w ∷ []))) xs))) (λ h. f w (self w) (hit_of ns xs box p x w bound r l k q m h))
   where
     self : (w : ℤ) → has_value (w ∷ []) w ≡ true
     self w = by (int_eq w w) ((Decides-int_eq w w).1 refl)
@@ -244,7 +245,7 @@ last_keeps c ns xs bound box p x us u r l k q m o t z f =
     here : (w : ℤ) → has_value us w ≡ true → refutes_at c b2 x.0 w ≡ false
     here w h =
         ap (refuted_by c) (set_twice box x.0 us (w ∷ []))
-        ∙ (u.refuted (box_at box x.0 w) (alike_at xs box p x (w ∷ []) (Num (pos 0)) k q) ∙ never (is_point bound (sum_range ns (map (left_to (box_at box x.0 w)) xs))) (λ g. f w h (hit_of ns xs box p x w bound r l k q m g)))
+        ∙ (u.refuted (box_at box x.0 w) (alike_at xs box p x (w ∷ []) (Num (pos 0)) k q) ∙ false_from_ne_true (is_point bound (sum_range ns (map (left_to (box_at box x.0 w)) xs))) (λ g. f w h (hit_of ns xs box p x w bound r l k q m g)))
 
     apart : (y : VarId) → (y.0 == x.0) ≡ false → (j : ℕ) → j < length xs → (is_loose (get_or ns j (pos 0)) (left_to b2 (get_or xs j (Num (pos 0)))) ≡ false) ⊎ (same_variable (get_or xs j (Num (pos 0))) (Var y) ≡ false)
     apart y e j h = split (j == p) (same j p) (differ j p)

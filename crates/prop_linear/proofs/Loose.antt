@@ -9,6 +9,7 @@ use Rattle.std.proofs.Math.IntN.{zero-*ℤ}
 use Rattle.std.proofs.lemmas.Int.{ints, clamps}
 use Rattle.std.proofs.lemmas.List.{get_or-set_same, length-map}
 use Rattle.std.proofs.lemmas.Bool.Decides.{Decides-int_eq, nat_tests}
+use Rattle.std.proofs.lemmas.Bool.{or_left, or_right, not_from_false, and_from}
 use Rattle.qc_model.specs.declared.problem.Arg.{Arg}
 use Rattle.qc_model.specs.declared.problem.Arg.TheVariants.{Var, Num}
 use Rattle.qc_model.specs.declared.problem.VarId.{VarId}
@@ -19,11 +20,11 @@ use Rattle.qc_model.specs.Left.{sum_range}
 use Rattle.qc_model.specs.Ranges.{Range, range_of, range_of_list, point, is_point, product, range_sum}
 use Rattle.qc_model.specs.Refuted.{left_to}
 use Rattle.qc_model.specs.Valid.{is_number}
-use Rattle.qc_model.proofs.Readable.{first, second, together}
+use Rattle.qc_model.proofs.Readable.{first, second}
 use Rattle.model_arguments.proofs.Values.{has_least, has_greatest}
 use Rattle.model_arguments.proofs.Kept.{low_end, high_end}
 use Rattle.model_arguments.proofs.Items.{other_left, all_by}
-use Rattle.model_arguments.proofs.Bools.{not_true, not_false, or_left, or_right}
+use Rattle.model_arguments.proofs.Bools.{not_false}
 use Rattle.qc_refuter.proofs.Domains.{some_left}
 use Rattle.qc_refuter.specs.Met.{is_domain_left, is_open}
 use Rattle.qc_refuter.proofs.Terms.{open_at}
@@ -179,9 +180,9 @@ keeps_both c box (Num n) f g = refl
 keeps_both c box (Var x) f g =
     let d = values_left box x.0 in
     let some = g x refl in
-    together (not (refutes_at c box x.0 (least_value d))) (not (refutes_at c box x.0 (greatest_value d)))
-    (not_true (refutes_at c box x.0 (least_value d)) (f x (least_value d) refl (has_least d some)))
-    (not_true (refutes_at c box x.0 (greatest_value d)) (f x (greatest_value d) refl (has_greatest d some)))
+    and_from (not (refutes_at c box x.0 (least_value d))) (not (refutes_at c box x.0 (greatest_value d)))
+    (not_from_false (refutes_at c box x.0 (least_value d)) (f x (least_value d) refl (has_least d some)))
+    (not_from_false (refutes_at c box x.0 (greatest_value d)) (f x (greatest_value d) refl (has_greatest d some)))
 
 pub open_some : (box : Box) (a : Arg) (x : VarId) → is_open box a ≡ true → a ≡ Var x → is_none_left (values_left box x.0) ≡ false
 open_some box a x o h = some_left (values_left box x.0) (ap (is_open box) (sym h) ∙ o)

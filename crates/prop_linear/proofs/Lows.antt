@@ -5,11 +5,12 @@ use Rattle.std.specs.Int.{int_min}
 use Rattle.std.specs.List.{list_all}
 use Rattle.std.proofs.lemmas.Int.{ints}
 use Rattle.std.proofs.lemmas.List.Recursion.{and_at}
+use Rattle.std.proofs.lemmas.Bool.{and_from}
 use Rattle.qc_model.specs.Domains.{Values, least_value, greatest_value}
 use Rattle.qc_model.specs.Left.{sum_range}
 use Rattle.qc_model.specs.Ranges.{Range}
 use Rattle.qc_model.specs.Valid.{is_number}
-use Rattle.qc_model.proofs.Readable.{first, second, together}
+use Rattle.qc_model.proofs.Readable.{first, second}
 use Rattle.qc_refuter.proofs.Terms.{sum_step}
 use Rattle.prop_linear.specs.Tightening.{term_of}
 use Rattle.prop_linear.specs.Sides.{opposite, signed}
@@ -42,7 +43,7 @@ signed_numbers : (b : Bool) (ns : List ℤ) → list_all is_number ns ≡ true �
 signed_numbers false ns h = h
 signed_numbers true [] h = refl
 signed_numbers true (n ∷ ns) h =
-    together (is_number (opposite n)) (list_all is_number (map opposite ns)) (turned n (first (is_number n) (list_all is_number ns) h)) (signed_numbers true ns (second (is_number n) (list_all is_number ns) h))
+    and_from (is_number (opposite n)) (list_all is_number (map opposite ns)) (turned n (first (is_number n) (list_all is_number ns) h)) (signed_numbers true ns (second (is_number n) (list_all is_number ns) h))
   where
     turned : (n : ℤ) → is_number n ≡ true → is_number (opposite n) ≡ true
     turned n h = grind (arith, ints)

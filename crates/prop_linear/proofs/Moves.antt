@@ -5,6 +5,7 @@ use Rattle.std.specs.Int.{int_min, int_max}
 use Rattle.std.specs.List.{list_any}
 use Rattle.std.proofs.lemmas.Int.{ints, clamps}
 use Rattle.std.proofs.lemmas.List.{get_or-set_same}
+use Rattle.std.proofs.lemmas.Bool.{or_parts, not_from_false, and_from}
 use Rattle.qc_model.specs.declared.problem.Arg.{Arg}
 use Rattle.qc_model.specs.declared.problem.Arg.TheVariants.{Var, Num}
 use Rattle.qc_model.specs.declared.problem.VarId.{VarId}
@@ -13,8 +14,6 @@ use Rattle.qc_model.specs.Content.{Rule}
 use Rattle.qc_model.specs.Domains.{Values, Box, values_left, values_within, values_outside, box_within, box_without, box_at, least_value, greatest_value}
 use Rattle.qc_model.specs.Left.{sum_range}
 use Rattle.qc_model.specs.Refuted.{left_to, refuted_by}
-use Rattle.qc_model.proofs.Readable.{together}
-use Rattle.model_arguments.proofs.Bools.{neither, not_true}
 use Rattle.model_arguments.proofs.Items.{none_at, other_left, others_left, all_by}
 use Rattle.model_arguments.proofs.Kept.{not_lower}
 use Rattle.prop_base.specs.Closed.{keeps_arg}
@@ -30,7 +29,7 @@ pub moved : (ns : List ℤ) (xs : List Arg) (k : ℕ) (box : Box) (x : VarId) (u
 moved [] xs k box x us d e r h l q m = absurd (omega arith)
 moved (n ∷ ns) [] k box x us d e r h l q m = absurd (omega arith)
 moved (n ∷ ns) (a ∷ xs) zero box x us d e r h l q m =
-    let p = neither (list_any (same_variable a) xs) (has_repeat xs) r in
+    let p = or_parts (list_any (same_variable a) xs) (has_repeat xs) r in
     let here = ap (left_to (set box x.0 us)) q ∙ get_or-set_same box x.0 us [] m in
     let was = ap (left_to box) q in
     let rest = others_left box x us xs (sym (ap (λ z. list_any (same_variable z) xs) q) ∙ p.0) in
@@ -41,7 +40,7 @@ moved (n ∷ ns) (a ∷ xs) zero box x us d e r h l q m =
     swap : (a b c d r s : ℤ) → a ≡ b → c ≡ d → r ≡ s → (a +ℤ r) +ℤ d ≡ (c +ℤ s) +ℤ b
     swap a b c d r s h k l = omega (arith, ints, h, k, l)
 moved (n ∷ ns) (a ∷ xs) (suc k) box x us d e r h l q m =
-    let p = neither (list_any (same_variable a) xs) (has_repeat xs) r in
+    let p = or_parts (list_any (same_variable a) xs) (has_repeat xs) r in
     let apart = ap (same_variable a) (sym q) ∙ none_at (same_variable a) xs k e p.0 (omega arith) in
     let stays = ap (λ v. (term_of n v).from) (other_left box x us a apart) in
     join (term_of n (left_to (set box x.0 us) a)).from (term_of n (left_to box a)).from
@@ -58,7 +57,7 @@ near_kept s ns xs zero box x us e r l q h = tt
 near_kept s [] xs (suc k) box x us e r l q h = tt
 near_kept s (n ∷ ns) [] (suc k) box x us e r l q h = tt
 near_kept s (n ∷ ns) (a ∷ xs) (suc k) box x us e r l q h =
-    let p = neither (list_any (same_variable a) xs) (has_repeat xs) r in
+    let p = or_parts (list_any (same_variable a) xs) (has_repeat xs) r in
     let apart = ap (same_variable a) (sym q) ∙ none_at (same_variable a) xs k e p.0 (omega arith) in
     (subst (λ v. IsNear n s v) (sym (other_left box x us a apart)) h.0, near_kept s ns xs k box x us e p.1 (omega arith) q h.1)
 
@@ -110,7 +109,7 @@ value_near ns xs s box k x v r l h q m near t =
 keeps_value : (c : Rule) (ns : List ℤ) (xs : List Arg) (bound : ℤ) (s : ℕ) (box : Box) (x : VarId) (v : ℤ) → IsBounded c box ns xs bound → AlikeOutside xs box (box_at box x.0 v) → bound ≡ least_sum ns xs box +ℤ pos s →
     least_sum ns xs (box_at box x.0 v) ≤ℤ (least_sum ns xs box +ℤ pos s) → not (refutes_at c box x.0 v) ≡ true
 keeps_value c ns xs bound s box x v b f e n =
-    not_true (refutes_at c box x.0 v) (b.refuted (box_at box x.0 v) f ∙ not_lower bound (least_sum ns xs (box_at box x.0 v)) (subst (λ z. least_sum ns xs (box_at box x.0 v) ≤ℤ z) (sym e) n))
+    not_from_false (refutes_at c box x.0 v) (b.refuted (box_at box x.0 v) f ∙ not_lower bound (least_sum ns xs (box_at box x.0 v)) (subst (λ z. least_sum ns xs (box_at box x.0 v) ≤ℤ z) (sym e) n))
 
 -- near places keep their ends
 keeps_place : (c : Rule) (ns : List ℤ) (xs : List Arg) (bound : ℤ) (s : ℕ) (box : Box) (k : ℕ) (a : Arg) → IsBounded c box ns xs bound → has_repeat xs ≡ false → length ns ≡ length xs → k < length xs →
@@ -119,7 +118,7 @@ keeps_place c ns xs bound s box k (Num n) b r l h q f e near = refl
 keeps_place c ns xs bound s box k (Var x) b r l h q f e near =
     let d = values_left box x.0 in
     let n = get_or ns k (pos 0) in
-    together (not (refutes_at c box x.0 (least_value d))) (not (refutes_at c box x.0 (greatest_value d)))
+    and_from (not (refutes_at c box x.0 (least_value d))) (not (refutes_at c box x.0 (greatest_value d)))
     (keeps_value c ns xs bound s box x (least_value d) b (alike_at xs box k x (least_value d ∷ []) (Num (pos 0)) h q) e (value_near ns xs s box k x (least_value d) r l h q (f x refl) near (times_low n d)))
     (keeps_value c ns xs bound s box x (greatest_value d) b (alike_at xs box k x (greatest_value d ∷ []) (Num (pos 0)) h q) e (value_near ns xs s box k x (greatest_value d) r l h q (f x refl) near (times_high n d)))
 

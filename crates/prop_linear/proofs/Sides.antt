@@ -5,6 +5,7 @@ use Rattle.std.specs.Int.{int_min, int_max}
 use Rattle.std.proofs.Math.IntN.{*ℤ_comm, *ℤ-negsuc, neg_ℤ}
 use Rattle.std.proofs.lemmas.Int.{ints, clamps}
 use Rattle.std.proofs.lemmas.List.{length-map, get_or-map}
+use Rattle.std.proofs.lemmas.Bool.{or_left, or_right}
 use Rattle.qc_model.specs.declared.problem.Arg.{Arg}
 use Rattle.qc_model.specs.declared.problem.Arg.TheVariants.{Var}
 use Rattle.qc_model.specs.declared.problem.VarId.{VarId}
@@ -15,7 +16,6 @@ use Rattle.qc_model.specs.Ranges.{range_of, point, product}
 use Rattle.qc_model.specs.Refuted.{left_to}
 use Rattle.model_arguments.specs.Repeats.{has_repeat}
 use Rattle.model_arguments.proofs.Kept.{ordered, is_lower}
-use Rattle.model_arguments.proofs.Bools.{or_left, or_right}
 use Rattle.prop_linear.specs.Tightening.{term_of, IsNear, AlikeOutside, least_sum, IsBounded}
 use Rattle.prop_linear.specs.Sides.{greatest_sum, opposite, signed, IsPast, IsBalanced}
 use Rattle.prop_linear.proofs.Alike.{alike_more}

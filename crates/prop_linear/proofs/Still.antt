@@ -3,12 +3,13 @@ use Rattle.std.proofs.Common.{◌≡◌, ◌≢◌, ℕ, ◌<◌, Bool, true, fa
 use Rattle.std.specs.Prelude.{Result, Ok, Err, IfOk}
 use Rattle.std.specs.declared.alloc.AllocError.{AllocError}
 use Rattle.std.specs.List.{list_all}
+use Rattle.std.proofs.lemmas.Bool.{and_from}
 use Rattle.qc_model.specs.declared.problem.Arg.{Arg}
 use Rattle.qc_model.specs.declared.problem.Arg.TheVariants.{Var, Num}
 use Rattle.qc_model.specs.Content.{Game, Rule}
 use Rattle.qc_model.specs.Domains.{Box}
 use Rattle.qc_model.specs.Valid.{is_domain, arg_sees}
-use Rattle.qc_model.proofs.Readable.{first, second, together}
+use Rattle.qc_model.proofs.Readable.{first, second}
 use Rattle.proof_tree.specs.declared.tree.Step.{Step}
 use Rattle.proof_tree.specs.Steps.{after_steps}
 use Rattle.fd_store.specs.Held.{Held}
@@ -60,7 +61,7 @@ pub open_again : (g : Game) (c : Rule) (old new : Box) (items : List Arg) → li
 open_again g c old new [] d a s o = refl
 open_again g c old new (x ∷ items) d a s o =
     let sees = arg_sees g.variables c.owner.0 in
-    together (is_open new x) (list_all (is_open new) items)
+    and_from (is_open new x) (list_all (is_open new) items)
     (one x (first (sees x) (list_all sees items) s) (first (is_open old x) (list_all (is_open old) items) o))
     (open_again g c old new items d a (second (sees x) (list_all sees items) s) (second (is_open old x) (list_all (is_open old) items) o))
   where

@@ -3,6 +3,7 @@ use Rattle.std.proofs.Common.{◌≡◌, inl, inr, ℕ, zero, suc, ◌==◌, Boo
 use Rattle.std.specs.Prelude.{pos, slice_get}
 use Rattle.std.specs.List.{list_all, list_any}
 use Rattle.std.proofs.lemmas.Bool.Decides.{nat_tests}
+use Rattle.std.proofs.lemmas.Bool.{not_from_false, false_from_ne_true, and_from}
 use Rattle.qc_model.specs.declared.problem.Arg.{Arg}
 use Rattle.qc_model.specs.declared.problem.Arg.TheVariants.{Var, Num}
 use Rattle.qc_model.specs.declared.problem.Argument.{Argument}
@@ -17,10 +18,9 @@ use Rattle.qc_model.specs.Meaning.{Meaning, sum_at_most, sum_equal, sum_differen
 use Rattle.qc_model.specs.Refuted.{left_to, refuted_as, refuted_by}
 use Rattle.qc_model.specs.Signature.{arg_kinds_of}
 use Rattle.qc_model.specs.Valid.{is_bits, is_boolean, is_integer, is_integer_domain, is_variable_with, are_of_sorts, is_constraint}
-use Rattle.qc_model.proofs.Readable.{first, second, together}
+use Rattle.qc_model.proofs.Readable.{first, second}
 use Rattle.model_arguments.specs.Repeats.{same_variable}
 use Rattle.model_arguments.specs.Written.{arg_at, args_at, ints_at, last_arg}
-use Rattle.model_arguments.proofs.Bools.{never, not_true}
 use Rattle.model_arguments.proofs.Written.{last_written}
 use Rattle.qc_refuter.specs.Met.{lefts}
 use Rattle.prop_base.specs.Closed.{keeps_arg, keeps_argument}
@@ -63,7 +63,7 @@ sorts_apart xs r (a ∷ items) h k =
     one : (r a : Arg) → is_boolean xs r ≡ true → is_integer xs a ≡ true → same_variable r a ≡ false
     one (Num n) a h k = refl
     one (Var x) (Num n) h k = refl
-    one (Var x) (Var y) h k = never (y.0 == x.0) (λ e. no (slice_get xs x.0) h (ap (λ i. is_variable_with is_integer_domain (slice_get xs i)) (sym (same y.0 x.0 e)) ∙ k))
+    one (Var x) (Var y) h k = false_from_ne_true (y.0 == x.0) (λ e. no (slice_get xs x.0) h (ap (λ i. is_variable_with is_integer_domain (slice_get xs i)) (sym (same y.0 x.0 e)) ∙ k))
 
 told_shape : (xs : List Variable) (c : Rule) (r : Relation) → is_constraint xs c ≡ true → c.pred ≡ told_pred r → EndsTold xs c
 told_shape xs c r h e =
@@ -105,9 +105,9 @@ set_left (d ∷ box) (suc x) = ap (λ b. d ∷ b) (set_left box x)
 keeps_fixed : (c : Rule) (box : Box) (r : Arg) (v : ℤ) → left_to box r ≡ v ∷ [] → refuted_by c box ≡ false → keeps_arg c box r ≡ true
 keeps_fixed c box (Num n) v h f = refl
 keeps_fixed c box (Var x) v h f =
-    together (not (refutes_at c box x.0 (least_value (values_left box x.0)))) (not (refutes_at c box x.0 (greatest_value (values_left box x.0))))
-    (not_true (refutes_at c box x.0 (least_value (values_left box x.0))) (at (least_value (values_left box x.0)) (ap least_value h)))
-    (not_true (refutes_at c box x.0 (greatest_value (values_left box x.0))) (at (greatest_value (values_left box x.0)) (ap greatest_value h)))
+    and_from (not (refutes_at c box x.0 (least_value (values_left box x.0)))) (not (refutes_at c box x.0 (greatest_value (values_left box x.0))))
+    (not_from_false (refutes_at c box x.0 (least_value (values_left box x.0))) (at (least_value (values_left box x.0)) (ap least_value h)))
+    (not_from_false (refutes_at c box x.0 (greatest_value (values_left box x.0))) (at (greatest_value (values_left box x.0)) (ap greatest_value h)))
   where
     at : (w : ℤ) → w ≡ v → refutes_at c box x.0 w ≡ false
     at w e = ap (refuted_by c) (ap (λ z. set box x.0 (z ∷ [])) e ∙ (ap (set box x.0) (sym h) ∙ set_left box x.0)) ∙ f

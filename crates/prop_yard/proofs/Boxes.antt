@@ -5,12 +5,13 @@ use Rattle.std.specs.List.{list_all}
 use Rattle.std.specs.Ordering.{int_eq}
 use Rattle.std.proofs.lemmas.Bool.Decides.{nat_tests}
 use Rattle.std.proofs.lemmas.List.{length-set, length-map}
+use Rattle.std.proofs.lemmas.Bool.{and_from}
 use Rattle.qc_model.specs.declared.problem.Variable.{Variable}
 use Rattle.qc_model.specs.declared.problem.VarId.{VarId}
 use Rattle.qc_model.specs.Content.{Game}
 use Rattle.qc_model.specs.Domains.{Values, Box, domain_values, declared_box, values_left, is_none_left, has_value, values_outside, values_within, box_without, is_ascending, is_sub_box}
 use Rattle.qc_model.specs.Valid.{is_domain}
-use Rattle.qc_model.proofs.Readable.{first, second, together}
+use Rattle.qc_model.proofs.Readable.{first, second}
 use Rattle.model_arguments.proofs.Values.{has_first}
 use Rattle.model_arguments.proofs.Boxes.{set_full, sub_length, sub_without}
 use Rattle.fd_store.specs.Held.{Held, Follows, trail_len, past_box, removal}
@@ -76,7 +77,7 @@ undone s t u n e f h = h ∙ ap (past_box t) e ∙ f.boxes (trail_len s) (le-ref
 has_self : (us vs : Values) → ((v : ℤ) → has_value vs v ≡ true → has_value us v ≡ true) → list_all (has_value us) vs ≡ true
 has_self us [] f = refl
 has_self us (v ∷ vs) f =
-    together (has_value us v) (list_all (has_value us) vs) (f v (has_first v vs)) (has_self us vs (λ w h. f w (later (int_eq w v) (has_value vs w) h)))
+    and_from (has_value us v) (list_all (has_value us) vs) (f v (has_first v vs)) (has_self us vs (λ w h. f w (later (int_eq w v) (has_value vs w) h)))
   where
     later : (a b : Bool) → b ≡ true → (a || b) ≡ true
     later true b h = refl
@@ -87,8 +88,8 @@ self_sub [] h = refl
 self_sub (x ∷ xs) h =
     let d = domain_values x.domain in
     let rest = map (λ y. domain_values y.domain) xs in
-    together (is_ascending d && list_all (has_value d) d) (is_sub_box rest rest)
-    (together (is_ascending d) (list_all (has_value d) d) (domain_ascends x.domain (first (is_domain x.domain) (list_all (λ y. is_domain y.domain) xs) h)) (has_self d d (λ v m. m)))
+    and_from (is_ascending d && list_all (has_value d) d) (is_sub_box rest rest)
+    (and_from (is_ascending d) (list_all (has_value d) d) (domain_ascends x.domain (first (is_domain x.domain) (list_all (λ y. is_domain y.domain) xs) h)) (has_self d d (λ v m. m)))
     (self_sub xs (second (is_domain x.domain) (list_all (λ y. is_domain y.domain) xs) h))
 
 -- the declared domains hold their own values

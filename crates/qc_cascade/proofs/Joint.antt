@@ -4,11 +4,11 @@ use Rattle.std.specs.Prelude.{Option, Some, None, Result, Ok, Err, IfOk, filter,
 use Rattle.std.specs.declared.alloc.AllocError.{AllocError}
 use Rattle.std.proofs.lemmas.Bool.Decides.{nat_tests}
 use Rattle.std.specs.List.{list_all}
-use Rattle.std.proofs.lemmas.Bool.{cases_order}
+use Rattle.std.proofs.lemmas.Bool.{cases_order, and_from}
 use Rattle.qc_model.specs.Block.{is_owned_within}
 use Rattle.qc_model.specs.Content.{Game, Rule}
 use Rattle.qc_model.specs.Domains.{Box, has_value, is_ascending, is_sub_box, declared_box, has_empty}
-use Rattle.qc_model.proofs.Readable.{first, second, together}
+use Rattle.qc_model.proofs.Readable.{first, second}
 use Rattle.proof_tree.specs.declared.tree.Step.{Step}
 use Rattle.proof_tree.specs.Steps.{after_steps}
 use Rattle.fd_store.specs.Held.{Held}
@@ -31,7 +31,7 @@ all_ascend [] large h = refl
 all_ascend (d ∷ ds) [] h = cc
 all_ascend (d ∷ ds) (e ∷ es) h =
     let p = is_ascending d && list_all (has_value e) d in
-    together (is_ascending d) (list_all is_ascending ds)
+    and_from (is_ascending d) (list_all is_ascending ds)
     (first (is_ascending d) (list_all (has_value e) d) (first p (is_sub_box ds es) h))
     (all_ascend ds es (second p (is_sub_box ds es) h))
 

@@ -1,14 +1,13 @@
 -- What is found ahead of a scope is what a certificate asks of a horizon there.
 use Rattle.std.proofs.Common.{◌≡◌, ℕ, suc, ◌+◌, ◌<◌, ◌≤◌, ◌⊎◌, Bool, true, false, not, ◌&&◌, List, [], ◌∷◌, length, refl, arith, inl, inr}
 use Rattle.std.specs.Prelude.{Option, Some, None, nat_le}
-use Rattle.std.proofs.lemmas.Bool.{cases_order}
+use Rattle.std.proofs.lemmas.Bool.{cases_order, not_from_false, and_from}
 use Rattle.std.proofs.lemmas.Bool.Decides.{nat_tests}
 use Rattle.qc_model.specs.declared.problem.Scope.{Scope}
 use Rattle.qc_model.specs.Block.{constraints_within}
 use Rattle.qc_model.specs.Closed.{is_closed, NoClosedWithin}
 use Rattle.qc_model.specs.Content.{Game}
 use Rattle.qc_model.specs.Domains.{Box, has_empty}
-use Rattle.qc_model.proofs.Readable.{together}
 use Rattle.proof_tree.specs.declared.tree.Horizon.{Horizon}
 use Rattle.proof_tree.specs.declared.tree.Step.{Step}
 use Rattle.proof_tree.specs.Diligent.{is_by, SeesAhead}
@@ -21,20 +20,16 @@ use Rattle.qc_cascade.proofs.Pruned.{legal_steps}
 at_most : (j k : ℕ) → j ≤ k → nat_le j k ≡ true
 at_most j k h = grind (arith, nat_tests)
 
-not_true : (b : Bool) → b ≡ false → not b ≡ true
-not_true true h = cc
-not_true false h = refl
-
 -- a horizon that is found stands in place at a scope, where it is nearer than the one in force
 pub stands_in_place : (g : Game) (later : List Scope) (i : ℕ) (box : Box) (h : Option ℕ) (z : Horizon) → i + length later ≡ length g.scopes → is_goal later ≡ false → is_nearer z.scope.0 h ≡ true →
     IsHorizon g i z.scope.0 box z.steps → horizon_in_place g (Some z) later i box h ≡ true
 stands_in_place g later i box h z e s n f =
     let k = z.scope.0 in
-    together (not (is_goal later) && nat_le i k && nat_le k (i + length later) && is_nearer k h && are_legal g i (suc k) None z.steps box) (has_empty (after_steps z.steps box))
-    (together (not (is_goal later) && nat_le i k && nat_le k (i + length later) && is_nearer k h) (are_legal g i (suc k) None z.steps box)
-    (together (not (is_goal later) && nat_le i k && nat_le k (i + length later)) (is_nearer k h)
-    (together (not (is_goal later) && nat_le i k) (nat_le k (i + length later))
-    (together (not (is_goal later)) (nat_le i k) (not_true (is_goal later) s) (at_most i k f.ahead))
+    and_from (not (is_goal later) && nat_le i k && nat_le k (i + length later) && is_nearer k h && are_legal g i (suc k) None z.steps box) (has_empty (after_steps z.steps box))
+    (and_from (not (is_goal later) && nat_le i k && nat_le k (i + length later) && is_nearer k h) (are_legal g i (suc k) None z.steps box)
+    (and_from (not (is_goal later) && nat_le i k && nat_le k (i + length later)) (is_nearer k h)
+    (and_from (not (is_goal later) && nat_le i k) (nat_le k (i + length later))
+    (and_from (not (is_goal later)) (nat_le i k) (not_from_false (is_goal later) s) (at_most i k f.ahead))
     (at_most k (i + length later) (omega (arith, f.to, e))))
     n)
     (legal_steps g i (suc k) z.steps box f.pruned))

@@ -2,10 +2,11 @@
 use Rattle.std.proofs.Common.{◌≡◌, ℕ, ◌≤◌, Bool, true, false, ◌&&◌, List, [], ◌∷◌, refl, arith}
 use Rattle.std.specs.Prelude.{Option, Some, None, slice_get}
 use Rattle.std.proofs.lemmas.Bool.Decides.{nat_tests}
+use Rattle.std.proofs.lemmas.Bool.{and_from}
 use Rattle.qc_model.specs.Content.{Game, Rule}
 use Rattle.qc_model.specs.Domains.{Box, box_within}
 use Rattle.qc_model.specs.Valid.{is_number}
-use Rattle.qc_model.proofs.Readable.{first, second, together}
+use Rattle.qc_model.proofs.Readable.{first, second}
 use Rattle.proof_tree.specs.declared.tree.Step.{Step}
 use Rattle.proof_tree.specs.declared.tree.Step.TheVariants.{Prune, Bound}
 use Rattle.proof_tree.specs.Steps.{removes_some, after_step, is_refuted_within, is_legal, are_legal}
@@ -27,13 +28,13 @@ step_weaker p q g (Prune x lo hi c) box w h =
     let r = removes_some box x.0 lo hi && (is_number lo && is_number hi) in
     let f = is_refuted_by (slice_get g.constraints c.0) (box_within box x.0 lo hi) in
     let both = first (r && p c.0) f h in
-    together (r && q c.0) f (together r (q c.0) (first r (p c.0) both) (w c.0 (second r (p c.0) both))) (second (r && p c.0) f h)
+    and_from (r && q c.0) f (and_from r (q c.0) (first r (p c.0) both) (w c.0 (second r (p c.0) both))) (second (r && p c.0) f h)
 step_weaker p q g (Bound x lo hi) box w h = cc
 
 steps_weaker : (p q : ℕ → Bool) (g : Game) (steps : List Step) (box : Box) → ((k : ℕ) → p k ≡ true → q k ≡ true) → are_pruned_by p g steps box ≡ true → are_pruned_by q g steps box ≡ true
 steps_weaker p q g [] box w h = refl
 steps_weaker p q g (s ∷ steps) box w h =
-    together (is_pruned_by q g s box) (are_pruned_by q g steps (after_step s box))
+    and_from (is_pruned_by q g s box) (are_pruned_by q g steps (after_step s box))
     (step_weaker p q g s box w (first (is_pruned_by p g s box) (are_pruned_by p g steps (after_step s box)) h))
     (steps_weaker p q g steps (after_step s box) w (second (is_pruned_by p g s box) (are_pruned_by p g steps (after_step s box)) h))
 
@@ -62,5 +63,5 @@ legal_steps g i stop [] box h = refl
 legal_steps g i stop (s ∷ steps) box h =
     let p = is_pruned_by (is_number_within g i stop) g s box in
     let q = are_pruned_by (is_number_within g i stop) g steps (after_step s box) in
-    together (is_legal g i stop None s box) (are_legal g i stop None steps (after_step s box))
+    and_from (is_legal g i stop None s box) (are_legal g i stop None steps (after_step s box))
     (legal_step g i stop s box (first p q h)) (legal_steps g i stop steps (after_step s box) (second p q h))

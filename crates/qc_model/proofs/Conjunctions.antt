@@ -8,7 +8,3 @@ first false b h = h
 pub second : (a b : Bool) → (a && b) ≡ true → b ≡ true
 second true b h = h
 second false b h = cc
-
-pub together : (a b : Bool) → a ≡ true → b ≡ true → (a && b) ≡ true
-together true b g h = h
-together false b g h = g

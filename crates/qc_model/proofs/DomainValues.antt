@@ -4,15 +4,12 @@ use Rattle.std.specs.Prelude.{slice_get, nat_abs, unsigned_abs, int_lt, int_le, 
 use Rattle.std.specs.List.{list_all}
 use Rattle.std.proofs.lemmas.Int.{ints}
 use Rattle.std.proofs.lemmas.Bool.Decides.{nat_tests}
+use Rattle.std.proofs.lemmas.Bool.{and_parts}
 use Rattle.qc_model.specs.declared.problem.Domain.{Domain}
 use Rattle.qc_model.specs.declared.problem.Domain.TheVariants.{Bits, Range, Listed}
 use Rattle.qc_model.specs.Lists.{numbers_from}
 use Rattle.qc_model.specs.Domains.{domain_values, is_none_left, is_ascending}
 use Rattle.qc_model.specs.Valid.{is_number, is_range, is_domain, is_listed, has_gap, width_of}
-
-both : (a b : Bool) → (a && b) ≡ true → (a ≡ true) × (b ≡ true)
-both true b e = (refl, e)
-both false b e = cc
 
 pub length-numbers : (low : ℤ) (n : ℕ) → length (numbers_from low n) ≡ n
 length-numbers low zero = refl
@@ -38,9 +35,9 @@ pub record Ends (low high : ℤ) : Type 0 where
 
 pub ends_of : (low high : ℤ) → is_domain (Range low high) ≡ true → Ends low high
 ends_of low high e =
-    let p = both (is_range low high) _ e in
-    let q = both (is_number low && is_number high) (int_le low high) p.0 in
-    let r = both (is_number low) (is_number high) q.0 in
+    let p = and_parts (is_range low high) _ e in
+    let q = and_parts (is_number low && is_number high) (int_le low high) p.0 in
+    let r = and_parts (is_number low) (is_number high) q.0 in
     record { low_fits = small low r.0; high_fits = small high r.1; rises = up low high q.1; not_below = not_down low high q.1 }
   where
     small : (z : ℤ) → is_number z ≡ true → unsigned_abs z ≤ 1000000000
@@ -88,11 +85,11 @@ domain_fits (Range low high) e =
     ends_fit : (low high : ℤ) → Ends low high → list_all is_number (numbers_from low (nat_abs (high -ℤ low) + 1)) ≡ true
     ends_fit low high r = numbers_fit low (nat_abs (high -ℤ low) + 1) (omega (arith, ints, r.low_fits)) (omega (arith, ints, r.low_fits)) (omega (arith, ints, r.high_fits, r.rises))
 domain_fits (Listed ns) e =
-    let p = both (not (is_none_left ns) && is_listed ns && has_gap ns) (nat_le (width_of ns) 1048576) e in
-    let q = both (not (is_none_left ns) && is_listed ns) (has_gap ns) p.0 in
-    let r = both (not (is_none_left ns)) (is_listed ns) q.0 in
-    let s = both (nat_le (length ns) 100000 && list_all is_number ns) (is_ascending ns) r.1 in
-    (both (nat_le (length ns) 100000) (list_all is_number ns) s.0).1
+    let p = and_parts (not (is_none_left ns) && is_listed ns && has_gap ns) (nat_le (width_of ns) 1048576) e in
+    let q = and_parts (not (is_none_left ns) && is_listed ns) (has_gap ns) p.0 in
+    let r = and_parts (not (is_none_left ns)) (is_listed ns) q.0 in
+    let s = and_parts (nat_le (length ns) 100000 && list_all is_number ns) (is_ascending ns) r.1 in
+    (and_parts (nat_le (length ns) 100000) (list_all is_number ns) s.0).1
 
 -- a domain has a value
 pub domain_full : (d : Domain) → is_domain d ≡ true → is_none_left (domain_values d) ≡ false
@@ -102,9 +99,9 @@ domain_full (Range low high) e = ap is_none_left (range_values low high e) ∙ s
     some : (n : ℕ) → is_none_left (numbers_from low (n + 1)) ≡ false
     some n = rw add-one refl
 domain_full (Listed ns) e =
-    let p = both (not (is_none_left ns) && is_listed ns && has_gap ns) (nat_le (width_of ns) 1048576) e in
-    let q = both (not (is_none_left ns) && is_listed ns) (has_gap ns) p.0 in
-    not_none (is_none_left ns) (both (not (is_none_left ns)) (is_listed ns) q.0).0
+    let p = and_parts (not (is_none_left ns) && is_listed ns && has_gap ns) (nat_le (width_of ns) 1048576) e in
+    let q = and_parts (not (is_none_left ns) && is_listed ns) (has_gap ns) p.0 in
+    not_none (is_none_left ns) (and_parts (not (is_none_left ns)) (is_listed ns) q.0).0
   where
     not_none : (b : Bool) → not b ≡ true → b ≡ false
     not_none true e = cc

@@ -3,29 +3,25 @@ use Rattle.std.proofs.Common.{◌≡◌, ◌∙◌, sym, ap, refl, ◌<◌, ◌�
 use Rattle.std.specs.Prelude.{nat_lt, nat_le, ◌==◌, count_by}
 use Rattle.std.specs.List.Sorted.{IsNonDecreasingBy}
 use Rattle.std.proofs.lemmas.List.Sums.{sum_by-cons, sum_by-le-sum_by}
-use Rattle.std.proofs.lemmas.Bool.{cases_order}
+use Rattle.std.proofs.lemmas.Bool.{cases_order, and_parts}
 use Rattle.std.proofs.lemmas.Bool.Decides.{nat_tests}
 use Rattle.qc_model.specs.Valid.{is_in_order}
-
-pub both : (a b : Bool) → (a && b) ≡ true → (a ≡ true) × (b ≡ true)
-both true b e = (refl, e)
-both false b e = absurd cc
 
 module _ {X : Type 0} (f : X → ℕ) where
   -- from the second on, the list is in order too, and none is below the first
   pub tail_order : (n k : ℕ) (xs : List X) → is_in_order n (k ∷ map f xs) ≡ true → is_in_order n (map f xs) ≡ true
   tail_order n k [] h = refl
-  tail_order n k (x ∷ xs) h = (both _ _ h).1
+  tail_order n k (x ∷ xs) h = (and_parts _ _ h).1
 
   pub next_up : (n k : ℕ) (x : X) (xs : List X) → is_in_order n (k ∷ map f (x ∷ xs)) ≡ true → k ≤ f x
-  next_up n k x xs h = leb-true k (f x) (both _ _ h).0
+  next_up n k x xs h = leb-true k (f x) (and_parts _ _ h).0
 
   pub first_least : (n k : ℕ) (xs : List X) → is_in_order n (k ∷ map f xs) ≡ true → (j : ℕ) (d : X) → j < length xs → k ≤ f (get_or xs j d)
   first_least n k [] h j d lt = absurd (omega arith)
   first_least n k (x ∷ xs) h zero d lt = next_up n k x xs h
   first_least n k (x ∷ xs) h (suc j) d lt =
       let a = next_up n k x xs h in
-      let b : f x ≤ f (get_or xs j d) = first_least n (f x) xs (both (nat_le k (f x)) (is_in_order n (f x ∷ map f xs)) h).1 j d (omega arith) in
+      let b : f x ≤ f (get_or xs j d) = first_least n (f x) xs (and_parts (nat_le k (f x)) (is_in_order n (f x ∷ map f xs)) h).1 j d (omega arith) in
       omega arith
 
   pub in_order_rises : (n : ℕ) (xs : List X) → is_in_order n (map f xs) ≡ true → IsNonDecreasingBy f xs
@@ -43,7 +39,7 @@ module _ {X : Type 0} (f : X → ℕ) where
   none_below n k i [] h le = refl
   none_below n k i (x ∷ xs) h le =
       let up = next_up n k x xs h in
-      sum_by-cons _ x xs ∙ ap (λ m. cond (nat_lt (f x) i) 1 0 + m) (none_below n (f x) i xs (both _ _ h).1 (omega arith)) ∙ here (f x) (omega arith)
+      sum_by-cons _ x xs ∙ ap (λ m. cond (nat_lt (f x) i) 1 0 + m) (none_below n (f x) i xs (and_parts _ _ h).1 (omega arith)) ∙ here (f x) (omega arith)
     where
       here : (m : ℕ) → i ≤ m → cond (nat_lt m i) 1 0 + 0 ≡ 0
       here m le = grind (arith, nat_tests)
@@ -53,7 +49,7 @@ module _ {X : Type 0} (f : X → ℕ) where
   none_equal n k i (x ∷ xs) h lt =
       let up = next_up n k x xs h in
       let differ : (f x == i) ≡ false = apart (f x) (omega arith) in
-      rw differ (none_equal n (f x) i xs (both _ _ h).1 (omega arith))
+      rw differ (none_equal n (f x) i xs (and_parts _ _ h).1 (omega arith))
     where
       apart : (m : ℕ) → i < m → (m == i) ≡ false
       apart m lt = grind (arith, nat_tests)
@@ -161,7 +157,7 @@ module _ {X : Type 0} (f : X → ℕ) where
       first_low : (n m : ℕ) (zs : List X) (k : ℕ) (x : X) → is_in_order n (m ∷ map f zs) ≡ true → slice_get zs k ≡ Some x → m ≤ f x
       first_low n m [] k x h e = cc
       first_low n m (z ∷ zs) zero x h e = let same : z ≡ x = cc in subst (λ w. m ≤ f w) same (next_up n m z zs h)
-      first_low n m (z ∷ zs) (suc k) x h e = let a = next_up n m z zs h in let b : f z ≤ f x = first_low n (f z) zs k x (both _ _ h).1 e in omega (arith, a, b)
+      first_low n m (z ∷ zs) (suc k) x h e = let a = next_up n m z zs h in let b : f z ≤ f x = first_low n (f z) zs k x (and_parts _ _ h).1 e in omega (arith, a, b)
 
   pub stands_after : (n i : ℕ) (xs : List X) (k : ℕ) (x : X) → is_in_order n (map f xs) ≡ true → slice_get xs k ≡ Some x → i ≤ f x → below i xs ≤ k
   stands_after n i [] k x h e l = omega arith

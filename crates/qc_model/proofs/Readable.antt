@@ -1,2 +1,2 @@
 -- For crates above that take these words from here.
-pub use Rattle.qc_model.proofs.Conjunctions.{first, second, together}
+pub use Rattle.qc_model.proofs.Conjunctions.{first, second}

@@ -4,6 +4,7 @@ use Rattle.std.proofs.Common.{◌≡◌, refl, sym, ap, ◌∙◌, ℕ, zero, su
 use Rattle.std.specs.Prelude.{◌&&◌, ◌||◌, ◌==◌, Option, Some, None, slice_get}
 use Rattle.std.specs.List.{list_all, list_any}
 use Rattle.std.proofs.lemmas.Bool.Decides.{nat_tests}
+use Rattle.std.proofs.lemmas.Bool.{and_parts, and_from}
 use Rattle.qc_model.specs.declared.problem.Kind.{Kind}
 use Rattle.qc_model.specs.declared.problem.Kind.TheVariants.{Exists, Forall}
 use Rattle.qc_model.specs.declared.problem.Target.{Target}
@@ -15,7 +16,6 @@ use Rattle.qc_model.specs.Content.{Game}
 use Rattle.qc_model.specs.Block.{of_kind}
 use Rattle.qc_model.specs.Demands.{is_aggregate, names, with_naming, first_namings, target_within, demand_within, demands_through, with_condition, demands_after}
 use Rattle.qc_model.specs.Bottlenecks.{is_bottleneck, is_bottleneck_fold, names_no_other, bottleneck_last, bottlenecks_last}
-use Rattle.qc_model.proofs.InOrder.{both}
 use Rattle.qc_pessimist.specs.Worst.{chosen_wish}
 use Rattle.qc_pessimist.specs.Opposed.{opposed, added, with_opposing, moved, move_aggregate, opposed_game}
 use Rattle.qc_pessimist.proofs.Agree.{same_aggregates}
@@ -26,19 +26,15 @@ data Doubled : List Condition → List Condition → Type 0 where
   once : (c x : Condition) (d e : List Condition) → x.target ≡ c.target → Doubled d e → Doubled (c ∷ d) (x ∷ e)
   twice : (c x y : Condition) (d e : List Condition) → x.target ≡ c.target → y.target ≡ c.target → Doubled d e → Doubled (c ∷ d) (x ∷ y ∷ e)
 
-join : (a b : Bool) → a ≡ true → b ≡ true → (a && b) ≡ true
-join true b e f = f
-join false b e f = absurd cc
-
 no_other_still : (t : Target) (d e : List Condition) → Doubled d e → list_all (λ (b : Condition). names_no_other t b.target) d ≡ true → list_all (λ (b : Condition). names_no_other t b.target) e ≡ true
 no_other_still t _ _ nothing h = refl
 no_other_still t _ _ (once c x d e same k) h =
-    let p = both (names_no_other t c.target) (list_all (λ (b : Condition). names_no_other t b.target) d) h in
-    join (names_no_other t x.target) (list_all (λ (b : Condition). names_no_other t b.target) e) (ap (names_no_other t) same ∙ p.0) (no_other_still t d e k p.1)
+    let p = and_parts (names_no_other t c.target) (list_all (λ (b : Condition). names_no_other t b.target) d) h in
+    and_from (names_no_other t x.target) (list_all (λ (b : Condition). names_no_other t b.target) e) (ap (names_no_other t) same ∙ p.0) (no_other_still t d e k p.1)
 no_other_still t _ _ (twice c x y d e same also k) h =
-    let p = both (names_no_other t c.target) (list_all (λ (b : Condition). names_no_other t b.target) d) h in
-    join (names_no_other t x.target) (names_no_other t y.target && list_all (λ (b : Condition). names_no_other t b.target) e) (ap (names_no_other t) same ∙ p.0)
-    (join (names_no_other t y.target) (list_all (λ (b : Condition). names_no_other t b.target) e) (ap (names_no_other t) also ∙ p.0) (no_other_still t d e k p.1))
+    let p = and_parts (names_no_other t c.target) (list_all (λ (b : Condition). names_no_other t b.target) d) h in
+    and_from (names_no_other t x.target) (names_no_other t y.target && list_all (λ (b : Condition). names_no_other t b.target) e) (ap (names_no_other t) same ∙ p.0)
+    (and_from (names_no_other t y.target) (list_all (λ (b : Condition). names_no_other t b.target) e) (ap (names_no_other t) also ∙ p.0) (no_other_still t d e k p.1))
 
 itself : (n : ℕ) → (n == n) ≡ true
 itself n = grind (arith, nat_tests)
@@ -60,8 +56,8 @@ module _ (g h : Game) (same : (t : Target) → is_bottleneck h t ≡ is_bottlene
   last_still : (d e : List Condition) → Doubled d e → bottleneck_last g d ≡ true → bottleneck_last h e ≡ true
   last_still _ _ nothing b = refl
   last_still _ _ (once c x d e t k) b =
-      let p = both (not (is_bottleneck g c.target) || list_all (λ (b : Condition). names_no_other c.target b.target) d) (bottleneck_last g d) b in
-      join (not (is_bottleneck h x.target) || list_all (λ (b : Condition). names_no_other x.target b.target) e) (bottleneck_last h e)
+      let p = and_parts (not (is_bottleneck g c.target) || list_all (λ (b : Condition). names_no_other c.target b.target) d) (bottleneck_last g d) b in
+      and_from (not (is_bottleneck h x.target) || list_all (λ (b : Condition). names_no_other x.target b.target) e) (bottleneck_last h e)
       (head c x d e t k p.0) (last_still d e k p.1)
     where
       head : (c x : Condition) (d e : List Condition) → x.target ≡ c.target → Doubled d e → (not (is_bottleneck g c.target) || list_all (λ (b : Condition). names_no_other c.target b.target) d) ≡ true →
@@ -72,12 +68,12 @@ module _ (g h : Game) (same : (t : Target) → is_bottleneck h t ≡ is_bottlene
           ∙ either_still (not (is_bottleneck g c.target)) (list_all (λ (b : Condition). names_no_other c.target b.target) d) (list_all (λ (b : Condition). names_no_other c.target b.target) e)
           (no_other_still c.target d e k) p
   last_still _ _ (twice c x y d e t u k) b =
-      let p = both (not (is_bottleneck g c.target) || list_all (λ (b : Condition). names_no_other c.target b.target) d) (bottleneck_last g d) b in
-      join (not (is_bottleneck h x.target) || list_all (λ (b : Condition). names_no_other x.target b.target) (y ∷ e)) (bottleneck_last h (y ∷ e))
+      let p = and_parts (not (is_bottleneck g c.target) || list_all (λ (b : Condition). names_no_other c.target b.target) d) (bottleneck_last g d) b in
+      and_from (not (is_bottleneck h x.target) || list_all (λ (b : Condition). names_no_other x.target b.target) (y ∷ e)) (bottleneck_last h (y ∷ e))
       (ap (λ z. not (is_bottleneck h z) || (names_no_other z y.target && list_all (λ (b : Condition). names_no_other z b.target) e)) t
       ∙ either_too (not (is_bottleneck h c.target)) (names_no_other c.target y.target) (list_all (λ (b : Condition). names_no_other c.target b.target) e)
       (ap (names_no_other c.target) u ∙ no_other_itself c.target) (head c d e k p.0))
-      (join (not (is_bottleneck h y.target) || list_all (λ (b : Condition). names_no_other y.target b.target) e) (bottleneck_last h e)
+      (and_from (not (is_bottleneck h y.target) || list_all (λ (b : Condition). names_no_other y.target b.target) e) (bottleneck_last h e)
       (ap (λ z. not (is_bottleneck h z) || list_all (λ (b : Condition). names_no_other z b.target) e) u ∙ head c d e k p.0) (last_still d e k p.1))
     where
       head : (c : Condition) (d e : List Condition) → Doubled d e → (not (is_bottleneck g c.target) || list_all (λ (b : Condition). names_no_other c.target b.target) d) ≡ true →
@@ -181,16 +177,16 @@ module _ (q : ℕ → Bool) (g : Game) where
   at_scope true Exists None later d e t o f = f e t
   at_scope true Exists (Some c) later d e t o f = f (opposed c ∷ c ∷ e) (twice c (opposed c) c d e refl refl t)
   at_scope false Forall x later d e t o f =
-      join (bottleneck_last (opposed_game q g) e) (bottlenecks_last (opposed_game q g) later (demands_through (opposed_game q g) e)) (last_still g (opposed_game q g) bottleneck_same d e t o)
+      and_from (bottleneck_last (opposed_game q g) e) (bottlenecks_last (opposed_game q g) later (demands_through (opposed_game q g) e)) (last_still g (opposed_game q g) bottleneck_same d e t o)
       (f (demands_through (opposed_game q g) e) (doubled_through g (opposed_game q g) within_same d e t))
   at_scope true Forall x later d e t o f =
-      join (bottleneck_last (opposed_game q g) e) (bottlenecks_last (opposed_game q g) later (demands_through (opposed_game q g) e)) (last_still g (opposed_game q g) bottleneck_same d e t o)
+      and_from (bottleneck_last (opposed_game q g) e) (bottlenecks_last (opposed_game q g) later (demands_through (opposed_game q g) e)) (last_still g (opposed_game q g) bottleneck_same d e t o)
       (f (demands_through (opposed_game q g) e) (doubled_through g (opposed_game q g) within_same d e t))
 
   bottlenecks_still : (later : List Scope) (i : ℕ) (d e : List Condition) → Doubled d e → bottlenecks_last g later d ≡ true → bottlenecks_last (opposed_game q g) (with_opposing q i later) e ≡ true
   bottlenecks_still [] i d e t h = refl
   bottlenecks_still (s ∷ later) i d e t h =
-      let p = both (of_kind s.kind true (bottleneck_last g d)) (bottlenecks_last g later (demands_after g s.kind s.condition d)) h in
+      let p = and_parts (of_kind s.kind true (bottleneck_last g d)) (bottlenecks_last g later (demands_after g s.kind s.condition d)) h in
       at_scope (q i) s.kind s.condition (with_opposing q (suc i) later) d e t p.0
       (λ f k. bottlenecks_still later (suc i) (demands_after g s.kind s.condition d) f k p.1)
 

@@ -3,6 +3,7 @@ use Rattle.std.proofs.Common.{◌≡◌, refl, ap, ◌∙◌, ℕ, zero, suc, �
 use Rattle.std.specs.Prelude.{nat_lt, nat_le, ◌&&◌, Option, Some, None, slice_get, is_none}
 use Rattle.std.specs.List.{list_all}
 use Rattle.std.proofs.lemmas.Bool.Decides.{nat_tests}
+use Rattle.std.proofs.lemmas.Bool.{and_parts}
 use Rattle.qc_model.specs.declared.problem.Kind.{Kind}
 use Rattle.qc_model.specs.declared.problem.Kind.TheVariants.{Exists, Forall}
 use Rattle.qc_model.specs.declared.problem.Target.{Target}
@@ -23,7 +24,6 @@ use Rattle.qc_model.specs.declared.signature.ArgKind.{ArgKind}
 use Rattle.qc_model.specs.declared.signature.ArgKind.TheVariants.{Integer as integer, Boolean as boolean, Integers as integers, Booleans as booleans, Numbers as numbers, Truths as truths, Members as members}
 use Rattle.qc_model.specs.Signature.{arg_kinds_of, most_items}
 use Rattle.qc_model.specs.Valid.{is_variable_with, is_bits, is_integer_domain, is_integer, is_boolean, is_of_sort, are_of_sorts, have_lengths, is_declared_by, arg_sees, argument_sees, is_constraint, is_in_order, is_target, is_condition, is_scope, is_universal, is_fold, is_aggregate_of}
-use Rattle.qc_model.proofs.InOrder.{both}
 use Rattle.qc_pessimist.specs.Worst.{chosen_wish}
 use Rattle.qc_pessimist.specs.Opposed.{added, added_after, with_opposing, moved, move_variable, move_aggregate, move_rule, opposed_game}
 use Rattle.qc_pessimist.proofs.Tables.{first_below}
@@ -123,7 +123,7 @@ module _ (f : ℕ → ℕ) (up : (a b : ℕ) → a < b → f a < f b) where
       below : (j : ℕ) → j < m → nat_lt j m ≡ true
       below j k = grind (arith, nat_tests)
   order_kept m n low (i ∷ j ∷ is) h =
-      let p = both (nat_le i j) (is_in_order n (j ∷ is)) h in
+      let p = and_parts (nat_le i j) (is_in_order n (j ∷ is)) h in
       join (nat_le (f i) (f j)) (is_in_order m (map f (j ∷ is))) (no_less i j ∙ p.0) (order_kept m n low (j ∷ is) p.1)
     where
       join : (a b : Bool) → a ≡ true → b ≡ true → (a && b) ≡ true
@@ -171,6 +171,6 @@ module _ (f : ℕ → ℕ) (q : ℕ → Bool) (xs : List Variable) where
   pub scopes_kept : (i : ℕ) (scopes : List Scope) → list_all (is_scope xs) scopes ≡ true → list_all (is_scope (map (move_variable f) xs)) (with_opposing q i scopes) ≡ true
   scopes_kept i [] h = refl
   scopes_kept i (s ∷ later) h =
-      let p = both (is_scope xs s) (list_all (is_scope xs) later) h in
+      let p = and_parts (is_scope xs s) (list_all (is_scope xs) later) h in
       ap (λ b. b && list_all (is_scope (map (move_variable f) xs)) (added_after q i s ++ with_opposing q (suc i) later)) (scope_kept f xs s ∙ p.0)
       ∙ added_scopes (q i) s.kind s.condition (with_opposing q (suc i) later) p.0 (scopes_kept (suc i) later p.1)

@@ -2,12 +2,12 @@
 use Rattle.std.proofs.Common.{◌≡◌, refl, ap, ◌∙◌, ℕ, zero, suc, ◌+◌, ◌<◌, ◌≤◌, Bool, true, List, [], ◌∷◌, map, length, arith}
 use Rattle.std.specs.Prelude.{nat_le}
 use Rattle.std.proofs.lemmas.Bool.Decides.{nat_tests}
+use Rattle.std.proofs.lemmas.Bool.{and_parts}
 use Rattle.qc_model.specs.declared.problem.Scope.{Scope}
 use Rattle.qc_model.specs.declared.problem.Variable.{Variable}
 use Rattle.qc_model.specs.declared.problem.Aggregate.{Aggregate}
 use Rattle.qc_model.specs.Content.{Game, Rule}
 use Rattle.qc_model.specs.Valid.{IsValid, is_in_order}
-use Rattle.qc_model.proofs.InOrder.{both}
 use Rattle.qc_pessimist.specs.Opposed.{added_after, with_opposing, moved, move_variable, move_aggregate, move_rule, opposed_game}
 use Rattle.qc_pessimist.specs.Table.{places_from, place_in}
 
@@ -30,14 +30,14 @@ place_at q scopes k h = place_is q 0 scopes 0 k (omega arith) ∙ none (moved q 
 pub first_below : (n i : ℕ) (is : List ℕ) → is_in_order n (i ∷ is) ≡ true → i < n
 first_below n i [] h = grind (arith, nat_tests)
 first_below n i (j ∷ is) h =
-    let p = both (nat_le i j) (is_in_order n (j ∷ is)) h in
+    let p = and_parts (nat_le i j) (is_in_order n (j ∷ is)) h in
     let later = first_below n j is p.1 in
     let up : nat_le i j ≡ true = p.0 in
     grind (arith, nat_tests)
 
 pub rest_in_order : (n i : ℕ) (is : List ℕ) → is_in_order n (i ∷ is) ≡ true → is_in_order n is ≡ true
 rest_in_order n i [] h = refl
-rest_in_order n i (j ∷ is) h = (both (nat_le i j) (is_in_order n (j ∷ is)) h).1
+rest_in_order n i (j ∷ is) h = (and_parts (nat_le i j) (is_in_order n (j ∷ is)) h).1
 
 -- parts in order, whose numbers are below n, move alike by functions that agree below n
 module _ {X : Type 0} (owner : X → ℕ) (move : (ℕ → ℕ) → X → X) (by : (f h : ℕ → ℕ) (x : X) → f (owner x) ≡ h (owner x) → move f x ≡ move h x) where

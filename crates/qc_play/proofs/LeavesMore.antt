@@ -1,11 +1,11 @@
 -- What is read from leaves, where others come after them.
 use Rattle.std.proofs.Common.{◌≡◌, ℕ, Bool, true, false, cond, List, [], ◌∷◌, ◌++◌, map, drop, refl, sym, ap, ◌∙◌, ℤ}
 use Rattle.std.specs.Prelude.{⊤}
+use Rattle.std.proofs.lemmas.Bool.{and_parts}
 use Rattle.qc_model.specs.Plan.{Plan, finish, choose, Entries, no_entries, entry}
 use Rattle.qc_model.specs.Verdict.{Verdict, exact, seen_node, each_node, exact_vectors}
 use Rattle.joins.proofs.Bests.{each_join, vectors_join, append_nothing}
 use Rattle.proof_tree.specs.Finding.{Finding, Leaf, leaf_barred, leaf_skipped, leaf_bound, leaf_node, seen_of, first_choice}
-use Rattle.proof_meaning.proofs.Places.{both}
 use Rattle.check_lines.proofs.Leaves.{seen-append}
 use Rattle.qc_play.specs.Entries.{entries_on}
 
@@ -39,14 +39,14 @@ quiet_vectors (leaf_node w f) q = absurd q
 
 pub each_before : (p : Verdict → Bool) (ls ms : List Leaf) → each_node p (map seen_of (ls ++ ms)) ≡ true → (each_node p (map seen_of ls) ≡ true) × (each_node p (map seen_of ms) ≡ true)
 each_before p ls ms e =
-    both (each_node p (map seen_of ls)) (each_node p (map seen_of ms))
+    and_parts (each_node p (map seen_of ls)) (each_node p (map seen_of ms))
     (sym (ap (each_node p) (seen-append ls ms) ∙ each_join p (map seen_of ls) (map seen_of ms)) ∙ e)
 
 -- and the leaf after them passes too
 pub each_last : (p : Verdict → Bool) (ls : List Leaf) (w : List ℤ) (f : Finding) → each_node p (map seen_of (ls ++ leaf_node w f ∷ [])) ≡ true → (each_node p (map seen_of ls) ≡ true) × (p f.verdict ≡ true)
 each_last p ls w f e =
     let q = each_before p ls (leaf_node w f ∷ []) e in
-    (q.0, (both (p f.verdict) true q.1).0)
+    (q.0, (and_parts (p f.verdict) true q.1).0)
 
 -- no choice yet
 pub choice_none : (p : Verdict → Bool) (plan : Finding → Plan) (n : ℕ) (ls ms : List Leaf) → first_choice p plan n ls ≡ finish → first_choice p plan n (ls ++ ms) ≡ first_choice p plan n ms

@@ -9,13 +9,13 @@ use Rattle.std.specs.Cmp.{IsTotalOrder}
 use Rattle.std.specs.Cmp.Lexicographic.{slice_cmp}
 use Rattle.std.proofs.lemmas.Cmp.{int_cmp_total, lists_total, tied_itself, int_ranked}
 use Rattle.std.proofs.lemmas.Int.{ints}
+use Rattle.std.proofs.lemmas.Bool.{and_parts}
 use Rattle.qc_model.specs.declared.problem.Variable.{Variable}
 use Rattle.qc_model.specs.Content.{Game}
 use Rattle.qc_model.specs.Lists.{Among, tuples}
 use Rattle.qc_model.specs.Domains.{domain_values, declared_box, is_ascending}
 use Rattle.qc_model.specs.Game.{before, scope_domains, allows, moves}
 use Rattle.qc_model.specs.Valid.{IsValid, is_domain}
-use Rattle.proof_meaning.proofs.Places.{both}
 use Rattle.model_levels.proofs.Ascends.{domain_ascends}
 
 abbrev pub order_of : List ℤ → List ℤ → Ordering
@@ -136,13 +136,13 @@ below_next v w e = grind (arith, ints, e)
 above_first : (v : ℤ) (vs : List ℤ) → is_ascending (v ∷ vs) ≡ true → AllAbove v vs
 above_first v [] e = tt
 above_first v (w ∷ vs) e =
-    let p = both (int_lt v w) (is_ascending (w ∷ vs)) e in
+    let p = and_parts (int_lt v w) (is_ascending (w ∷ vs)) e in
     let h = below_next v w p.0 in
     (h, all_above v w vs h (above_first w vs p.1))
 
 ascending_rest : (v : ℤ) (vs : List ℤ) → is_ascending (v ∷ vs) ≡ true → is_ascending vs ≡ true
 ascending_rest v [] e = refl
-ascending_rest v (w ∷ vs) e = (both (int_lt v w) (is_ascending (w ∷ vs)) e).1
+ascending_rest v (w ∷ vs) e = (and_parts (int_lt v w) (is_ascending (w ∷ vs)) e).1
 
 greater_first : (v w : ℤ) (t : List ℤ) (us : List (List ℤ)) → v <ℤ w → AllAfter (v ∷ t) (map (λ u. w ∷ u) us)
 greater_first v w t [] h = tt
@@ -203,7 +203,7 @@ each_drop (suc n) (d ∷ ds) h = each_drop n ds h.1
 domains_ascend : (xs : List Variable) → list_all (λ x. is_domain x.domain) xs ≡ true → EachAscends (map (λ x. domain_values x.domain) xs)
 domains_ascend [] e = tt
 domains_ascend (x ∷ xs) e =
-    let p = both (is_domain x.domain) (list_all (λ x. is_domain x.domain) xs) e in
+    let p = and_parts (is_domain x.domain) (list_all (λ x. is_domain x.domain) xs) e in
     (domain_ascends x.domain p.0, domains_ascend xs p.1)
 
 pub moves_ascend : (g : Game) (i : ℕ) (a : List ℤ) → IsValid g → Ascends (moves g i a)

@@ -2,10 +2,6 @@
 use Rattle.std.proofs.Common.{Result, Ok, Err, OnOk, OnErr}
 use Rattle.std.specs.Prelude.{IfOk}
 
-pub on_ok : {X E P Q : Type 0} (r : Result X E) → (P → Q) → OnOk r P → OnOk r Q
-on_ok (Ok x) f h = f h
-on_ok (Err e) f h = tt
-
 -- a fact that holds either way
 pub on_each : {X E P : Type 0} (r : Result X E) → P → OnOk r P
 on_each (Ok x) h = h

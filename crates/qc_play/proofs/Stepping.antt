@@ -1,6 +1,7 @@
 -- Removals, one after the other.
 use Rattle.std.proofs.Common.{◌≡◌, ℕ, suc, ◌+◌, ◌<◌, Bool, true, false, not, ◌&&◌, cond, List, [], ◌∷◌, ◌++◌, length, map, drop, refl, sym, ap, ◌∙◌, subst, arith, ℤ, Some, None, Option, append_assoc, append-nil}
 use Rattle.std.specs.Prelude.{slice_get}
+use Rattle.std.proofs.lemmas.Bool.{and_parts}
 use Rattle.qc_model.specs.declared.problem.Condition.{Condition}
 use Rattle.qc_model.specs.declared.problem.Kind.{Kind}
 use Rattle.qc_model.specs.declared.problem.Kind.TheVariants.{Exists, Forall}
@@ -29,10 +30,6 @@ use Rattle.proof_tree.specs.Steps.{after_step, after_steps, best_value, is_legal
 use Rattle.qc_play.specs.declared.walk.Walk.{Walk}
 use Rattle.qc_play.specs.Walk.{steps_fit, marks_seen, IsWithin, Keeps, LeadsOn}
 use Rattle.qc_play.proofs.Backs.{keeps_self, keeps_store, follows_self, on_then, within_kept}
-
-both : (a b : Bool) → (a && b) ≡ true → (a ≡ true) × (b ≡ true)
-both true b e = (refl, e)
-both false b e = cc
 
 -- the mark of a bound is the best of the values that go, by what the list wishes for first
 module _ (g : Game) (x : VarId) (lo hi : ℤ) (box : Box) (r : ℤ) where
@@ -69,20 +66,20 @@ abbrev stop_at : Game → ℕ → ℕ
 stop_at g i = force_stop (drop i g.scopes) i
 
 legal_one : (g : Game) (i : ℕ) (s : Step) (box : Box) → steps_fit g (s ∷ []) i box ≡ true → is_legal g i (stop_at g i) (tracked_at g i) s box ≡ true
-legal_one g i s box e = (both (is_legal g i (stop_at g i) (tracked_at g i) s box) true e).0
+legal_one g i s box e = (and_parts (is_legal g i (stop_at g i) (tracked_at g i) s box) true e).0
 
 pub first_fits : (g : Game) (i : ℕ) (s : Step) (steps : List Step) (box : Box) → steps_fit g (s ∷ steps) i box ≡ true → steps_fit g (s ∷ []) i box ≡ true
-first_fits g i s steps box e = one (is_legal g i (stop_at g i) (tracked_at g i) s box) (both (is_legal g i (stop_at g i) (tracked_at g i) s box) (steps_fit g steps i (after_step s box)) e).0
+first_fits g i s steps box e = one (is_legal g i (stop_at g i) (tracked_at g i) s box) (and_parts (is_legal g i (stop_at g i) (tracked_at g i) s box) (steps_fit g steps i (after_step s box)) e).0
   where
     one : (a : Bool) → a ≡ true → (a && true) ≡ true
     one a f = ap (λ b. b && true) f
 
 pub others_fit : (g : Game) (i : ℕ) (s : Step) (steps : List Step) (box : Box) → steps_fit g (s ∷ steps) i box ≡ true → steps_fit g steps i (after_step s box) ≡ true
-others_fit g i s steps box e = (both (is_legal g i (stop_at g i) (tracked_at g i) s box) (steps_fit g steps i (after_step s box)) e).1
+others_fit g i s steps box e = (and_parts (is_legal g i (stop_at g i) (tracked_at g i) s box) (steps_fit g steps i (after_step s box)) e).1
 
 -- the values that a step takes are there
 some_within : (box : Box) (x : ℕ) (lo hi : ℤ) (b : Bool) → (removes_some box x lo hi && b) ≡ true → not (is_none_left (values_within lo hi (values_left box x))) ≡ true
-some_within box x lo hi b e = (both (not (has_empty box)) (not (is_none_left (values_within lo hi (values_left box x)))) (both (removes_some box x lo hi) b e).0).1
+some_within box x lo hi b e = (and_parts (not (has_empty box)) (not (is_none_left (values_within lo hi (values_left box x)))) (and_parts (removes_some box x lo hi) b e).0).1
 
 pub prune_some : (g : Game) (i : ℕ) (x : VarId) (lo hi : ℤ) (c : ConId) (box : Box) → steps_fit g (Prune x lo hi c ∷ []) i box ≡ true → x.0 < length box
 prune_some g i x lo hi c box e = some_place box x.0 lo hi (some_within box x.0 lo hi (is_refuted_within i (stop_at g i) (slice_get g.constraints c.0) (box_within box x.0 lo hi)) (legal_one g i (Prune x lo hi c) box e))
@@ -101,7 +98,7 @@ bound_left g i x lo hi box e = by (is_none_left (values_within lo hi (values_lef
     by false k = refl
 
 bound_tracked : (g : Game) (i : ℕ) (x : VarId) (lo hi : ℤ) (box : Box) → steps_fit g (Bound x lo hi ∷ []) i box ≡ true → is_tracked x.0 (tracked_at g i) ≡ true
-bound_tracked g i x lo hi box e = (both (removes_some box x.0 lo hi) (is_tracked x.0 (tracked_at g i)) (legal_one g i (Bound x lo hi) box e)).1
+bound_tracked g i x lo hi box e = (and_parts (removes_some box x.0 lo hi) (is_tracked x.0 (tracked_at g i)) (legal_one g i (Bound x lo hi) box e)).1
 
 -- the mark of a bound, by the list after the scope
 pub bound_marks : (g : Game) (i : ℕ) (x : VarId) (lo hi r : ℤ) (box : Box) (d : List Condition) → i < length g.scopes → d ≡ demands g (i + 1) → steps_fit g (Bound x lo hi ∷ []) i box ≡ true →

@@ -1,11 +1,12 @@
 -- What is left to an open argument, and values that two have in common.
 use Rattle.std.proofs.Common.{◌≡◌, Bool, true, false, not, ◌&&◌, refl, ℤ}
 use Rattle.std.specs.List.{list_all}
+use Rattle.std.proofs.lemmas.Bool.{false_from_ne_true}
 use Rattle.qc_model.specs.Domains.{Values, has_value, is_none_left, is_ascending, misses}
 use Rattle.qc_model.specs.Valid.{is_number}
 use Rattle.qc_model.proofs.Readable.{first, second}
 use Rattle.qc_model.proofs.Sound.{misses_apart}
-use Rattle.model_arguments.proofs.Bools.{not_false, never}
+use Rattle.model_arguments.proofs.Bools.{not_false}
 use Rattle.model_arguments.proofs.Kept.{among_of}
 use Rattle.model_arguments.proofs.Values.{value_passes}
 use Rattle.qc_refuter.specs.Met.{is_domain_left}
@@ -22,11 +23,11 @@ small_left d v h k = value_passes is_number d v (second (not (is_none_left d) &&
 
 -- two lists of values with nothing in common, and with something
 pub none_common : (d e : Values) → ((v : ℤ) → has_value d v ≡ true → has_value e v ≡ true → ⊥) → misses d e ≡ true
-none_common d e f = flip (misses d e) (misses_all d e (λ v h. never (has_value e v) (f v h)))
+none_common d e f = flip (misses d e) (misses_all d e (λ v h. false_from_ne_true (has_value e v) (f v h)))
   where
     flip : (b : Bool) → false ≡ not b → b ≡ true
     flip true h = refl
     flip false h = cc
 
 pub some_common : (d e : Values) (v : ℤ) → has_value d v ≡ true → has_value e v ≡ true → misses d e ≡ false
-some_common d e v h k = never (misses d e) (λ m. misses_apart d e v m (among_of v d h) (among_of v e k))
+some_common d e v h k = false_from_ne_true (misses d e) (λ m. misses_apart d e v m (among_of v d h) (among_of v e k))

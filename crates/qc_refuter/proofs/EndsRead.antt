@@ -8,13 +8,13 @@ use Rattle.std.proofs.lemmas.List.{length-map, get_or_default}
 use Rattle.std.proofs.lemmas.List.Elements.{All-from_get_or, Contains-get_or}
 use Rattle.std.proofs.lemmas.List.Sorted.{All-permutation, Contains-permutation, sum_by-IsPermutation}
 use Rattle.std.proofs.lemmas.List.Sums.{sum_by-cons}
+use Rattle.std.proofs.lemmas.Bool.{and_parts}
 use Rattle.qc_model.specs.declared.problem.Arg.{Arg}
 use Rattle.qc_model.specs.declared.problem.Arg.TheVariants.{Var}
 use Rattle.qc_model.specs.Domains.{Values, Box, least_value, greatest_value}
 use Rattle.qc_model.specs.Left.{is_crowded, has_crowd}
 use Rattle.qc_model.specs.Refuted.{left_to}
 use Rattle.qc_model.specs.Valid.{is_number}
-use Rattle.qc_model.proofs.Sound.{both}
 use Rattle.model_table.proofs.Crowded.{ends_within}
 use Rattle.model_table.proofs.CrowdEnds.{crowd_of_ends}
 use Rattle.qc_refuter.specs.declared.stretches.Ends.{Ends}
@@ -81,7 +81,7 @@ none_crowded ds l v e f z = by (is_crowded ds v z) refl
     by : (b : Bool) → is_crowded ds v z ≡ b → b ≡ false
     by false q = refl
     by true q =
-        let p = both (int_le v z) (int_lt ((z -ℤ v) +ℤ pos 1) (pos (count_by (ends_within v z) ds))) q in
+        let p = and_parts (int_le v z) (int_lt ((z -ℤ v) +ℤ pos 1) (pos (count_by (ends_within v z) ds))) q in
         let h = l + nat_abs (z -ℤ v) in
         let to : z ≡ number_at h = omega (arith, ints, e, p.0) in
         let few : l + count_by (ends_within v z) ds ≤ h + 1 = subst (λ y. l + count_by (ends_within v y) ds ≤ h + 1) (sym to) (subst (λ x. l + count_by (ends_within x (number_at h)) ds ≤ h + 1) (sym from) (f h (omega arith))) in

@@ -4,7 +4,7 @@ use Rattle.std.specs.Prelude.{pos, ◌+ℤ◌, ◌-ℤ◌, ◌≤ℤ◌, int_le,
 use Rattle.std.specs.Ordering.{int_eq}
 use Rattle.std.specs.List.{list_any}
 use Rattle.std.proofs.lemmas.Int.{ints}
-use Rattle.std.proofs.lemmas.Bool.{eqb-true}
+use Rattle.std.proofs.lemmas.Bool.{eqb-true, and_parts}
 use Rattle.std.proofs.lemmas.Bool.Decides.{nat_tests}
 use Rattle.std.proofs.lemmas.List.{length-map, length-take, take_more, get_or-set_same, get_or-set_other}
 use Rattle.std.proofs.lemmas.List.Sums.{sum_by-cons, sum_by_more, count_by-le-length}
@@ -12,7 +12,7 @@ use Rattle.qc_model.specs.declared.problem.Arg.{Arg}
 use Rattle.qc_model.specs.Domains.{Values, Box, least_value, greatest_value}
 use Rattle.qc_model.specs.Left.{is_crowded, has_crowd}
 use Rattle.qc_model.specs.Refuted.{left_to}
-use Rattle.qc_model.proofs.Sound.{lo_of, hi_of, both}
+use Rattle.qc_model.proofs.Sound.{lo_of, hi_of}
 use Rattle.model_table.proofs.Crowded.{ends_within}
 use Rattle.model_table.proofs.CrowdEnds.{crowd_of_ends}
 use Rattle.qc_refuter.specs.Full.{lies_in, held, ends_past, first_sum, IsWidest, AreWidest, IsRoomy}
@@ -135,7 +135,7 @@ crowd_of_two box items l k x h e m =
 -- and a crowd is more items than numbers
 pub held_of_crowd : (ds : List Values) (l h : ℤ) → is_crowded ds l h ≡ true → (m : ℕ) × (suc m < held ds l (suc m))
 held_of_crowd ds l h e =
-    let p = both (int_le l h) (int_lt ((h -ℤ l) +ℤ pos 1) (pos (count_by (ends_within l h) ds))) e in
+    let p = and_parts (int_le l h) (int_lt ((h -ℤ l) +ℤ pos 1) (pos (count_by (ends_within l h) ds))) e in
     let m = nat_abs (h -ℤ l) in
     let far : h ≡ l +ℤ pos m = omega (arith, ints, p.0) in
     let same = count_same (ends_within l h) (lies_in l (suc m)) ds (λ d. ap (λ b. int_le l (least_value d) && b) (upto m far (greatest_value d))) in

@@ -10,6 +10,7 @@ use Rattle.std.proofs.lemmas.Int.{ints}
 use Rattle.std.proofs.lemmas.Cmp.{int_ranked, int_cmp_total}
 use Rattle.std.proofs.lemmas.Bool.Decides.{Decides-int_eq, nat_tests}
 use Rattle.std.proofs.lemmas.List.Sorted.{searchable_from_sorted}
+use Rattle.std.proofs.lemmas.Bool.{false_from_ne_true}
 use Rattle.qc_model.specs.declared.problem.Argument.{Argument}
 use Rattle.qc_model.specs.declared.problem.Argument.TheVariants.{One, Many, Numbers, Members}
 use Rattle.qc_model.specs.declared.problem.Set.{Set}
@@ -21,7 +22,7 @@ use Rattle.qc_model.specs.Valid.{is_set, is_number, is_listed, has_gap}
 use Rattle.qc_model.proofs.Readable.{first, second}
 use Rattle.model_arguments.specs.Written.{set_at}
 use Rattle.model_arguments.proofs.Values.{value_passes, above_first, ascending_rest, has_least, has_greatest}
-use Rattle.model_arguments.proofs.Bools.{never, clash}
+use Rattle.model_arguments.proofs.Bools.{clash}
 use Rattle.model_arguments.proofs.Kept.{low_end, high_end, through, apart, same_end, lower, reaches, at_least, at_most, small_between, is_out_low, is_out_high, under_high}
 use Rattle.qc_refuter.specs.Members.{IsMemberFrom, NoMemberFrom}
 use Rattle.qc_refuter.specs.Met.{lefts, is_domain_left, is_met, are_met}
@@ -186,10 +187,10 @@ member_after : (s : Set) (d : Values) (v w u : ℤ) → IsWalked (set_has s) d v
 member_after s d v w u f n h i = n.all u h (reached v u (λ l. clash (set_has s u) i (f u h l)))
 
 pub walked_to : (s : Set) (d : Values) (v w m : ℤ) → IsWalked (set_has s) d v → IsFrom d v w → IsMemberFrom s w m → IsWalked (set_has s) d m
-walked_to s d v w m f n k u h l = never (set_has s u) (λ i. apart u m l (k.all u (member_after s d v w u f n h i) i))
+walked_to s d v w m f n k u h l = false_from_ne_true (set_has s u) (λ i. apart u m l (k.all u (member_after s d v w u f n h i) i))
 
 pub all_walked : (s : Set) (d : Values) (v w : ℤ) → IsWalked (set_has s) d v → IsFrom d v w → NoMemberFrom s w → false ≡ list_any (set_has s) d
-all_walked s d v w f n k = none_passes (set_has s) d (λ u h. never (set_has s u) (λ i. k u (member_after s d v w u f n h i) i))
+all_walked s d v w f n k = none_passes (set_has s) d (λ u h. false_from_ne_true (set_has s u) (λ i. k u (member_after s d v w u f n h i) i))
 
 pub met : (s : Set) (d : Values) (v w m : ℤ) → IsFrom d v w → IsMemberFrom s w m → int_le m w ≡ true → true ≡ list_any (set_has s) d
 met s d v w m n k t = some_found (set_has s) d w n.there (subst (λ z. set_has s z ≡ true) (same_end m w (ordered m w t) k.up) k.member)

@@ -3,7 +3,7 @@ use Rattle.std.proofs.Common.{◌≡◌, ℕ, zero, suc, ◌+◌, ◌-◌, ◌<�
 use Rattle.std.specs.Prelude.{pos, ◌+ℤ◌, ◌<ℤ◌, ◌≤ℤ◌, int_le, unsigned_abs}
 use Rattle.std.specs.List.{list_any}
 use Rattle.std.proofs.lemmas.Int.{ints}
-use Rattle.std.proofs.lemmas.Bool.{ltb-true}
+use Rattle.std.proofs.lemmas.Bool.{ltb-true, false_from_ne_true}
 use Rattle.std.proofs.lemmas.Bool.Decides.{nat_tests}
 use Rattle.std.proofs.lemmas.List.{at_drop_more, at_drop_all}
 use Rattle.qc_model.specs.declared.problem.Arg.{Arg}
@@ -12,7 +12,6 @@ use Rattle.qc_model.specs.Holds.{rows}
 use Rattle.qc_model.specs.Left.{some_item_in, some_item_meets, row_fits}
 use Rattle.qc_model.specs.Refuted.{left_to}
 use Rattle.qc_model.proofs.Rows.{rows_step}
-use Rattle.model_arguments.proofs.Bools.{never}
 use Rattle.model_arguments.proofs.Kept.{low_end, high_end}
 
 pub row_missed : (p : List ℤ → Bool) (width : ℕ) (rest : List ℤ) → 0 < width → width ≤ length rest → p (take width rest) ≡ false →
@@ -110,7 +109,7 @@ items_after box b c items x k f = items_from box b c items x (length items) k (o
 
 -- a place before the least value left to b, or after the greatest, isn't left
 pub place_below : (b : Values) (low : ℤ) (r count j : ℕ) → low ≡ least_value b → int_le low (pos 1) ≡ false → r ≡ min count (unsigned_abs low - 1) → j < r → has_value b (pos (j + 1)) ≡ false
-place_below b low r count j e o m h = never (has_value b (pos (j + 1))) (λ k. apart low (under low o m h) e (low_end b (pos (j + 1)) k))
+place_below b low r count j e o m h = false_from_ne_true (has_value b (pos (j + 1))) (λ k. apart low (under low o m h) e (low_end b (pos (j + 1)) k))
   where
     under : (low : ℤ) → int_le low (pos 1) ≡ false → r ≡ min count (unsigned_abs low - 1) → j < r → pos (j + 1) <ℤ low
     under low o m h = grind (arith, ints, o, m, h)
@@ -119,7 +118,7 @@ place_below b low r count j e o m h = never (has_value b (pos (j + 1))) (λ k. a
     apart low h e l = omega (arith, ints, l, h, e)
 
 over : (b : Values) (high : ℤ) (j : ℕ) → high ≡ greatest_value b → high <ℤ pos (j + 1) → has_value b (pos (j + 1)) ≡ false
-over b high j e h = never (has_value b (pos (j + 1))) (λ k. apart (high_end b (pos (j + 1)) k))
+over b high j e h = false_from_ne_true (has_value b (pos (j + 1))) (λ k. apart (high_end b (pos (j + 1)) k))
   where
     apart : pos (j + 1) ≤ℤ greatest_value b → ⊥
     apart l = omega (arith, ints, l, h, e)

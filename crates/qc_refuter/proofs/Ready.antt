@@ -20,13 +20,13 @@ use Rattle.qc_model.specs.declared.signature.ArgKind.{ArgKind}
 use Rattle.qc_model.specs.declared.signature.ArgKind.TheVariants.{Integer as integer, Boolean as boolean, Integers as integers, Booleans as booleans, Numbers as numbers, Truths as truths, Members as members}
 use Rattle.qc_model.specs.Signature.{arg_kinds_of}
 use Rattle.qc_model.specs.Valid.{is_number, is_truth, is_domain, is_integer_domain, is_bits, is_integer, is_boolean, is_of_sort, are_of_sorts, have_lengths, argument_sees, is_constraint, is_variable_with}
-use Rattle.qc_model.proofs.Readable.{first, second, together}
+use Rattle.qc_model.proofs.Readable.{first, second}
 use Rattle.model_arguments.proofs.Last.{last_place}
 use Rattle.model_arguments.specs.Asked.{IsAsked}
 use Rattle.model_arguments.proofs.Boxes.{some_left, sub_ascending, sub_length, left_small, sub_within, set_full}
 use Rattle.std.proofs.lemmas.List.{length-map}
 use Rattle.std.proofs.Common.{arith}
-use Rattle.model_arguments.proofs.Bools.{not_true}
+use Rattle.std.proofs.lemmas.Bool.{not_from_false, and_from}
 use Rattle.qc_refuter.specs.Met.{lefts, is_domain_left, is_open, is_met, are_met}
 
 placed : (p : Domain → Bool) (xs : List Variable) (k : ℕ) → is_variable_with p (slice_get xs k) ≡ true → k < length xs
@@ -45,19 +45,19 @@ truth_is_number n h = cases (int_eq n (pos 0)) (Decides-int_eq n (pos 0)).0 h
 all_weaker : {X : Type 0} (p q : X → Bool) → ((x : X) → p x ≡ true → q x ≡ true) → (xs : List X) → list_all p xs ≡ true → list_all q xs ≡ true
 all_weaker p q step [] h = refl
 all_weaker p q step (x ∷ xs) h =
-    together (q x) (list_all q xs) (step x (first (p x) (list_all p xs) h)) (all_weaker p q step xs (second (p x) (list_all p xs) h))
+    and_from (q x) (list_all q xs) (step x (first (p x) (list_all p xs) h)) (all_weaker p q step xs (second (p x) (list_all p xs) h))
 
 module _ (g : Game) (box : Box) (d : list_all (λ x. is_domain x.domain) g.variables ≡ true) (s : is_sub_box box (declared_box g) ≡ true) (f : has_empty box ≡ false) where
   pub var_open : (k : ℕ) → k < length g.variables → is_domain_left (values_left box k) ≡ true
   var_open k h =
       let vs = values_left box k in
       let l : k < length box = omega (arith, sub_length box (declared_box g) s, length-map g.variables (λ x. domain_values x.domain), h) in
-      together (not (is_none_left vs) && is_ascending vs) (list_all is_number vs)
-      (together (not (is_none_left vs)) (is_ascending vs) (not_true (is_none_left vs) (some_left box k f l)) (sub_ascending box (declared_box g) k s))
+      and_from (not (is_none_left vs) && is_ascending vs) (list_all is_number vs)
+      (and_from (not (is_none_left vs)) (is_ascending vs) (not_from_false (is_none_left vs) (some_left box k f l)) (sub_ascending box (declared_box g) k s))
       (left_small g box k d s)
 
   literal_open : (n : ℤ) → is_number n ≡ true → is_domain_left (n ∷ []) ≡ true
-  literal_open n h = together (is_number n) true h refl
+  literal_open n h = and_from (is_number n) true h refl
 
   integer_open : (a : Arg) → is_integer g.variables a ≡ true → is_open box a ≡ true
   integer_open (Var x) h = var_open x.0 (placed is_integer_domain g.variables x.0 h)
@@ -69,7 +69,7 @@ module _ (g : Game) (box : Box) (d : list_all (λ x. is_domain x.domain) g.varia
 
   items_met : (p : Arg → Bool) → ((a : Arg) → p a ≡ true → is_open box a ≡ true) → (items : List Arg) → (nat_le (length items) 1000 && list_all p items) ≡ true → is_met box (Many (items)) ≡ true
   items_met p step items h =
-      together (nat_le (length items) 1000) (list_all (is_open box) items)
+      and_from (nat_le (length items) 1000) (list_all (is_open box) items)
       (first (nat_le (length items) 1000) (list_all p items) h)
       (all_weaker p (is_open box) step items (second (nat_le (length items) 1000) (list_all p items) h))
 
@@ -108,7 +108,7 @@ module _ (g : Game) (box : Box) (d : list_all (λ x. is_domain x.domain) g.varia
   arguments_met [] (a ∷ args) h = cc
   arguments_met (s ∷ sorts) [] h = cc
   arguments_met (s ∷ sorts) (a ∷ args) h =
-      together (is_met box a) (are_met box args)
+      and_from (is_met box a) (are_met box args)
       (argument_met s a (first (is_of_sort g.variables s a) (are_of_sorts g.variables sorts args) h))
       (arguments_met sorts args (second (is_of_sort g.variables s a) (are_of_sorts g.variables sorts args) h))
 

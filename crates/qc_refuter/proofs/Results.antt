@@ -3,13 +3,13 @@ use Rattle.std.proofs.Common.{◌≡◌, ◌≤◌, ◌*◌, Bool, true, false, 
 use Rattle.std.specs.Prelude.{◌*ℤ◌, ◌≤ℤ◌, unsigned_abs}
 use Rattle.std.specs.List.{list_all}
 use Rattle.std.proofs.lemmas.Int.{unsigned_abs-mul}
-use Rattle.std.proofs.lemmas.Bool.{leb-true}
+use Rattle.std.proofs.lemmas.Bool.{leb-true, and_from}
 use Rattle.std.proofs.Math.Nat.{mul-le-mul}
 use Rattle.fd_interval.specs.declared.span.Span.{Span}
 use Rattle.fd_interval.specs.Limit.{IsWithinLimit}
 use Rattle.qc_model.specs.Domains.{Values, is_none_left, is_ascending, least_value, greatest_value}
 use Rattle.qc_model.specs.Valid.{is_number}
-use Rattle.qc_model.proofs.Readable.{first, second, together}
+use Rattle.qc_model.proofs.Readable.{first, second}
 use Rattle.qc_model.proofs.Sound.{hi_of}
 use Rattle.model_arguments.proofs.Values.{has_least}
 use Rattle.model_arguments.proofs.Kept.{among_of}
@@ -29,7 +29,7 @@ ends_ordered d h =
 
 pub ends_small : (s : Span) (d : Values) → is_domain_left d ≡ true → s.lo ≡ least_value d → s.hi ≡ greatest_value d → is_small s ≡ true
 ends_small s d h e f =
-    together (is_number s.lo) (is_number s.hi)
+    and_from (is_number s.lo) (is_number s.hi)
     (subst (λ z. is_number z ≡ true) (sym e) (least_small d h))
     (subst (λ z. is_number z ≡ true) (sym f) (greatest_small d h))
 

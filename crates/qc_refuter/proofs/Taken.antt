@@ -1,6 +1,7 @@
 -- What is free after an item took a number, and that a range is too full where it found none.
 use Rattle.std.proofs.Common.{◌≡◌, ◌≢◌, ◌⊎◌, inl, inr, ℕ, zero, suc, ◌+◌, ◌-◌, ◌<◌, ◌≤◌, cond, nat_lt, List, length, get_or, refl, ap, ◌∙◌, subst, arith}
 use Rattle.std.proofs.lemmas.Bool.Decides.{nat_tests}
+use Rattle.std.proofs.lemmas.Bool.{cases_lt}
 use Rattle.qc_refuter.specs.Stretches.{IsStretch, IsOneMore, filled, HasRoom}
 
 -- a number is taken from the stretch at a place, or past them all
@@ -11,13 +12,6 @@ pub record IsTaking (lows free new : List ℕ) (place high top next : ℕ) : Typ
   pub same : place < length lows → next ≡ top
   pub past : length lows ≤ place → next ≡ top + 1
   pub past_fits : length lows ≤ place → top ≤ high
-
-pub side : (a b : ℕ) → (a < b) ⊎ (b ≤ a)
-side a b = by (b - a) refl
-  where
-    by : (r : ℕ) → b - a ≡ r → (a < b) ⊎ (b ≤ a)
-    by zero e = inr (omega (arith, e))
-    by (suc r) e = inl (omega (arith, e))
 
 -- 1 below b, and 0 from it on
 abbrev under : ℕ → ℕ → ℕ
@@ -89,33 +83,33 @@ pub taken : (lows free new : List ℕ) (c more : ℕ → ℕ) (low last high b t
     HasRoom lows new more high next
 taken lows free new c more low last high b top next e le o s t r = record {
   reach = λ k. r.reach k + under b k;
-  steps = λ k h. elim (side (k + 1) b) [
+  steps = λ k h. elim (cases_lt (k + 1) b) [
     | inl l ↦ omega (arith, one_below k b (omega arith), one_below (k + 1) b l, r.steps k h, t.other (k + 1) (λ q. omega (arith, q, l)))
-    | inr m ↦ elim (side b (k + 1)) [
+    | inr m ↦ elim (cases_lt b (k + 1)) [
       | inl l ↦ omega (arith, none_from k b (omega arith), none_from (k + 1) b m, r.steps k h, t.other (k + 1) (λ q. omega (arith, q, l)))
       | inr n ↦ at_found k h (omega arith)
     ]
   ];
-  ends = λ k q. elim (side b (length lows)) [
+  ends = λ k q. elim (cases_lt b (length lows)) [
     | inl l ↦ omega (arith, none_from k b (omega arith), r.ends k q, t.same l)
     | inr m ↦ omega (arith, one_below k b (omega arith), r.ends k q, t.past m)
   ];
-  covers = λ k h. elim (side low (get_or lows k 0)) [
+  covers = λ k h. elim (cases_lt low (get_or lows k 0)) [
     | inl l ↦ omega (arith, o.above (get_or lows k 0) l, r.covers k h)
-    | inr m ↦ elim (side k b) [
+    | inr m ↦ elim (cases_lt k b) [
       | inl l ↦ omega (arith, one_below k b l, o.upto (get_or lows k 0) m, r.covers k h)
       | inr n ↦ absurd (omega (arith, s.above k (omega (arith, s.next.least, n)) h, m))
     ]
   ];
-  met = λ k h. elim (side k b) [
-    | inl l ↦ elim (side k s.start) [
+  met = λ k h. elim (cases_lt k b) [
+    | inl l ↦ elim (cases_lt k s.start) [
       | inl i ↦ early k h l i
       | inr i ↦ late k h l i
     ]
     | inr m ↦ beyond k h m
   ];
-  within = λ k h. elim (side k b) [
-    | inl l ↦ elim (side b (length lows)) [
+  within = λ k h. elim (cases_lt k b) [
+    | inl l ↦ elim (cases_lt b (length lows)) [
       | inl i ↦ omega (arith, one_below k b l, rises_to lows free c last top r k (b - 1) (omega arith) (omega arith), steps_to lows free c last top r b (omega arith) i, r.within b i, t.fits i, s.next.left (omega (arith, i, e)))
       | inr i ↦ omega (arith, one_below k b l, rises_to lows free c last top r k (length lows - 1) (omega arith) (omega arith), r.ends (length lows - 1) (omega arith), t.past_fits i)
     ]
@@ -143,7 +137,7 @@ taken lows free new c more low last high b top next e le o s t r = record {
     beyond k h m = by (r.met k h)
       where
         by : (i : ℕ) × (i ≤ k) × (r.reach k ≡ filled lows c i) → (i : ℕ) × (i ≤ k) × (r.reach k + under b k ≡ filled lows more i)
-        by q = elim (side q.0 s.start) [
+        by q = elim (cases_lt q.0 s.start) [
           | inl l ↦
               absurd (omega (arith, q.2, r.covers q.0 (omega (arith, q.1, h)), rises_to lows free c last top r q.0 (b - 1) (omega (arith, l, s.next.least)) (omega (arith, m, h)), steps_to lows free c last top r b (omega (arith, l, s.next.least)) (omega (arith, m, h)), rises_to lows free c last top r b k m h, s.next.left (omega (arith, m, h, e))))
           | inr n ↦ (q.0, q.1, omega (arith, none_from k b m, q.2, o.above (get_or lows q.0 0) (s.above q.0 n (omega (arith, q.1, h)))))

@@ -1,5 +1,6 @@
 -- A text says one thing.
 use Rattle.std.proofs.Common.{◌≡◌, ℕ, List, Option, Some, None, ap, sym, ◌∙◌, subst, refl}
+use Rattle.std.proofs.lemmas.Option.{same_Some}
 use Rattle.qc_model.specs.Content.{Game}
 use Rattle.qc_tokens.specs.Tokens.{tokens_of, first_bad_byte, first_bad_number}
 use Rattle.text_grammar.specs.declared.tree.Item.{Item}
@@ -70,9 +71,6 @@ met text TooMany at q = at_items q
 met text NotVisible at q = at_items q
 met text BottleneckFirst at q = at_items q
 
-only : {A : Type 0} (x y : A) → Some x ≡ Some y → x ≡ y
-only x y p = cc
-
 abbrev refusal_at : RefusalKind → ℕ → Refusal
 refusal_at kind at = record { kind = kind; at = at }
 
@@ -84,7 +82,7 @@ same_fault text kind other at place p q =
 
 one_fault : (text : List ℕ) (kind other : Refused13) (at place : ℕ) → MeetsFirst text kind at → MeetsFirst text other place → (kind ≡ other) × (at ≡ place)
 one_fault text kind other at place p q =
-    let same = only (refusal_at p.fault at) (refusal_at q.fault place) (same_fault text kind other at place p q) in
+    let same = same_Some (refusal_at p.fault at) (refusal_at q.fault place) (same_fault text kind other at place p q) in
     (p.same ∙ (ap (λ (f : Refusal). kind_of f.kind) same ∙ sym q.same), ap (λ (f : Refusal). f.at) same)
 
 -- two ways in which a text is refused are one

@@ -2,6 +2,7 @@
 use Rattle.std.proofs.Common.{◌≡◌, ◌≤◌, ◌+◌, ◌-◌, ◌&&◌, ℕ, zero, suc, arith, refl, List, [], ◌∷◌, ap, ◌∙◌, sym, subst, Bool, true, false, cond, length, drop, take, IsTrue, length-drop, Option, None, Some}
 use Rattle.std.specs.List.{prefix_len, filter_map, cons_option, list_all, AllByRecursion, All}
 use Rattle.std.proofs.lemmas.List.Elements.{All-from_recursion}
+use Rattle.std.proofs.lemmas.Bool.{and_from}
 use Rattle.qc_model.specs.Names.{is_first_byte, is_word_byte, is_word}
 use Rattle.qc_tokens.specs.declared.token.Token.{Token}
 use Rattle.qc_tokens.specs.declared.token.Sort.TheVariants.{Word, Sign}
@@ -52,9 +53,6 @@ word_cut b bs = of_each (IsCutOf b bs) b bs (record {
   bad = λ e. absurd cc;
 })
 
-both_hold : (a b : Bool) → a ≡ true → b ≡ true → (a && b) ≡ true
-both_hold a b p q = rw (p, q) refl
-
 -- the bytes of a piece
 its_bytes : (text : List ℕ) (at b : ℕ) (bs : List ℕ) (m : ℕ) → drop at text ≡ b ∷ bs → take (at + 1 + m - at) (drop at text) ≡ b ∷ take m bs
 its_bytes text at b bs m e = let n : at + 1 + m - at ≡ suc m = omega arith in rw (e, n) refl
@@ -62,7 +60,7 @@ its_bytes text at b bs m e = let n : at + 1 + m - at ≡ suc m = omega arith in 
 word_is : (text : List ℕ) (at b : ℕ) (bs : List ℕ) (m : ℕ) → drop at text ≡ b ∷ bs → IsWordCut b bs m → IsTrue (is_word (take (at + 1 + m - at) (drop at text)))
 word_is text at b bs m e w =
     subst (λ bytes. is_word bytes ≡ true) (sym (its_bytes text at b bs m e))
-    (both_hold _ _ w.first (subst (λ n. list_all is_word_byte (take n bs) ≡ true) (sym w.more) (all_taken is_word_byte bs)))
+    (and_from _ _ w.first (subst (λ n. list_all is_word_byte (take n bs) ≡ true) (sym w.more) (all_taken is_word_byte bs)))
 
 length_left : (text : List ℕ) (at b : ℕ) (bs : List ℕ) → drop at text ≡ b ∷ bs → at + 1 + length bs ≤ length text
 length_left text at b bs e = let l : length (drop at text) ≡ suc (length bs) = ap length e in omega (arith, length-drop at text)

@@ -9,17 +9,11 @@ use Rattle.std.specs.Str.Parse.{AllDigits, IsNumeral, digits_value, signed_digit
 use Rattle.std.proofs.lemmas.Bool.Decides.{nat_tests}
 use Rattle.std.proofs.lemmas.Str.{IsUtf8-from_ascii, digit_value_digit}
 use Rattle.std.proofs.lemmas.Str.Parse.{digit_from_value}
+use Rattle.std.proofs.lemmas.Bool.{and_parts, or_cases}
+use Rattle.std.proofs.lemmas.Fmt.{IsAscii-from_digits}
 use Rattle.qc_model.specs.Names.{is_first_byte, is_word_byte}
 use Rattle.qc_tokens.specs.Tokens.{begins_with, begins_number, positive_of, negative_of, number_of}
 use Rattle.qc_tokens.specs.Inner.{is_numeral, value_of_run}
-
-pub both : (a b : Bool) → (a && b) ≡ true → (a ≡ true) × (b ≡ true)
-both true b e = (refl, e)
-both false b e = absurd cc
-
-either : (a b : Bool) → (a || b) ≡ true → (a ≡ true) ⊎ (b ≡ true)
-either true b e = inl refl
-either false b e = inr e
 
 yes : {A : Type 0} (a b : Bool) (x y : A) → a ≡ true → b ≡ true → cond (a && b) x y ≡ x
 yes a b x y p q = rw (p, q) refl
@@ -30,7 +24,7 @@ no true false x y never = refl
 no false b x y never = refl
 
 digit_means : (c : ℕ) → is_ascii_digit c ≡ true → IsInRange 48 57 c
-digit_means c e = let k = both (leb 48 c) (leb c 57) e in (leb-true 48 c k.0, leb-true c 57 k.1)
+digit_means c e = let k = and_parts (leb 48 c) (leb c 57) e in (leb-true 48 c k.0, leb-true c 57 k.1)
 
 digit_passes : (c : ℕ) → IsInRange 48 57 c → is_ascii_digit c ≡ true
 digit_passes c r = grind (arith, nat_tests)
@@ -38,7 +32,7 @@ digit_passes c r = grind (arith, nat_tests)
 digits_mean : (ds : List ℕ) → list_all is_ascii_digit ds ≡ true → AllDigits 10 ds
 digits_mean [] e = tt
 digits_mean (c ∷ cs) e =
-    let k = both (is_ascii_digit c) (list_all is_ascii_digit cs) e in
+    let k = and_parts (is_ascii_digit c) (list_all is_ascii_digit cs) e in
     let r = digit_means c k.0 in
     (omega (arith, digit_value_digit c r), digits_mean cs k.1)
 
@@ -46,14 +40,9 @@ digits_pass : (ds : List ℕ) → AllDigits 10 ds → list_all is_ascii_digit ds
 digits_pass [] h = refl
 digits_pass (c ∷ cs) h = rw (digit_passes c (digit_from_value c h.0), digits_pass cs h.1) refl
 
-digits_low : (ds : List ℕ) → AllDigits 10 ds → IsAscii ds
-digits_low [] h i = omega arith
-digits_low (c ∷ cs) h zero = let k = digit_from_value c h.0 in omega arith
-digits_low (c ∷ cs) h (suc i) = digits_low cs h.1 i
-
 minus_low : (ds : List ℕ) → AllDigits 10 ds → IsAscii (45 ∷ ds)
 minus_low ds h zero = omega arith
-minus_low ds h (suc i) = digits_low ds h i
+minus_low ds h (suc i) = IsAscii-from_digits ds h i
 
 negative_fits : (n : ℕ) → n ≤ 2 ^ 63 → FitsSigned w64 (neg_ℤ (pos n))
 negative_fits zero h = record { sfits = omega arith }
@@ -115,14 +104,14 @@ digit b bs e =
     record {
       some = λ r. same ∙ positive-some (b ∷ bs) (are r.0) (fits r.1) ∙ ap Some (sym p.value);
       none = λ never. same ∙ positive-none (b ∷ bs) (λ a v. never (subst (IsNumeral 10) (sym p.digits) (omega arith, a), subst (FitsSigned w64) (sym p.value) (record { sfits = v })));
-      text = λ r. IsUtf8-from_ascii _ (digits_low (b ∷ bs) (are r.0));
+      text = λ r. IsUtf8-from_ascii _ (IsAscii-from_digits (b ∷ bs) (are r.0));
     }
 
 same_at : (b : ℕ) (bs : List ℕ) → begins_number b bs ≡ true → IsSame b bs
-same_at b bs h = elim (either (is_ascii_digit b) _ h) [
+same_at b bs h = elim (or_cases (is_ascii_digit b) _ h) [
   | inl e ↦ digit b bs e
   | inr e ↦ (
-      let k = both (b == 45) (begins_with is_ascii_digit bs) e in
+      let k = and_parts (b == 45) (begins_with is_ascii_digit bs) e in
       subst (λ x. IsSame x bs) (sym (eqb-true b 45 k.0)) (minus bs (some_digit bs k.1)))
 ]
   where

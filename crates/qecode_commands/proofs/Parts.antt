@@ -19,11 +19,3 @@ moves_end a b c all held (xs, first, e) h = subst (Appends a c) e (Appends-appen
 pub prefix_rest : (a b c : Option (List ℕ)) (all held : List ℕ) → Moves a b held all → AppendsPrefix b c held → AppendsPrefix a c all
 prefix_rest a b c all held moved h =
     subst (AppendsPrefix a c) (append-nil all) (prefix_then a b c all held [] moved (subst (AppendsPrefix b c) (sym (append-nil held)) h))
-
-pub err_weaker : {T E P Q : Type 0} (r : Result T E) → (P → Q) → OnErr r P → OnErr r Q
-err_weaker (Ok x) f h = tt
-err_weaker (Err e) f h = f h
-
-pub ok_weaker : {T E P Q : Type 0} (r : Result T E) → (P → Q) → OnOk r P → OnOk r Q
-ok_weaker (Ok x) f h = f h
-ok_weaker (Err e) f h = tt

@@ -4,13 +4,14 @@ use Rattle.std.specs.Prelude.{Option, None, Some, slice_get, filter}
 use Rattle.std.specs.List.{list_all}
 use Rattle.std.specs.declared.alloc.AllocError.{AllocError}
 use Rattle.std.proofs.lemmas.Bool.Decides.{nat_tests}
+use Rattle.std.proofs.lemmas.Bool.{and_from}
 use Rattle.qc_model.specs.declared.problem.VarId.{VarId}
 use Rattle.qc_model.specs.Block.{force_stop, is_owned_within}
 use Rattle.qc_model.specs.Closed.{keeps_ends}
 use Rattle.qc_model.specs.Content.{Game, Rule}
 use Rattle.qc_model.specs.Domains.{Box, values_left, values_within, values_outside, is_none_left, has_empty, is_sub_box, box_within, box_without, declared_box}
 use Rattle.qc_model.specs.Valid.{IsValid, is_number}
-use Rattle.qc_model.proofs.Readable.{first, second, together}
+use Rattle.qc_model.proofs.Readable.{first, second}
 use Rattle.model_arguments.specs.Asked.{is_box_of}
 use Rattle.model_levels.specs.Spans.{IsSpanOf, is_rule_within, is_number_within}
 use Rattle.proof_tree.specs.declared.tree.Step.{Step}
@@ -59,11 +60,11 @@ legal_step : (ok : ℕ → Bool) (g : Game) (i stop : ℕ) (t : Option Tracked) 
 legal_step ok g i stop t (Prune x low high c) box w h =
     let m = removal_is ok g x.0 low high c.0 box h in
     let bx = box_within box x.0 low high in
-    together (removes_some box x.0 low high) (is_refuted_within i stop (slice_get g.constraints c.0) bx) m.some (by (slice_get g.constraints c.0) (sym (w c.0) ∙ m.by) m.refuted)
+    and_from (removes_some box x.0 low high) (is_refuted_within i stop (slice_get g.constraints c.0) bx) m.some (by (slice_get g.constraints c.0) (sym (w c.0) ∙ m.by) m.refuted)
   where
     by : (o : Option Rule) → is_rule_within i stop o ≡ true → is_refuted_by o (box_within box x.0 low high) ≡ true → is_refuted_within i stop o (box_within box x.0 low high) ≡ true
     by None e f = cc
-    by (Some r) e f = together (is_owned_within i stop r) (is_refuted_by (Some r) (box_within box x.0 low high)) e f
+    by (Some r) e f = and_from (is_owned_within i stop r) (is_refuted_by (Some r) (box_within box x.0 low high)) e f
 legal_step ok g i stop t (Bound x low high) box w h = cc
 
 legal_steps : (ok : ℕ → Bool) (g : Game) (i stop : ℕ) (t : Option Tracked) (steps : List Step) (box : Box) → ((k : ℕ) → ok k ≡ is_number_within g i stop k) → are_pruned_by ok g steps box ≡ true →
@@ -72,7 +73,7 @@ legal_steps ok g i stop t [] box w h = refl
 legal_steps ok g i stop t (s ∷ steps) box w h =
     let p = is_pruned_by ok g s box in
     let q = are_pruned_by ok g steps (after_step s box) in
-    together (is_legal g i stop t s box) (are_legal g i stop t steps (after_step s box)) (legal_step ok g i stop t s box w (first p q h)) (legal_steps ok g i stop t steps (after_step s box) w (second p q h))
+    and_from (is_legal g i stop t s box) (are_legal g i stop t steps (after_step s box)) (legal_step ok g i stop t s box w (first p q h)) (legal_steps ok g i stop t steps (after_step s box) w (second p q h))
 
 -- removals have no marks
 no_marks : (ok : ℕ → Bool) (g : Game) (t : Option Tracked) (steps : List Step) (box : Box) → are_pruned_by ok g steps box ≡ true → step_marks t steps box ≡ []
@@ -116,9 +117,9 @@ fits_steps ok g (Prune x low high c ∷ steps) box l m h =
     let here : x.0 < length box = some_place box x.0 low high (not_false n (second (not (has_empty box)) (not n) r.some)) in
     let there : c.0 < length g.constraints = some_rule g.constraints c.0 (box_within box x.0 low high) r.refuted in
     let same : length (box_without box x.0 low high) ≡ length box = length-set box x.0 (values_outside low high (values_left box x.0)) in
-    together (step_fits (Prune x low high c)) (list_all step_fits steps)
-    (together (is_place 500 x.0 && is_number low && is_number high) (is_place 20000 c.0)
-    (together (is_place 500 x.0 && is_number low) (is_number high) (together (is_place 500 x.0) (is_number low) (place_fits 500 x.0 (omega (arith, here, l))) r.from) r.upto)
+    and_from (step_fits (Prune x low high c)) (list_all step_fits steps)
+    (and_from (is_place 500 x.0 && is_number low && is_number high) (is_place 20000 c.0)
+    (and_from (is_place 500 x.0 && is_number low) (is_number high) (and_from (is_place 500 x.0) (is_number low) (place_fits 500 x.0 (omega (arith, here, l))) r.from) r.upto)
     (place_fits 20000 c.0 (omega (arith, there, m))))
     (fits_steps ok g steps (box_without box x.0 low high) (omega (arith, same, l)) m (second p q h))
 fits_steps ok g (Bound x low high ∷ steps) box l m h = cc

@@ -6,6 +6,7 @@ use Rattle.std.specs.Option.{option_map}
 use Rattle.std.proofs.lemmas.Bool.Decides.{nat_tests}
 use Rattle.std.proofs.lemmas.List.{length-take, length-map}
 use Rattle.std.proofs.lemmas.Option.{same_Some}
+use Rattle.std.proofs.lemmas.Bool.{and_from}
 use Rattle.qc_model.specs.declared.problem.Kind.{Kind}
 use Rattle.qc_model.specs.declared.problem.Kind.TheVariants.{Exists, Forall}
 use Rattle.qc_model.specs.declared.problem.Scope.{Scope}
@@ -28,7 +29,7 @@ use Rattle.qc_model.specs.Valid.{IsValid}
 use Rattle.qc_model.specs.Verdict.{is_none_of}
 use Rattle.qc_model.specs.Visible.{ArgBelow, ArgsBelow, ArgumentBelow, ArgumentsBelow}
 use Rattle.qc_model.proofs.Before.{before-le}
-use Rattle.qc_model.proofs.Readable.{first, second, together}
+use Rattle.qc_model.proofs.Readable.{first, second}
 use Rattle.qc_model.proofs.Sound.{is_false}
 use Rattle.qc_model.proofs.Visible.{holds_visible}
 use Rattle.model_table.proofs.Ordered.{valid_ordered}
@@ -202,7 +203,7 @@ each_follows own p q r (x ∷ xs) f a b = by (own x) refl (λ h. each_follows ow
     by : (o : Bool) → own x ≡ o → (list_all q (filter own xs) ≡ true → list_all r (filter own xs) ≡ true) → list_all q (cond o (x ∷ filter own xs) (filter own xs)) ≡ true →
         list_all r (cond o (x ∷ filter own xs) (filter own xs)) ≡ true
     by true e later h =
-        together (r x) (list_all r (filter own xs)) (f 0 x refl e (first (p x) (list_all p xs) a) (first (q x) (list_all q (filter own xs)) h)) (later (second (q x) (list_all q (filter own xs)) h))
+        and_from (r x) (list_all r (filter own xs)) (f 0 x refl e (first (p x) (list_all p xs) a) (first (q x) (list_all q (filter own xs)) h)) (later (second (q x) (list_all q (filter own xs)) h))
     by false e later h = later h
 
 owner_is : (m n : ℕ) → (m == n) ≡ true → m ≡ n
@@ -227,7 +228,7 @@ all_fewer p own some (x ∷ xs) f h = by (own x) (some x) refl refl (λ k. all_f
 
     by : (o s : Bool) → own x ≡ o → some x ≡ s → (list_all p (filter own xs) ≡ true → list_all p (filter some xs) ≡ true) → list_all p (cond o (x ∷ filter own xs) (filter own xs)) ≡ true →
         list_all p (cond s (x ∷ filter some xs) (filter some xs)) ≡ true
-    by true true a b later h = together (p x) (list_all p (filter some xs)) (first (p x) (list_all p (filter own xs)) h) (later (second (p x) (list_all p (filter own xs)) h))
+    by true true a b later h = and_from (p x) (list_all p (filter some xs)) (first (p x) (list_all p (filter own xs)) h) (later (second (p x) (list_all p (filter own xs)) h))
     by true false a b later h = later (second (p x) (list_all p (filter own xs)) h)
     by false true a b later h = absurd (differ (sym a ∙ f x b))
     by false false a b later h = later h

@@ -6,6 +6,7 @@ use Rattle.std.proofs.lemmas.Int.{ints}
 use Rattle.std.specs.List.{list_all}
 use Rattle.std.specs.declared.alloc.AllocError.{AllocError}
 use Rattle.std.proofs.lemmas.Bool.Decides.{nat_tests, Decides-int_eq}
+use Rattle.std.proofs.lemmas.Bool.{or_parts}
 use Rattle.qc_model.specs.Content.{Game}
 use Rattle.qc_model.specs.Domains.{Values, Box, box_values, is_none_left, is_single, has_empty, has_value, is_ascending, is_sub_box}
 use Rattle.qc_model.specs.Game.{before, is_of_scope}
@@ -81,10 +82,6 @@ only v w h = (Decides-int_eq v w).0 (strip (int_eq v w) h)
 apart : (v u : ℤ) → int_lt v u ≡ true → v ≡ u → ⊥
 apart v u h e = grind (arith, ints)
 
-neither : (a b : Bool) → (a || b) ≡ false → (a ≡ false) × (b ≡ false)
-neither true b h = cc
-neither false b h = (refl, h)
-
 single_within : (d e : Values) → is_none_left d ≡ false → is_ascending d ≡ true → list_all (has_value e) d ≡ true → is_single e ≡ true → d ≡ e
 single_within d [] n a h s = cc
 single_within d (w ∷ u ∷ us) n a h s = cc
@@ -104,8 +101,8 @@ fixed_within (d ∷ ds) [] (suc n) h f s = cc
 fixed_within (d ∷ ds) (e ∷ es) (suc n) h f s =
     let p = is_ascending d && list_all (has_value e) d in
     let q = first p (is_sub_box ds es) h in
-    let same : d ≡ e = single_within d e (neither (is_none_left d) (has_empty ds) f).0 (first (is_ascending d) (list_all (has_value e) d) q) (second (is_ascending d) (list_all (has_value e) d) q) (first (is_single e) (list_all is_single (take n es)) s) in
-    ap (λ z. z ∷ take n ds) same ∙ ap (λ z. e ∷ z) (fixed_within ds es n (second p (is_sub_box ds es) h) (neither (is_none_left d) (has_empty ds) f).1 (second (is_single e) (list_all is_single (take n es)) s))
+    let same : d ≡ e = single_within d e (or_parts (is_none_left d) (has_empty ds) f).0 (first (is_ascending d) (list_all (has_value e) d) q) (second (is_ascending d) (list_all (has_value e) d) q) (first (is_single e) (list_all is_single (take n es)) s) in
+    ap (λ z. z ∷ take n ds) same ∙ ap (λ z. e ∷ z) (fixed_within ds es n (second p (is_sub_box ds es) h) (or_parts (is_none_left d) (has_empty ds) f).1 (second (is_single e) (list_all is_single (take n es)) s))
 
 pub entered_on : (g : Game) (i : ℕ) (b c : Boxed) → IsEntered g i b → LeadsOn b c → has_empty c.store.box ≡ false → IsEntered g i c
 entered_on g i b c h on f =

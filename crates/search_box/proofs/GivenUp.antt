@@ -3,13 +3,13 @@ use Rattle.std.proofs.Common.{◌≡◌, ℕ, zero, suc, ◌<◌, ◌≤◌, Boo
 use Rattle.std.specs.Prelude.{Option, ◌==◌, filter}
 use Rattle.std.specs.declared.alloc.AllocError.{AllocError}
 use Rattle.std.proofs.lemmas.Bool.Decides.{nat_tests}
+use Rattle.std.proofs.lemmas.Bool.{and_from, not_from_false}
 use Rattle.qc_model.specs.declared.problem.Sense.{Sense}
 use Rattle.qc_model.specs.declared.problem.VarId.{VarId}
 use Rattle.qc_model.specs.Block.{force_stop}
 use Rattle.qc_model.specs.Content.{Game}
 use Rattle.qc_model.specs.Domains.{Box, Values, values_left, values_within, values_outside, is_within, is_none_left, has_empty, is_sub_box, box_without}
 use Rattle.qc_model.specs.Valid.{is_number}
-use Rattle.qc_model.proofs.Readable.{together}
 use Rattle.proof_tree.specs.declared.tree.Step.{Step}
 use Rattle.proof_tree.specs.declared.tree.Step.TheVariants.{Bound}
 use Rattle.proof_tree.specs.Place.{Tracked, tracked_variable, list_after}
@@ -21,10 +21,6 @@ use Rattle.search_box.specs.declared.bounding.Bounded.{Bounded}
 use Rattle.search_box.specs.Bounds.{tracked_as, IsBounded, BoundAnswers}
 use Rattle.search_box.proofs.Closings.{place_fits}
 
-not_true : (b : Bool) → b ≡ false → not b ≡ true
-not_true true h = cc
-not_true false h = refl
-
 same_number : (k : ℕ) → (k == k) ≡ true
 same_number k = grind (arith, nat_tests)
 
@@ -32,21 +28,21 @@ same_number k = grind (arith, nat_tests)
 legal_bound : (g : Game) (i stop : ℕ) (t : Option Tracked) (s : Sense) (x : VarId) (low high : ℤ) (box : Box) → t ≡ Some (tracked_as s x) → removes_some box x.0 low high ≡ true →
     are_legal g i stop t (Bound x low high ∷ []) box ≡ true
 legal_bound g i stop t s x low high box e h =
-    together (removes_some box x.0 low high && is_tracked x.0 t) true
-    (together (removes_some box x.0 low high) (is_tracked x.0 t) h (ap (is_tracked x.0) e ∙ same_number x.0)) refl
+    and_from (removes_some box x.0 low high && is_tracked x.0 t) true
+    (and_from (removes_some box x.0 low high) (is_tracked x.0 t) h (ap (is_tracked x.0) e ∙ same_number x.0)) refl
 
 pub bounded_is : (s : Sense) (x : VarId) (low high : ℤ) (box left : Box) (old new : List Step) (b : Bounded) (size : ℕ) → has_empty box ≡ false → x.0 < length box → length box ≤ 500 → is_number low ≡ true → is_number high ≡ true →
     is_none_left (values_within low high (values_left box x.0)) ≡ false → new ≡ old ++ Bound x low high ∷ [] → left ≡ box_without box x.0 low high → b.best ≡ best_value s (values_within low high (values_left box x.0)) →
     size ≡ length (values_left left x.0) → b.is_empty ≡ (size == 0) → IsBounded s x low high box left old new b
 bounded_is s x low high box left old new b size full here few l h some appended reached best count empty =
     let n = is_none_left (values_within low high (values_left box x.0)) in
-    let removes : removes_some box x.0 low high ≡ true = together (not (has_empty box)) (not n) (not_true (has_empty box) full) (not_true n some) in
+    let removes : removes_some box x.0 low high ≡ true = and_from (not (has_empty box)) (not n) (not_from_false (has_empty box) full) (not_from_false n some) in
     record {
       appended = appended;
       reached = reached;
       placed = λ g later i d e. legal_bound g i (force_stop later i) (tracked_variable g later i (list_after g later d)) s x low high box e removes;
       marked = ap (λ v. v ∷ []) (sym best);
-      fits = together (is_place 500 x.0 && is_number low) (is_number high) (together (is_place 500 x.0) (is_number low) (place_fits 500 x.0 (omega (arith, here, few))) l) h;
+      fits = and_from (is_place 500 x.0 && is_number low) (is_number high) (and_from (is_place 500 x.0) (is_number low) (place_fits 500 x.0 (omega (arith, here, few))) l) h;
       best = best;
       emptied = empty ∙ cut_emptied box left x.0 low high size full here reached count;
     }

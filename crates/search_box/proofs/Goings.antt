@@ -5,6 +5,7 @@ use Rattle.std.specs.List.{list_all}
 use Rattle.std.specs.Option.{option_map}
 use Rattle.std.proofs.lemmas.Bool.Decides.{nat_tests}
 use Rattle.std.proofs.lemmas.List.{get_or-set_other}
+use Rattle.std.proofs.lemmas.Bool.{and_from, or_parts}
 use Rattle.qc_model.specs.declared.problem.Condition.{Condition}
 use Rattle.qc_model.specs.declared.problem.Kind.TheVariants.{Exists}
 use Rattle.qc_model.specs.declared.problem.Scope.{Scope}
@@ -15,7 +16,7 @@ use Rattle.qc_model.specs.Content.{Game, Rule}
 use Rattle.qc_model.specs.Domains.{Values, Box, values_left, values_within, box_without, has_empty, is_sub_box}
 use Rattle.qc_model.specs.Game.{before}
 use Rattle.qc_model.proofs.Before.{before_up}
-use Rattle.qc_model.proofs.Readable.{first, second, together}
+use Rattle.qc_model.proofs.Readable.{first, second}
 use Rattle.model_arguments.specs.Asked.{is_box_of}
 use Rattle.model_levels.specs.Spans.{kind_at}
 use Rattle.proof_tree.specs.declared.tree.Step.{Step}
@@ -42,7 +43,7 @@ legal_both g i stop t [] more box h k = k
 legal_both g i stop t (s ∷ steps) more box h k =
     let p = is_legal g i stop t s box in
     let q = are_legal g i stop t steps (after_step s box) in
-    together p (are_legal g i stop t (steps ++ more) (after_step s box)) (first p q h) (legal_both g i stop t steps more (after_step s box) (second p q h) k)
+    and_from p (are_legal g i stop t (steps ++ more) (after_step s box)) (first p q h) (legal_both g i stop t steps more (after_step s box) (second p q h) k)
 
 pub placed_both : (g : Game) (later : List Scope) (i : ℕ) (d : List Condition) (steps more : List Step) (box : Box) → steps_in_place g later i d steps box ≡ true → steps_in_place g later i d more (after_steps steps box) ≡ true →
     steps_in_place g later i d (steps ++ more) box ≡ true
@@ -78,10 +79,6 @@ closed_full g i box h = not_true_false (has_empty box) (first (not (has_empty bo
 pub closed_now : (g : Game) (i : ℕ) (box : Box) → is_box_of g box ≡ true → IsClosedAt g i box → WasClosed g i [] box
 closed_now g i box d h = record { earlier = box; declared = d; closed = h; count = refl; fewer = λ large k. k; others = λ x n. refl }
 
-neither : (a b : Bool) → (a || b) ≡ false → (a ≡ false) × (b ≡ false)
-neither true b h = cc
-neither false b h = (refl, h)
-
 apart : (j k : ℕ) → (j == k) ≡ false → k ≡ j → ⊥
 apart j k h e = grind (arith, nat_tests)
 
@@ -92,7 +89,7 @@ closed_before g i box x changed vs s w = record {
   closed = w.closed;
   count = length-set box x.0 vs ∙ w.count;
   fewer = λ large k. sub_through (box_to box x.0 vs) box large s (w.fewer large k);
-  others = λ y n. let p = neither (x.0 == y) (names changed y) n in get_or-set_other box x.0 y vs [] (apart x.0 y p.0) ∙ w.others y p.1;
+  others = λ y n. let p = or_parts (x.0 == y) (names changed y) n in get_or-set_other box x.0 y vs [] (apart x.0 y p.0) ∙ w.others y p.1;
 }
 
 pub follows_on : (b c d : Boxed) → Follows b.store c.store → d.store.box ≡ c.store.box → d.store.past ≡ c.store.past → Follows b.store d.store
@@ -115,7 +112,7 @@ fewer_rules p q r [] f h = refl
 fewer_rules p q r (c ∷ cs) f h = by (p c) (q c) (f c) h (fewer_rules p q r cs f)
   where
     by : (a b : Bool) → (b ≡ true → a ≡ true) → list_all r (cond a (c ∷ filter p cs) (filter p cs)) ≡ true → (list_all r (filter p cs) ≡ true → list_all r (filter q cs) ≡ true) → list_all r (cond b (c ∷ filter q cs) (filter q cs)) ≡ true
-    by true true w h k = together (r c) (list_all r (filter q cs)) (first (r c) (list_all r (filter p cs)) h) (k (second (r c) (list_all r (filter p cs)) h))
+    by true true w h k = and_from (r c) (list_all r (filter q cs)) (first (r c) (list_all r (filter p cs)) h) (k (second (r c) (list_all r (filter p cs)) h))
     by true false w h k = k (second (r c) (list_all r (filter p cs)) h)
     by false true w h k = let e : false ≡ true = w refl in cc
     by false false w h k = k h
@@ -133,5 +130,5 @@ closed_in_block g i box e f h =
     let same : force_stop (drop (suc i) g.scopes) (suc i) ≡ stop = same_stop g.scopes i i e f in
     let P : ℕ → Type 0 = λ n. is_closed (filter (is_owned_within (suc i) n) g.constraints) box ≡ true in
     subst P (sym same)
-    (together (not (has_empty box)) (list_all (keeps_ends box) (filter (is_owned_within (suc i) stop) g.constraints)) (first (not (has_empty box)) (list_all (keeps_ends box) rules) h)
+    (and_from (not (has_empty box)) (list_all (keeps_ends box) (filter (is_owned_within (suc i) stop) g.constraints)) (first (not (has_empty box)) (list_all (keeps_ends box) rules) h)
     (fewer_rules (is_owned_within i stop) (is_owned_within (suc i) stop) (keeps_ends box) g.constraints (later_owned i stop) (second (not (has_empty box)) (list_all (keeps_ends box) rules) h)))

@@ -6,9 +6,10 @@ use Rattle.std.specs.List.{list_all}
 use Rattle.std.specs.Ordering.{int_eq}
 use Rattle.std.proofs.lemmas.Int.{ints}
 use Rattle.std.proofs.lemmas.List.{get_or-set_same}
+use Rattle.std.proofs.lemmas.Bool.{and_from, or_right}
 use Rattle.qc_model.specs.Domains.{Values, Box, values_left, values_outside, is_within, has_value, is_ascending, is_sub_box, has_empty, box_without}
 use Rattle.qc_model.specs.Valid.{is_number}
-use Rattle.qc_model.proofs.Readable.{first, second, together}
+use Rattle.qc_model.proofs.Readable.{first, second}
 use Rattle.model_arguments.proofs.Boxes.{sub_within, set_full, sub_ascending}
 use Rattle.model_arguments.proofs.Kept.{keeps}
 use Rattle.model_arguments.proofs.Values.{value_passes, has_first}
@@ -36,22 +37,17 @@ left_above box one x v h e l =
     ap (λ b. has_value (values_left b x) v) e
     ∙ (ap (λ ws. has_value ws v) (get_or-set_same box x us [] h) ∙ keeps (λ w. not (is_within (negsuc 999999999) (v -ℤ pos 1) w)) (values_left box x) v (above_itself v) l)
 
--- a box that lies within another lies within itself
-or_right : (a b : Bool) → b ≡ true → (a || b) ≡ true
-or_right true b h = refl
-or_right false b h = h
-
 all_of : (p : ℤ → Bool) (vs : Values) → ((v : ℤ) → has_value vs v ≡ true → p v ≡ true) → list_all p vs ≡ true
 all_of p [] f = refl
-all_of p (v ∷ vs) f = together (p v) (list_all p vs) (f v (has_first v vs)) (all_of p vs (λ w h. f w (or_right (int_eq w v) (has_value vs w) h)))
+all_of p (v ∷ vs) f = and_from (p v) (list_all p vs) (f v (has_first v vs)) (all_of p vs (λ w h. f w (or_right (int_eq w v) (has_value vs w) h)))
 
 pub sub_self : (box large : Box) → is_sub_box box large ≡ true → is_sub_box box box ≡ true
 sub_self [] large h = refl
 sub_self (d ∷ ds) [] h = cc
 sub_self (d ∷ ds) (e ∷ es) h =
     let p = is_ascending d && list_all (has_value e) d in
-    together (is_ascending d && list_all (has_value d) d) (is_sub_box ds ds)
-    (together (is_ascending d) (list_all (has_value d) d) (first (is_ascending d) (list_all (has_value e) d) (first p (is_sub_box ds es) h)) (all_of (has_value d) d (λ v q. q)))
+    and_from (is_ascending d && list_all (has_value d) d) (is_sub_box ds ds)
+    (and_from (is_ascending d) (list_all (has_value d) d) (first (is_ascending d) (list_all (has_value e) d) (first p (is_sub_box ds es) h)) (all_of (has_value d) d (λ v q. q)))
     (sub_self ds es (second p (is_sub_box ds es) h))
 
 -- within a box that lies within a third
@@ -66,8 +62,8 @@ sub_through (d ∷ ds) (e ∷ es) (f ∷ fs) h k =
     let q = is_ascending e && list_all (has_value f) e in
     let inner = second (is_ascending d) (list_all (has_value e) d) (first p (is_sub_box ds es) h) in
     let outer = second (is_ascending e) (list_all (has_value f) e) (first q (is_sub_box es fs) k) in
-    together (is_ascending d && list_all (has_value f) d) (is_sub_box ds fs)
-    (together (is_ascending d) (list_all (has_value f) d) (first (is_ascending d) (list_all (has_value e) d) (first p (is_sub_box ds es) h))
+    and_from (is_ascending d && list_all (has_value f) d) (is_sub_box ds fs)
+    (and_from (is_ascending d) (list_all (has_value f) d) (first (is_ascending d) (list_all (has_value e) d) (first p (is_sub_box ds es) h))
     (all_of (has_value f) d (λ v l. value_passes (has_value f) e v outer (value_passes (has_value e) d v inner l))))
     (sub_through ds es fs (second p (is_sub_box ds es) h) (second q (is_sub_box es fs) k))
 

@@ -3,11 +3,12 @@ use Rattle.std.proofs.Common.{◌≡◌, ℕ, zero, suc, ◌+◌, ◌<◌, Bool,
 use Rattle.std.specs.Prelude.{Option, None, Some, not, nat_le, nat_lt}
 use Rattle.std.specs.List.{list_all}
 use Rattle.std.proofs.lemmas.Bool.Decides.{nat_tests}
+use Rattle.std.proofs.lemmas.Bool.{and_from, and_parts}
 use Rattle.qc_model.specs.declared.problem.Scope.{Scope}
 use Rattle.qc_model.specs.Content.{Game}
 use Rattle.qc_model.specs.Domains.{Box, has_empty}
 use Rattle.qc_model.specs.Valid.{IsValid}
-use Rattle.qc_model.proofs.Readable.{first, second, together}
+use Rattle.qc_model.proofs.Readable.{first, second}
 use Rattle.model_arguments.specs.Asked.{is_box_of}
 use Rattle.model_levels.specs.Spans.{is_number_within}
 use Rattle.proof_tree.specs.declared.tree.Horizon.{Horizon}
@@ -56,15 +57,12 @@ horizon_ahead g i box h z v b l n f =
     record {
       placed = stands_in_place g later i box h z (left_over i g.scopes l) (not_goal i g.scopes l) (nearer g k h n) f;
       fits =
-          together (is_place 65 k && list_all step_fits z.steps) (list_all is_prune z.steps)
-          (together (is_place 65 k) (list_all step_fits z.steps) (place_fits 65 k (omega (arith, f.to, v.few_scopes)))
+          and_from (is_place 65 k && list_all step_fits z.steps) (list_all is_prune z.steps)
+          (and_from (is_place 65 k) (list_all step_fits z.steps) (place_fits 65 k (omega (arith, f.to, v.few_scopes)))
           (fits_steps ok g z.steps box (omega (arith, size, v.few_variables)) v.few_constraints f.pruned))
           (all_prune ok g z.steps box f.pruned);
       foreseen = sees_horizon g later i k box (Some k) z.steps (by_itself k) f;
     }
-
-parts : (p q : Bool) → (p && q) ≡ true → (p ≡ true) × (q ≡ true)
-parts p q h = (first p q h, second p q h)
 
 -- a horizon without the steps that its empty domain doesn't need
 pub trimmed_ahead : (g : Game) (i : ℕ) (box : Box) (h : Option ℕ) (z : Horizon) (less : List Step) → has_empty box ≡ false → LooksAhead g i box h (Some z) → Trims g z.steps less →
@@ -73,16 +71,16 @@ trimmed_ahead g i box h z less full l t =
     let k = z.scope.0 in
     let later = drop i g.scopes in
     let ahead = not (is_goal later) && nat_le i k && nat_le k (i + length later) && is_nearer k h in
-    let empties = parts (ahead && are_legal g i (suc k) None z.steps box) (has_empty (after_steps z.steps box)) l.placed in
-    let legal = parts ahead (are_legal g i (suc k) None z.steps box) empties.0 in
+    let empties = and_parts (ahead && are_legal g i (suc k) None z.steps box) (has_empty (after_steps z.steps box)) l.placed in
+    let legal = and_parts ahead (are_legal g i (suc k) None z.steps box) empties.0 in
     let r = t.right i (suc k) None box legal.1 full empties.1 in
-    let prunes = parts (is_place 65 k && list_all step_fits z.steps) (list_all is_prune z.steps) l.fits in
-    let fits = parts (is_place 65 k) (list_all step_fits z.steps) prunes.0 in
+    let prunes = and_parts (is_place 65 k && list_all step_fits z.steps) (list_all is_prune z.steps) l.fits in
+    let fits = and_parts (is_place 65 k) (list_all step_fits z.steps) prunes.0 in
     record {
-      placed = together (ahead && are_legal g i (suc k) None less box) (has_empty (after_steps less box)) (together ahead (are_legal g i (suc k) None less box) legal.0 r.legal) r.empties;
+      placed = and_from (ahead && are_legal g i (suc k) None less box) (has_empty (after_steps less box)) (and_from ahead (are_legal g i (suc k) None less box) legal.0 r.legal) r.empties;
       fits =
-          together (is_place 65 k && list_all step_fits less) (list_all is_prune less)
-          (together (is_place 65 k) (list_all step_fits less) fits.0 (t.tests step_fits fits.1))
+          and_from (is_place 65 k && list_all step_fits less) (list_all is_prune less)
+          (and_from (is_place 65 k) (list_all step_fits less) fits.0 (t.tests step_fits fits.1))
           (t.tests is_prune prunes.1);
       foreseen = l.foreseen;
     }

@@ -5,8 +5,9 @@ use Rattle.std.specs.List.{list_all}
 use Rattle.std.specs.Ordering.{int_eq}
 use Rattle.std.proofs.lemmas.Int.{ints}
 use Rattle.std.proofs.lemmas.Bool.Decides.{Decides-int_eq}
+use Rattle.std.proofs.lemmas.Bool.{and_from, not_from_false}
 use Rattle.qc_model.specs.Domains.{Values, is_none_left, is_single, has_value, least_from, least_value, greatest_from, greatest_value, is_ascending, values_within}
-use Rattle.qc_model.proofs.Readable.{first, second, together}
+use Rattle.qc_model.proofs.Readable.{first, second}
 use Rattle.model_arguments.proofs.Values.{above_first, ascending_rest, ascending_kept, all_kept, value_passes, has_first, has_greatest}
 use Rattle.fd_store.specs.Held.{values_from, values_up_to, least_of, greatest_of}
 use Rattle.box_laws.proofs.Filters.{filter_all, filter_none, all_weaker}
@@ -121,21 +122,17 @@ above_low v w h = grind (arith, ints)
 below_low : (v w : ℤ) → int_lt w v ≡ true → int_le w (v -ℤ pos 1) ≡ true
 below_low v w h = grind (arith, ints)
 
-not_it : (b : Bool) → b ≡ false → not b ≡ true
-not_it true h = cc
-not_it false h = refl
-
 none_below : (v : ℤ) (vs : Values) → is_ascending (v ∷ vs) ≡ true → values_up_to (v -ℤ pos 1) (v ∷ vs) ≡ []
 none_below v vs a =
     ap (λ b. cond b (v ∷ values_up_to (v -ℤ pos 1) vs) (values_up_to (v -ℤ pos 1) vs)) (not_low v)
-    ∙ filter_none (λ u. int_le u (v -ℤ pos 1)) vs (all_weaker (int_lt v) (λ u. not (int_le u (v -ℤ pos 1))) (λ u h. not_it (int_le u (v -ℤ pos 1)) (above_low v u h)) vs (above_first v vs a))
+    ∙ filter_none (λ u. int_le u (v -ℤ pos 1)) vs (all_weaker (int_lt v) (λ u. not (int_le u (v -ℤ pos 1))) (λ u h. not_from_false (int_le u (v -ℤ pos 1)) (above_low v u h)) vs (above_first v vs a))
 
 kept_up : (high w : ℤ) (vs : Values) → is_ascending (w ∷ vs) ≡ true → is_ascending (w ∷ values_up_to high vs) ≡ true
 kept_up high w vs a = by (values_up_to high vs) (all_kept (int_lt w) (λ v. int_le v high) vs (above_first w vs a)) (ascending_kept (λ v. int_le v high) vs (ascending_rest w vs a))
   where
     by : (us : Values) → list_all (int_lt w) us ≡ true → is_ascending us ≡ true → is_ascending (w ∷ us) ≡ true
     by [] h k = refl
-    by (u ∷ us) h k = together (int_lt w u) (is_ascending (u ∷ us)) (first (int_lt w u) (list_all (int_lt w) us) h) k
+    by (u ∷ us) h k = and_from (int_lt w u) (is_ascending (u ∷ us)) (first (int_lt w u) (list_all (int_lt w) us) h) k
 
 before_later : (v w u : ℤ) (vs : Values) → is_ascending (w ∷ vs) ≡ true → IsBefore vs v u → IsBefore (w ∷ vs) v u
 before_later v w u vs a h = record {

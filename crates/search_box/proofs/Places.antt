@@ -2,9 +2,10 @@
 pub use Rattle.box_laws.proofs.Readings.{read_numbers}
 use Rattle.std.proofs.Common.{◌≡◌, ℕ, zero, suc, ◌<◌, ◌≤◌, ◌+◌, true, List, [], ◌∷◌, length, take, drop, refl, sym, ap, ◌∙◌, arith, ℤ, add-one}
 use Rattle.std.specs.List.{list_all}
+use Rattle.std.proofs.lemmas.Bool.{and_from}
 use Rattle.qc_model.specs.Content.{Game}
 use Rattle.qc_model.specs.Domains.{Box, values_left, box_values, is_single, least_value}
-use Rattle.qc_model.proofs.Readable.{first, second, together}
+use Rattle.qc_model.proofs.Readable.{first, second}
 
 -- one more variable has one value left
 pub fixed_more : (box : Box) (x at : ℕ) → x ≤ at → at < length box → is_single (values_left box at) ≡ true → list_all is_single (drop x (take at box)) ≡ true → list_all is_single (drop x (take (at + 1) box)) ≡ true
@@ -12,9 +13,9 @@ fixed_more box x at l h s e = ap (λ n. list_all is_single (drop x (take n box))
   where
     go : (box : Box) (x at : ℕ) → x ≤ at → at < length box → is_single (values_left box at) ≡ true → list_all is_single (drop x (take at box)) ≡ true → list_all is_single (drop x (take (suc at) box)) ≡ true
     go [] x at l h s e = absurd (omega arith)
-    go (d ∷ box) zero zero l h s e = together (is_single d) true s refl
+    go (d ∷ box) zero zero l h s e = and_from (is_single d) true s refl
     go (d ∷ box) zero (suc at) l h s e =
-        together (is_single d) (list_all is_single (take (suc at) box)) (first (is_single d) (list_all is_single (take at box)) e)
+        and_from (is_single d) (list_all is_single (take (suc at) box)) (first (is_single d) (list_all is_single (take at box)) e)
         (go box zero at (omega arith) (omega arith) s (second (is_single d) (list_all is_single (take at box)) e))
     go (d ∷ box) (suc x) zero l h s e = absurd (omega arith)
     go (d ∷ box) (suc x) (suc at) l h s e = go box x at (omega arith) (omega arith) s e
@@ -31,7 +32,7 @@ fixed_both box zero n l e f = f
 fixed_both box (suc m) zero l e f = absurd (omega arith)
 fixed_both [] (suc m) (suc n) l e f = refl
 fixed_both (d ∷ box) (suc m) (suc n) l e f =
-    together (is_single d) (list_all is_single (take n box)) (first (is_single d) (list_all is_single (take m box)) e)
+    and_from (is_single d) (list_all is_single (take n box)) (first (is_single d) (list_all is_single (take m box)) e)
     (fixed_both box m n (omega arith) (second (is_single d) (list_all is_single (take m box)) e) f)
 
 pub fixed_fewer : (box : Box) (m n : ℕ) → m ≤ n → list_all is_single (take n box) ≡ true → list_all is_single (take m box) ≡ true
@@ -39,7 +40,7 @@ fixed_fewer box zero n l e = refl
 fixed_fewer box (suc m) zero l e = absurd (omega arith)
 fixed_fewer [] (suc m) (suc n) l e = refl
 fixed_fewer (d ∷ box) (suc m) (suc n) l e =
-    together (is_single d) (list_all is_single (take m box)) (first (is_single d) (list_all is_single (take n box)) e)
+    and_from (is_single d) (list_all is_single (take m box)) (first (is_single d) (list_all is_single (take n box)) e)
     (fixed_fewer box m n (omega arith) (second (is_single d) (list_all is_single (take n box)) e))
 
 tails : (u : ℤ) (us : List ℤ) (w : ℤ) (ws : List ℤ) → ◌≡◌ {A = List ℤ} (u ∷ us) (w ∷ ws) → (u ≡ w) × (us ≡ ws)

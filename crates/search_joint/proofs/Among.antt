@@ -5,9 +5,10 @@ use Rattle.std.specs.List.{list_all}
 use Rattle.std.specs.Ordering.{int_eq}
 use Rattle.std.proofs.lemmas.Int.{ints}
 use Rattle.std.proofs.lemmas.Bool.Decides.{nat_tests, Decides-int_eq}
+use Rattle.std.proofs.lemmas.Bool.{and_from, or_right}
 use Rattle.qc_model.specs.Domains.{Values, has_value, is_ascending, is_none_left, is_within, least_from, least_value, greatest_from, greatest_value, values_outside}
 use Rattle.qc_model.specs.Valid.{is_number}
-use Rattle.qc_model.proofs.Readable.{first, second, together}
+use Rattle.qc_model.proofs.Readable.{first, second}
 use Rattle.model_arguments.proofs.Values.{value_passes, above_first, ascending_rest, has_least}
 use Rattle.fd_store.specs.Held.{values_from, least_of}
 use Rattle.search_joint.specs.Narrowed.{AreAmong}
@@ -17,11 +18,6 @@ among_same vs ws e = record { each = λ v h. ap (λ us. has_value us v) (sym e) 
 
 pub among_more : (us vs ws : Values) → AreAmong us vs → AreAmong vs ws → AreAmong us ws
 among_more us vs ws p q = record { each = λ v h. q.each v (p.each v h) }
-
--- what stays of values that are filtered is one of them, and passes
-or_right : (a b : Bool) → b ≡ true → (a || b) ≡ true
-or_right true b h = refl
-or_right false b h = h
 
 pub kept_is : (p : ℤ → Bool) (vs : Values) (v : ℤ) → has_value (filter p vs) v ≡ true → (has_value vs v ≡ true) × (p v ≡ true)
 kept_is p [] v h = cc
@@ -77,8 +73,8 @@ each_least n (v ∷ vs) = by (int_lt v n) refl (each_least v vs) (each_least n v
     here e p = grind (arith, ints)
 
     by : (b : Bool) → int_lt v n ≡ b → list_all (int_le (least_from v vs)) vs ≡ true → list_all (int_le (least_from n vs)) vs ≡ true → list_all (int_le (least_from (cond b v n) vs)) (v ∷ vs) ≡ true
-    by true e p q = together (int_le (least_from v vs) v) (list_all (int_le (least_from v vs)) vs) (first_least v vs) p
-    by false e p q = together (int_le (least_from n vs) v) (list_all (int_le (least_from n vs)) vs) (here e (first_least n vs)) q
+    by true e p q = and_from (int_le (least_from v vs) v) (list_all (int_le (least_from v vs)) vs) (first_least v vs) p
+    by false e p q = and_from (int_le (least_from n vs) v) (list_all (int_le (least_from n vs)) vs) (here e (first_least n vs)) q
 
 each_greatest : (n : ℤ) (vs : Values) → list_all (λ v. int_le v (greatest_from n vs)) vs ≡ true
 each_greatest n [] = refl
@@ -88,18 +84,18 @@ each_greatest n (v ∷ vs) = by (int_lt n v) refl (each_greatest v vs) (each_gre
     here e p = grind (arith, ints)
 
     by : (b : Bool) → int_lt n v ≡ b → list_all (λ u. int_le u (greatest_from v vs)) vs ≡ true → list_all (λ u. int_le u (greatest_from n vs)) vs ≡ true → list_all (λ u. int_le u (greatest_from (cond b v n) vs)) (v ∷ vs) ≡ true
-    by true e p q = together (int_le v (greatest_from v vs)) (list_all (λ u. int_le u (greatest_from v vs)) vs) (first_greatest v vs) p
-    by false e p q = together (int_le v (greatest_from n vs)) (list_all (λ u. int_le u (greatest_from n vs)) vs) (here e (first_greatest n vs)) q
+    by true e p q = and_from (int_le v (greatest_from v vs)) (list_all (λ u. int_le u (greatest_from v vs)) vs) (first_greatest v vs) p
+    by false e p q = and_from (int_le v (greatest_from n vs)) (list_all (λ u. int_le u (greatest_from n vs)) vs) (here e (first_greatest n vs)) q
 
 pub above_least : (vs : Values) (v : ℤ) → has_value vs v ≡ true → int_le (least_value vs) v ≡ true
 above_least [] v h = cc
 above_least (w ∷ vs) v h =
-    value_passes (int_le (least_from w vs)) (w ∷ vs) v (together (int_le (least_from w vs) w) (list_all (int_le (least_from w vs)) vs) (first_least w vs) (each_least w vs)) h
+    value_passes (int_le (least_from w vs)) (w ∷ vs) v (and_from (int_le (least_from w vs) w) (list_all (int_le (least_from w vs)) vs) (first_least w vs) (each_least w vs)) h
 
 pub below_greatest : (vs : Values) (v : ℤ) → has_value vs v ≡ true → int_le v (greatest_value vs) ≡ true
 below_greatest [] v h = cc
 below_greatest (w ∷ vs) v h =
-    value_passes (λ u. int_le u (greatest_from w vs)) (w ∷ vs) v (together (int_le w (greatest_from w vs)) (list_all (λ u. int_le u (greatest_from w vs)) vs) (first_greatest w vs) (each_greatest w vs)) h
+    value_passes (λ u. int_le u (greatest_from w vs)) (w ∷ vs) v (and_from (int_le w (greatest_from w vs)) (list_all (λ u. int_le u (greatest_from w vs)) vs) (first_greatest w vs) (each_greatest w vs)) h
 
 -- values from a number on, where the least one is, and where what lies below is gone
 pub from_least : (vs : Values) (lo v : ℤ) → int_le lo (least_value vs) ≡ true → has_value vs v ≡ true → int_le lo v ≡ true

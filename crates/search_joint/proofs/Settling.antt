@@ -5,11 +5,11 @@ use Rattle.std.specs.List.{list_all}
 use Rattle.std.specs.Ordering.{int_eq}
 use Rattle.std.proofs.lemmas.Bool.Decides.{nat_tests}
 use Rattle.std.proofs.lemmas.List.{length-map}
+use Rattle.std.proofs.lemmas.Bool.{and_from, or_right}
 use Rattle.qc_model.specs.declared.problem.VarId.{VarId}
 use Rattle.qc_model.specs.Closed.{keeps_ends}
 use Rattle.qc_model.specs.Content.{Game}
 use Rattle.qc_model.specs.Domains.{Box, Values, declared_box, domain_values, values_left, has_empty, has_value, is_ascending, is_none_left, is_sub_box}
-use Rattle.qc_model.proofs.Readable.{together}
 use Rattle.model_arguments.specs.Asked.{is_box_of}
 use Rattle.model_arguments.proofs.Boxes.{some_left, sub_ascending, sub_length}
 use Rattle.model_arguments.proofs.Values.{has_first}
@@ -28,11 +28,6 @@ settled_same x changed box left large e a = record {
   same = λ n. ap (λ b. values_left b x) e;
   among = a;
 }
-
--- something was taken, and some is left
-or_right : (a b : Bool) → b ≡ true → (a || b) ≡ true
-or_right true b h = refl
-or_right false b h = h
 
 pub named_still : (xs : List VarId) (x : VarId) (y : ℕ) → names xs y ≡ true → names (xs ++ x ∷ []) y ≡ true
 named_still [] x y h = cc
@@ -148,15 +143,15 @@ all_settled at changed s t large l p = record {
 -- such a box lies within the other one
 all_of : (p : ℤ → Bool) (vs : Values) → ((v : ℤ) → has_value vs v ≡ true → p v ≡ true) → list_all p vs ≡ true
 all_of p [] f = refl
-all_of p (v ∷ vs) f = together (p v) (list_all p vs) (f v (has_first v vs)) (all_of p vs (λ w h. f w (or_right (int_eq w v) (has_value vs w) h)))
+all_of p (v ∷ vs) f = and_from (p v) (list_all p vs) (f v (has_first v vs)) (all_of p vs (λ w h. f w (or_right (int_eq w v) (has_value vs w) h)))
 
 pub sub_each : (left large : Box) → length left ≡ length large → ((y : ℕ) → is_ascending (values_left left y) ≡ true) → ((y : ℕ) → y < length left → AreAmong (values_left left y) (values_left large y)) → is_sub_box left large ≡ true
 sub_each [] [] n a f = refl
 sub_each [] (e ∷ es) n a f = absurd (omega (arith, n))
 sub_each (d ∷ ds) [] n a f = absurd (omega (arith, n))
 sub_each (d ∷ ds) (e ∷ es) n a f =
-    together (is_ascending d && list_all (has_value e) d) (is_sub_box ds es)
-    (together (is_ascending d) (list_all (has_value e) d) (a zero) (all_of (has_value e) d (f zero (omega arith)).each))
+    and_from (is_ascending d && list_all (has_value e) d) (is_sub_box ds es)
+    (and_from (is_ascending d) (list_all (has_value e) d) (a zero) (all_of (has_value e) d (f zero (omega arith)).each))
     (sub_each ds es (omega (arith, n)) (λ y. a (suc y)) (λ y l. f (suc y) (omega (arith, l))))
 
 pub settled_inside : (g : Game) (changed : List VarId) (box left large : Box) → is_sub_box left (declared_box g) ≡ true → length box ≡ length large → AreSettled changed box left large → is_sub_box left large ≡ true

@@ -5,6 +5,7 @@ use Rattle.std.specs.Ordering.{int_eq}
 use Rattle.std.specs.List.{list_all, list_any}
 use Rattle.std.proofs.lemmas.Int.{ints}
 use Rattle.std.proofs.lemmas.Bool.Decides.{Decides-int_eq}
+use Rattle.std.proofs.lemmas.Bool.{and_from, and_parts}
 use Rattle.qc_model.specs.declared.problem.Sense.{Sense}
 use Rattle.qc_model.specs.declared.problem.Sense.TheVariants.{Min, Max}
 use Rattle.qc_model.specs.declared.problem.Condition.{Condition}
@@ -18,19 +19,18 @@ use Rattle.proof_tree.specs.Incumbents.{has_no_worse}
 use Rattle.proof_tree.specs.Place.{Tracked}
 use Rattle.qc_model.specs.Domains.{Box, Values, values_left}
 use Rattle.search_parts.specs.Beaten.{is_beaten, are_beaten, AreAmong}
-use Rattle.search_parts.proofs.Bools.{two, both}
 
--- ---- tests that hold of each number of two lists
+-- ---- tests that hold of each number of and_from lists
 pub all_both : (p : ℤ → Bool) (ns ms : List ℤ) → list_all p ns ≡ true → list_all p ms ≡ true → list_all p (ns ++ ms) ≡ true
 all_both p [] ms h k = k
-all_both p (n ∷ ns) ms h k = let r = both (p n) (list_all p ns) h in two (p n) (list_all p (ns ++ ms)) r.0 (all_both p ns ms r.1 k)
+all_both p (n ∷ ns) ms h k = let r = and_parts (p n) (list_all p ns) h in and_from (p n) (list_all p (ns ++ ms)) r.0 (all_both p ns ms r.1 k)
 
 pub all_parts : (p : ℤ → Bool) (ns ms : List ℤ) → list_all p (ns ++ ms) ≡ true → (list_all p ns ≡ true) × (list_all p ms ≡ true)
 all_parts p [] ms h = (refl, h)
 all_parts p (n ∷ ns) ms h =
-    let r = both (p n) (list_all p (ns ++ ms)) h in
+    let r = and_parts (p n) (list_all p (ns ++ ms)) h in
     let q = all_parts p ns ms r.1 in
-    (two (p n) (list_all p ns) r.0 q.0, q.1)
+    (and_from (p n) (list_all p ns) r.0 q.0, q.1)
 
 -- ---- numbers among others
 pub among_none : (ms : List ℤ) → AreAmong [] ms
@@ -58,11 +58,11 @@ none_are p (n ∷ ns) h = by (p n) refl (none_are p ns) h
   where
     by : (b : Bool) → p n ≡ b → (list_any p ns ≡ false → list_all (λ m. not (p m)) ns ≡ true) → (b || list_any p ns) ≡ false → (not (p n) && list_all (λ m. not (p m)) ns) ≡ true
     by true e rest f = cc
-    by false e rest f = two (not (p n)) (list_all (λ m. not (p m)) ns) (ap not e) (rest f)
+    by false e rest f = and_from (not (p n)) (list_all (λ m. not (p m)) ns) (ap not e) (rest f)
 
 are_none : (p : ℤ → Bool) (ns : List ℤ) → list_all (λ n. not (p n)) ns ≡ true → list_any p ns ≡ false
 are_none p [] h = refl
-are_none p (n ∷ ns) h = let r = both (not (p n)) (list_all (λ m. not (p m)) ns) h in by (p n) r.0 (are_none p ns r.1)
+are_none p (n ∷ ns) h = let r = and_parts (not (p n)) (list_all (λ m. not (p m)) ns) h in by (p n) r.0 (are_none p ns r.1)
   where
     by : (b : Bool) → not b ≡ true → list_any p ns ≡ false → (b || list_any p ns) ≡ false
     by true q rest = cc
@@ -82,8 +82,8 @@ beaten_one (c ∷ d) ns ks m a h = any_among (λ n. beats c.sense (is_none_of d)
 pub beaten_among : (d : List Condition) (ns ks ms : List ℤ) → AreAmong ns ks → are_beaten d ns ms ≡ true → are_beaten d ks ms ≡ true
 beaten_among d ns ks [] a h = refl
 beaten_among d ns ks (m ∷ ms) a h =
-    let r = both (is_beaten d ns m) (are_beaten d ns ms) h in
-    two (is_beaten d ks m) (are_beaten d ks ms) (beaten_one d ns ks m a r.0) (beaten_among d ns ks ms a r.1)
+    let r = and_parts (is_beaten d ns m) (are_beaten d ns ms) h in
+    and_from (is_beaten d ks m) (are_beaten d ks ms) (beaten_one d ns ks m a r.0) (beaten_among d ns ks ms a r.1)
 
 -- without a list nothing is beaten, so there is no bound
 pub none_beaten : (ns ks ms : List ℤ) → are_beaten [] ns ms ≡ true → are_beaten [] ks ms ≡ true
@@ -131,19 +131,19 @@ worse_is_not Max n m e = by (int_lt m n) refl
     by false p = refl
 
 pub none_better : (s : Sense) (n : ℤ) (ns : List ℤ) → list_all (λ m. not (is_better s m (best_number_from s n ns))) (n ∷ ns) ≡ true
-none_better s n [] = two (not (is_better s n n)) true (not_itself s n) refl
+none_better s n [] = and_from (not (is_better s n n)) true (not_itself s n) refl
 none_better s n (m ∷ ns) = by (is_better s m n) refl (none_better s m ns) (none_better s n ns)
   where
     by : (b : Bool) → is_better s m n ≡ b → list_all (λ k. not (is_better s k (best_number_from s m ns))) (m ∷ ns) ≡ true → list_all (λ k. not (is_better s k (best_number_from s n ns))) (n ∷ ns) ≡ true →
         list_all (λ k. not (is_better s k (best_number_from s (cond b m n) ns))) (n ∷ m ∷ ns) ≡ true
     by true e f g =
         let best = best_number_from s m ns in
-        let r = both (not (is_better s m best)) (list_all (λ k. not (is_better s k best)) ns) f in
-        two (not (is_better s n best)) _ (no_better_through s n m best (worse_is_not s n m e) r.0) f
+        let r = and_parts (not (is_better s m best)) (list_all (λ k. not (is_better s k best)) ns) f in
+        and_from (not (is_better s n best)) _ (no_better_through s n m best (worse_is_not s n m e) r.0) f
     by false e f g =
         let best = best_number_from s n ns in
-        let r = both (not (is_better s n best)) (list_all (λ k. not (is_better s k best)) ns) g in
-        two (not (is_better s n best)) _ r.0 (two (not (is_better s m best)) _ (no_better_through s m n best e r.0) r.1)
+        let r = and_parts (not (is_better s n best)) (list_all (λ k. not (is_better s k best)) ns) g in
+        and_from (not (is_better s n best)) _ r.0 (and_from (not (is_better s m best)) _ (no_better_through s m n best e r.0) r.1)
 
 pub best_is_one : (p : ℤ → Bool) (s : Sense) (n : ℤ) (ns : List ℤ) → p (best_number_from s n ns) ≡ true → list_any p (n ∷ ns) ≡ true
 best_is_one p s n [] h = ap (λ b. b || false) h
@@ -210,7 +210,7 @@ beats_as_well Max a n b m e f = by (int_lt b n) (int_lt m n) (int_eq n m) (int_l
 one_beats : (s : Sense) (a : Bool) (b m : ℤ) (ns : List ℤ) → list_all (λ n. not (is_better s n b)) ns ≡ true → list_any (λ n. beats s a n m) ns ≡ true → beats s a b m ≡ true
 one_beats s a b m [] h k = cc
 one_beats s a b m (n ∷ ns) h k =
-    let r = both (not (is_better s n b)) (list_all (λ n. not (is_better s n b)) ns) h in
+    let r = and_parts (not (is_better s n b)) (list_all (λ n. not (is_better s n b)) ns) h in
     by (beats s a n m) refl k r.0 (one_beats s a b m ns r.1)
   where
     by : (t : Bool) → beats s a n m ≡ t → (t || list_any (λ n. beats s a n m) ns) ≡ true → not (is_better s n b) ≡ true → (list_any (λ n. beats s a n m) ns ≡ true → beats s a b m ≡ true) → beats s a b m ≡ true
@@ -222,8 +222,8 @@ pub best_beats : (c : Condition) (d : List Condition) (vs : List (List ℤ)) (ms
     list_all (beats c.sense (is_none_of d) (first_value (best_vector (c ∷ d) vs))) ms ≡ true
 best_beats c d vs [] l h = refl
 best_beats c d vs (m ∷ ms) l h =
-    let r = both (is_beaten (c ∷ d) (map first_value vs) m) (are_beaten (c ∷ d) (map first_value vs) ms) h in
-    two (beats c.sense (is_none_of d) (first_value (best_vector (c ∷ d) vs)) m) _
+    let r = and_parts (is_beaten (c ∷ d) (map first_value vs) m) (are_beaten (c ∷ d) (map first_value vs) ms) h in
+    and_from (beats c.sense (is_none_of d) (first_value (best_vector (c ∷ d) vs)) m) _
     (one_beats c.sense (is_none_of d) (first_value (best_vector (c ∷ d) vs)) m (map first_value vs) (none_beats_first c d vs l) r.0) (best_beats c d vs ms l r.1)
 
 -- a bound that is beaten is so by an exact leaf
@@ -241,8 +241,8 @@ no_worse_among (Some t) ns reached box a h = each (values_left box t.variable) h
     each : (vs : Values) → list_all (λ v. list_all (λ n. not (is_better t.sense n v)) ns) vs ≡ true → list_all (λ v. list_all (λ n. not (is_better t.sense n v)) reached) vs ≡ true
     each [] h = refl
     each (v ∷ vs) h =
-        let r = both (list_all (λ n. not (is_better t.sense n v)) ns) _ h in
-        two (list_all (λ n. not (is_better t.sense n v)) reached) _ (a (λ n. not (is_better t.sense n v)) r.0) (each vs r.1)
+        let r = and_parts (list_all (λ n. not (is_better t.sense n v)) ns) _ h in
+        and_from (list_all (λ n. not (is_better t.sense n v)) reached) _ (a (λ n. not (is_better t.sense n v)) r.0) (each vs r.1)
 
 -- before anything is reached
 pub no_worse_yet : (t : Option Tracked) (box : Box) → has_no_worse t [] box ≡ true

@@ -3,17 +3,6 @@ use Rattle.std.proofs.Common.{◌≡◌, ◌<◌, ℕ, Bool, true, false, not, �
 use Rattle.std.specs.Prelude.{nat_lt}
 use Rattle.std.proofs.lemmas.Bool.Decides.{nat_tests}
 
-pub two : (a b : Bool) → a ≡ true → b ≡ true → (a && b) ≡ true
-two true b h i = i
-two false b h i = cc
-
-pub both : (a b : Bool) → (a && b) ≡ true → (a ≡ true) × (b ≡ true)
-both true b e = (refl, e)
-both false b e = cc
-
-pub not_false : (a : Bool) → a ≡ false → not a ≡ true
-not_false a e = ap not e
-
 pub not_first : (a b : Bool) → a ≡ false → not (a && b) ≡ true
 not_first a b e = ap (λ c. not (c && b)) e
 

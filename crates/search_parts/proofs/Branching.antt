@@ -3,6 +3,7 @@ use Rattle.std.proofs.Common.{◌≡◌, ◌≤◌, ◌<◌, ◌+◌, inl, inr, 
 use Rattle.std.proofs.lemmas.List.{append-nil}
 use Rattle.std.specs.Prelude.{ℤ, ◌⊎◌, nat_lt}
 use Rattle.std.specs.List.{list_all, list_any}
+use Rattle.std.proofs.lemmas.Bool.{and_from, or_from}
 use Rattle.qc_model.specs.declared.problem.Condition.{Condition}
 use Rattle.qc_model.specs.declared.problem.Scope.{Scope}
 use Rattle.qc_model.specs.Content.{Game}
@@ -32,8 +33,8 @@ use Rattle.joins.specs.Verdicts.{scope_wishes}
 use Rattle.search_parts.specs.Beaten.{firsts, seen_bounds, is_beaten, are_beaten, AreAmong}
 use Rattle.search_parts.specs.Settled.{is_settled, is_ended}
 use Rattle.search_parts.specs.Made.{CasesMade, PartMade}
-use Rattle.search_parts.proofs.Bools.{two, not_first, not_second, is_below, none_below}
-use Rattle.search_parts.proofs.Joining.{seen-append, open-append, any_leaf, or_none}
+use Rattle.search_parts.proofs.Bools.{not_first, not_second, is_below, none_below}
+use Rattle.search_parts.proofs.Joining.{seen-append, open-append, any_leaf}
 use Rattle.search_parts.proofs.Outdone.{ended_first, not_ended}
 use Rattle.search_parts.proofs.Beating.{all_both, among_self, among_more, among_join, among_as, beaten_among}
 use Rattle.search_parts.proofs.Marks.{firsts-append, firsts_marks, bounds-append}
@@ -103,13 +104,13 @@ module _ (cuts : Bool) (above : ℤ → Bool) (g : Game) (later : List Scope) (i
       let known : firsts (before ++ (seen ++ rest)) ≡ firsts (before ++ seen) ++ firsts rest = ap firsts (sym (append_assoc before seen rest)) ∙ firsts-append (before ++ seen) rest in
       let among = among_as (firsts (before ++ seen)) (firsts (before ++ seen) ++ firsts rest) (firsts (before ++ (seen ++ rest))) (sym known) (among_more (firsts (before ++ seen)) (firsts (before ++ seen)) (firsts rest) (among_self (firsts (before ++ seen)))) in
       record {
-        placed = two _ _ (two _ _ (two _ _ (is_below 1 (length (values_left box x)) many) p.stepped.legal) m.placed) r.placed;
+        placed = and_from _ _ (and_from _ _ (and_from _ _ (is_below 1 (length (values_left box x)) many) p.stepped.legal) m.placed) r.placed;
         says = ap (λ xs. xs ++ rest) says ∙ (ap (λ xs. map seen_of ls ++ xs) r.says ∙ sym (seen-append ls others));
-        settled = two _ _ (two _ _ m.settled (stops (Settled seen) refl ls says r.rests)) r.settled;
-        lasts = two _ _ (two _ _ (closed m.opens m.spent r.spent) m.lasts) r.lasts;
-        ones = two _ _ (two _ _ refl m.ones) r.ones;
-        apart = two _ _ (two _ _ (go_apart None steps e bs) m.apart) r.apart;
-        fits = two _ _ (two _ _ p.stepped.fits m.fits) r.fits;
+        settled = and_from _ _ (and_from _ _ m.settled (stops (Settled seen) refl ls says r.rests)) r.settled;
+        lasts = and_from _ _ (and_from _ _ (closed m.opens m.spent r.spent) m.lasts) r.lasts;
+        ones = and_from _ _ (and_from _ _ refl m.ones) r.ones;
+        apart = and_from _ _ (and_from _ _ (go_apart None steps e bs) m.apart) r.apart;
+        fits = and_from _ _ (and_from _ _ p.stepped.fits m.fits) r.fits;
         spent = omega (arith, m.spent, r.spent);
         exact = λ f. let a = m.exact f in let b = r.exact f in omega (arith, a, b);
         opens = either m.opens r.opens m.spent r.spent;
@@ -117,7 +118,7 @@ module _ (cuts : Bool) (above : ℤ → Bool) (g : Game) (later : List Scope) (i
             let after : Ended ((before ++ seen) ++ rest) ≡ false = ap Ended joined ∙ q in
             let here : Ended ((before ++ seen_bounds ms) ++ p.last) ≡ false = ap Ended whole ∙ not_ended above later (list_after g later d) (before ++ seen) rest after in
             open-append seen rest
-            ∙ or_none (some_open seen) (some_open rest) (part_open cuts above g later i d at h before ms seen had left steps e p ∙ m.gap (omega (arith, o)) here) (r.gap (omega (arith, o)) after);
+            ∙ or_from (some_open seen) (some_open rest) (part_open cuts above g later i d at h before ms seen had left steps e p ∙ m.gap (omega (arith, o)) here) (r.gap (omega (arith, o)) after);
         skips = λ f. skipped (skips e) f (λ u. ap Ended (sym whole) ∙ m.skips u) (λ u. ap Ended (sym joined) ∙ r.skips u);
         rests = λ f. cc;
         beaten = λ o.
@@ -128,10 +129,10 @@ module _ (cuts : Bool) (above : ℤ → Bool) (g : Game) (later : List Scope) (i
             let own : firsts seen ≡ first_values ls = ap firsts says in
             let here = m.keeps reached (among_as reached (firsts before) (firsts (before ++ seen_bounds ms)) (sym (firsts_marks before ms)) a) in
             let after = r.keeps (reached ++ firsts seen) (among_as (reached ++ firsts seen) (firsts before ++ firsts seen) (firsts (before ++ seen)) (sym (firsts-append before seen)) (among_join reached (firsts seen) (firsts before) a)) in
-            two _ _ here (subst (λ ns. branches_keep g bs x vs later i d box (reached ++ ns) ≡ true) own after);
+            and_from _ _ here (subst (λ ns. branches_keep g bs x vs later i d box (reached ++ ns) ≡ true) own after);
         long = long_join (demands g (suc i)) seen rest (part_long cuts above g later i d at h before ms seen had left steps e p) r.long;
         sizes = subst (λ n. HasSizes n (seen ++ rest)) (regroup (ending_turns e) (branch_turns bs)) (sizes_both (2 * suc (ending_turns e)) (2 * branch_turns bs) seen rest (part_sizes cuts above g later i d at h before ms seen had left steps e p) r.sizes);
-        closed = two _ _ m.closed r.closed;
+        closed = and_from _ _ m.closed r.closed;
         foreseen = (m.foreseen, r.foreseen);
       }
     where
@@ -163,13 +164,13 @@ module _ (cuts : Bool) (above : ℤ → Bool) (g : Game) (later : List Scope) (i
   -- the cases after which no further leaf counts
   pub skip_made : (was : Bool) (v : ℤ) (vs : Values) (before : List Seen) (had : ℕ) → Ended before ≡ true → upto_fits Two (upto_all (v ∷ vs)) ≡ true → AreMade (v ∷ vs) was before (seen_skipped ∷ []) had had (piece (upto_all (v ∷ vs)) skip no_more)
   skip_made was v vs before had e q = record {
-    placed = two _ _ (two _ _ (covers_all v vs).is_case refl) (left_none v vs);
+    placed = and_from _ _ (and_from _ _ (covers_all v vs).is_case refl) (left_none v vs);
     says = refl;
     settled = refl;
     lasts = refl;
     ones = refl;
     apart = refl;
-    fits = two _ _ (two _ _ q refl) refl;
+    fits = and_from _ _ (and_from _ _ q refl) refl;
     spent = omega arith;
     exact = λ f. omega arith;
     opens = inl refl;
@@ -187,13 +188,13 @@ module _ (cuts : Bool) (above : ℤ → Bool) (g : Game) (later : List Scope) (i
   -- the cases that are left open
   pub open_made : (was : Bool) (v : ℤ) (vs : Values) (before : List Seen) (had : ℕ) → had ≡ 0 → upto_fits Two (upto_all (v ∷ vs)) ≡ true → AreMade (v ∷ vs) was before (seen_skipped ∷ []) had had (piece (upto_all (v ∷ vs)) left_open no_more)
   open_made was v vs before had e q = record {
-    placed = two _ _ (two _ _ (covers_all v vs).is_case refl) (left_none v vs);
+    placed = and_from _ _ (and_from _ _ (covers_all v vs).is_case refl) (left_none v vs);
     says = refl;
     settled = refl;
     lasts = refl;
     ones = refl;
     apart = refl;
-    fits = two _ _ (two _ _ q refl) refl;
+    fits = and_from _ _ (and_from _ _ q refl) refl;
     spent = omega arith;
     exact = λ f. omega arith;
     opens = inr e;
@@ -216,13 +217,13 @@ module _ (cuts : Bool) (above : ℤ → Bool) (g : Game) (later : List Scope) (i
       let same : firsts skipped ≡ firsts before = firsts-append before (seen_skipped ∷ []) ∙ append-nil (firsts before) in
       let r = subst (λ us. AreMade us false skipped seen had left bs) (sym there) m in
       record {
-        placed = two _ _ (two _ _ case refl) r.placed;
+        placed = and_from _ _ (and_from _ _ case refl) r.placed;
         says = ap (λ xs. seen_skipped ∷ xs) r.says;
-        settled = two _ _ (two _ _ refl (not_second (has_go bs) _ refl)) r.settled;
-        lasts = two _ _ (two _ _ refl refl) r.lasts;
-        ones = two _ _ (two _ _ refl refl) r.ones;
-        apart = two _ _ (two _ _ apart refl) r.apart;
-        fits = two _ _ (two _ _ (upper_fits u vs numbers case) refl) r.fits;
+        settled = and_from _ _ (and_from _ _ refl (not_second (has_go bs) _ refl)) r.settled;
+        lasts = and_from _ _ (and_from _ _ refl refl) r.lasts;
+        ones = and_from _ _ (and_from _ _ refl refl) r.ones;
+        apart = and_from _ _ (and_from _ _ apart refl) r.apart;
+        fits = and_from _ _ (and_from _ _ (upper_fits u vs numbers case) refl) r.fits;
         spent = omega (arith, r.spent);
         exact = λ f. let a = r.exact f in omega (arith, a);
         opens = also r.opens;
@@ -233,7 +234,7 @@ module _ (cuts : Bool) (above : ℤ → Bool) (g : Game) (later : List Scope) (i
         keeps = λ reached a. r.keeps (reached ++ []) (subst (λ ns. AreAmong ns (firsts skipped)) (sym (append-nil reached)) (among_as reached (firsts before) (firsts skipped) (sym same) a));
         long = r.long;
         sizes = subst (λ n. HasSizes n (seen_skipped ∷ seen)) (no_turn (branch_turns bs)) (sizes_both 0 (2 * branch_turns bs) (seen_skipped ∷ []) seen (sizes_skipped 0) r.sizes);
-        closed = two _ _ refl r.closed;
+        closed = and_from _ _ refl r.closed;
         foreseen = (tt, r.foreseen);
       }
     where

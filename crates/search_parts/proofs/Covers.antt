@@ -5,12 +5,13 @@ use Rattle.std.specs.Ordering.{int_eq}
 use Rattle.std.specs.List.{list_any}
 use Rattle.std.proofs.lemmas.Int.{ints}
 use Rattle.std.proofs.lemmas.Bool.Decides.{Decides-int_eq}
+use Rattle.std.proofs.lemmas.Bool.{and_from}
 use Rattle.qc_model.specs.Lists.{Among}
 use Rattle.qc_model.specs.Domains.{Values, has_value, greatest_value, greatest_from}
 use Rattle.qc_model.proofs.Sound.{hi_of}
 use Rattle.proof_tree.specs.Cover.{is_cover, uncovered}
 use Rattle.search_parts.specs.Uppers.{upto_all}
-use Rattle.search_parts.proofs.Bools.{two, is_below}
+use Rattle.search_parts.proofs.Bools.{is_below}
 
 greatest_item : (n : ℤ) (d : Values) → Among (greatest_from n d) (n ∷ d)
 greatest_item n [] = inl refl
@@ -56,6 +57,6 @@ covers_all v (w ∷ vs) =
     let d = v ∷ w ∷ vs in
     let whole = all_up_to (greatest_value d) d (λ u h. hi_of u d h) in
     record {
-      is_case = two _ _ (has_item (greatest_value d) d (greatest_item v (w ∷ vs))) (ap (λ es. nat_lt 1 (length es)) whole ∙ is_below 1 (length d) (omega arith));
+      is_case = and_from _ _ (has_item (greatest_value d) d (greatest_item v (w ∷ vs))) (ap (λ es. nat_lt 1 (length es)) whole ∙ is_below 1 (length d) (omega arith));
       leaves_none = ap (λ es. drop (length es) d) whole ∙ all_dropped d;
     }

@@ -2,6 +2,7 @@
 use Rattle.std.proofs.Common.{◌≡◌, ◌≤◌, Some, inl, ℕ, suc, Bool, true, false, not, ◌&&◌, List, [], ◌∷◌, refl, sym, ap, subst, ◌∙◌, arith, Option, None, ◌++◌, ◌*◌, ℤ}
 use Rattle.std.specs.Prelude.{◌==◌, nat_le}
 use Rattle.std.proofs.lemmas.Bool.Decides.{nat_tests}
+use Rattle.std.proofs.lemmas.Bool.{and_from, not_from_false, or_from}
 use Rattle.qc_model.specs.declared.problem.Condition.{Condition}
 use Rattle.qc_model.specs.declared.problem.Scope.{Scope}
 use Rattle.qc_model.specs.declared.problem.VarId.{VarId}
@@ -34,9 +35,8 @@ use Rattle.search_parts.specs.Beaten.{firsts, seen_bounds, is_beaten, are_beaten
 use Rattle.search_parts.specs.Own.{IsOwnSized}
 use Rattle.search_parts.specs.Settled.{is_ended, is_vague_verdict}
 use Rattle.search_parts.specs.Made.{NodeMade, EndingMade, PartMade, BoundedMade, CasesMade}
-use Rattle.search_parts.proofs.Bools.{two, not_false}
 use Rattle.search_parts.proofs.Beating.{among_none, among_self, among_more, among_as, beaten_among, no_worse_among}
-use Rattle.search_parts.proofs.Joining.{verdict_so, not_unknown, or_none}
+use Rattle.search_parts.proofs.Joining.{verdict_so, not_unknown}
 use Rattle.search_parts.proofs.Marks.{firsts-append}
 use Rattle.search_parts.specs.Bounded.{Outdoes}
 use Rattle.search_parts.proofs.Outdone.{ended_sure, decided}
@@ -58,7 +58,7 @@ bound_beaten w before lost e = refl
 bound_beaten w before (exact v) e = refl
 bound_beaten w before (at_most p) e =
     let more = among_as (firsts before) (firsts before ++ []) (firsts (before ++ seen_node (at_most p) ∷ [])) (sym (firsts-append before (seen_node (at_most p) ∷ []))) (among_more (firsts before) (firsts before) [] (among_self (firsts before))) in
-    beaten_among w (firsts before) (firsts (before ++ seen_node (at_most p) ∷ [])) (p ∷ []) more (two _ _ (unnot (is_beaten w (firsts before) p) e) refl)
+    beaten_among w (firsts before) (firsts (before ++ seen_node (at_most p) ∷ [])) (p ∷ []) more (and_from _ _ (unnot (is_beaten w (firsts before) p) e) refl)
   where
     unnot : (b : Bool) → not b ≡ false → b ≡ true
     unnot true e = refl
@@ -68,7 +68,7 @@ bound_beaten w before unknown e = cc
 pub goal_made : (cuts : Bool) (above : ℤ → Bool) (g : Game) (i : ℕ) (d : List Condition) (box : Box) (h : Option ℕ) (had : ℕ) (v : Verdict) → is_horizon h i ≡ false → goal_verdict g (allows g i (position g i box)) d (position g i box) ≡ v →
     IsLong g i v → IsSized 1 v → NodeMade cuts above g [] i d box h v had had (tree None goal)
 goal_made cuts above g i d box h had v f e long sized = record {
-  placed = two _ _ (not_false (is_horizon h i) f) refl;
+  placed = and_from _ _ (not_from_false (is_horizon h i) f) refl;
   verdict = e;
   settled = refl;
   lasts = refl;
@@ -104,13 +104,13 @@ module _ (cuts : Bool) (above : ℤ → Bool) (g : Game) (later : List Scope) (i
       let shown : (read g (tree None (cases steps e)) later i d box).verdict ≡ scope_verdict later g d a seen =
       verdict_so g later i d a (lm ++ ls) ∙ ap (scope_verdict later g d a) (sym (bounded_says cuts above g later i d box h [] ms seen had left steps e p)) in
       record {
-        placed = two _ _ (two _ _ (two _ _ (not_false (is_horizon h i) f) (not_false (is_goal later) scope)) p.stepped.legal) m.placed;
+        placed = and_from _ _ (and_from _ _ (and_from _ _ (not_from_false (is_horizon h i) f) (not_from_false (is_goal later) scope)) p.stepped.legal) m.placed;
         verdict = shown ∙ comes;
-        settled = two _ _ (ap (λ u. not (skips e && is_unknown u)) shown ∙ by (skips e) (λ q. ap (is_ended above later (list_after g later d)) p.both ∙ m.skips q)) m.settled;
+        settled = and_from _ _ (ap (λ u. not (skips e && is_unknown u)) shown ∙ by (skips e) (λ q. ap (is_ended above later (list_after g later d)) p.both ∙ m.skips q)) m.settled;
         lasts = m.lasts;
         ones = m.ones;
         apart = m.apart;
-        fits = two _ _ p.stepped.fits m.fits;
+        fits = and_from _ _ p.stepped.fits m.fits;
         spent = m.spent;
         exact = m.exact;
         opens = m.opens;
@@ -139,13 +139,13 @@ module _ (cuts : Bool) (above : ℤ → Bool) (g : Game) (later : List Scope) (i
   pub horizon_made : (z : Option Horizon) (c : Body) (box : Box) (v : Verdict) (had left : ℕ) → horizon_in_place g z later i box h ≡ true → horizon_fits z ≡ true → NodeMade cuts above g later i d box (horizon_below z h) v had left (tree None c) →
       NodeMade cuts above g later i d box h v had left (tree z c)
   horizon_made z c box v had left f q m = record {
-    placed = two _ _ f m.placed;
+    placed = and_from _ _ f m.placed;
     verdict = m.verdict;
     settled = m.settled;
     lasts = m.lasts;
     ones = m.ones;
     apart = m.apart;
-    fits = two _ _ q m.fits;
+    fits = and_from _ _ q m.fits;
     spent = m.spent;
     exact = m.exact;
     opens = m.opens;
@@ -208,7 +208,7 @@ module _ (cuts : Bool) (above : ℤ → Bool) (g : Game) (later : List Scope) (i
   pub barred_made : (box : Box) (before : List Seen) (had : ℕ) → has_empty box ≡ false → is_fixed g i box ≡ true → allows g i (position g (suc i) box) ≡ false →
       EndingMade cuts above g later i d box h before (seen_barred ∷ []) had had barred
   barred_made box before had full fixed refused = record {
-    placed = two _ _ (two _ _ (not_false (has_empty box) full) fixed) (not_false (allows g i (position g (suc i) box)) refused);
+    placed = and_from _ _ (and_from _ _ (not_from_false (has_empty box) full) fixed) (not_from_false (allows g i (position g (suc i) box)) refused);
     says = refl;
     settled = refl;
     lasts = refl;
@@ -233,7 +233,7 @@ module _ (cuts : Bool) (above : ℤ → Bool) (g : Game) (later : List Scope) (i
       has_no_worse (tracked_variable g later i (list_after g later d)) (firsts before) box ≡ true → NodeMade cuts (is_beaten (scope_wishes later g d) (firsts before)) g (next_scopes later) (suc i) (list_after g later d) box h v had left t →
       EndingMade cuts above g later i d box h before (seen_node v ∷ []) had left (next t)
   next_made box before v had left t full fixed passes worse m = record {
-    placed = two _ _ (two _ _ (two _ _ (not_false (has_empty box) full) fixed) passes) m.placed;
+    placed = and_from _ _ (and_from _ _ (and_from _ _ (not_from_false (has_empty box) full) fixed) passes) m.placed;
     says = ap (λ u. seen_node u ∷ []) (sym m.verdict);
     settled = m.settled;
     lasts = m.lasts;
@@ -243,10 +243,10 @@ module _ (cuts : Bool) (above : ℤ → Bool) (g : Game) (later : List Scope) (i
     spent = m.spent;
     exact = m.exact;
     opens = m.opens;
-    gap = λ o q. or_none (is_unknown v) false (not_unknown (is_beaten (scope_wishes later g d) (firsts before)) v (m.gap o)) refl;
+    gap = λ o q. or_from (is_unknown v) false (not_unknown (is_beaten (scope_wishes later g d) (firsts before)) v (m.gap o)) refl;
     skips = λ e. cc;
     beaten = λ o. bound_beaten (scope_wishes later g d) before v (m.gap o);
-    keeps = λ reached a. two _ _ (no_worse_among (tracked_variable g later i (list_after g later d)) (firsts before) reached box a worse) m.keeps;
+    keeps = λ reached a. and_from _ _ (no_worse_among (tracked_variable g later i (list_after g later d)) (firsts before) reached box a worse) m.keeps;
     long = (m.long, tt);
     sizes = sizes_of (suc (2 * turns_of t)) v m.sized;
     closed = m.closed;
@@ -258,23 +258,23 @@ module _ (cuts : Bool) (above : ℤ → Bool) (g : Game) (later : List Scope) (i
       is_closed (constraints_in_force g later i) box ≡ true → is_fixed_to g i x.0 box ≡ true →
       has_no_worse (tracked_variable g later i (list_after g later d)) (firsts before) box ≡ true → CasesMade cuts above g later i d box h x.0 (values_left box x.0) false before seen had left bs → EndingMade cuts above g later i d box h before seen had left (branch x bs)
   branch_made box x before seen had left bs full own many place closed earlier worse m = record {
-    placed = two _ _ (two _ _ (two _ _ (not_false (has_empty box) full) own) (not_false (is_single (values_left box x.0)) many)) m.placed;
+    placed = and_from _ _ (and_from _ _ (and_from _ _ (not_from_false (has_empty box) full) own) (not_from_false (is_single (values_left box x.0)) many)) m.placed;
     says = m.says;
     settled = m.settled;
     lasts = m.lasts;
     ones = m.ones;
     apart = m.apart;
-    fits = two _ _ place m.fits;
+    fits = and_from _ _ place m.fits;
     spent = m.spent;
     exact = m.exact;
     opens = m.opens;
     gap = m.gap;
     skips = m.skips;
     beaten = m.beaten;
-    keeps = λ reached a. two _ _ (no_worse_among (tracked_variable g later i (list_after g later d)) (firsts before) reached box a worse) (m.keeps reached a);
+    keeps = λ reached a. and_from _ _ (no_worse_among (tracked_variable g later i (list_after g later d)) (firsts before) reached box a worse) (m.keeps reached a);
     long = m.long;
     sizes = sizes_more (2 * branch_turns bs) (suc (2 * branch_turns bs)) seen (omega arith) m.sizes;
-    closed = two _ _ (two _ _ closed earlier) m.closed;
+    closed = and_from _ _ (and_from _ _ closed earlier) m.closed;
     foreseen = m.foreseen;
   }
 

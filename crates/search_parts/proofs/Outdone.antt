@@ -5,6 +5,7 @@ use Rattle.std.specs.Prelude.{int_lt, slice_get}
 use Rattle.std.specs.Int.{int_min, int_max}
 use Rattle.std.specs.List.{list_any}
 use Rattle.std.proofs.lemmas.Int.{ints, clamps}
+use Rattle.std.proofs.lemmas.Bool.{or_parts, or_left, or_right}
 use Rattle.qc_model.specs.declared.problem.Aggregate.{Aggregate}
 use Rattle.qc_model.specs.declared.problem.Condition.{Condition}
 use Rattle.qc_model.specs.declared.problem.Fold.{Fold}
@@ -32,7 +33,7 @@ use Rattle.proof_tree.specs.Place.{is_goal, list_after}
 use Rattle.search_parts.specs.Beaten.{firsts, are_beaten}
 use Rattle.search_parts.specs.Bounded.{is_fold_bounded, is_target_bounded, is_list_bounded, is_bounded, Outdoes}
 use Rattle.search_parts.specs.Settled.{is_settled, is_outdone, is_ended, is_vague_verdict}
-use Rattle.search_parts.proofs.Joining.{neither, or_first, or_second, settled-append, settled_is, settled_known, known, not_unknown}
+use Rattle.search_parts.proofs.Joining.{settled-append, settled_is, settled_known, known, not_unknown}
 
 -- ---- put together
 known-append : (xs ys : List Seen) → known_numbers (xs ++ ys) ≡ known_numbers xs ++ known_numbers ys
@@ -69,13 +70,13 @@ module _ (above : ℤ → Bool) (later : List Scope) (d : List Condition) where
 
   -- more leaves leave it so
   pub ended_first : (xs ys : List Seen) → is_ended above later d xs ≡ true → is_ended above later d (xs ++ ys) ≡ true
-  ended_first xs ys e = ended-append xs ys ∙ or_first (is_ended above later d xs) (is_ended above later d ys) e
+  ended_first xs ys e = ended-append xs ys ∙ or_left (is_ended above later d xs) (is_ended above later d ys) e
 
   pub ended_last : (xs ys : List Seen) → is_settled later d ys ≡ true → is_ended above later d (xs ++ ys) ≡ true
-  ended_last xs ys e = ended-append xs ys ∙ or_second (is_ended above later d xs) (is_ended above later d ys) (or_first (is_settled later d ys) (is_outdone above ys) e)
+  ended_last xs ys e = ended-append xs ys ∙ or_right (is_ended above later d xs) (is_ended above later d ys) (or_left (is_settled later d ys) (is_outdone above ys) e)
 
   pub not_ended : (xs ys : List Seen) → is_ended above later d (xs ++ ys) ≡ false → is_ended above later d xs ≡ false
-  not_ended xs ys e = (neither (is_ended above later d xs) (is_ended above later d ys) (sym (ended-append xs ys) ∙ e)).0
+  not_ended xs ys e = (or_parts (is_ended above later d xs) (is_ended above later d ys) (sym (ended-append xs ys) ∙ e)).0
 
 -- ---- what an outdone scope comes to
 -- what follows of each number that passes the test
@@ -140,7 +141,7 @@ least_too p worse n (m ∷ ms) h = by (p n) refl h (least_too p worse m ms)
     by true e q rest = worse n (int_min n (range_from m ms).from) e (not_below n (range_from m ms).from)
     by false e q rest = worse (range_from m ms).from (int_min n (range_from m ms).from) (rest q) (not_below_second n (range_from m ms).from)
 
--- a universal scope that is neither lost nor exact comes to a bound that is beaten, whether a number of each branch is known or
+-- a universal scope that is or_parts lost nor exact comes to a bound that is beaten, whether a number of each branch is known or
 -- of some alone
 module _ (above : ℤ → Bool) (any_lost all_exact all_known : Bool) (v : List ℤ) where
   tests : (b : ℤ) → above b ≡ true → is_vague_verdict above (cond any_lost lost (cond all_exact (exact v) (cond all_known (at_most b) (at_most b)))) ≡ false
@@ -215,20 +216,20 @@ pub record IsOne (bounded : Bool) (ns : List ℤ) (b : ℤ) : Type 0 where
   pub one : (p : ℤ → Bool) → p b ≡ true → list_any p ns ≡ true
 
 greatest_is_one : (p : ℤ → Bool) (n : ℤ) (ns : List ℤ) → p (range_from n ns).to ≡ true → list_any p (n ∷ ns) ≡ true
-greatest_is_one p n [] h = or_first (p n) false h
+greatest_is_one p n [] h = or_left (p n) false h
 greatest_is_one p n (m ∷ ms) h = by (int_lt (range_from m ms).to n) h (greatest_is_one p m ms)
   where
     by : (b : Bool) → p (cond b n (range_from m ms).to) ≡ true → (p (range_from m ms).to ≡ true → list_any p (m ∷ ms) ≡ true) → list_any p (n ∷ m ∷ ms) ≡ true
-    by true e rest = or_first (p n) (list_any p (m ∷ ms)) e
-    by false e rest = or_second (p n) (list_any p (m ∷ ms)) (rest e)
+    by true e rest = or_left (p n) (list_any p (m ∷ ms)) e
+    by false e rest = or_right (p n) (list_any p (m ∷ ms)) (rest e)
 
 least_is_one : (p : ℤ → Bool) (n : ℤ) (ns : List ℤ) → p (range_from n ns).from ≡ true → list_any p (n ∷ ns) ≡ true
-least_is_one p n [] h = or_first (p n) false h
+least_is_one p n [] h = or_left (p n) false h
 least_is_one p n (m ∷ ms) h = by (int_lt (range_from m ms).from n) h (least_is_one p m ms)
   where
     by : (b : Bool) → p (cond b (range_from m ms).from n) ≡ true → (p (range_from m ms).from ≡ true → list_any p (m ∷ ms) ≡ true) → list_any p (n ∷ m ∷ ms) ≡ true
-    by true e rest = or_second (p n) (list_any p (m ∷ ms)) (rest e)
-    by false e rest = or_first (p n) (list_any p (m ∷ ms)) e
+    by true e rest = or_right (p n) (list_any p (m ∷ ms)) (rest e)
+    by false e rest = or_left (p n) (list_any p (m ∷ ms)) e
 
 some_is : (x b : ℤ) → Some x ≡ Some b → x ≡ b
 some_is x b e = cc

@@ -1,7 +1,7 @@
 -- Boxes in which a variable is given a domain, and their empty domains.
 use Rattle.std.proofs.Common.{◌≡◌, ℕ, zero, suc, ◌<◌, Bool, true, false, ◌||◌, [], ◌∷◌, length, set, refl, ap, ◌∙◌, arith, ℤ}
+use Rattle.std.proofs.lemmas.Bool.{or_left, or_right, or_from, or_parts}
 use Rattle.qc_model.specs.Domains.{Values, Box, values_left, values_outside, is_none_left, has_empty}
-use Rattle.model_arguments.proofs.Bools.{or_left, or_right, or_none, neither}
 
 -- a domain that is given to x in both
 pub set_both : (a b : Box) (x y : ℕ) (us : Values) → length a ≡ length b → values_left a y ≡ values_left b y → values_left (set a x us) y ≡ values_left (set b x us) y
@@ -50,21 +50,21 @@ all_full [] [] l f e = e
 all_full [] (d ∷ b) l f e = cc
 all_full (c ∷ a) [] l f e = cc
 all_full (c ∷ a) (d ∷ b) l f e =
-    let p = neither (is_none_left c) (has_empty a) e in
-    or_none (is_none_left d) (has_empty b) (f 0 p.0) (all_full a b (omega (arith, l)) (λ x. f (suc x)) p.1)
+    let p = or_parts (is_none_left c) (has_empty a) e in
+    or_from (is_none_left d) (has_empty b) (f 0 p.0) (all_full a b (omega (arith, l)) (λ x. f (suc x)) p.1)
 
 -- where a domain becomes empty it is that of the variable that was given one
 pub now_empty : (a : Box) (x : ℕ) (us : Values) → has_empty a ≡ false → has_empty (set a x us) ≡ true → (x < length (set a x us)) × (is_none_left (values_left (set a x us) x) ≡ true)
 now_empty [] x us h e = cc
 now_empty (d ∷ a) zero us h e =
-    let p = neither (is_none_left d) (has_empty a) h in
+    let p = or_parts (is_none_left d) (has_empty a) h in
     (omega arith, left (is_none_left us) (has_empty a) p.1 e)
   where
     left : (p q : Bool) → q ≡ false → (p || q) ≡ true → p ≡ true
     left true q n e = refl
     left false q n e = cc
 now_empty (d ∷ a) (suc x) us h e =
-    let p = neither (is_none_left d) (has_empty a) h in
+    let p = or_parts (is_none_left d) (has_empty a) h in
     let r = now_empty a x us p.1 (right (is_none_left d) (has_empty (set a x us)) p.0 e) in
     (more x (length (set a x us)) r.0, r.1)
   where

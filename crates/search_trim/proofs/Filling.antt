@@ -3,6 +3,7 @@ use Rattle.std.proofs.Common.{◌≡◌, ℕ, Bool, true, false, ◌&&◌, List,
 use Rattle.std.specs.Prelude.{flat_map}
 use Rattle.std.specs.List.{list_all}
 use Rattle.std.proofs.lemmas.List.Folds.{list_all-append}
+use Rattle.std.proofs.lemmas.Bool.{and_parts}
 use Rattle.qc_model.specs.declared.problem.VarId.{VarId}
 use Rattle.qc_model.specs.declared.problem.Arg.{Arg}
 use Rattle.qc_model.specs.declared.problem.Arg.TheVariants.{Var, Num}
@@ -10,20 +11,12 @@ use Rattle.qc_model.specs.declared.problem.Argument.{Argument}
 use Rattle.qc_model.specs.declared.problem.Argument.TheVariants.{One, Many, Numbers, Members}
 use Rattle.qc_model.specs.Arguments.{arg_variables, argument_variables, variables_of, filled_one, filled_many, fill}
 
-pub both : (a b : Bool) → (a && b) ≡ true → (a ≡ true) × (b ≡ true)
-both true b e = (refl, e)
-both false b e = cc
-
-pub join : (a b : Bool) → a ≡ true → b ≡ true → (a && b) ≡ true
-join true b h k = k
-join false b h k = cc
-
 split : (p : ℕ → Bool) (xs ys : List ℕ) → list_all p (xs ++ ys) ≡ true → (list_all p xs ≡ true) × (list_all p ys ≡ true)
-split p xs ys e = both (list_all p xs) (list_all p ys) (sym (list_all-append p xs ys) ∙ e)
+split p xs ys e = and_parts (list_all p xs) (list_all p ys) (sym (list_all-append p xs ys) ∙ e)
 
 module _ {X : Type 0} (f h : Arg → X) (wanted : ℕ → Bool) (number : (n : ℤ) → f (Num n) ≡ h (Num n)) (variable : (x : VarId) → wanted x.0 ≡ true → f (Var x) ≡ h (Var x)) where
   fill_one : (a : Arg) → list_all wanted (arg_variables a) ≡ true → f a ≡ h a
-  fill_one (Var x) e = variable x (both (wanted x.0) true e).0
+  fill_one (Var x) e = variable x (and_parts (wanted x.0) true e).0
   fill_one (Num n) e = number n
 
   fill_items : (xs : List Arg) → list_all wanted (flat_map arg_variables xs) ≡ true → map f xs ≡ map h xs

@@ -2,10 +2,10 @@
 use Rattle.std.proofs.Common.{◌≡◌, ℕ, zero, suc, ◌+◌, ◌<◌, length, drop, get_or, sym, ap, ◌∙◌, Bool, true, List, [], ◌∷◌, ◌++◌, refl}
 use Rattle.std.specs.List.{list_all}
 use Rattle.std.proofs.lemmas.List.{at_drop_more}
+use Rattle.std.proofs.lemmas.Bool.{and_from}
 use Rattle.qc_model.specs.declared.problem.Argument.{Argument}
 use Rattle.qc_model.specs.Arguments.{argument_variables, variables_of}
 use Rattle.search_trim.specs.Slice.{is_wanted, wanting, wanting_all}
-use Rattle.search_trim.proofs.Filling.{join}
 
 pub wanted_still : (marks : List Bool) (x y : ℕ) → is_wanted marks y ≡ true → is_wanted (wanting marks x) y ≡ true
 wanted_still [] x y e = refl
@@ -27,7 +27,7 @@ pub all_now : (marks : List Bool) (xs : List ℕ) → list_all (is_wanted (wanti
 all_now marks [] = refl
 all_now marks (x ∷ xs) =
     let more = wanting_all (wanting marks x) xs in
-    join (is_wanted more x) (list_all (is_wanted more) xs) (all_still (wanting marks x) xs x (wanted_now marks x)) (all_now (wanting marks x) xs)
+    and_from (is_wanted more x) (list_all (is_wanted more) xs) (all_still (wanting marks x) xs x (wanted_now marks x)) (all_now (wanting marks x) xs)
 
 pub wanting_more : (marks : List Bool) (xs ys : List ℕ) → wanting_all marks (xs ++ ys) ≡ wanting_all (wanting_all marks xs) ys
 wanting_more marks [] ys = refl

@@ -2,19 +2,20 @@
 use Rattle.std.proofs.Common.{◌≡◌, ℕ, Bool, true, false, not, List, ◌∷◌, length, set, refl, sym, ap, ◌∙◌, subst, ℤ, Option, Some, None}
 use Rattle.std.specs.List.{list_all}
 use Rattle.std.proofs.lemmas.List.{length-set}
+use Rattle.std.proofs.lemmas.Bool.{not_from_false, and_parts, and_from}
 use Rattle.qc_model.specs.declared.problem.VarId.{VarId}
 use Rattle.qc_model.specs.Content.{Rule}
 use Rattle.qc_model.specs.Domains.{Values, Box, values_left, values_within, values_outside, box_within, box_without, is_none_left, has_empty}
 use Rattle.qc_model.specs.Meaning.{meaning_of}
 use Rattle.qc_model.specs.Refuted.{refuted_by, refuted_as, left_to}
 use Rattle.qc_model.specs.Block.{is_owned_within}
-use Rattle.model_arguments.proofs.Bools.{not_true, not_false, clash}
+use Rattle.model_arguments.proofs.Bools.{not_false, clash}
 use Rattle.proof_tree.specs.declared.tree.Step.{Step}
 use Rattle.proof_tree.specs.declared.tree.Step.TheVariants.{Bound}
 use Rattle.proof_tree.specs.Place.{Tracked}
 use Rattle.proof_tree.specs.Steps.{after_step, removes_some, is_refuted_within, best_value, step_marks}
 use Rattle.search_trim.specs.Slice.{is_wanted, rule_variables}
-use Rattle.search_trim.proofs.Filling.{both, join, fill_all}
+use Rattle.search_trim.proofs.Filling.{fill_all}
 use Rattle.search_trim.proofs.Boxes.{set_both, set_other, set_full, was_full, all_full}
 
 -- b leaves to each variable that is wanted what a does, and some value to each to which a does
@@ -30,7 +31,7 @@ follows_itself marks a = record { size = refl; same = λ x e. refl; full = λ x 
 pub follows_less : (more marks : List Bool) (a b : Box) → ((x : ℕ) → is_wanted marks x ≡ true → is_wanted more x ≡ true) → Follows more a b → Follows marks a b
 follows_less more marks a b k f = record { size = f.size; same = λ x e. f.same x (k x e); full = f.full }
 
--- x is given a domain in both
+-- x is given a domain in and_parts
 follows_set : (marks : List Bool) (a b : Box) (x : ℕ) (us : Values) → Follows marks a b → Follows marks (set a x us) (set b x us)
 follows_set marks a b x us f = record {
   size = length-set a x us ∙ f.size ∙ sym (length-set b x us);
@@ -58,9 +59,9 @@ follows_skip marks a b x low high n f = record {
 
 pub removes_too : (marks : List Bool) (a b : Box) (x : ℕ) (low high : ℤ) → values_left a x ≡ values_left b x → Follows marks a b → removes_some a x low high ≡ true → removes_some b x low high ≡ true
 removes_too marks a b x low high e f h =
-    let p = both (not (has_empty a)) (not (is_none_left (values_within low high (values_left a x)))) h in
-    join (not (has_empty b)) (not (is_none_left (values_within low high (values_left b x))))
-    (not_true (has_empty b) (all_full a b f.size f.full (not_false (has_empty a) p.0)))
+    let p = and_parts (not (has_empty a)) (not (is_none_left (values_within low high (values_left a x)))) h in
+    and_from (not (has_empty b)) (not (is_none_left (values_within low high (values_left b x))))
+    (not_from_false (has_empty b) (all_full a b f.size f.full (not_false (has_empty a) p.0)))
     (sym (ap (λ vs. not (is_none_left (values_within low high vs))) e) ∙ p.1)
 
 -- a constraint whose variables are all wanted
@@ -71,8 +72,8 @@ pub refutes_too : (i stop : ℕ) (marks : List Bool) (o : Option Rule) (a b : Bo
     is_refuted_within i stop o (box_within a x low high) ≡ true → is_refuted_within i stop o (box_within b x low high) ≡ true
 refutes_too i stop marks None a b x low high w e f h = h
 refutes_too i stop marks (Some c) a b x low high w e f h =
-    let p = both (is_owned_within i stop c) (refuted_by c (box_within a x low high)) h in
-    join (is_owned_within i stop c) (refuted_by c (box_within b x low high)) p.0
+    let p = and_parts (is_owned_within i stop c) (refuted_by c (box_within a x low high)) h in
+    and_from (is_owned_within i stop c) (refuted_by c (box_within b x low high)) p.0
     (sym (refuted_same marks (box_within a x low high) (box_within b x low high) c w (follows_within marks a b x low high e f)) ∙ p.1)
 
 -- the mark of a bound that stays

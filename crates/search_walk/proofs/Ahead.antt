@@ -5,6 +5,7 @@ use Rattle.std.specs.Prelude.{⊤, IsPermutation}
 use Rattle.std.specs.List.{list_all, list_any}
 use Rattle.std.proofs.lemmas.List.{append-nil}
 use Rattle.std.proofs.lemmas.List.Sorted.{IsPermutation-refl, IsPermutation-append, IsPermutation-append_comm}
+use Rattle.std.proofs.lemmas.Bool.{or_parts}
 use Rattle.qc_model.specs.declared.problem.Condition.{Condition}
 use Rattle.qc_model.specs.declared.problem.Scope.{Scope}
 use Rattle.qc_model.specs.Content.{Game}
@@ -29,7 +30,7 @@ use Rattle.search_parts.specs.Bounded.{is_bounded}
 use Rattle.search_parts.specs.Settled.{is_settled, is_outdone, is_ended}
 use Rattle.search_parts.specs.Uppers.{upto_between, skipped_between, without_before}
 use Rattle.search_parts.specs.Written.{PartWritten}
-use Rattle.search_parts.proofs.Joining.{settled-append, neither}
+use Rattle.search_parts.proofs.Joining.{settled-append}
 use Rattle.search_parts.proofs.Waiting.{Waiting, waits, goes_on, comes_back, settles_over, settles_first, waiting_sizes}
 use Rattle.search_walk.specs.Here.{Here, in_box}
 use Rattle.search_walk.specs.Later.{Passing}
@@ -84,7 +85,7 @@ module _ (node : Here) (cut : node.cuts ≡ true) (nothing : wishes_at node.game
   Told y seen left last now new joins = CasePut (in_box node (box_to node.box x (y ∷ []))) seen left last now new joins
 
   parted : (us ws : List Seen) → Settled node.game node.number (us ++ ws) ≡ false → (Settled node.game node.number us ≡ false) × (Settled node.game node.number ws ≡ false)
-  parted us ws e = neither (Settled node.game node.number us) (Settled node.game node.number ws) (sym (settled-append Later (list_after node.game Later Wished) us ws) ∙ e)
+  parted us ws e = or_parts (Settled node.game node.number us) (Settled node.game node.number ws) (sym (settled-append Later (list_after node.game Later Wished) us ws) ∙ e)
 
   in_vain : (us : List Seen) → settled_at node.game node.number (xs ++ us) ≡ false → Settled node.game node.number us ≡ false
   in_vain us e = (parted xs us (sym (settled_here node.game node.number (xs ++ us)) ∙ e)).1

@@ -5,6 +5,7 @@ use Rattle.std.specs.Ordering.{int_eq}
 use Rattle.std.specs.List.{list_all, list_any}
 use Rattle.std.proofs.lemmas.Int.{ints}
 use Rattle.std.proofs.lemmas.Bool.Decides.{Decides-int_eq}
+use Rattle.std.proofs.lemmas.Bool.{and_from, and_parts}
 use Rattle.qc_model.specs.Lists.{Among}
 use Rattle.qc_model.specs.Domains.{Values, is_ascending, is_none_left, is_single, has_value, greatest_value}
 use Rattle.qc_model.specs.Valid.{is_number}
@@ -14,13 +15,13 @@ use Rattle.proof_tree.specs.Cover.{is_cover, uncovered}
 use Rattle.search_box.specs.Rests.{IsFirst, IsLast}
 use Rattle.search_parts.specs.Uppers.{upto_all, upto_between, upto_first}
 use Rattle.search_parts.proofs.Covers.{has_item}
-use Rattle.search_parts.proofs.Bools.{two, both, is_below}
+use Rattle.search_parts.proofs.Bools.{is_below}
 use Rattle.search_parts.proofs.Numbers.{numbers_dropped}
 use Rattle.search_walk.proofs.Places.{several}
 
 pub ascends_after : (d : Values) (v : ℤ) → is_ascending (v ∷ d) ≡ true → is_ascending d ≡ true
 ascends_after [] v e = refl
-ascends_after (w ∷ d) v e = (both (int_lt v w) (is_ascending (w ∷ d)) e).1
+ascends_after (w ∷ d) v e = (and_parts (int_lt v w) (is_ascending (w ∷ d)) e).1
 
 -- the first values up to one
 pub has_at : (d : Values) (n : ℕ) → n < length d → (v : ℤ) × (slice_get d n ≡ Some v)
@@ -37,9 +38,9 @@ first_below : (v : ℤ) (d : Values) (n : ℕ) (m : ℤ) → is_ascending (v ∷
 first_below v [] n m a e = cc
 first_below v (u ∷ d) zero m a e =
     let h : u ≡ m = cc in
-    subst (λ w. int_lt v w ≡ true) h (both (int_lt v u) (is_ascending (u ∷ d)) a).0
+    subst (λ w. int_lt v w ≡ true) h (and_parts (int_lt v u) (is_ascending (u ∷ d)) a).0
 first_below v (u ∷ d) (suc n) m a e =
-    let p = both (int_lt v u) (is_ascending (u ∷ d)) a in
+    let p = and_parts (int_lt v u) (is_ascending (u ∷ d)) a in
     through v u m p.0 (first_below u d n m p.1 e)
   where
     through : (v u m : ℤ) → int_lt v u ≡ true → int_lt u m ≡ true → int_lt v m ≡ true
@@ -91,7 +92,7 @@ covers_first (suc n) (v ∷ vs) a h =
     let first = filter_first d (suc n) m a s.1 in
     let size : length (filter (λ u. int_le u m) d) ≡ suc (suc n) = ap length first ∙ length_take (suc (suc n)) d h in
     record {
-      is_case = ap (λ u. is_cover u d) s.1 ∙ two _ _ (has_item m d (among_at d (suc n) m s.1)) (ap (nat_lt 1) size ∙ is_below 1 (suc (suc n)) (omega arith));
+      is_case = ap (λ u. is_cover u d) s.1 ∙ and_from _ _ (has_item m d (among_at d (suc n) m s.1)) (ap (nat_lt 1) size ∙ is_below 1 (suc (suc n)) (omega arith));
       leaves_rest = ap (λ u. uncovered u d) s.1 ∙ ap (λ l. drop l d) size;
     }
 

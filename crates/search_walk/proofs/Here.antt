@@ -3,6 +3,7 @@ use Rattle.std.proofs.Common.{◌≡◌, ◌≤◌, ◌<◌, ◌+◌, ◌*◌, �
 use Rattle.std.specs.Prelude.{◌⊎◌}
 use Rattle.std.specs.List.{list_all}
 use Rattle.std.proofs.lemmas.List.{append-nil}
+use Rattle.std.proofs.lemmas.Bool.{or_parts, or_left, or_right, or_from}
 use Rattle.qc_model.specs.declared.problem.Condition.{Condition}
 use Rattle.qc_model.specs.declared.problem.Kind.{Kind}
 use Rattle.qc_model.specs.declared.problem.Kind.TheVariants.{Exists, Forall}
@@ -58,7 +59,7 @@ use Rattle.search_walk.specs.Here.{Here, in_box, at_horizon, with_above}
 use Rattle.search_walk.specs.Put.{IsReady, IsTold, EndingPut, StepsTold, BoundedSteps, PartPut, BoundedPut, CasePut, CasesPut, BodyPut, NodePut}
 use Rattle.search_parts.proofs.Beating.{no_worse_yet}
 use Rattle.search_walk.proofs.Covering.{covers_before, rest_of}
-use Rattle.search_parts.proofs.Joining.{settled_is, settled_so, own_so, own_none, settled-append, or_first, or_none, or_second, neither}
+use Rattle.search_parts.proofs.Joining.{settled_is, settled_so, own_so, own_none, settled-append}
 use Rattle.search_parts.proofs.Nodes.{goal_made, node_made, part_known, more_beaten, more_done, horizon_made, stuck_made, empty_made, next_made, barred_made, branch_made}
 use Rattle.search_parts.specs.Bounded.{Outdoes}
 use Rattle.search_parts.proofs.Outdone.{ended_last}
@@ -89,7 +90,7 @@ module _ (g : Game) (i : ℕ) where
   settled_here xs = settled_so g Later (demands g i) xs
 
   settled_more : (xs ys : List Seen) → settled_at g i xs ≡ true → settled_at g i (xs ++ ys) ≡ true
-  settled_more xs ys e = settled_here (xs ++ ys) ∙ (settled-append Later (list_after g Later (demands g i)) xs ys ∙ or_first (Settled xs) (Settled ys) (sym (settled_here xs) ∙ e))
+  settled_more xs ys e = settled_here (xs ++ ys) ∙ (settled-append Later (list_after g Later (demands g i)) xs ys ∙ or_left (Settled xs) (Settled ys) (sym (settled_here xs) ∙ e))
 
   -- what settles the scope after something that doesn't
   pub settled_last : (xs ys : List Seen) → settled_at g i xs ≡ false → settled_at g i (xs ++ ys) ≡ true → Settled ys ≡ true
@@ -97,7 +98,7 @@ module _ (g : Game) (i : ℕ) where
       sym (ap (λ b. b || Settled ys) (sym (settled_here xs) ∙ e)) ∙ (sym (settled-append Later (list_after g Later (demands g i)) xs ys) ∙ (sym (settled_here (xs ++ ys)) ∙ f))
 
   pub settled_then : (xs ys : List Seen) → Settled ys ≡ true → settled_at g i (xs ++ ys) ≡ true
-  settled_then xs ys e = settled_here (xs ++ ys) ∙ (settled-append Later (list_after g Later (demands g i)) xs ys ∙ or_second (Settled xs) (Settled ys) e)
+  settled_then xs ys e = settled_here (xs ++ ys) ∙ (settled-append Later (list_after g Later (demands g i)) xs ys ∙ or_right (Settled xs) (Settled ys) e)
 
   -- the join stands for what was seen
   pub all_told : (joins : Joins) (xs ys : List Seen) → StandsAt joins i xs → xs ≡ ys → IsTold g i joins ys
@@ -150,13 +151,13 @@ ended_told above g i joins xs ends t = by t.same
   where
     by : ((t.stood ≡ xs) ⊎ ((settled_at g i t.stood ≡ true) × (settled_at g i xs ≡ true))) → is_ended above (drop i g.scopes) (list_after g (drop i g.scopes) (demands g i)) xs ≡ true
     by (inl q) = ap (is_ended above (drop i g.scopes) (list_after g (drop i g.scopes) (demands g i))) (sym q) ∙ ends t.stood t.stands
-    by (inr q) = or_first (Settled g i xs) (is_outdone above xs) (sym (settled_here g i xs) ∙ q.1)
+    by (inr q) = or_left (Settled g i xs) (is_outdone above xs) (sym (settled_here g i xs) ∙ q.1)
 
 pub settled_ends : (above : ℤ → Bool) (g : Game) (i : ℕ) (joins : Joins) (b : Bool) → Answers g i joins b → b ≡ true → Ends above g i joins
-settled_ends above g i joins b asked e ys s = or_first (Settled g i ys) (is_outdone above ys) (sym (settled_here g i ys) ∙ (sym (asked ys s) ∙ e))
+settled_ends above g i joins b asked e ys s = or_left (Settled g i ys) (is_outdone above ys) (sym (settled_here g i ys) ∙ (sym (asked ys s) ∙ e))
 
 pub outdone_ends : (above : ℤ → Bool) (g : Game) (i : ℕ) (joins : Joins) → ((ys : List Seen) → StandsAt joins i ys → is_outdone above ys ≡ true) → Ends above g i joins
-outdone_ends above g i joins outdone ys s = or_second (Settled g i ys) (is_outdone above ys) (outdone ys s)
+outdone_ends above g i joins outdone ys s = or_right (Settled g i ys) (is_outdone above ys) (outdone ys s)
 
 -- a case may be gone into before all others
 pub case_ready : (g : Game) (i : ℕ) (joins : Joins) (xs : List Seen) (had : ℕ) → 0 < had → IsReady g i joins (suc (2 * had)) xs → IsReady g i joins (2 + 2 * (had - 1)) xs
@@ -191,7 +192,7 @@ module _ (node : Here) (x : ℕ) (vs : Values) (xs : List Seen) (had : ℕ) (old
   unsettled_now : (joins : Joins) (seen : List Seen) (b : Bool) → Answers node.game node.number joins b → b ≡ false → IsTold node.game node.number joins (xs ++ seen) → Settled node.game node.number seen ≡ false
   unsettled_now joins seen b asked e t =
       let r = (unsettled_stands node.game node.number joins (xs ++ seen) b asked e t).1 in
-      (neither (Settled node.game node.number xs) (Settled node.game node.number seen) (sym (settled-append (drop node.number node.game.scopes) (list_after node.game (drop node.number node.game.scopes) (demands node.game node.number)) xs seen) ∙ (sym (settled_here node.game node.number (xs ++ seen)) ∙ r))).1
+      (or_parts (Settled node.game node.number xs) (Settled node.game node.number seen) (sym (settled-append (drop node.number node.game.scopes) (list_after node.game (drop node.number node.game.scopes) (demands node.game node.number)) xs seen) ∙ (sym (settled_here node.game node.number (xs ++ seen)) ∙ r))).1
 
   -- it was gone into, and its lines stay
   went_on : (here rest : Values) (v : ℤ) (left next_left : ℕ) (now next_now : List Line) (joins next_joins : Joins) (b : Bool) → 1 < length (values_left node.box x) → here ≡ v ∷ rest → Answers node.game node.number joins b → b ≡ false → ¬ (left ≡ 0) →
@@ -319,7 +320,7 @@ module _ (node : Here) (x : ℕ) (vs : Values) (xs : List Seen) (had : ℕ) (old
       let more = seen_between low before in
       record {
         stands = added xs ready.stands;
-        unsettled = settled_here node.game node.number (xs ++ more) ∙ (settled-append later (list_after node.game later (demands node.game node.number)) xs more ∙ or_none (Settled node.game node.number xs) (Settled node.game node.number more) (sym (settled_here node.game node.number xs) ∙ ready.unsettled) (not_settled low before));
+        unsettled = settled_here node.game node.number (xs ++ more) ∙ (settled-append later (list_after node.game later (demands node.game node.number)) xs more ∙ or_from (Settled node.game node.number xs) (Settled node.game node.number more) (sym (settled_here node.game node.number xs) ∙ ready.unsettled) (not_settled low before));
         size = ready.size + 0;
         sizes = sizes_both ready.size 0 xs more ready.sizes (small low before);
         room = omega (arith, ready.room, some);

@@ -8,6 +8,7 @@ use Rattle.std.specs.List.{list_all}
 use Rattle.std.specs.Ordering.{int_eq}
 use Rattle.std.proofs.lemmas.Bool.Decides.{Decides-int_eq, nat_tests}
 use Rattle.std.proofs.lemmas.List.{append-nil}
+use Rattle.std.proofs.lemmas.Bool.{and_from, and_parts, or_from}
 use Rattle.qc_model.specs.declared.problem.Sense.{Sense}
 use Rattle.qc_model.specs.declared.problem.Sense.TheVariants.{Min, Max}
 use Rattle.qc_model.specs.declared.problem.Condition.{Condition}
@@ -45,9 +46,8 @@ use Rattle.search_parts.specs.Settled.{is_settled}
 use Rattle.search_walk.specs.Put.{IsReady, BoundedSteps}
 use Rattle.search_walk.specs.declared.aim.Worse.{Worse}
 use Rattle.search_parts.proofs.Beating.{no_worse_yet}
-use Rattle.search_parts.proofs.Bools.{two, both}
 use Rattle.search_walk.proofs.Here.{settled_here, bare_steps}
-use Rattle.search_parts.proofs.Joining.{settled-append, or_none}
+use Rattle.search_parts.proofs.Joining.{settled-append}
 use Rattle.search_parts.proofs.Marks.{some_marks}
 use Rattle.search_parts.proofs.Sizes.{sizes_none}
 use Rattle.joins.proofs.Sizing.{sizes_both, sizes_bound}
@@ -57,7 +57,7 @@ use Rattle.joins.proofs.Sizing.{sizes_both, sizes_bound}
 all_no_worse : (joins : Joins) (i : ℕ) (s : Sense) (before : List Seen) (vs : Values) → StandsAt joins i before → ((v : ℤ) → has_value vs v ≡ true → IsNoWorse joins i s v) → list_all (λ v. list_all (λ n. not (is_better s n v)) (firsts before)) vs ≡ true
 all_no_worse joins i s before [] stands h = refl
 all_no_worse joins i s before (v ∷ vs) stands h =
-    two _ _ (h v (ap (λ b. b || has_value vs v) ((Decides-int_eq v v).1 refl)) before stands) (all_no_worse joins i s before vs stands (λ u e. h u (later (int_eq u v) (has_value vs u) e)))
+    and_from _ _ (h v (ap (λ b. b || has_value vs v) ((Decides-int_eq v v).1 refl)) before stands) (all_no_worse joins i s before vs stands (λ u e. h u (later (int_eq u v) (has_value vs u) e)))
   where
     later : (a b : Bool) → b ≡ true → (a || b) ≡ true
     later true b e = refl
@@ -67,7 +67,7 @@ all_no_worse joins i s before (v ∷ vs) stands h =
 one_of : (p : ℤ → Bool) (vs : Values) (v : ℤ) → list_all p vs ≡ true → has_value vs v ≡ true → p v ≡ true
 one_of p [] v h e = cc
 one_of p (u ∷ vs) v h e =
-    let r = both (p u) (list_all p vs) h in
+    let r = and_parts (p u) (list_all p vs) h in
     by (int_eq v u) refl e r.0 (one_of p vs v r.1)
   where
     by : (b : Bool) → int_eq v u ≡ b → (b || has_value vs v) ≡ true → p u ≡ true → (has_value vs v ≡ true → p v ≡ true) → p v ≡ true
@@ -100,7 +100,7 @@ outside_is low high (u ∷ vs) v e = by (is_within low high u) refl (int_eq v u)
 -- the best of the values from low to high is one of these
 least_is : (p : ℤ → Bool) (v : ℤ) (vs : Values) → p v ≡ true → list_all p vs ≡ true → p (least_from v vs) ≡ true
 least_is p v [] h k = h
-least_is p v (u ∷ vs) h k = let r = both (p u) (list_all p vs) k in least_is p (cond (int_lt u v) u v) vs (by (int_lt u v) r.0) r.1
+least_is p v (u ∷ vs) h k = let r = and_parts (p u) (list_all p vs) k in least_is p (cond (int_lt u v) u v) vs (by (int_lt u v) r.0) r.1
   where
     by : (b : Bool) → p u ≡ true → p (cond b u v) ≡ true
     by true q = q
@@ -108,7 +108,7 @@ least_is p v (u ∷ vs) h k = let r = both (p u) (list_all p vs) k in least_is p
 
 greatest_is : (p : ℤ → Bool) (v : ℤ) (vs : Values) → p v ≡ true → list_all p vs ≡ true → p (greatest_from v vs) ≡ true
 greatest_is p v [] h k = h
-greatest_is p v (u ∷ vs) h k = let r = both (p u) (list_all p vs) k in greatest_is p (cond (int_lt v u) u v) vs (by (int_lt v u) r.0) r.1
+greatest_is p v (u ∷ vs) h k = let r = and_parts (p u) (list_all p vs) k in greatest_is p (cond (int_lt v u) u v) vs (by (int_lt v u) r.0) r.1
   where
     by : (b : Bool) → p u ≡ true → p (cond b u v) ≡ true
     by true q = q
@@ -116,16 +116,16 @@ greatest_is p v (u ∷ vs) h k = let r = both (p u) (list_all p vs) k in greates
 
 best_is : (p : ℤ → Bool) (s : Sense) (vs : Values) → is_none_left vs ≡ false → list_all p vs ≡ true → p (best_value s vs) ≡ true
 best_is p s [] h k = cc
-best_is p Min (v ∷ vs) h k = let r = both (p v) (list_all p vs) k in least_is p v vs r.0 r.1
-best_is p Max (v ∷ vs) h k = let r = both (p v) (list_all p vs) k in greatest_is p v vs r.0 r.1
+best_is p Min (v ∷ vs) h k = let r = and_parts (p v) (list_all p vs) k in least_is p v vs r.0 r.1
+best_is p Max (v ∷ vs) h k = let r = and_parts (p v) (list_all p vs) k in greatest_is p v vs r.0 r.1
 
 -- a test of the values holds of those of them that pass another
 all_filter : (p q : ℤ → Bool) (vs : Values) → list_all p vs ≡ true → list_all (λ v. p v && q v) (filter q vs) ≡ true
 all_filter p q [] h = refl
-all_filter p q (v ∷ vs) h = let r = both (p v) (list_all p vs) h in by (q v) refl r.0 (all_filter p q vs r.1)
+all_filter p q (v ∷ vs) h = let r = and_parts (p v) (list_all p vs) h in by (q v) refl r.0 (all_filter p q vs r.1)
   where
     by : (b : Bool) → q v ≡ b → p v ≡ true → list_all (λ v. p v && q v) (filter q vs) ≡ true → list_all (λ v. p v && q v) (cond b (v ∷ filter q vs) (filter q vs)) ≡ true
-    by true e h rest = two (p v && q v) _ (two (p v) (q v) h e) rest
+    by true e h rest = and_from (p v && q v) _ (and_from (p v) (q v) h e) rest
     by false e h rest = rest
 
 -- ---- a smaller box keeps no worse values
@@ -134,15 +134,15 @@ smaller_values p [] [] x e h = h
 smaller_values p [] (d ∷ box) x e h = cc
 smaller_values p (c ∷ small) [] x e h = cc
 smaller_values p (c ∷ small) (d ∷ box) zero e h =
-    let r = both (is_ascending c && list_all (has_value d) c) (is_sub_box small box) e in
-    let q = both (is_ascending c) (list_all (has_value d) c) r.0 in
+    let r = and_parts (is_ascending c && list_all (has_value d) c) (is_sub_box small box) e in
+    let q = and_parts (is_ascending c) (list_all (has_value d) c) r.0 in
     each c q.1
   where
     each : (vs : Values) → list_all (has_value d) vs ≡ true → list_all p vs ≡ true
     each [] k = refl
-    each (v ∷ vs) k = let r = both (has_value d v) (list_all (has_value d) vs) k in two (p v) (list_all p vs) (one_of p d v h r.0) (each vs r.1)
+    each (v ∷ vs) k = let r = and_parts (has_value d v) (list_all (has_value d) vs) k in and_from (p v) (list_all p vs) (one_of p d v h r.0) (each vs r.1)
 smaller_values p (c ∷ small) (d ∷ box) (suc x) e h =
-    let r = both (is_ascending c && list_all (has_value d) c) (is_sub_box small box) e in
+    let r = and_parts (is_ascending c && list_all (has_value d) c) (is_sub_box small box) e in
     smaller_values p small box x r.1 h
 
 smaller_no_worse : (t : Option Tracked) (ns : List ℤ) (small box : Box) → is_sub_box small box ≡ true → has_no_worse t ns box ≡ true → has_no_worse t ns small ≡ true
@@ -165,8 +165,8 @@ pub mark_is : (g : Game) (i : ℕ) (box : Box) → ((x : ℕ) → list_all is_nu
 mark_is g i box numbers w tracked left steps b u =
     let vs = values_left box w.variable.0 in
     let p : (ℤ → Bool) = λ v. is_number v && is_within w.lo w.hi v in
-    let some : is_none_left (values_within w.lo w.hi vs) ≡ false = unnot _ (both _ _ (both _ _ (both _ _ (u.placed g (drop i g.scopes) i (demands g i) tracked)).0).0).1 in
-    both _ _ (ap p u.best ∙ best_is p w.sense (values_within w.lo w.hi vs) some (all_filter is_number (is_within w.lo w.hi) vs (numbers w.variable.0)))
+    let some : is_none_left (values_within w.lo w.hi vs) ≡ false = unnot _ (and_parts _ _ (and_parts _ _ (and_parts _ _ (u.placed g (drop i g.scopes) i (demands g i) tracked)).0).0).1 in
+    and_parts _ _ (ap p u.best ∙ best_is p w.sense (values_within w.lo w.hi vs) some (all_filter is_number (is_within w.lo w.hi) vs (numbers w.variable.0)))
 
 mark_small : (v : ℤ) → is_number v ≡ true → HasSizes 1 (seen_bound v ∷ [])
 mark_small v e = sizes_bound 0 [] v (sizes_none 0) (grind (arith, nat_tests))
@@ -228,9 +228,9 @@ module _ (g : Game) (i : ℕ) (box : Box) (joins : Joins) (before : List Seen) (
             stepped = subst (λ (ss : List Step). StepsMade g (drop i g.scopes) i (demands g i) box (b.best ∷ []) ss) (sym one) (record {
               legal = u.placed g (drop i g.scopes) i (demands g i) m.tracked;
               marked = sym (ap (λ (t : Option Tracked). step_marks t (bound ∷ []) box) m.tracked ∙ u.marked);
-              fits = two _ _ u.fits refl;
+              fits = and_from _ _ u.fits refl;
             });
-            beaten = two _ _ (m.goes b.best before k.0 k.1 stands) refl;
+            beaten = and_from _ _ (m.goes b.best before k.0 k.1 stands) refl;
             one = mark_small b.best k.0;
             worse = ap (λ (t : Option Tracked). has_no_worse t (firsts before) left) m.tracked ∙ each;
           };
@@ -251,7 +251,7 @@ more_steps_made g later i d box ms ss ts m e q f =
   where
     steps_fit : (ss ts : List Step) → list_all step_fits ss ≡ true → list_all step_fits ts ≡ true → list_all step_fits (ss ++ ts) ≡ true
     steps_fit [] ts h k = k
-    steps_fit (s ∷ ss) ts h k = let r = both (step_fits s) (list_all step_fits ss) h in two (step_fits s) (list_all step_fits (ss ++ ts)) r.0 (steps_fit ss ts r.1 k)
+    steps_fit (s ∷ ss) ts h k = let r = and_parts (step_fits s) (list_all step_fits ss) h in and_from (step_fits s) (list_all step_fits (ss ++ ts)) r.0 (steps_fit ss ts r.1 k)
 
 closed_steps : (g : Game) (i : ℕ) (box mid left : Box) (before : List Seen) (ms : List ℤ) (given steps : List Step) → BoundedSteps g i box mid before ms given → IsPruned g i mid left given steps → is_sub_box left mid ≡ true → BoundedSteps g i box left before ms steps
 closed_steps g i box mid left before ms given steps s p fewer =
@@ -311,7 +311,7 @@ module _ (g : Game) (i : ℕ) (box left : Box) (w : Worse) (m : IsSpan g i w) (l
           stepped = subst (λ (ss : List Step). StepsMade g (drop i g.scopes) i (demands g i) box (b.best ∷ []) ss) (sym one) (record {
             legal = u.placed g (drop i g.scopes) i (demands g i) m.tracked;
             marked = sym (ap (λ (t : Option Tracked). step_marks t (bound ∷ []) box) m.tracked ∙ u.marked);
-            fits = two _ _ u.fits refl;
+            fits = and_from _ _ u.fits refl;
           });
           one = mark_small b.best k.0;
           worse = no_worse_yet (tracked_at g i) left;
@@ -327,7 +327,7 @@ first_closed g i box mid left joins given steps n p fewer = record { ms = n.ms; 
 pub ready_after : (g : Game) (i : ℕ) (box left_box : Box) (first joins : Joins) (left : ℕ) (before : List Seen) (steps : List Step) → (n : NarrowTold g i box left_box before joins steps) → IsReady g i first (2 + 2 * left) before → IsReady g i joins (suc (2 * left)) (before ++ seen_bounds n.ms)
 ready_after g i box left_box first joins left before steps n r = record {
   stands = n.stands;
-  unsettled = settled_here g i (before ++ seen_bounds n.ms) ∙ (settled-append later list before (seen_bounds n.ms) ∙ or_none _ _ (sym (settled_here g i before) ∙ r.unsettled) none);
+  unsettled = settled_here g i (before ++ seen_bounds n.ms) ∙ (settled-append later list before (seen_bounds n.ms) ∙ or_from _ _ (sym (settled_here g i before) ∙ r.unsettled) none);
   size = r.size + 1;
   sizes = sizes_both r.size 1 before (seen_bounds n.ms) r.sizes n.stepped.one;
   room = omega (arith, r.room);
@@ -433,8 +433,8 @@ worse_here g i joins box w r first last m f l nf nl s x lo hi = record {
   exists = subst (λ (y : VarId). y.0 < length g.variables) (sym x) m.exists;
   lo = ap is_number lo ∙ one_number (int_lt first w.lo) w.lo first m.lo nf;
   hi = ap is_number hi ∙ one_number (int_lt last w.hi) last w.hi nl m.hi;
-  goes = λ v before n inside. let q = both (int_le r.lo v) (int_le v r.hi) inside in
-      m.goes v before n (two (int_le w.lo v) (int_le v w.hi) (above_max w.lo first v (sym (ap (λ k. int_le k v) lo) ∙ q.0)) (below_min w.hi last v (sym (ap (int_le v) hi) ∙ q.1)));
+  goes = λ v before n inside. let q = and_parts (int_le r.lo v) (int_le v r.hi) inside in
+      m.goes v before n (and_from (int_le w.lo v) (int_le v w.hi) (above_max w.lo first v (sym (ap (λ k. int_le k v) lo) ∙ q.0)) (below_min w.hi last v (sym (ap (int_le v) hi) ∙ q.1)));
   stays = λ v h n outside.
       let here = subst (λ (y : VarId). has_value (values_left box y.0) v ≡ true) x h in
       subst (λ (z : Sense). IsNoWorse joins i z v) (sym s) (m.stays v n (outside_too v (first_least (values_left box w.variable.0) first v f here) (last_most (values_left box w.variable.0) last v l here) outside));
@@ -446,8 +446,8 @@ worse_here g i joins box w r first last m f l nf nl s x lo hi = record {
         by : (c : Bool) → is_within w.lo w.hi v ≡ c → is_within w.lo w.hi v ≡ false
         by false e = e
         by true e =
-            let q = both (int_le w.lo v) (int_le v w.hi) e in
-            let inside = two (int_le r.lo v) (int_le v r.hi) (ap (λ k. int_le k v) lo ∙ at_max w.lo first v a q.0) (ap (int_le v) hi ∙ at_min w.hi last v b q.1) in
+            let q = and_parts (int_le w.lo v) (int_le v w.hi) e in
+            let inside = and_from (int_le r.lo v) (int_le v r.hi) (ap (λ k. int_le k v) lo ∙ at_max w.lo first v a q.0) (ap (int_le v) hi ∙ at_min w.hi last v b q.1) in
             let f : true ≡ false = sym inside ∙ out in absurd cc
 
 pub span_between : (g : Game) (i : ℕ) (w r : Worse) (first last : ℤ) → IsSpan g i w → is_number first ≡ true → is_number last ≡ true → r.sense ≡ w.sense → r.variable ≡ w.variable → r.lo ≡ int_max w.lo first → r.hi ≡ int_min w.hi last → IsSpan g i r

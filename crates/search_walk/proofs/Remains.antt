@@ -2,6 +2,7 @@
 use Rattle.std.proofs.Common.{◌≡◌, ◌≤◌, ◌<◌, ◌∙◌, ◌+◌, ◌-◌, ◌++◌, ℕ, zero, suc, Bool, true, false, not, List, [], ◌∷◌, length, take, drop, refl, sym, ap, subst, arith, ℤ, length-set, Option, None, Some, append_assoc}
 use Rattle.std.proofs.lemmas.List.{append-nil, length-append, length-take-le, take-append-drop}
 use Rattle.std.specs.List.{list_all}
+use Rattle.std.proofs.lemmas.Bool.{and_parts}
 use Rattle.qc_model.specs.declared.problem.VarId.{VarId}
 use Rattle.qc_model.specs.Block.{constraints_in_force}
 use Rattle.qc_model.specs.Closed.{keeps_ends}
@@ -32,11 +33,10 @@ use Rattle.search_walk.specs.Later.{cut_to}
 use Rattle.search_walk.specs.Put.{IsBack}
 use Rattle.search_parts.specs.Uppers.{upto_between, without_before}
 use Rattle.search_walk.specs.declared.walk.Walk.{Walk}
-use Rattle.search_parts.proofs.Bools.{both}
 use Rattle.search_parts.proofs.Progress.{take_front}
 
 is_full : (g : Game) (i : ℕ) (box : Box) → IsClosedAt g i box → has_empty box ≡ false
-is_full g i box h = by (has_empty box) (both (not (has_empty box)) (list_all (keeps_ends box) (constraints_in_force g (drop i g.scopes) i)) h).0
+is_full g i box h = by (has_empty box) (and_parts (not (has_empty box)) (list_all (keeps_ends box) (constraints_in_force g (drop i g.scopes) i)) h).0
   where
     by : (b : Bool) → not b ≡ true → b ≡ false
     by true e = cc

@@ -6,6 +6,7 @@ use Rattle.std.specs.Ordering.{int_eq}
 use Rattle.std.proofs.lemmas.Int.{ints}
 use Rattle.std.proofs.lemmas.Bool.Decides.{nat_tests, Decides-int_eq}
 use Rattle.std.specs.List.{list_all}
+use Rattle.std.proofs.lemmas.Bool.{and_from, and_parts}
 use Rattle.qc_model.specs.declared.problem.Kind.{Kind}
 use Rattle.qc_model.specs.declared.problem.Kind.TheVariants.{Exists, Forall}
 use Rattle.qc_model.specs.declared.problem.Sense.{Sense}
@@ -39,7 +40,6 @@ use Rattle.search_parts.specs.Beaten.{firsts, is_beaten}
 use Rattle.search_walk.specs.declared.aim.Aim.{Aim}
 use Rattle.search_walk.specs.declared.aim.Worse.{Worse}
 use Rattle.search_parts.proofs.Beating.{none_beats_first, first_is_one, no_better_through}
-use Rattle.search_parts.proofs.Bools.{two, both}
 use Rattle.search_walk.proofs.Here.{demands_next}
 use Rattle.search_walk.proofs.Places.{next_at}
 
@@ -183,8 +183,8 @@ module _ (g : Game) (joins : Joins) (i : ℕ) (a : Aim) (m : IsAim g i a) where
   no_better_each : (s : Sense) (best v : ℤ) (ns : List ℤ) → is_better s best v ≡ false → list_all (λ n. not (is_better s n best)) ns ≡ true → list_all (λ n. not (is_better s n v)) ns ≡ true
   no_better_each s best v [] e h = refl
   no_better_each s best v (n ∷ ns) e h =
-      let r = both (not (is_better s n best)) _ h in
-      two (not (is_better s n v)) _ (no_better_through s n best v (unnot (is_better s n best) r.0) (ap not e)) (no_better_each s best v ns e r.1)
+      let r = and_parts (not (is_better s n best)) _ h in
+      and_from (not (is_better s n v)) _ (no_better_through s n best v (unnot (is_better s n best) r.0) (ap not e)) (no_better_each s best v ns e r.1)
     where
       unnot : (b : Bool) → not b ≡ true → b ≡ false
       unnot true e = cc
@@ -297,26 +297,26 @@ pub above_alone : (a : Aim) (best : ℤ) (r : Option Worse) → a.sense ≡ Min 
 above_alone a best r e f k = ruled_by a best best (pos 1000000000) (λ v n. beats_so a Min true best v (is_within best (pos 1000000000) v) e f (same_test _ _ (there v (from_least v n).1) (back v (from_least v n).1))) r k
   where
     there : (v : ℤ) → v ≤ℤ pos 1000000000 → is_within best (pos 1000000000) v ≡ true → (int_lt best v || int_eq best v) ≡ true
-    there v n q = by (int_lt best v) refl (both (int_le best v) (int_le v (pos 1000000000)) q).0
+    there v n q = by (int_lt best v) refl (and_parts (int_le best v) (int_le v (pos 1000000000)) q).0
       where
         by : (b : Bool) → int_lt best v ≡ b → int_le best v ≡ true → (b || int_eq best v) ≡ true
         by true p l = refl
         by false p l = (Decides-int_eq best v).1 (omega (arith, ints, p, l))
 
     back : (v : ℤ) → v ≤ℤ pos 1000000000 → (int_lt best v || int_eq best v) ≡ true → is_within best (pos 1000000000) v ≡ true
-    back v n q = two (int_le best v) (int_le v (pos 1000000000)) (elim (as_good best v (int_lt best v) q) [ inl p ↦ grind (arith, ints) | inr p ↦ grind (arith, ints) ]) (grind (arith, ints))
+    back v n q = and_from (int_le best v) (int_le v (pos 1000000000)) (elim (as_good best v (int_lt best v) q) [ inl p ↦ grind (arith, ints) | inr p ↦ grind (arith, ints) ]) (grind (arith, ints))
 
 pub above_others : (a : Aim) (best next : ℤ) (r : Option Worse) → a.sense ≡ Min → a.is_alone ≡ false → next ≡ best +ℤ pos 1 → IsKeptTo a next (pos 1000000000) r → AreRuledOut a best r
 above_others a best next r e f s k = ruled_by a best next (pos 1000000000) (λ v n. beats_so a Min false best v (is_within next (pos 1000000000) v) e f (same_test _ _ (there v (from_least v n).1) (back v (from_least v n).1))) r k
   where
     there : (v : ℤ) → v ≤ℤ pos 1000000000 → is_within next (pos 1000000000) v ≡ true → (int_lt best v || false) ≡ true
-    there v n q = let l = (both (int_le next v) (int_le v (pos 1000000000)) q).0 in ap (λ b. b || false) (below best v (omega (arith, ints, l, s)))
+    there v n q = let l = (and_parts (int_le next v) (int_le v (pos 1000000000)) q).0 in ap (λ b. b || false) (below best v (omega (arith, ints, l, s)))
       where
         below : (x y : ℤ) → x <ℤ y → int_lt x y ≡ true
         below x y h = grind (arith, ints)
 
     back : (v : ℤ) → v ≤ℤ pos 1000000000 → (int_lt best v || false) ≡ true → is_within next (pos 1000000000) v ≡ true
-    back v n q = two (int_le next v) (int_le v (pos 1000000000)) (upto next v (omega (arith, ints, only (int_lt best v) q, s))) (grind (arith, ints))
+    back v n q = and_from (int_le next v) (int_le v (pos 1000000000)) (upto next v (omega (arith, ints, only (int_lt best v) q, s))) (grind (arith, ints))
       where
         upto : (x y : ℤ) → x ≤ℤ y → int_le x y ≡ true
         upto x y h = grind (arith, ints)
@@ -329,26 +329,26 @@ pub below_alone : (a : Aim) (best : ℤ) (r : Option Worse) → a.sense ≡ Max 
 below_alone a best r e f k = ruled_by a best (negsuc 999999999) best (λ v n. beats_so a Max true best v (is_within (negsuc 999999999) best v) e f (same_test _ _ (there v (from_least v n).0) (back v (from_least v n).0))) r k
   where
     there : (v : ℤ) → negsuc 999999999 ≤ℤ v → is_within (negsuc 999999999) best v ≡ true → (int_lt v best || int_eq best v) ≡ true
-    there v n q = by (int_lt v best) refl (both (int_le (negsuc 999999999) v) (int_le v best) q).1
+    there v n q = by (int_lt v best) refl (and_parts (int_le (negsuc 999999999) v) (int_le v best) q).1
       where
         by : (b : Bool) → int_lt v best ≡ b → int_le v best ≡ true → (b || int_eq best v) ≡ true
         by true p l = refl
         by false p l = (Decides-int_eq best v).1 (omega (arith, ints, p, l))
 
     back : (v : ℤ) → negsuc 999999999 ≤ℤ v → (int_lt v best || int_eq best v) ≡ true → is_within (negsuc 999999999) best v ≡ true
-    back v n q = two (int_le (negsuc 999999999) v) (int_le v best) (grind (arith, ints)) (elim (as_good best v (int_lt v best) q) [ inl p ↦ grind (arith, ints) | inr p ↦ grind (arith, ints) ])
+    back v n q = and_from (int_le (negsuc 999999999) v) (int_le v best) (grind (arith, ints)) (elim (as_good best v (int_lt v best) q) [ inl p ↦ grind (arith, ints) | inr p ↦ grind (arith, ints) ])
 
 pub below_others : (a : Aim) (best next : ℤ) (r : Option Worse) → a.sense ≡ Max → a.is_alone ≡ false → next ≡ best -ℤ pos 1 → IsKeptTo a (negsuc 999999999) next r → AreRuledOut a best r
 below_others a best next r e f s k = ruled_by a best (negsuc 999999999) next (λ v n. beats_so a Max false best v (is_within (negsuc 999999999) next v) e f (same_test _ _ (there v (from_least v n).0) (back v (from_least v n).0))) r k
   where
     there : (v : ℤ) → negsuc 999999999 ≤ℤ v → is_within (negsuc 999999999) next v ≡ true → (int_lt v best || false) ≡ true
-    there v n q = let l = (both (int_le (negsuc 999999999) v) (int_le v next) q).1 in ap (λ b. b || false) (below v best (omega (arith, ints, l, s)))
+    there v n q = let l = (and_parts (int_le (negsuc 999999999) v) (int_le v next) q).1 in ap (λ b. b || false) (below v best (omega (arith, ints, l, s)))
       where
         below : (x y : ℤ) → x <ℤ y → int_lt x y ≡ true
         below x y h = grind (arith, ints)
 
     back : (v : ℤ) → negsuc 999999999 ≤ℤ v → (int_lt v best || false) ≡ true → is_within (negsuc 999999999) next v ≡ true
-    back v n q = two (int_le (negsuc 999999999) v) (int_le v next) (grind (arith, ints)) (upto v next (omega (arith, ints, only (int_lt v best) q, s)))
+    back v n q = and_from (int_le (negsuc 999999999) v) (int_le v next) (grind (arith, ints)) (upto v next (omega (arith, ints, only (int_lt v best) q, s)))
       where
         upto : (x y : ℤ) → x ≤ℤ y → int_le x y ≡ true
         upto x y h = grind (arith, ints)

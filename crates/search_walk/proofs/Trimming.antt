@@ -1,6 +1,7 @@
 -- Steps that end with an empty domain, without some on which it doesn't depend.
 use Rattle.std.proofs.Common.{◌≡◌, ℕ, Bool, true, false, not, List, [], ◌∷◌, refl, sym, ap, subst, ◌∙◌, ℤ, Option}
 use Rattle.std.specs.List.{list_all}
+use Rattle.std.proofs.lemmas.Bool.{and_parts}
 use Rattle.qc_model.specs.declared.problem.Condition.{Condition}
 use Rattle.qc_model.specs.declared.problem.Scope.{Scope}
 use Rattle.qc_model.specs.Content.{Game}
@@ -13,7 +14,6 @@ use Rattle.proof_tree.specs.Steps.{after_steps, are_legal}
 use Rattle.proof_tree.specs.Text.{step_fits}
 use Rattle.search_trim.specs.Trims.{Trims}
 use Rattle.search_parts.specs.Made.{StepsMade}
-use Rattle.search_parts.proofs.Bools.{both}
 
 -- the steps that are left are made, and end with an empty domain too
 pub record NeededMade (g : Game) (later : List Scope) (i : ℕ) (d : List Condition) (box : Box) (ms : List ℤ) (less : List Step) : Type 0 where
@@ -46,5 +46,5 @@ needed_made g later i d box ms steps less t e m = by (has_empty box) refl
         none (s ∷ ss) q n k = by_step s ss n.legal
           where
             by_step : (s : Step) (ss : List Step) → are_legal g i (force_stop later i) tracked (s ∷ ss) box ≡ true → NeededMade g later i d box ms less
-            by_step (Prune x low high c) ss legal = let p = (both _ _ (both _ _ (both _ _ legal).0).0).0 in let z : not true ≡ true = sym (ap not f) ∙ p in cc
-            by_step (Bound x low high) ss legal = let p = (both _ _ (both _ _ (both _ _ legal).0).0).0 in let z : not true ≡ true = sym (ap not f) ∙ p in cc
+            by_step (Prune x low high c) ss legal = let p = (and_parts _ _ (and_parts _ _ (and_parts _ _ legal).0).0).0 in let z : not true ≡ true = sym (ap not f) ∙ p in cc
+            by_step (Bound x low high) ss legal = let p = (and_parts _ _ (and_parts _ _ (and_parts _ _ legal).0).0).0 in let z : not true ≡ true = sym (ap not f) ∙ p in cc

@@ -6,14 +6,6 @@ use Rattle.std.specs.Io.KnownBytes.{Appends}
 use Rattle.qc_io.specs.Sink.{AppendsPrefix, Moves}
 use Rattle.qc_io.proofs.Known.{Appends-append, moves_then, prefix_then, prefix_of}
 
-pub map_ok : {T E P Q : Type 0} (r : Result T E) → (P → Q) → OnOk r P → OnOk r Q
-map_ok (Ok x) f p = f p
-map_ok (Err e) f p = tt
-
-pub map_err : {T E P Q : Type 0} (r : Result T E) → (P → Q) → OnErr r P → OnErr r Q
-map_err (Ok x) f p = tt
-map_err (Err e) f p = f p
-
 -- a fault at the first part of a text
 pub first_fails : (a b : Option (List ℕ)) (held x y : List ℕ) → AppendsPrefix a b (held ++ x) → AppendsPrefix a b (held ++ (x ++ y))
 first_fails a b held x y p = subst (AppendsPrefix a b) (append_assoc held x y) (prefix_of a b (held ++ x) y p)

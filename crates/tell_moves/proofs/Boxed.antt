@@ -2,14 +2,14 @@
 use Rattle.std.proofs.Common.{◌≡◌, ◌∙◌, ℕ, zero, suc, ◌+◌, ◌<◌, ◌≤◌, true, false, ◌&&◌, List, [], ◌∷◌, ◌++◌, ℤ, length, take, drop, get_or, set, refl, sym, ap, subst, arith}
 use Rattle.std.specs.List.{list_all}
 use Rattle.std.proofs.lemmas.List.{length-map, length-take-le, take_more}
+use Rattle.std.proofs.lemmas.Bool.{or_parts, and_from}
 use Rattle.qc_model.specs.Content.{Game}
 use Rattle.qc_model.specs.Domains.{Box, InBox, declared_box, domain_values, values_left, values_within, box_within, has_empty, has_value, is_ascending, is_none_left, is_sub_box}
 use Rattle.qc_model.specs.Lists.{Among}
 use Rattle.qc_model.specs.Valid.{IsValid, is_number}
-use Rattle.qc_model.proofs.Readable.{second, together}
+use Rattle.qc_model.proofs.Readable.{second}
 use Rattle.qc_model.proofs.Sound.{has_it}
 use Rattle.model_arguments.specs.Asked.{is_box_of}
-use Rattle.model_arguments.proofs.Bools.{neither}
 use Rattle.model_arguments.proofs.Boxes.{sub_ascending, sub_length, left_small}
 use Rattle.model_arguments.proofs.Kept.{among_of}
 use Rattle.box_laws.proofs.Declared.{declared_is}
@@ -21,14 +21,14 @@ sub_front : (w : List ℤ) (ds : Box) → InBox w ds → is_sub_box ds ds ≡ tr
 sub_front [] ds h s = s
 sub_front (v ∷ w) [] h s = absurd h
 sub_front (v ∷ w) (d ∷ ds) h s =
-    together (true && (has_value d v && true)) (is_sub_box (singles w ++ drop (length w) ds) ds)
-    (together true (has_value d v && true) refl (together (has_value d v) true (has_it d v h.0) refl))
+    and_from (true && (has_value d v && true)) (is_sub_box (singles w ++ drop (length w) ds) ds)
+    (and_from true (has_value d v && true) refl (and_from (has_value d v) true (has_it d v h.0) refl))
     (sub_front w ds h.1 (second (is_ascending d && list_all (has_value d) d) (is_sub_box ds ds) s))
 
 full_front : (w : List ℤ) (ds : Box) → InBox w ds → has_empty ds ≡ false → has_empty (singles w ++ drop (length w) ds) ≡ false
 full_front [] ds h s = s
 full_front (v ∷ w) [] h s = absurd h
-full_front (v ∷ w) (d ∷ ds) h s = full_front w ds h.1 (neither (is_none_left d) (has_empty ds) s).1
+full_front (v ∷ w) (d ∷ ds) h s = full_front w ds h.1 (or_parts (is_none_left d) (has_empty ds) s).1
 
 left_front : (w : List ℤ) (ds : Box) → InBox w ds → values_left (singles w ++ drop (length w) ds) (length w) ≡ values_left ds (length w)
 left_front [] ds h = refl

@@ -1,13 +1,13 @@
 -- A search that takes a value, goes on, and comes back.
 use Rattle.std.proofs.Common.{◌≡◌, ◌∙◌, ℕ, suc, ◌+◌, ◌-◌, ◌<◌, ◌≤◌, true, false, List, [], ◌∷◌, ◌++◌, None, Some, ℤ, pos, negsuc, ◌+ℤ◌, length, take, drop, refl, sym, ap, subst, arith, add-one, length-append}
 use Rattle.std.specs.List.{list_all, list_any}
+use Rattle.std.proofs.lemmas.Bool.{and_from}
 use Rattle.qc_model.specs.Content.{Game}
 use Rattle.qc_model.specs.Domains.{Box, Values, InBox, declared_box, values_left, box_within, has_empty, has_value}
 use Rattle.qc_model.specs.Game.{before, restriction}
 use Rattle.qc_model.specs.Refuted.{refuted_by}
 use Rattle.qc_model.specs.Valid.{IsValid, is_number}
 use Rattle.qc_model.proofs.Before.{before-le}
-use Rattle.qc_model.proofs.Readable.{together}
 use Rattle.qc_model.proofs.Sound.{has_it}
 use Rattle.model_arguments.proofs.Values.{value_passes}
 use Rattle.model_table.proofs.Ordered.{valid_ordered}
@@ -28,7 +28,7 @@ use Rattle.box_laws.proofs.Firsts.{from_least}
 pub in_numbers : (w : List ℤ) (ds : Box) → InBox w ds → ((n : ℕ) → list_all is_number (values_left ds n) ≡ true) → list_all is_number w ≡ true
 in_numbers [] ds h f = refl
 in_numbers (v ∷ w) [] h f = absurd h
-in_numbers (v ∷ w) (d ∷ ds) h f = together (is_number v) (list_all is_number w) (value_passes is_number d v (f 0) (has_it d v h.0)) (in_numbers w ds h.1 (λ n. f (suc n)))
+in_numbers (v ∷ w) (d ∷ ds) h f = and_from (is_number v) (list_all is_number w) (value_passes is_number d v (f 0) (has_it d v h.0)) (in_numbers w ds h.1 (λ n. f (suc n)))
 
 -- where the walk is
 pub back_self : (w : Walk) → IsBack w w

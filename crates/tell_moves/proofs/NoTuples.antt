@@ -1,7 +1,7 @@
 -- Where a constraint of the restriction refutes a box, no tuple in it is allowed.
 use Rattle.std.proofs.Common.{◌≡◌, inl, inr, ℕ, zero, suc, ◌+◌, ◌≤◌, ◌==◌, Bool, true, false, ◌&&◌, ◌||◌, List, [], ◌∷◌, ◌++◌, ℤ, length, take, drop, refl, sym, ap, subst, arith, length-append, Some, slice_get}
 use Rattle.std.specs.List.{list_all, list_any}
-use Rattle.std.proofs.lemmas.Bool.{eqb-true}
+use Rattle.std.proofs.lemmas.Bool.{eqb-true, false_from_ne_true}
 use Rattle.qc_model.specs.Content.{Game, Rule}
 use Rattle.qc_model.specs.Domains.{Box, InBox, declared_box}
 use Rattle.qc_model.specs.Game.{before, restriction, allows}
@@ -13,7 +13,6 @@ use Rattle.qc_model.specs.Visible.{ArgumentsBelow}
 use Rattle.qc_model.proofs.Before.{before-le}
 use Rattle.qc_model.proofs.Moves.{of_filter}
 use Rattle.qc_model.proofs.Sound.{differ}
-use Rattle.model_arguments.proofs.Bools.{never}
 use Rattle.model_table.proofs.Ordered.{valid_ordered}
 use Rattle.model_table.proofs.Valid.{valid_table_sound}
 use Rattle.proof_meaning.proofs.Boxes.{from_take, in_append}
@@ -79,7 +78,7 @@ module _ (g : Game) (valid : IsValid g) (i : ℕ) where
       list_any (λ c. refuted_by c box) (restriction g i) ≡ true → (t : List ℤ) → LiesIn t (domains_to g (length w) stop) → allows g i (w ++ t) ≡ false
   refuted_none w box s stop e l some t lies =
       any_all (λ c. refuted_by c box) (λ c. holds_on c (w ++ t)) (restriction g i)
-      (λ c m r. never (holds_on c (w ++ t)) (λ h. let v = sees c m in valid_table_sound g valid v.0 c box (w ++ t) v.1 (below c v.2) declared r inside h))
+      (λ c m r. false_from_ne_true (holds_on c (w ++ t)) (λ h. let v = sees c m in valid_table_sound g valid v.0 c box (w ++ t) v.1 (below c v.2) declared r inside h))
       some
     where
       high : stop ≤ length (declared_box g)

@@ -1,14 +1,9 @@
 -- What single bytes are, and what they therefore aren't.
 use Rattle.std.proofs.Common.{◌≡◌, ◌==◌, ℕ, arith, refl, sym, ap, ◌∙◌, Bool, true, false, leb, leb-true, ne_eqb}
 use Rattle.std.specs.Char.{is_ascii_digit}
-use Rattle.std.proofs.lemmas.Bool.{lt-leb, and_parts}
+use Rattle.std.proofs.lemmas.Bool.{lt-leb, and_parts, false_from_ne_true}
 use Rattle.qc_model.specs.Names.{is_first_byte, is_word_byte}
 use Rattle.qc_tokens.specs.Tokens.{is_blank, is_sign}
-
--- a test that would contradict itself if it were passed
-pub not_true : (t : Bool) → (t ≡ true → ⊥) → t ≡ false
-not_true true h = absurd (h refl)
-not_true false h = refl
 
 -- a byte that passes a test isn't one that fails it
 pub differs : (p : ℕ → Bool) (b k : ℕ) → p b ≡ true → p k ≡ false → (b == k) ≡ false
@@ -65,10 +60,10 @@ signs_end_words = record {
 
 -- neither a sign nor a blank goes on with a word
 pub sign_ends_word : (b : ℕ) → is_sign b ≡ true → is_word_byte b ≡ false
-sign_ends_word b h = not_true _ (λ w. let never = no_sign is_word_byte b w signs_end_words in absurd cc)
+sign_ends_word b h = false_from_ne_true _ (λ w. let never = no_sign is_word_byte b w signs_end_words in absurd cc)
 
 pub blank_ends_word : (b : ℕ) → is_blank b ≡ true → is_word_byte b ≡ false
-blank_ends_word b h = not_true _ (λ w. let never = no_blank is_word_byte b w refl refl refl refl in absurd cc)
+blank_ends_word b h = false_from_ne_true _ (λ w. let never = no_blank is_word_byte b w refl refl refl refl in absurd cc)
 
 -- a sign is no blank
 pub sign_no_blank : (b : ℕ) → is_sign b ≡ true → is_blank b ≡ false

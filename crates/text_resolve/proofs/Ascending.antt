@@ -5,7 +5,7 @@ use Rattle.std.specs.List.{dedup}
 use Rattle.std.specs.Ordering.{int_eq, int_cmp}
 use Rattle.std.specs.List.Sorted.{IsStrictlySortedBy, IsSorted, IsPermutation}
 use Rattle.std.proofs.lemmas.Int.{ints}
-use Rattle.std.proofs.lemmas.Bool.{ltb-true, lt-ltb}
+use Rattle.std.proofs.lemmas.Bool.{ltb-true, lt-ltb, and_parts, false_from_ne_true, and_from}
 use Rattle.std.proofs.lemmas.Bool.Decides.{Decides-int_eq}
 use Rattle.std.proofs.lemmas.Cmp.{int_cmp_total}
 use Rattle.std.proofs.lemmas.List.Sorted.{list_any-IsPermutation}
@@ -13,8 +13,6 @@ use Rattle.std.proofs.lemmas.List.Kept.{IsStrictlySortedBy-dedup}
 use Rattle.qc_model.specs.Domains.{is_ascending, has_value, least_value, greatest_value}
 use Rattle.qc_model.specs.Valid.{has_gap, width_of}
 use Rattle.qc_model.proofs.Widths.{least_is_first, greatest_is_last}
-use Rattle.qc_model.proofs.InOrder.{both}
-use Rattle.qc_model.proofs.Vectors.{false_unless}
 use Rattle.text_resolve.specs.Draft.{with_number, ascending}
 
 equal : (n m : ℤ) → int_eq n m ≡ true → n ≡ m
@@ -48,9 +46,6 @@ ascending_has : (n : ℤ) (ns : List ℤ) → has_value (ascending ns) n ≡ has
 ascending_has n [] = refl
 ascending_has n (m ∷ ns) = has_with n m (ascending ns) ∙ ap (λ x. int_eq n m || x) (ascending_has n ns)
 
-join : (a b : Bool) → a ≡ true → b ≡ true → (a && b) ≡ true
-join a b p q = cc
-
 above : (n m : ℤ) → int_lt n m ≡ false → int_eq n m ≡ false → int_lt m n ≡ true
 above n m p q = elim_above (int_lt m n) refl
   where
@@ -63,25 +58,25 @@ above n m p q = elim_above (int_lt m n) refl
 
 -- with one more number above the first, the list after the first ascends from it
 with_above : (k m : ℤ) (ms : List ℤ) → int_lt k m ≡ true → is_ascending (k ∷ ms) ≡ true → is_ascending (with_number m ms) ≡ true → is_ascending (k ∷ with_number m ms) ≡ true
-with_above k m [] lt h up = join (int_lt k m) true lt refl
+with_above k m [] lt h up = and_from (int_lt k m) true lt refl
 with_above k m (j ∷ ms) lt h up = go (int_lt m j) (int_eq m j) up
   where
     go : (less same : Bool) → is_ascending (cond less (m ∷ j ∷ ms) (cond same (j ∷ ms) (j ∷ with_number m ms))) ≡ true →
         is_ascending (k ∷ cond less (m ∷ j ∷ ms) (cond same (j ∷ ms) (j ∷ with_number m ms))) ≡ true
-    go true same u = join (int_lt k m) _ lt u
+    go true same u = and_from (int_lt k m) _ lt u
     go false true u = h
-    go false false u = join (int_lt k j) _ (both (int_lt k j) _ h).0 u
+    go false false u = and_from (int_lt k j) _ (and_parts (int_lt k j) _ h).0 u
 
 rest_rises : (k : ℤ) (ms : List ℤ) → is_ascending (k ∷ ms) ≡ true → is_ascending ms ≡ true
 rest_rises k [] h = refl
-rest_rises k (j ∷ ms) h = (both (int_lt k j) _ h).1
+rest_rises k (j ∷ ms) h = (and_parts (int_lt k j) _ h).1
 
 with_rises : (m : ℤ) (ms : List ℤ) → is_ascending ms ≡ true → is_ascending (with_number m ms) ≡ true
 with_rises m [] h = refl
 with_rises m (k ∷ ms) h = go (int_lt m k) (int_eq m k) refl refl (with_rises m ms (rest_rises k ms h))
   where
     go : (less same : Bool) → int_lt m k ≡ less → int_eq m k ≡ same → is_ascending (with_number m ms) ≡ true → is_ascending (cond less (m ∷ k ∷ ms) (cond same (k ∷ ms) (k ∷ with_number m ms))) ≡ true
-    go true same p q u = join (int_lt m k) _ p h
+    go true same p q u = and_from (int_lt m k) _ p h
     go false true p q u = h
     go false false p q u = with_above k m ms (above m k p q) h u
 
@@ -97,15 +92,15 @@ below_first n m [] lt h = neither (int_eq n m) false (apart n m lt) refl
     neither a b p q = cc
 
     apart : (n m : ℤ) → int_lt n m ≡ true → int_eq n m ≡ false
-    apart n m lt = false_unless (int_eq n m) (λ e. let same : n ≡ m = equal n m e in omega (arith, ints))
+    apart n m lt = false_from_ne_true (int_eq n m) (λ e. let same : n ≡ m = equal n m e in omega (arith, ints))
 below_first n m (k ∷ ms) lt h =
-    neither (int_eq n m) (has_value (k ∷ ms) n) (apart n m lt) (below_first n k ms (further (both (int_lt m k) _ h).0) (both (int_lt m k) _ h).1)
+    neither (int_eq n m) (has_value (k ∷ ms) n) (apart n m lt) (below_first n k ms (further (and_parts (int_lt m k) _ h).0) (and_parts (int_lt m k) _ h).1)
   where
     neither : (a b : Bool) → a ≡ false → b ≡ false → (a || b) ≡ false
     neither a b p q = cc
 
     apart : (n m : ℤ) → int_lt n m ≡ true → int_eq n m ≡ false
-    apart n m lt = false_unless (int_eq n m) (λ e. let same : n ≡ m = equal n m e in omega (arith, ints))
+    apart n m lt = false_from_ne_true (int_eq n m) (λ e. let same : n ≡ m = equal n m e in omega (arith, ints))
 
     further : int_lt m k ≡ true → int_lt n k ≡ true
     further h = go (int_lt n k) refl
@@ -117,7 +112,7 @@ below_first n m (k ∷ ms) lt h =
 -- the first number stands in no later place
 first_once : (m : ℤ) (ms : List ℤ) → is_ascending (m ∷ ms) ≡ true → has_value ms m ≡ false
 first_once m [] h = refl
-first_once m (k ∷ ms) h = below_first m k ms (both (int_lt m k) _ h).0 (both (int_lt m k) _ h).1
+first_once m (k ∷ ms) h = below_first m k ms (and_parts (int_lt m k) _ h).0 (and_parts (int_lt m k) _ h).1
 
 has_first : (m : ℤ) (ms : List ℤ) → has_value (m ∷ ms) m ≡ true
 has_first m ms = go (int_eq m m) (has_value ms m) (self_equal m)
@@ -181,7 +176,7 @@ strictly_rises : (ns : List ℤ) → IsStrictlySortedBy int_cmp ns → is_ascend
 unfolding IsStrictlySortedBy
 strictly_rises [] h = refl
 strictly_rises (n ∷ []) h = refl
-strictly_rises (n ∷ m ∷ ns) h = join (int_lt n m) _ (less n m h.0.0) (strictly_rises (m ∷ ns) h.1)
+strictly_rises (n ∷ m ∷ ns) h = and_from (int_lt n m) _ (less n m h.0.0) (strictly_rises (m ∷ ns) h.1)
   where
     less : (n m : ℤ) → int_cmp n m ≡ Less → int_lt n m ≡ true
     less n m h = grind (arith, ints)
@@ -213,7 +208,7 @@ range_made ns low high diff p q e lt = go (has_gap ns) full
     width = ap (λ x. nat_abs (x -ℤ least_value ns) + 1) (sym q) ∙ ap (λ x. nat_abs (high -ℤ x) + 1) (sym p) ∙ ap (λ x. x + 1) (sym e)
 
     full : has_gap ns ≡ false
-    full = false_unless (has_gap ns) (λ h. let k : length ns < width_of ns = ltb-true (length ns) (width_of ns) h in omega (arith, width))
+    full = false_from_ne_true (has_gap ns) (λ h. let k : length ns < width_of ns = ltb-true (length ns) (width_of ns) h in omega (arith, width))
 
     go : (b : Bool) → b ≡ false → some_range low high ≡ cond b None (some_range (least_value ns) (greatest_value ns))
     go true f = absurd (not_both f)

@@ -3,6 +3,7 @@ use Rattle.std.proofs.Common.{◌≡◌, refl, sym, ap, ◌∙◌, ℕ, suc, ◌
 use Rattle.std.specs.Prelude.{◌==◌, nat_le, slice_index_or}
 use Rattle.std.specs.List.{list_all}
 use Rattle.std.proofs.lemmas.Bool.Decides.{nat_tests}
+use Rattle.std.proofs.lemmas.Bool.{and_parts, and_from}
 use Rattle.qc_model.specs.declared.problem.Kind.{Kind}
 use Rattle.qc_model.specs.declared.problem.Kind.TheVariants.{Exists, Forall}
 use Rattle.qc_model.specs.declared.problem.Sense.{Sense}
@@ -22,14 +23,6 @@ swap true true w = refl
 swap true false w = refl
 swap false true w = refl
 swap false false w = refl
-
-pub both : (a b : Bool) → (a && b) ≡ true → (a ≡ true) × (b ≡ true)
-both true b e = (refl, e)
-both false b e = absurd cc
-
-pub join : (a b : Bool) → a ≡ true → b ≡ true → (a && b) ≡ true
-join true b e k = k
-join false b e k = absurd cc
 
 -- all of those with q pass p
 module _ (p q : Rule → Bool) where
@@ -76,14 +69,14 @@ module _ (g : Game) (z : Stake) (v : ℤ) where
       ∙ ap (λ b. cond (z.place.0 == i) b true && allows g i vs) (bound_holds z.sense z.variable z.place v vs)
 
   pub allowed_before : (i : ℕ) (vs : List ℤ) → allows (bounded_game g z v) i vs ≡ true → allows g i vs ≡ true
-  allowed_before i vs h = (both _ _ (sym (allowed i vs) ∙ h)).1
+  allowed_before i vs h = (and_parts _ _ (sym (allowed i vs) ∙ h)).1
 
   pub is_good : (i : ℕ) (vs : List ℤ) → allows (bounded_game g z v) i vs ≡ true → z.place.0 ≡ i → Good vs
   is_good i vs h e =
-      ap (λ b. cond b (is_as_good z.sense (slice_index_or vs z.variable.0 (pos 0)) v) true) (sym (here z.place.0 i e)) ∙ (both _ _ (sym (allowed i vs) ∙ h)).0
+      ap (λ b. cond b (is_as_good z.sense (slice_index_or vs z.variable.0 (pos 0)) v) true) (sym (here z.place.0 i e)) ∙ (and_parts _ _ (sym (allowed i vs) ∙ h)).0
 
   pub allowed_still : (i : ℕ) (vs : List ℤ) → allows g i vs ≡ true → (z.place.0 ≡ i → Good vs) → allows (bounded_game g z v) i vs ≡ true
-  allowed_still i vs h f = allowed i vs ∙ join _ _ (by (z.place.0 == i) refl) h
+  allowed_still i vs h f = allowed i vs ∙ and_from _ _ (by (z.place.0 == i) refl) h
     where
       by : (b : Bool) → (z.place.0 == i) ≡ b → cond b (is_as_good z.sense (slice_index_or vs z.variable.0 (pos 0)) v) true ≡ true
       by true e = f (apart z.place.0 i e)

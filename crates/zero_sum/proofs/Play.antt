@@ -1,6 +1,7 @@
 -- A strategy keeps what is at stake as good as v exactly where it wins the game bounded by v.
 use Rattle.std.proofs.Common.{◌≡◌, inl, inr, refl, sym, ap, ◌∙◌, subst, ℕ, suc, ◌<◌, ◌≤◌, Bool, true, false, List, [], ◌∷◌, ◌++◌, map, arith, ℤ, pos}
 use Rattle.std.specs.Prelude.{Option, Some, None, slice_get, slice_index_or, ◌||◌}
+use Rattle.std.proofs.lemmas.Bool.{and_parts}
 use Rattle.qc_model.specs.declared.problem.Kind.{Kind}
 use Rattle.qc_model.specs.declared.problem.Kind.TheVariants.{Exists, Forall}
 use Rattle.qc_model.specs.declared.problem.Target.{Target}
@@ -21,7 +22,7 @@ use Rattle.model_laws.proofs.Existence.{entries_exist, optimal_exists}
 use Rattle.zero_sum.specs.declared.stake.Stake.{Stake}
 use Rattle.zero_sum.specs.Stake.{is_as_good, is_free, stake_past, stake_from, defaults_past, defaults_from}
 use Rattle.zero_sum.specs.Bounded.{plain, bounded_game}
-use Rattle.zero_sum.proofs.Kept.{both, Good, is_good, allowed_still, allowed_before, move_before, move_still, wins_still, wins_before}
+use Rattle.zero_sum.proofs.Kept.{Good, is_good, allowed_still, allowed_before, move_before, move_still, wins_still, wins_before}
 use Rattle.zero_sum.proofs.Worst.{worst_each, worst_all}
 use Rattle.zero_sum.proofs.Free.{free_move}
 use Rattle.zero_sum.proofs.Places.{found, passed, place_after, AtPlain, answer_worth, worth_at_place}
@@ -153,7 +154,7 @@ module _ (g : Game) (z : Stake) (v : ℤ) where
   has_turn valid later i f Forall p (Agg q) a b c e d w =
       let h = passed z.sense (slice_get g.aggregates q.0) _ z e in
       let after = place_after g z.sense z later (suc i) (inner_target (slice_get g.aggregates q.0)) h.rest in
-      let fits = both _ _ d in
+      let fits = and_parts _ _ d in
       let r = entries_exist (λ u s. Has (map plain later) (suc i) (inner_target (slice_get g.aggregates q.0)) (a ++ u) s) (moves g i a)
       (λ u m. f None (inner_target (slice_get g.aggregates q.0)) (a ++ u) (none_before (suc i)) (λ never. absurd (none_is (z.place.0) never)) h.rest fits.1
       (w u (move_still g z v i a u (moves_to g i a u m) (λ here. absurd (not_here z.place.0 i after here))))) in (

@@ -21,6 +21,7 @@ use Rattle.qc_model.specs.Block.{of_kind}
 use Rattle.qc_model.specs.Value.{inner_target}
 use Rattle.qc_model.specs.Game.{before}
 use Rattle.std.specs.Str.{bytes_eq}
+use Rattle.std.proofs.lemmas.Bool.{and_parts, and_from}
 use Rattle.qc_model.specs.Names.{is_name, names_differ}
 use Rattle.qc_model.specs.Demands.{demands_after}
 use Rattle.qc_model.specs.Sees.{IsVisible, IsVisibleHere, AtUniversal, ScopeSees, SeesRight, aggregates_in}
@@ -33,7 +34,7 @@ use Rattle.zero_sum.specs.declared.stake.Stake.{Stake}
 use Rattle.zero_sum.specs.Stake.{is_by_worst, only_wish, stake_past, stake_from, stake_by, stake_of}
 use Rattle.zero_sum.specs.Bounded.{bound, with_rule, plain, bounded_game}
 use Rattle.zero_sum.specs.Refusals.{HasRoom}
-use Rattle.zero_sum.proofs.Kept.{both, join, swap}
+use Rattle.zero_sum.proofs.Kept.{swap}
 use Rattle.zero_sum.proofs.Places.{found, passed}
 use Rattle.zero_sum.proofs.Wishes.{OneWish, one_wish}
 
@@ -52,19 +53,19 @@ order_with n r [] h lt = below_is r.owner.0 n lt
 order_with n r (c ∷ []) h lt = by (nat_le c.owner.0 r.owner.0) refl
   where
     by : (b : Bool) → nat_le c.owner.0 r.owner.0 ≡ b → is_in_order n (owners (cond b (c ∷ r ∷ []) (r ∷ c ∷ []))) ≡ true
-    by true e = join _ _ e (below_is r.owner.0 n lt)
-    by false e = join _ _ (other_way c.owner.0 r.owner.0 e) h
-order_with n r (c ∷ d ∷ rest) h lt = by (nat_le c.owner.0 r.owner.0) refl (order_with n r (d ∷ rest) (both _ _ h).1 lt)
+    by true e = and_from _ _ e (below_is r.owner.0 n lt)
+    by false e = and_from _ _ (other_way c.owner.0 r.owner.0 e) h
+order_with n r (c ∷ d ∷ rest) h lt = by (nat_le c.owner.0 r.owner.0) refl (order_with n r (d ∷ rest) (and_parts _ _ h).1 lt)
   where
     after : (w : Bool) → nat_le c.owner.0 r.owner.0 ≡ true → is_in_order n (owners (cond w (d ∷ with_rule r rest) (r ∷ d ∷ rest))) ≡ true →
         is_in_order n (c.owner.0 ∷ owners (cond w (d ∷ with_rule r rest) (r ∷ d ∷ rest))) ≡ true
-    after true e k = join _ _ (both (nat_le c.owner.0 d.owner.0) (is_in_order n (d.owner.0 ∷ owners rest)) h).0 k
-    after false e k = join _ _ e k
+    after true e k = and_from _ _ (and_parts (nat_le c.owner.0 d.owner.0) (is_in_order n (d.owner.0 ∷ owners rest)) h).0 k
+    after false e k = and_from _ _ e k
 
     by : (b : Bool) → nat_le c.owner.0 r.owner.0 ≡ b → is_in_order n (owners (with_rule r (d ∷ rest))) ≡ true →
         is_in_order n (owners (cond b (c ∷ with_rule r (d ∷ rest)) (r ∷ c ∷ d ∷ rest))) ≡ true
     by true e k = after (nat_le d.owner.0 r.owner.0) e k
-    by false e k = join _ _ (other_way c.owner.0 r.owner.0 e) h
+    by false e k = and_from _ _ (other_way c.owner.0 r.owner.0 e) h
 
 length_with : (r : Rule) (cs : List Rule) → length (with_rule r cs) ≡ length cs + 1
 length_with r [] = refl
@@ -85,7 +86,7 @@ all_rule p r (c ∷ rest) = by (nat_le c.owner.0 r.owner.0) (all_rule p r rest)
 -- the names of the variables alone
 all_front : {X : Type 0} (p : X → Bool) (xs ys : List X) → list_all p (xs ++ ys) ≡ true → list_all p (xs ++ []) ≡ true
 all_front p [] ys h = refl
-all_front p (x ∷ xs) ys h = join _ _ (both _ _ h).0 (all_front p xs ys (both _ _ h).1)
+all_front p (x ∷ xs) ys h = and_from _ _ (and_parts _ _ h).0 (all_front p xs ys (and_parts _ _ h).1)
 
 neither : (a b : Bool) → not (a || b) ≡ true → (a ≡ false) × (not b ≡ true)
 neither true b e = absurd cc
@@ -99,12 +100,12 @@ none_front p (x ∷ xs) ys h =
 
 differ_front : (xs ys : List (List ℕ)) → names_differ (xs ++ ys) ≡ true → names_differ (xs ++ []) ≡ true
 differ_front [] ys h = refl
-differ_front (x ∷ xs) ys h = join _ _ (none_front (bytes_eq x) xs ys (both _ _ h).0) (differ_front xs ys (both _ _ h).1)
+differ_front (x ∷ xs) ys h = and_from _ _ (none_front (bytes_eq x) xs ys (and_parts _ _ h).0) (differ_front xs ys (and_parts _ _ h).1)
 
 -- scopes without conditions
 scope_is : (xs : List Variable) (ks : List Scope) → list_all (is_scope xs) (map plain ks) ≡ true
 scope_is xs [] = refl
-scope_is xs (s ∷ ks) = join _ _ (by s.kind) (scope_is xs ks)
+scope_is xs (s ∷ ks) = and_from _ _ (by s.kind) (scope_is xs ks)
   where
     by : (k : Kind) → of_kind k true true ≡ true
     by Exists = refl
@@ -143,15 +144,15 @@ sound_at g z x n e k a b d = record {
 
 pub all_get : {X : Type 0} (p : X → Bool) (xs : List X) (k : ℕ) (x : X) → list_all p xs ≡ true → slice_get xs k ≡ Some x → p x ≡ true
 all_get p [] k x h e = absurd cc
-all_get p (y ∷ ys) zero x h e = let same : y ≡ x = cc in subst (λ w. p w ≡ true) same (both _ _ h).0
-all_get p (y ∷ ys) (suc k) x h e = all_get p ys k x (both _ _ h).1 e
+all_get p (y ∷ ys) zero x h e = let same : y ≡ x = cc in subst (λ w. p w ≡ true) same (and_parts _ _ h).0
+all_get p (y ∷ ys) (suc k) x h e = all_get p ys k x (and_parts _ _ h).1 e
 
 inner_is : (g : Game) → IsValid g → (c : Sense) (k : ℕ) → is_by_worst c (slice_get g.aggregates k) ≡ true → is_target g.variables (inner_target (slice_get g.aggregates k)) ≡ true
 inner_is g valid c k h = by (slice_get g.aggregates k) refl h
   where
     by : (o : Option Aggregate) → slice_get g.aggregates k ≡ o → is_by_worst c o ≡ true → is_target g.variables (inner_target o) ≡ true
     by None e h = absurd cc
-    by (Some q) e h = (both (is_universal (slice_get g.scopes q.scope.0) && is_fold q.fold) (is_target g.variables q.target) (all_get (is_aggregate_of g) g.aggregates k q valid.aggregates e)).1
+    by (Some q) e h = (and_parts (is_universal (slice_get g.scopes q.scope.0) && is_fold q.fold) (is_target g.variables q.target) (all_get (is_aggregate_of g) g.aggregates k q valid.aggregates e)).1
 
 module _ (g : Game) (valid : IsValid g) (c : Sense) (z : Stake) where
   abbrev Walk : List Scope → ℕ → Type 0
@@ -195,7 +196,7 @@ stake_sound g z valid e = by (only_wish g.scopes) refl e
         let many : length g.scopes ≡ suc (length one.later) = ap length one.first in
         let sees = subst (λ ks. SeesRight g ks 0) one.first valid.sees in
         walk g valid c.sense z one.later 1 (omega (arith, many)) sees.1 (Some 0) c.target sees.0
-        (both _ _ (subst (λ ks. list_all (is_scope g.variables) ks ≡ true) one.first valid.scopes)).0
+        (and_parts _ _ (subst (λ ks. list_all (is_scope g.variables) ks ≡ true) one.first valid.scopes)).0
         (one_on g valid c.sense z 0) (subst (λ ks. stake_from g c.sense ks 0 None c.target ≡ Some z) one.first e)
 
     by : (x : Option Condition) → only_wish g.scopes ≡ x → stake_by g x ≡ Some z → Sound g z
@@ -222,8 +223,8 @@ declared_at g z valid s = by (slice_get g.variables z.variable.0) refl s.integer
 
 bound_is : (xs : List Variable) (c : Sense) (x : VarId) (p : ScopeId) (v : ℤ) → is_variable_with is_integer_domain (slice_get xs x.0) ≡ true → is_number v ≡ true → is_declared_by p.0 (slice_get xs x.0) ≡ true →
     is_constraint xs (bound (record { sense = c; variable = x; place = p }) v) ≡ true
-bound_is xs Min x p v a b d = join _ _ (join _ _ (join _ _ a (join _ _ b refl)) refl) (join _ _ d refl)
-bound_is xs Max x p v a b d = join _ _ (join _ _ (join _ _ b (join _ _ a refl)) refl) (join _ _ d refl)
+bound_is xs Min x p v a b d = and_from _ _ (and_from _ _ (and_from _ _ a (and_from _ _ b refl)) refl) (and_from _ _ d refl)
+bound_is xs Max x p v a b d = and_from _ _ (and_from _ _ (and_from _ _ b (and_from _ _ a refl)) refl) (and_from _ _ d refl)
 
 pub bounded_is_valid : (g : Game) (z : Stake) (v : ℤ) → IsValid g → stake_of g ≡ Some z → HasRoom g v → IsValid (bounded_game g z v)
 bounded_is_valid g z v valid e room =
@@ -245,7 +246,7 @@ bounded_is_valid g z v valid e room =
       widths = valid.widths;
       scopes = scope_is g.variables g.scopes;
       aggregates = refl;
-      constraints = all_rule (is_constraint g.variables) (bound z v) g.constraints ∙ join _ _ (bound_is g.variables z.sense z.variable z.place v s.integer number (declared_at g z valid s)) valid.constraints;
+      constraints = all_rule (is_constraint g.variables) (bound z v) g.constraints ∙ and_from _ _ (bound_is g.variables z.sense z.variable z.place v s.integer number (declared_at g z valid s)) valid.constraints;
       sees = plain_sees g z v g.scopes 0;
       bottlenecks = plain_last g z v g.scopes;
     }

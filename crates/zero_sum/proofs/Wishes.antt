@@ -2,6 +2,7 @@
 use Rattle.std.proofs.Common.{◌≡◌, refl, sym, ap, ◌∙◌, ℕ, suc, Bool, true, false, List, [], ◌∷◌, ◌++◌, map, cond, ℤ}
 use Rattle.std.specs.Prelude.{Option, Some, None, is_none}
 use Rattle.std.specs.List.{list_all}
+use Rattle.std.proofs.lemmas.Bool.{and_parts}
 use Rattle.qc_model.specs.declared.problem.Kind.{Kind}
 use Rattle.qc_model.specs.declared.problem.Kind.TheVariants.{Exists, Forall}
 use Rattle.qc_model.specs.declared.problem.Condition.{Condition}
@@ -10,7 +11,6 @@ use Rattle.qc_model.specs.Content.{Game}
 use Rattle.qc_model.specs.Game.{AfterMove, Wins}
 use Rattle.zero_sum.specs.Stake.{only_wish_at, only_wish}
 use Rattle.zero_sum.specs.Bounded.{plain}
-use Rattle.zero_sum.proofs.Kept.{both}
 
 -- the scopes are one with the condition c, and others without
 pub record OneWish (c : Condition) (scopes : List Scope) : Type 0 where
@@ -20,7 +20,7 @@ pub record OneWish (c : Condition) (scopes : List Scope) : Type 0 where
 
 plain_others : (later : List Scope) → list_all (λ (s : Scope). is_none s.condition) later ≡ true → map plain later ≡ later
 plain_others [] h = refl
-plain_others (s ∷ later) h = ap (λ t. t ∷ map plain later) (same s.condition refl (both _ _ h).0) ∙ ap (λ ts. s ∷ ts) (plain_others later (both _ _ h).1)
+plain_others (s ∷ later) h = ap (λ t. t ∷ map plain later) (same s.condition refl (and_parts _ _ h).0) ∙ ap (λ ts. s ∷ ts) (plain_others later (and_parts _ _ h).1)
   where
     same : (x : Option Condition) → s.condition ≡ x → is_none x ≡ true → plain s ≡ s
     same None e k = ap (λ y. record { kind = s.kind; condition = y }) (sym e)

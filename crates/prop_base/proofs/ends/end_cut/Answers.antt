@@ -1,11 +1,11 @@
 use Rattle.std.proofs.Common.{◌≡◌, sym, subst, rules, true, not}
 use Rattle.std.proofs.lemmas.Int.{to_z-of_z}
+use Rattle.std.proofs.lemmas.Bool.{and_from}
 use mir.Val.{SFits}
 use mir.Syntax.{w64}
 use Rattle.qc_model.specs.Closed.{refutes_at}
 use Rattle.qc_model.specs.Domains.{declared_box, values_left, least_value, greatest_value}
 use Rattle.qc_model.specs.Valid.{is_number}
-use Rattle.qc_model.proofs.Readable.{together}
 use Rattle.model_arguments.proofs.Values.{has_least, has_greatest}
 use Rattle.model_arguments.proofs.Boxes.{some_left, sub_ascending}
 use Rattle.prop_base.proofs.Keeps.{keeps_end}
@@ -98,6 +98,6 @@ returns-clause-none g c =
     let a = sub_ascending box (declared_box c.args.problem.now) x c.requires.asked.declared in
     let e = simp to_z-of_z at c.if-refutes_in.ensures in
     let d = simp to_z-of_z at c.if-refutes_in-2.ensures in
-    together (not (refutes_at r box x (least_value vs))) (not (refutes_at r box x (greatest_value vs)))
+    and_from (not (refutes_at r box x (least_value vs))) (not (refutes_at r box x (greatest_value vs)))
     (keeps_end r box x c.min-low.result (least_value vs) c.min-low.ensures a (has_least vs some) (sym e))
     (keeps_end r box x c.max-high.result (greatest_value vs) c.max-high.ensures a (has_greatest vs some) (sym d))

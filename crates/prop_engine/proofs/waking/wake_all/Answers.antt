@@ -1,9 +1,10 @@
 use Rattle.std.proofs.Common.{◌≡◌, true, false, sym, ap, ◌∙◌, subst, arith}
 use Rattle.std.specs.Prelude.{slice_get}
+use Rattle.std.proofs.lemmas.Option.{slice_get-get_or}
 use Rattle.prop_engine.specs.Closing.{is_between}
 use Rattle.prop_engine.specs.Watching.{is_own, ascends, has_watch, MayRest}
 use Rattle.prop_engine.proofs.Kept.{between_below}
-use Rattle.prop_engine.proofs.Spared.{rest_all, got, take_all}
+use Rattle.prop_engine.proofs.Spared.{rest_all, take_all}
 use Rattle.prop_engine.proofs.Watched.{has_early}
 use Rattle.prop_engine.proofs.waking.wake_all.Goals as goal
 
@@ -36,7 +37,7 @@ returns-then-span-watch-clause-spared c k b o w =
 pub wake_watch-requires-clause-right : goal.wake_watch-requires-clause-right
 wake_watch-requires-clause-right c =
     let i = c.loop-watch.watch-index in
-    c.requires.watches.right c.args.x.0 i _ (ap (λ l. slice_get l i) (sym c.of-watch-items.ensures) ∙ got c.of-watch-items.result.now i _ c.loop-watch-test.true)
+    c.requires.watches.right c.args.x.0 i _ (ap (λ l. slice_get l i) (sym c.of-watch-items.ensures) ∙ slice_get-get_or c.of-watch-items.result.now i _ c.loop-watch-test.true)
 
 pub returns-clause-spared : goal.returns-clause-spared
 returns-clause-spared c k b o w =

@@ -1,4 +1,5 @@
 use Rattle.std.proofs.Common.{◌≡◌, ◌+◌, ◌++◌, [], ◌∷◌, map, sym, ap, ◌∙◌, subst, arith}
+use Rattle.std.proofs.lemmas.Result.{on_ok_weaker}
 use Rattle.proof_tree.specs.declared.line.Line.TheVariants.{Branch, Next, Dot}
 use Rattle.proof_tree.specs.Tree.{next}
 use Rattle.proof_tree.specs.declared.tree.Body.{Body}
@@ -6,34 +7,33 @@ use Rattle.proof_tree.specs.Shape.{tree_of, body_of, ending_of, branches_of, cas
 use Rattle.proof_tree.specs.Counts.{ending_weight, branch_weight}
 use Rattle.proof_tree.specs.Lines.{step_line, horizon_lines, body_lines, branches_lines, ending_lines, case_lines, upto_lines}
 use Rattle.proof_tree.proofs.Shapes.{ending_branch}
-use Rattle.qc_play.proofs.Outcomes.{on_ok}
 use Rattle.qc_play.proofs.Putting.{IsPut, both_put, piece_put, pieces_put, pieces_fewer}
 use Rattle.qc_play.proofs.unrolled.+put.Goals as goal
 
 -- a node's lines are those of its horizon and then those of its body
 pub put_node-returns-in-Stuck : goal.put_node-returns-in-Stuck
 put_node-returns-in-Stuck t c =
-    on_ok c.put.result (λ last.
+    on_ok_weaker c.put.result (λ last.
     subst (λ (b : Body). IsPut c.args.lines.now.items c.put.new.lines.items (horizon_lines c.args.node.now.horizon ++ body_lines (body_of b))) (sym c.in-Stuck.is) (both_put _ _ _ _ _ c.in_ok-put_horizon.ensures last)) c.put.ensures
 
 pub put_node-returns-in-Goal : goal.put_node-returns-in-Goal
 put_node-returns-in-Goal t c =
-    on_ok c.put-in-Goal.result (λ last.
+    on_ok_weaker c.put-in-Goal.result (λ last.
     subst (λ (b : Body). IsPut c.args.lines.now.items c.put-in-Goal.new.lines.items (horizon_lines c.args.node.now.horizon ++ body_lines (body_of b))) (sym c.in-Goal.is) (both_put _ _ _ _ _ c.in_ok-put_horizon.ensures last)) c.put-in-Goal.ensures
 
 pub put_node-returns-in-Tree : goal.put_node-returns-in-Tree
 put_node-returns-in-Tree t c =
-    on_ok c.put_part.result (λ last.
+    on_ok_weaker c.put_part.result (λ last.
     subst (λ (b : Body). IsPut c.args.lines.now.items c.put_part.new.lines.items (horizon_lines c.args.node.now.horizon ++ body_lines (body_of b))) (sym c.in-Tree.is) (both_put _ _ _ _ _ c.in_ok-put_horizon.ensures last)) c.put_part.ensures
 
 pub put_part-returns : goal.put_part-returns
 put_part-returns t c =
-    on_ok c.put_end.result (λ last. both_put _ _ _ _ _ (subst (λ ss. IsPut c.args.lines.now.items c.put_steps.new.lines.items (map step_line ss)) c.items.ensures c.in_ok-put_steps.ensures) last) c.put_end.ensures
+    on_ok_weaker c.put_end.result (λ last. both_put _ _ _ _ _ (subst (λ ss. IsPut c.args.lines.now.items c.put_steps.new.lines.items (map step_line ss)) c.items.ensures c.in_ok-put_steps.ensures) last) c.put_end.ensures
 
 pub put_end-returns-in_ok-put_cases-in-Branch : goal.put_end-returns-in_ok-put_cases-in-Branch
 put_end-returns-in_ok-put_cases-in-Branch t c =
     let e = ap ending_of c.in-Branch.is ∙ ending_branch c.in-Branch.x c.in-Branch.cases in
-    on_ok c.put-in-Branch-2.result (λ last.
+    on_ok_weaker c.put-in-Branch-2.result (λ last.
     subst (λ z. IsPut c.args.lines.now.items c.put-in-Branch-2.new.lines.items (ending_lines z)) (sym e)
     (subst (λ ps. IsPut c.args.lines.now.items c.put-in-Branch-2.new.lines.items (Branch c.in-Branch.x ∷ (branches_lines (branches_of ps) ++ Dot ∷ []))) c.items.ensures
     (both_put _ _ _ (Branch c.in-Branch.x ∷ []) _ c.in_ok-put-in-Branch.ensures (both_put _ _ _ _ _ c.in_ok-put_cases-in-Branch.ensures last)))) c.put-in-Branch-2.ensures
@@ -47,7 +47,7 @@ put_end-put_cases-requires t c =
 pub put_end-returns-in_ok-put-in-Next : goal.put_end-returns-in_ok-put-in-Next
 put_end-returns-in_ok-put-in-Next t c =
     let e = ap ending_of c.in-Next.is ∙ ap (λ m. next (tree_of m)) (sym c.deref.ensures) in
-    on_ok c.put_node.result (λ last. subst (λ z. IsPut c.args.lines.now.items c.put_node.new.lines.items (ending_lines z)) (sym e) (both_put _ _ _ (Next ∷ []) _ c.in_ok-put-in-Next.ensures last)) c.put_node.ensures
+    on_ok_weaker c.put_node.result (λ last. subst (λ z. IsPut c.args.lines.now.items c.put_node.new.lines.items (ending_lines z)) (sym e) (both_put _ _ _ (Next ∷ []) _ c.in_ok-put-in-Next.ensures last)) c.put_node.ensures
 
 pub put_cases-loop-piece-preserved : goal.put_cases-loop-piece-preserved
 put_cases-loop-piece-preserved t c =

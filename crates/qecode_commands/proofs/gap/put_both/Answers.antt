@@ -1,6 +1,7 @@
 use Rattle.std.proofs.Common.{◌≡◌, ◌∙◌, string_bytes}
+use Rattle.std.proofs.lemmas.Result.{on_err_weaker, on_ok_weaker}
 use Rattle.qc_io.proofs.Known.{moves_then, prefix_then, prefix_of, on_err}
-use Rattle.qecode_commands.proofs.Parts.{first_part, first_fault, moves_end, prefix_rest, ok_weaker, err_weaker}
+use Rattle.qecode_commands.proofs.Parts.{first_part, first_fault, moves_end, prefix_rest}
 use Rattle.qecode_commands.proofs.gap.put_both.Goals as goal
 
 pub returns-in_err-put_all-clause-err : goal.returns-in_err-put_all-clause-err
@@ -24,11 +25,11 @@ returns-clause-ok g c =
     let first = first_part _ _ _ _ _ c.new-pieces.ensures (rw (c.as_bytes.ensures.value, c.as_str.ensures.value) at c.in_ok-put_all.ensures.ok) in
     let second = moves_then _ _ _ _ _ _ _ first c.in_ok-put_if_open.ensures.ok in
     let third = moves_then _ _ _ _ _ _ _ second c.in_ok-put_if_open-2.ensures.ok in
-    ok_weaker c.finish.result (moves_end _ _ _ _ _ third) c.finish.ensures.ok
+    on_ok_weaker c.finish.result (moves_end _ _ _ _ _ third) c.finish.ensures.ok
 
 pub returns-clause-err : goal.returns-clause-err
 returns-clause-err g c =
     let first = first_part _ _ _ _ _ c.new-pieces.ensures (rw (c.as_bytes.ensures.value, c.as_str.ensures.value) at c.in_ok-put_all.ensures.ok) in
     let second = moves_then _ _ _ _ _ _ _ first c.in_ok-put_if_open.ensures.ok in
     let third = moves_then _ _ _ _ _ _ _ second c.in_ok-put_if_open-2.ensures.ok in
-    err_weaker c.finish.result (prefix_rest _ _ _ _ _ third) c.finish.ensures.err
+    on_err_weaker c.finish.result (prefix_rest _ _ _ _ _ third) c.finish.ensures.err

@@ -1,10 +1,10 @@
 use Rattle.std.proofs.Common.{◌≡◌, ◌∙◌, sym, ap, rules, true}
 use Rattle.std.specs.Prelude.{int_le}
 use Rattle.std.proofs.lemmas.Int.{to_z-of_z}
+use Rattle.std.proofs.lemmas.Bool.{and_from}
 use mir.Val.{SFits}
 use mir.Syntax.{w64}
 use Rattle.qc_model.specs.Domains.{values_left}
-use Rattle.qc_model.proofs.Readable.{together}
 use Rattle.search_joint.proofs.Among.{below_greatest, from_least, up_to_most}
 use Rattle.search_joint.proofs.Narrower.{narrowed_more}
 use Rattle.search_joint.proofs.narrowing.keep_between.Goals as goal
@@ -27,7 +27,7 @@ returns-then-most-hi-clause-between c = λ v h.
     let vs = values_left c.args.store.now.box c.args.x.0 in
     let low : int_le c.args.lo c.min.result ≡ true = simp to_z-of_z at c.if-lo-min.true in
     let high : int_le c.max-most.result c.args.hi ≡ true = simp to_z-of_z at c.if-most-hi.true in
-    together (int_le c.args.lo v) (int_le v c.args.hi) (from_least vs c.args.lo v (sym (ap (int_le c.args.lo) c.min.ensures) ∙ low) h)
+    and_from (int_le c.args.lo v) (int_le v c.args.hi) (from_least vs c.args.lo v (sym (ap (int_le c.args.lo) c.min.ensures) ∙ low) h)
     (up_to_most c.max-most.result c.args.hi v high (ap (int_le v) c.max-most.ensures ∙ below_greatest vs v h))
 
 pub returns-clause-between : goal.returns-clause-between
@@ -36,4 +36,4 @@ returns-clause-between c = λ v h.
     let hi_fits : SFits w64 c.args.hi = search rules in
     let low : int_le c.args.lo v ≡ true = simp to_z-of_z at (c.in_ok-cut_below.ensures.above v (c.cut_above.ensures.narrowed.fewer.each v h)) in
     let high : int_le v c.args.hi ≡ true = simp to_z-of_z at (c.in_ok-cut_above.ensures.below v h) in
-    together (int_le c.args.lo v) (int_le v c.args.hi) low high
+    and_from (int_le c.args.lo v) (int_le v c.args.hi) low high

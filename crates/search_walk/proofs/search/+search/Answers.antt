@@ -2,6 +2,7 @@ use Rattle.std.proofs.Common.{rules, add-one, take, ℤ, ◌≡◌, ◌∙◌, s
 use Rattle.std.proofs.lemmas.Int.{to_z-of_z}
 use Rattle.std.proofs.lemmas.List.{append-nil}
 use Rattle.std.proofs.lemmas.Result.{on_ok_weaker, IfOk-weaker}
+use Rattle.std.proofs.lemmas.Bool.{and_parts}
 use mir.Val.{SFits}
 use Rattle.qc_model.specs.Content.{Game}
 use Rattle.qc_model.specs.Domains.{Box, has_empty, has_value, is_single, values_left}
@@ -46,7 +47,6 @@ use Rattle.search_walk.proofs.Here.{outdone_ends, empty_told, barred_told, few_t
 use Rattle.search_walk.proofs.Knowing.{kept_told, node_finished, told_ends}
 use Rattle.search_parts.proofs.Marks.{firsts_marks}
 use Rattle.search_walk.proofs.Places.{goal_closed}
-use Rattle.search_parts.proofs.Bools.{both}
 use Rattle.search_walk.proofs.Remains.{as_many, none_back, both_back, back_after, back_below, back_more, case_back, cut_back, cut_front, cut_length, dropped_back, entered_back, going_back, later_back, line_back, longer, lines_both, one_fewer, taken_back, told_back, tuple_back, undone_back, back_from, same_back}
 use Rattle.search_walk.proofs.Branching.{IsGone, HasAround, alone_ended, alone_settled, case_passed, cases_begun, cases_ended, left_open, left_outdone, left_settled}
 use Rattle.search_walk.specs.Later.{SoFar, cut_to}
@@ -392,7 +392,7 @@ searched_node-returns-clause-told t c =
     let same = same_place c.args.cuts own level.problem.now g level.number i c.look_ahead.new.self.store.box a.remains.store.box below c.level-level.ensures.problem c.level-level.ensures.number c.look_ahead.ensures.content in
     λ few up stands.
     let node = node_of c.args.cuts (above_at g i up) g i (scope_number c.args.horizon) a in
-    let beats : (n : ℤ) → own n ≡ true → node.above n ≡ true = λ n q. subst (λ (f : Game). above_at f i up n ≡ true) c.requires.joins (c.rival_of.ensures.beats up stands n (both _ _ q).1) in
+    let beats : (n : ℤ) → own n ≡ true → node.above n ≡ true = λ n q. subst (λ (f : Game). above_at f i up n ≡ true) c.requires.joins (c.rival_of.ensures.beats up stands n (and_parts _ _ q).1) in
     kept_told node found a w c.keep_node.new.walk c.keep_node.ensures.joins c.keep_node.ensures.left c.in_ok-keep_node.ensures.lines (node_searched node _ own below c.in_ok-ahead.ahead found a w c.put_horizon.new.lines same beats ahead c.in_ok-below.ensures.below c.in_ok-below.ensures.lines c.in_ok-found.ensures.told few)
 
 pub searched_node-returns-clause-ended : goal.searched_node-returns-clause-ended

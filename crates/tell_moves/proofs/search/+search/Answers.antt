@@ -1,6 +1,7 @@
 use Rattle.std.proofs.Common.{◌≡◌, ◌∙◌, ◌+◌, ◌-◌, ◌<◌, suc, sym, ap, subst, arith, rules, true, false, [], ◌∷◌, ◌++◌, length, drop, take, pos, ◌+ℤ◌, SFits, to_z, w64, length-append}
 use Rattle.std.specs.List.{list_all, list_any}
 use Rattle.std.proofs.lemmas.Int.{to_z-of_z}
+use Rattle.std.proofs.lemmas.Result.{on_ok_weaker}
 use Rattle.qc_model.specs.Domains.{Box, declared_box, box_within, has_empty, has_value, is_none_left, values_left, values_within}
 use Rattle.qc_model.specs.Refuted.{refuted_by}
 use Rattle.qc_model.specs.Valid.{is_constraint, is_number}
@@ -9,7 +10,6 @@ use Rattle.model_arguments.specs.Asked.{is_box_of}
 use Rattle.model_arguments.proofs.Values.{value_passes}
 use Rattle.fd_store.specs.Held.{Held}
 use Rattle.box_laws.proofs.Readings.{rules_valid}
-use Rattle.qc_play.proofs.Outcomes.{on_ok}
 use Rattle.tell_moves.specs.Found.{found, domains_to}
 use Rattle.tell_moves.specs.Puts.{state_of, puts}
 use Rattle.tell_moves.specs.Stands.{StandsIn}
@@ -29,7 +29,7 @@ list-returns-then-len-level-clause-listed t c =
     let w = c.args.walk.now in
     let n = length w.values.items in
     let none : domains_to g n level.stop ≡ [] = ap (λ k. drop n (take k (declared_box g))) (sym (sym counted ∙ c.if-len-level.true)) ∙ domains_end n (declared_box g) in
-    on_ok c.list_tuple.result
+    on_ok_weaker c.list_tuple.result
     (λ h. subst (λ ds. state_of c.list_tuple.new.walk.listing ≡ puts (state_of w.listing) (found g level.number level.from w.values.items ds)) (sym none) h)
     c.list_tuple.ensures.listed
 

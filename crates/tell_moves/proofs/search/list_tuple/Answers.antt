@@ -1,11 +1,11 @@
 use Rattle.std.proofs.Common.{◌≡◌, ◌∙◌, sym, ap, subst, true, cond, [], ◌∷◌, drop}
 use Rattle.std.specs.List.{list_all}
 use Rattle.std.proofs.lemmas.List.{take_rest}
+use Rattle.std.proofs.lemmas.Result.{on_ok_weaker}
 use Rattle.qc_model.specs.Game.{restriction, allows}
 use Rattle.qc_model.specs.Holds.{holds_on}
 use Rattle.qc_model.specs.Valid.{is_constraint, is_number}
 use Rattle.box_laws.proofs.Readings.{rules_valid}
-use Rattle.qc_play.proofs.Outcomes.{on_ok}
 use Rattle.tell_moves.specs.Puts.{state_of, put as put_of, puts}
 use Rattle.tell_moves.proofs.Going.{numbers_in}
 use Rattle.tell_moves.proofs.search.list_tuple.Goals as goal
@@ -41,7 +41,7 @@ returns-clause-listed c =
     let w = c.args.walk.now in
     let s = state_of w.listing in
     let n = c.args.level.now.from in
-    on_ok c.put.result
+    on_ok_weaker c.put.result
     (λ h. h ∙ (ap (put_of s) (take_rest c.deref.result.now n) ∙ ap (λ vs. put_of s (drop n vs)) c.deref.ensures.value
     ∙ ap (λ b. puts s (cond b (drop n w.values.items ∷ []) [])) (sym c.if-not-all_hold.false ∙ allowed (goal.at.returns-clause-listed c).After-all_hold)))
     c.put.ensures

@@ -1,4 +1,5 @@
 use Rattle.std.proofs.Common.{subst, Some, List}
+use Rattle.std.proofs.lemmas.Result.{IfOk-weaker}
 use Rattle.qc_model.specs.Domains.{Box}
 use Rattle.qc_model.specs.Verdict.{Verdict}
 use Rattle.dense_tree.specs.Tree.{Given}
@@ -8,7 +9,6 @@ use Rattle.dense_nest.specs.Places.{entry_told}
 use Rattle.dense_nest.specs.Telling.{game_of, TellsOf}
 use Rattle.dense_nest.specs.Goes.{IsOver, PartGoes}
 use Rattle.dense_nest.specs.Ends.{given_to, Leaves}
-use Rattle.dense_nest.proofs.Closing.{if_ok}
 use Rattle.dense_nest.proofs.NodeEnds.{over, ended, part, goes_on}
 use Rattle.dense_nest.proofs.nest.Nest.node_over.Goals as goal
 
@@ -46,7 +46,7 @@ returns-clause-goes c =
     let e = c.args.e in
     let is = c.if-not-branch.false in
     let leaves = subst (Leaves m2 e m3) is c.in_ok-leave.ensures.leaves in
-    if_ok c.part_over.result (λ x. PartGoes m3 m4 (λ d. Some (part_ended (setting_of (game_of m3) d) d d.own d.frames)))
+    IfOk-weaker c.part_over.result (λ x. PartGoes m3 m4 (λ d. Some (part_ended (setting_of (game_of m3) d) d d.own d.frames)))
     (λ x. (us : List Given) (boxes : List Box) (v : Verdict) (d : Ledger) → IsOver m e us boxes v d →
     TellsOf m4 us boxes (Some (node_ended (setting_of (game_of m) d) d (entry_told (game_of m) m.remains e) (loosened (setting_of (game_of m) d) (entry_told (game_of m) m.remains e).place v) d.frames)))
     (λ x h. goes_on m m2 e c.loosen.ensures.verdict c.loosen.ensures.rest m3 c.leave.ensures.same leaves m4 h) c.part_over.ensures.goes

@@ -1,6 +1,7 @@
+use Rattle.std.proofs.lemmas.Result.{IfOk-weaker}
 use Rattle.dense_nest.specs.Ends.{given_to, Leaves, PartEnds}
 use Rattle.dense_ledger.specs.Ledger.{own_verdict}
-use Rattle.dense_nest.proofs.Closing.{tree_end, ends, if_ok}
+use Rattle.dense_nest.proofs.Closing.{tree_end, ends}
 use Rattle.dense_nest.proofs.nest.Nest.scope_over.Goals as goal
 
 pub finish_scope-requires : goal.finish_scope-requires
@@ -22,5 +23,5 @@ returns-clause-ends c =
     let m3 = c.finish_scope.new.self in
     let m4 = c.leave.new.self in
     let f = c.finish_scope.ensures in
-    if_ok c.leave.result (Leaves m3 m.entry m4) (PartEnds m m4)
+    IfOk-weaker c.leave.result (Leaves m3 m.entry m4) (PartEnds m m4)
     (ends m c.undo_to.new.self c.undo_to.ensures.past c.undo_to.ensures.content c.requires.unforked m3 m4 f.finishes f.remains f.same c.leave.ensures.same) c.leave.ensures.leaves

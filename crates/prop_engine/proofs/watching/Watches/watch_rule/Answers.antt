@@ -1,9 +1,9 @@
 use Rattle.std.proofs.Common.{◌≡◌, ◌<◌, true, sym, ap, ◌∙◌, subst, length, get_or}
 use Rattle.std.specs.Prelude.{Some}
 use Rattle.std.specs.List.{list_all}
+use Rattle.std.proofs.lemmas.Option.{slice_get-get_or}
 use Rattle.qc_model.specs.Arguments.{argument_variables}
 use Rattle.prop_engine.specs.Watching.{is_watched}
-use Rattle.prop_engine.proofs.Spared.{got}
 use Rattle.prop_engine.proofs.Watched.{grown_more, watched_more}
 use Rattle.prop_engine.proofs.watching.Watches.watch_rule.Goals as goal
 
@@ -29,4 +29,4 @@ watch_argument-requires-clause-place c =
     let d = c.index-args-place.result in
     let item = subst (λ l. d ≡ get_or l n d) c.arguments-args.ensures c.index-args-place.is in
     let below = subst (λ l. n < length l) c.arguments-args.ensures c.loop-place-test.true in
-    got c.args.rule.now.args n d below ∙ ap Some (sym item)
+    slice_get-get_or c.args.rule.now.args n d below ∙ ap Some (sym item)

@@ -1,6 +1,7 @@
 use Rattle.std.proofs.Common.{◌≡◌, ◌∙◌, ◌+◌, ◌≤◌, suc, sym, ap, subst, arith, rules, [], ◌∷◌, ◌++◌, length, map, add-one, ◌<◌, to_z, w64}
 use Rattle.std.specs.Prelude.{negsuc}
 use Rattle.std.proofs.lemmas.Int.{to_z-of_z}
+use Rattle.std.proofs.lemmas.Result.{on_ok_weaker}
 use mir.Val.{SFits}
 use Rattle.qc_model.specs.Domains.{box_within, declared_box, has_empty, values_left}
 use Rattle.joins.specs.Joins.{out_of, StandsAt}
@@ -23,7 +24,7 @@ use Rattle.qc_play.proofs.CaseLines.{CasesLeft, no_case_walked, begun_back, begu
 use Rattle.qc_play.proofs.NodeLines.{stuck_tree, goal_tree, own_tree_of}
 use Rattle.qc_play.proofs.PartLines.{end_empty, end_barred, end_next, end_branch, no_ending, case_skip, case_open, case_go}
 use Rattle.qc_play.proofs.StepLines.{part_fits}
-use Rattle.qc_play.proofs.Outcomes.{on_ok, if_ok}
+use Rattle.qc_play.proofs.Outcomes.{if_ok}
 use Rattle.qc_play.proofs.OwnTrees.{own_back, own_shows, taken_back}
 use Rattle.qc_play.proofs.Parted.{seen_none, seen_joins, steps_told, part_told, empty_told, barred_told, next_told, branch_told, skip_told, open_told, go_told}
 use Rattle.qc_play.proofs.Readable.{goal_last, own_scope, own_part, own_answered, part_end, next_full, next_fixed, next_node, branch_full, branch_variable, branch_cases}
@@ -123,7 +124,7 @@ part-returns-clause-tells t c =
     let last = c.take_steps-last in
     let a = last.new.self in
     let box = w.remains.box in
-    on_ok c.end.result (λ h steps e rest is reads.
+    on_ok_weaker c.end.result (λ h steps e rest is reads.
     let k = last.ensures.taken steps e rest is (part_fits g steps e i box reads) in
     let m = h e rest k.0 (subst (CanReadEnd g e i) (sym k.1.box) (part_end g steps e i box reads)) in
     let taken = steps_told g i w.joins a.joins c.args.leaves.now steps box c.known.ensures c.requires.within.declared k.1.stands in
@@ -167,7 +168,7 @@ end-returns-in-Next-clause-tells t c =
     let i = c.args.i.0 in
     let box = c.args.self.now.remains.box in
     let ls = c.args.lines.now in
-    on_ok c.next.result (λ h e rest is reads.
+    on_ok_weaker c.next.result (λ h e rest is reads.
     let k = end_next e rest ls (subst (λ l. l ∷ ls ≡ ending_lines e ++ rest) c.in-Next.is is) in
     let m = h k.0 rest k.2 (next_node g k.0 i box (subst (λ u. CanReadEnd g u i box) k.1 reads) c.requires.scope) in
     (m.0, next_told g i c.args.self.now.joins c.next.new.self.joins c.args.leaves.now c.next.new.leaves e box k.0 k.1 c.requires.scope m.1)) c.next.ensures.tells
@@ -202,7 +203,7 @@ end-returns-in-Branch-clause-tells t c =
     let x = c.in-Branch.x in
     let box = c.args.self.now.remains.box in
     let ls = c.args.lines.now in
-    on_ok c.branch-self.result (λ h e rest is reads.
+    on_ok_weaker c.branch-self.result (λ h e rest is reads.
     let k = end_branch x e rest ls (subst (λ l. l ∷ ls ≡ ending_lines e ++ rest) c.in-Branch.is is) in
     let m = h k.0 rest k.2 (branch_cases g x k.0 i box (subst (λ u. CanReadEnd g u i box) k.1 reads)) in
     (m.0, branch_told g i c.args.self.now.joins c.branch-self.new.self.joins c.args.leaves.now c.branch-self.new.leaves e box x k.0 k.1 m.1)) c.branch-self.ensures.tells
@@ -221,7 +222,7 @@ next-returns-clause-back t c =
     let a = c.read_tuple.new.self in
     let b = c.node.new.self in
     let there = back_then g i w a b c.read_tuple.ensures.back (back_below g i a b (subst (λ j. IsBack g j a b) (add-one i) c.in_ok-shown.ensures.back)) in
-    on_ok c.add_node.result (back_then g i w b c.add_node.new.self there) c.add_node.ensures.back
+    on_ok_weaker c.add_node.result (back_then g i w b c.add_node.new.self there) c.add_node.ensures.back
 
 pub next-returns-clause-tells : goal.next-returns-clause-tells
 next-returns-clause-tells t c =
@@ -234,7 +235,7 @@ next-returns-clause-tells t c =
     let back = subst (λ j. IsBack g j a b) (add-one i) c.in_ok-shown.ensures.back in
     let same : a.remains.box ≡ box = c.read_tuple.ensures.back.box in
     let there : b.remains.box ≡ box = back.box ∙ same in
-    on_ok c.add_node.result (λ h u rest e reads.
+    on_ok_weaker c.add_node.result (λ h u rest e reads.
     let k = c.in_ok-shown.ensures.shows u rest e (subst (λ j. CanReadNode g u j a.remains.box) (sym (add-one i)) (subst (CanReadNode g u (suc i)) (sym same) reads)) in
     let f = node_finding g u (suc i) box in
     let fits = tree_fits g c.known.ensures u (suc i) box (box_domains g box c.known.ensures.domains c.requires.within.declared) reads in (
@@ -296,7 +297,7 @@ case-returns-in_default-clause-tells t c =
     let g = game_of c.args.tables.now in
     let i = c.args.i.0 in
     let box = box_within c.args.self.now.remains.box c.args.x.0 c.args.ends.first c.args.ends.last in
-    on_ok c.taken.result (λ h u rest is reads.
+    on_ok_weaker c.taken.result (λ h u rest is reads.
     let k = case_go u rest c.args.lines.now c.args.line c.in_default.not-Skip c.in_default.not-Open is in
     let m = h k.0 k.1 rest k.3 (subst (λ v. CanReadCase g v i box) k.2 reads) in
     (m.0, go_told g i c.args.self.now.joins c.taken.new.self.joins c.args.leaves.now c.taken.new.leaves u box k.0 k.1 k.2 m.1)) c.taken.ensures.tells
