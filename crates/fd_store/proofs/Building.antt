@@ -77,6 +77,7 @@ sound_start words cells r = record {
   places = All-nil (IsPlace (length cells));
   past = λ k h. step k h;
   few = λ k h. none k h;
+  others = λ k e h. absurd (omega arith);
 }
   where
     step : (k : ℕ) → k ≤ 0 → IsRight (words_before (drop k []) words) (cells_before (drop k []) cells)

@@ -1,7 +1,7 @@
 -- One cell, with one word, is changed.
 use Rattle.std.proofs.Common.{◌≡◌, ◌≢◌, ◌⊎◌, inl, inr, ℕ, zero, suc, ◌+◌, ◌-◌, ◌*◌, ◌<◌, ◌≤◌, not, ◌&&◌, List, [], ◌∷◌, ◌++◌, length, set, get_or, map, drop, refl, sym, ap, subst, ◌∙◌, arith, ℤ, length-append}
 use Rattle.std.specs.Prelude.{pos, ◌+ℤ◌, All}
-use Rattle.std.proofs.lemmas.List.{length-set, get_or-set_same, get_or-set_other, map-set}
+use Rattle.std.proofs.lemmas.List.{length-set, get_or-set_same, get_or-set_other, get_or_append_left, get_or_push, map-set}
 use Rattle.std.proofs.lemmas.List.Elements.{All-append, All-cons, All-nil}
 use Rattle.std.proofs.lemmas.Int.{ints}
 use mir.Val.{SFits}
@@ -10,8 +10,9 @@ use Rattle.qc_model.specs.Domains.{Values, values_left, box_without, values_outs
 use Rattle.fd_store.specs.declared.table.Cell.{Cell}
 use Rattle.fd_store.specs.declared.table.Change.{Change}
 use Rattle.fd_store.specs.Places.{is_set, is_kept, is_inside, cell_values, values_below, box_of}
-use Rattle.fd_store.specs.Trail.{words_before, cells_before}
+use Rattle.fd_store.specs.Trail.{words_before, cells_before, box_before}
 use Rattle.fd_store.specs.Sound.{IsCell, AreApart, IsRight, IsPlace, IsSound, cells_left}
+use Rattle.fd_store.specs.Held.{AgreeApart}
 use Rattle.fd_store.proofs.Counts.{count_agree}
 use Rattle.fd_store.proofs.Past.{words_kept, cells_kept}
 use Rattle.fd_store.proofs.Values.{values_agree, values_cut}
@@ -140,8 +141,8 @@ drop_end (e ∷ es) zero h = absurd (omega arith)
 drop_end (e ∷ es) (suc k) h = drop_end es k (omega arith)
 
 pub sound_push : (words now : List ℕ) (cells then : List Cell) (trail : List Change) (e : Change) → IsSound words cells trail → IsRight now then → length then ≡ length cells → e.var < length cells →
-    set now e.word e.bits ≡ words → set then e.var e.cell ≡ cells → cells_left then + 1 ≤ cells_left cells → IsSound now then (trail ++ e ∷ [])
-sound_push words now cells then trail e i r len h w c fewer = record {
+    set now e.word e.bits ≡ words → set then e.var e.cell ≡ cells → cells_left then + 1 ≤ cells_left cells → AgreeApart e.var (box_of words cells) (box_of now then) → IsSound now then (trail ++ e ∷ [])
+sound_push words now cells then trail e i r len h w c fewer alike = record {
   places = All-append (IsPlace (length then)) trail (e ∷ []) (subst (λ n. All (IsPlace n) trail) (sym len) i.places) (All-cons (IsPlace (length then)) e [] (omega arith) (All-nil (IsPlace (length then))));
   past = λ k l. elim (near k (length trail) (omega (arith, l, length-append trail (e ∷ [])))) [
     | inl q ↦ subst (λ ws. IsRight ws (cells_before (drop k (trail ++ e ∷ [])) then)) (sym (words_kept words now trail (e ∷ []) k q w))
@@ -156,6 +157,7 @@ sound_push words now cells then trail e i r len h w c fewer = record {
         let whole = i.few (length trail) (omega arith) in
         omega (arith, whole, first, fewer, q, ap cells_left (ap (λ ds. cells_before ds then) (drop_all k q)), ap cells_left (ap (λ ds. cells_before ds cells) (drop_end trail (length trail) (omega arith))))
   ];
+  others = λ k d l at. others k d at (near_end k (length trail) (omega (arith, l, length-append trail (e ∷ []))));
 }
   where
     first : cells_left (cells_before (trail ++ e ∷ []) then) ≡ cells_left (cells_before trail cells)
@@ -166,6 +168,26 @@ sound_push words now cells then trail e i r len h w c fewer = record {
 
     drop_all : (k : ℕ) → k ≡ length trail + 1 → drop k (trail ++ e ∷ []) ≡ []
     drop_all k q = drop_end (trail ++ e ∷ []) k (omega (arith, q, length-append trail (e ∷ [])))
+
+    -- undone as far as before, it is as before
+    box_kept : (k : ℕ) → k ≤ length trail → box_before (drop k (trail ++ e ∷ [])) now then ≡ box_before (drop k trail) words cells
+    box_kept k q =
+        ap (λ ws. box_of ws (cells_before (drop k (trail ++ e ∷ [])) then)) (words_kept words now trail (e ∷ []) k q w)
+        ∙ ap (box_of (words_before (drop k trail) words)) (cells_kept cells then trail (e ∷ []) k q c)
+
+    others : (k : ℕ) (d : Change) → get_or (trail ++ e ∷ []) k d ≡ d → (k < length trail) ⊎ (k ≡ length trail) →
+        AgreeApart d.var (box_before (drop k (trail ++ e ∷ [])) now then) (box_before (drop (k + 1) (trail ++ e ∷ [])) now then)
+    others k d at (inl q) =
+        let old = i.others k d q (sym (get_or_append_left trail (e ∷ []) d k q) ∙ at) in
+        λ y n. ap (λ b. values_left b y) (box_kept k (omega arith)) ∙ (old y n ∙ sym (ap (λ b. values_left b y) (box_kept (k + 1) (omega arith))))
+    others k d at (inr q) =
+        let own : e ≡ d = sym (get_or_push trail e d k (sym q)) ∙ at in
+        let was : box_before (drop k (trail ++ e ∷ [])) now then ≡ box_of words cells = box_kept k (omega arith) ∙ ap (λ ds. box_before ds words cells) (drop_end trail k (omega arith)) in
+        let is : box_before (drop (k + 1) (trail ++ e ∷ [])) now then ≡ box_of now then = ap (λ ds. box_before ds now then) (drop_all (k + 1) (omega arith)) in
+        λ y n. ap (λ b. values_left b y) was ∙ (alike y (λ m. n (m ∙ ap (λ (f : Change). f.var) own)) ∙ sym (ap (λ b. values_left b y) is))
+
+    near_end : (k n : ℕ) → k < n + 1 → (k < n) ⊎ (k ≡ n)
+    near_end k n l = grind arith
 
 pub base_fits : (words : List ℕ) (c : Cell) → IsCell words c → SFits w64 c.base
 base_fits words c i = omega (arith, ints, i.low, i.high)

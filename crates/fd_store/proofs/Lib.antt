@@ -22,4 +22,5 @@ mod Building
 pub mod FullDomains
 mod Nexts
 mod Within
+mod Rows
 mod Examples

@@ -3,15 +3,16 @@ use Rattle.std.proofs.Common.{◌≡◌, ℕ, ◌+◌, ◌-◌, ◌<◌, ◌≤�
 use Rattle.std.specs.Prelude.{pos, ◌+ℤ◌, ◌≤ℤ◌}
 use Rattle.std.proofs.lemmas.Bool.Decides.{nat_tests}
 use Rattle.std.proofs.lemmas.Int.{ints}
-use Rattle.std.proofs.lemmas.List.{length-set, length-map, get_or-set_same, set-set, set-get_or}
+use Rattle.std.proofs.lemmas.List.{length-set, length-map, get_or-set_same, get_or-set_other, set-set, set-get_or}
 use Rattle.std.proofs.lemmas.List.Sums.{sum_by-set}
-use Rattle.qc_model.specs.Domains.{Values, values_left, values_outside, is_within}
+use Rattle.qc_model.specs.Domains.{Values, values_left, values_outside, box_without, is_within}
 use Rattle.fd_store.specs.declared.table.Cell.{Cell}
 use Rattle.fd_store.specs.declared.table.Change.{Change}
 use Rattle.fd_store.specs.declared.table.Table.{Table}
 use Rattle.fd_store.specs.Places.{is_kept, is_inside, cell_values, box_of}
 use Rattle.fd_store.specs.Trail.{words_before, cells_before}
 use Rattle.fd_store.specs.Sound.{IsCell, IsRight, IsSound, cells_left}
+use Rattle.fd_store.specs.Held.{AgreeApart}
 use Rattle.fd_store.specs.Takes.{Takes, IsSoundTable, box_in}
 use Rattle.fd_store.proofs.Values.{length-values, outside_agree}
 use Rattle.fd_store.proofs.Past.{leads_none, leads_one, leads_more}
@@ -47,9 +48,11 @@ takes_step t u x c d e lo hi i h at s b cell ec et es ev ecell ew kept less =
     let there : get_or u.cells.items x d ≡ d = ap (λ cs. get_or cs x d) ec ∙ get_or-set_same t.cells.items x d d h in
     let fewer : cells_left u.cells.items + 1 ≤ cells_left t.cells.items = omega (arith, ap cells_left ec, sum_by-set (λ (o : Cell). o.size) t.cells.items x d c h, ap (λ (o : Cell). o.size) at, less) in
     let grown : length u.trail.items ≡ length t.trail.items + 1 = ap length et ∙ length-append t.trail.items (e ∷ []) in
+    let content : box_in u ≡ box_without (box_in t) x lo hi = ap (box_of u.words.items) ec ∙ box_set t.words.items u.words.items t.cells.items x c d lo hi h at s b r kept in
+    let alike : AgreeApart e.var (box_in t) (box_in u) = λ y n. sym (ap (λ v. values_left v y) content ∙ get_or-set_other (box_in t) x y _ [] (λ m. n (m ∙ sym ev))) in
     record {
-      sound = subst (IsSound u.words.items u.cells.items) (sym et) (sound_push t.words.items u.words.items t.cells.items u.cells.items t.trail.items e i right long (omega arith) ew back fewer);
-      content = ap (box_of u.words.items) ec ∙ box_set t.words.items u.words.items t.cells.items x c d lo hi h at s b r kept;
+      sound = subst (IsSound u.words.items u.cells.items) (sym et) (sound_push t.words.items u.words.items t.cells.items u.cells.items t.trail.items e i right long (omega arith) ew back fewer alike);
+      content = content;
       back = leads_one t.words.items u.words.items t.cells.items u.cells.items t.trail.items u.trail.items e et ew back;
       spare = omega arith;
       few = omega (arith, grown, size_is u.words.items u.cells.items x d (omega arith) there cell, size_is t.words.items t.cells.items x c h at (r.each x c h at), less);

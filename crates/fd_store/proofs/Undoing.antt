@@ -3,10 +3,12 @@ use Rattle.std.proofs.Common.{◌≡◌, ◌≤◌, ◌<◌, ◌+◌, ℕ, List,
 use Rattle.std.specs.Prelude.{All}
 use Rattle.std.proofs.lemmas.List.{drop_more, take-take, length_push, length-take-le, get_or-take, get_or_push, take_at, drop-append-le}
 use Rattle.std.proofs.lemmas.List.Elements.{All-take}
+use Rattle.qc_model.specs.Domains.{values_left}
 use Rattle.fd_store.specs.declared.table.Cell.{Cell}
 use Rattle.fd_store.specs.declared.table.Change.{Change}
 use Rattle.fd_store.specs.Sound.{IsPlace, IsRight, IsSound, cells_left}
-use Rattle.fd_store.specs.Trail.{words_before, cells_before}
+use Rattle.fd_store.specs.Places.{box_of}
+use Rattle.fd_store.specs.Trail.{words_before, cells_before, box_before}
 use Rattle.fd_store.proofs.Past.{words_before-append, cells_before-append, length-cells_before}
 
 -- the front of a trail that is partly undone, and the change at its end
@@ -50,7 +52,16 @@ sound_undone words cells es at h i =
           sym (cells_before-append (take at es) (drop at es) cells) ∙ ap (λ ds. cells_before ds cells) (take-append-drop at es) in
           let small = i.few k (omega arith) in
           omega (arith, small, ap cells_left here, ap cells_left first);
+      others = λ k e l f.
+          let old = i.others k e (omega arith) (sym (get_or-take at es k e (omega arith)) ∙ f) in
+          λ y n. ap (λ b. values_left b y) (box_back k (omega arith)) ∙ (old y n ∙ sym (ap (λ b. values_left b y) (box_back (k + 1) (omega arith))));
     }
+  where
+    box_back : (k : ℕ) → k ≤ length (take at es) → box_before (drop k (take at es)) (words_before (drop at es) words) (cells_before (drop at es) cells) ≡ box_before (drop k es) words cells
+    box_back k l =
+        let whole : drop k (take at es) ++ drop at es ≡ drop k es = sym (drop-append-le k (take at es) (drop at es) l) ∙ ap (drop k) (take-append-drop at es) in
+        ap (λ ws. box_of ws (cells_before (drop k (take at es)) (cells_before (drop at es) cells))) (sym (words_before-append (drop k (take at es)) (drop at es) words) ∙ ap (λ ds. words_before ds words) whole)
+        ∙ ap (box_of (words_before (drop k es) words)) (sym (cells_before-append (drop k (take at es)) (drop at es) cells) ∙ ap (λ ds. cells_before ds cells) whole)
 
 -- the places of a trail without its last one
 pub places_front : (front : List Change) (e : Change) (n : ℕ) → All (IsPlace n) (front ++ e ∷ []) → All (IsPlace n) front

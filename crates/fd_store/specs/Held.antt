@@ -1,7 +1,7 @@
 -- What a store holds, as its callers see it.
-use Rattle.std.specs.Prelude.{◌≡◌, ◌≤◌, ◌+◌, ◌/◌, ℕ, cond, List, [], ◌∷◌, length, sum_by, slice_index_or, ℤ, ◌-ℤ◌, nat_abs, int_lt, int_le, filter, Option, None, Some}
+use Rattle.std.specs.Prelude.{◌≡◌, ◌≢◌, ◌≤◌, ◌+◌, ◌/◌, ℕ, cond, List, [], ◌∷◌, length, sum_by, slice_index_or, ℤ, ◌-ℤ◌, nat_abs, int_lt, int_le, filter, Option, None, Some}
 use Rattle.std.specs.Int.{int_min, int_max}
-use Rattle.qc_model.specs.Domains.{Box, Values, is_none_left, least_value, greatest_value}
+use Rattle.qc_model.specs.Domains.{Box, Values, values_left, is_none_left, least_value, greatest_value}
 use Rattle.fd_store.specs.declared.answer.Removed.{Removed}
 use Rattle.fd_store.specs.declared.answer.Removed.TheVariants.{Nothing, Emptied, Some as SomeGone}
 
@@ -31,6 +31,10 @@ pub record Follows (s t : Held) : Type 0 where
 pub record IsUndone (n : ℕ) (s t : Held) : Type 0 where
   pub len : trail_len t ≡ n
   pub boxes : (k : ℕ) → k ≤ n → past_box t k ≡ past_box s k
+
+-- the boxes have the same values of all variables but this one
+abbrev pub AgreeApart : ℕ → Box → Box → Type 0
+AgreeApart x box now = (y : ℕ) → y ≢ x → values_left box y ≡ values_left now y
 
 -- what a removal answers, from the values that go and those that stay
 abbrev pub removal : Values → Values → Removed

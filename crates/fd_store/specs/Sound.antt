@@ -2,8 +2,9 @@
 use Rattle.std.specs.Prelude.{◌≡◌, ◌≤◌, ◌<◌, ℕ, ◌+◌, ◌-◌, ◌*◌, true, List, length, sum_by, drop, All, slice_index_or, pos, negsuc, ◌+ℤ◌, ◌≤ℤ◌}
 use Rattle.fd_store.specs.declared.table.Cell.{Cell}
 use Rattle.fd_store.specs.declared.table.Change.{Change}
+use Rattle.fd_store.specs.Held.{AgreeApart}
 use Rattle.fd_store.specs.Places.{is_set, is_kept, count_below}
-use Rattle.fd_store.specs.Trail.{words_before, cells_before}
+use Rattle.fd_store.specs.Trail.{words_before, cells_before, box_before}
 
 -- a cell of these words: the first place and the last that may be left are set, and so many are left
 pub record IsCell (words : List ℕ) (c : Cell) : Type 0 where
@@ -39,3 +40,5 @@ pub record IsSound (words : List ℕ) (cells : List Cell) (trail : List Change) 
   pub past : (k : ℕ) → k ≤ length trail → IsRight (words_before (drop k trail) words) (cells_before (drop k trail) cells)
   -- each change took a value at least
   pub few : (k : ℕ) → k ≤ length trail → k + cells_left (cells_before (drop k trail) cells) ≤ cells_left (cells_before trail cells)
+  -- and of one variable alone
+  pub others : (k : ℕ) (e : Change) → k < length trail → slice_index_or trail k e ≡ e → AgreeApart e.var (box_before (drop k trail) words cells) (box_before (drop (k + 1) trail) words cells)

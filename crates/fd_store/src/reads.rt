@@ -1,11 +1,12 @@
 //! What a table tells of one variable.
-ghost use Rattle.std.specs.Prelude.{◌≡◌, ◌<◌, ◌≤◌, ◌+◌, ℕ, ℤ, false, true, length, drop};
+ghost use Rattle.std.specs.Prelude.{◌≡◌, ◌≢◌, ◌<◌, ◌≤◌, ◌+◌, ℕ, ℤ, false, true, length, drop, MatchBool};
 ghost use Rattle.std.specs.List.{list_all};
 ghost use Rattle.qc_model.specs.Valid.{is_number};
 ghost use Rattle.qc_model.specs.Domains.{values_left, is_none_left, least_value, greatest_value, has_value, is_ascending};
-ghost use Rattle.fd_store.specs.Held.{removal_need, values_from, values_up_to, least_of, greatest_of};
+ghost use Rattle.qc_model.specs.Lists.{numbers_from};
+ghost use Rattle.fd_store.specs.Held.{AgreeApart, removal_need, values_from, values_up_to, least_of, greatest_of};
 ghost use Rattle.fd_store.specs.Sound.{cells_left};
-ghost use Rattle.fd_store.specs.Trail.{cells_before};
+ghost use Rattle.fd_store.specs.Trail.{cells_before, box_before};
 ghost use Rattle.fd_store.specs.Takes.{IsSoundTable, box_in};
 
 use crate::cuts::{end_of, offset_of, place_of, value_at};
@@ -55,6 +56,36 @@ impl Table {
     {
         let cell = self.cell(x);
         value_at(cell.base, cell.end - 1)
+    }
+
+    // Whether what is left is so many numbers in a row, from this one on.
+    pub(crate) fn is_row(&self, x: usize, least: i64, count: u32) -> bool
+        requires sound { IsSoundTable self.now }
+        requires var { x < length self.now.cells.items }
+        requires left { is_none_left (values_left (box_in self.now) x) ≡ false }
+        ensures { MatchBool result (values_left (box_in self.now) x ≡ numbers_from least count) (values_left (box_in self.now) x ≢ numbers_from least count) }
+    {
+        let cell = self.cell(x);
+        if cell.size != count {
+            return false;
+        }
+        if value_at(cell.base, cell.first) != least {
+            return false;
+        }
+        has_no_gap(cell)
+    }
+
+    // The variable of the n-th change.
+    pub(crate) fn changed_at(&self, n: usize) -> usize
+        requires sound { IsSoundTable self.now }
+        requires place { n < length self.now.trail.items }
+        ensures var { result < length self.now.cells.items }
+        ensures others { AgreeApart result (box_before (drop n self.now.trail.items) self.now.words.items self.now.cells.items) (box_before (drop (n + 1) self.now.trail.items) self.now.words.items self.now.cells.items) }
+    {
+        match self.trail.get(n) {
+            Some(change) => change.var,
+            None => unreachable!(),
+        }
     }
 
     pub(crate) fn has(&self, x: usize, v: i64) -> bool

@@ -1,9 +1,10 @@
 //! The store as its callers see it.
-ghost use Rattle.std.specs.Prelude.{◌≡◌, ◌<◌, ◌≤◌, ◌+◌, ℕ, ℤ, false, true, [], length, IfOk, OnOk, IsFalse};
+ghost use Rattle.std.specs.Prelude.{◌≡◌, ◌≢◌, ◌<◌, ◌≤◌, ◌+◌, ℕ, ℤ, false, true, [], length, IfOk, OnOk, IsFalse, MatchBool};
 ghost use Rattle.qc_model.specs.Domains.{declared_box, has_empty, values_left, is_none_left, least_value, greatest_value, has_value, is_single, is_ascending, box_without, values_within, values_outside};
 ghost use Rattle.std.specs.List.{list_all};
 ghost use Rattle.qc_model.specs.Valid.{is_number};
-ghost use Rattle.fd_store.specs.Held.{trail_len, past_box, removal, removal_need, count_left, Follows, IsUndone, values_from, values_up_to, least_of, greatest_of};
+ghost use Rattle.qc_model.specs.Lists.{numbers_from};
+ghost use Rattle.fd_store.specs.Held.{trail_len, past_box, removal, removal_need, count_left, Follows, IsUndone, AgreeApart, values_from, values_up_to, least_of, greatest_of};
 
 use crate::answer::Removed;
 use crate::declare::declared;
@@ -99,6 +100,15 @@ impl Store {
         self.table.greatest(x.0 as usize)
     }
 
+    /// Whether what is left to x is so many numbers in a row, from this one on.
+    pub fn is_row(&self, x: VarId, least: i64, count: u32) -> bool
+        requires var { x.0 < length self.now.box }
+        requires left { is_none_left (values_left self.now.box x.0) ≡ false }
+        ensures { MatchBool result (values_left self.now.box x.0 ≡ numbers_from least count) (values_left self.now.box x.0 ≢ numbers_from least count) }
+    {
+        self.table.is_row(x.0 as usize, least, count)
+    }
+
     /// Whether v is left to x.
     pub fn has(&self, x: VarId, v: i64) -> bool
         requires { x.0 < length self.now.box }
@@ -170,6 +180,15 @@ impl Store {
         ensures { (k : ℕ) → k ≤ trail_len self.now → k + count_left (past_box self.now k) ≤ count_left (past_box self.now 0) }
     {
         self.table.trail_known();
+    }
+
+    /// The variable of which values went at the n-th place of the trail: no other lost or gained one there.
+    pub fn changed_at(&self, n: usize) -> usize
+        requires { n < trail_len self.now }
+        ensures var { result < length self.now.box }
+        ensures others { AgreeApart result (past_box self.now n) (past_box self.now (n + 1)) }
+    {
+        self.table.changed_at(n)
     }
 
     /// How many places of the trail are enough for this removal, at most 16,400: one for each word between the ends that

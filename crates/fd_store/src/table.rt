@@ -1,5 +1,5 @@
 //! The words, the cells and the trail of a store, and the two ways in which a cell changes.
-ghost use Rattle.std.specs.Prelude.{◌≡◌, ◌<◌, ◌≤◌, ◌+◌, ◌-◌, true, [], ◌∷◌, ◌++◌, length, set, slice_index, slice_index_or};
+ghost use Rattle.std.specs.Prelude.{◌≡◌, ◌≢◌, ◌<◌, ◌≤◌, ◌+◌, ◌-◌, false, true, [], ◌∷◌, ◌++◌, length, set, slice_index, slice_index_or};
 ghost use Rattle.fd_store.specs.Sound.{IsCell};
 ghost use Rattle.fd_store.specs.Takes.{IsSoundTable};
 
@@ -22,7 +22,8 @@ pub(crate) struct Cell {
 // Whether each value between a cell's ends is left, so that no word need be read.
 pub(crate) fn has_no_gap(cell: Cell) -> bool
     requires { cell.first ≤ cell.end }
-    ensures { result ≡ true → cell.size ≡ cell.end - cell.first }
+    ensures dense { result ≡ true → cell.size ≡ cell.end - cell.first }
+    ensures gap { result ≡ false → cell.size ≢ cell.end - cell.first }
 {
     cell.size == cell.end - cell.first
 }

@@ -22,7 +22,7 @@ returns-then-next-value_at c =
     let least : c.value_at.result ≡ cell.base +ℤ pos cell.first = simp to_z-of_z at c.value_at.ensures in
     let past : c.value_at-2.result ≡ cell.base +ℤ pos cell.end = simp to_z-of_z at c.value_at-2.ensures in
     let next = (simp to_z-of_z at c.max-next.ensures.value) ∙ ap (int_max c.args.v) least in
-    let found = next_dense t c.args.x cell c.args.v c.max-next.result c.requires.var k.at k.right (c.has_no_gap.ensures c.if-not-has_no_gap.false) next
+    let found = next_dense t c.args.x cell c.args.v c.max-next.result c.requires.var k.at k.right (c.has_no_gap.ensures.dense c.if-not-has_no_gap.false) next
     (below_first c.max-next.result c.value_at-2.result _ (simp to_z-of_z at c.if-next-value_at.true) past) in
     simp to_z-of_z found
 

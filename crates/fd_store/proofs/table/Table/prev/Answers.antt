@@ -23,7 +23,7 @@ returns-then-prev-value_at c =
     let past : c.value_at.result ≡ cell.base +ℤ pos cell.end = simp to_z-of_z at c.value_at.ensures in
     let least : c.value_at-2.result ≡ cell.base +ℤ pos cell.first = simp to_z-of_z at c.value_at-2.ensures in
     let prev = (simp to_z-of_z at c.min-prev.ensures.value) ∙ ap (λ r. int_min c.args.v (r -ℤ pos 1)) past in
-    let found = prev_dense t c.args.x cell c.args.v c.min-prev.result c.requires.var k.at k.right (c.has_no_gap.ensures c.if-not-has_no_gap.false) prev
+    let found = prev_dense t c.args.x cell c.args.v c.min-prev.result c.requires.var k.at k.right (c.has_no_gap.ensures.dense c.if-not-has_no_gap.false) prev
     (above_last c.min-prev.result c.value_at-2.result _ (simp to_z-of_z at c.if-prev-value_at.true) least) in
     simp to_z-of_z found
 
