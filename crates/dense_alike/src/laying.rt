@@ -58,7 +58,8 @@ fn read_entailed(problem: &Problem, i: ScopeId, start: usize, store: &Store, hol
 }
 
 /// Writes for each constraint from a place on whether it is of a scope from i on, or of the goal, sees values other than by
-/// themselves, and holds whatever comes after these values of the variables before the scope. The box is the declared one, before and after.
+/// themselves, and holds whatever comes after these values of the variables before the scope. The box is the declared one,
+/// before and after.
 pub(crate) fn read_holding(
     remains: &mut Remains,
     problem: &Problem,

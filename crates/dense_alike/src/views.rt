@@ -88,7 +88,8 @@ fn see_same(
 }
 
 /// Whether each constraint of a scope from i on, or of the goal, sees the same of both positions. Those before a place are
-/// of earlier scopes, and of each other constraint is told whether it is one of these, sees values other than by themselves, and holds whatever comes after the position.
+/// of earlier scopes, and of each other constraint is told whether it is one of these, sees values other than by themselves, and
+/// holds whatever comes after the position.
 fn are_views_same(
     reads: &Reads,
     problem: &Problem,

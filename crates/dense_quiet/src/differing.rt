@@ -323,8 +323,8 @@ fn look_at_items(problem: &Problem, rule: &Constraint, store: &Store) -> Sight
 }
 
 /// What is seen of a constraint in which no variable stands twice. Where it is quiet, the constraint refutes neither the box nor an end
-/// of any of its variables, and where it is crowded, it refutes the box; numbers that are filled are advice. Only where the items are to differ is anything told, which takes time in
-/// the order of the square of their number.
+/// of any of its variables, and where it is crowded, it refutes the box; numbers that are filled are advice. Only where the items are to
+/// differ is anything told, which takes time in the order of the square of their number.
 pub(crate) fn look(problem: &Problem, rule: &Constraint, store: &Store) -> Sight
     requires asked { IsAsked problem.now rule.now store.now.box }
     requires apart { Distinct (variables_of rule.now.args) }
