@@ -1,6 +1,7 @@
 -- The first law of the table, for each meaning: what is left is refuted only where no values among it have the meaning.
 use Rattle.std.proofs.Common.{◌≡◌, Bool, true, false, ◌||◌, not}
 use Rattle.std.specs.Prelude.{ℤ, pos}
+use Rattle.std.proofs.lemmas.Bool.{and_parts}
 use Rattle.qc_model.specs.Lists.{Among}
 use Rattle.qc_model.specs.Domains.{Values, has_value}
 use Rattle.qc_model.specs.Meaning.{Meaning, equal, different, at_most, below, sum_equal, sum_different, sum_at_most, plus, times, absolute_value, smaller, greater, quotient, remainder, element, variable_element, minimum, maximum, member, both, either, exactly_one, all_items, some_item, odd_items, clause, all_different, table, reified}
@@ -10,7 +11,6 @@ use Rattle.qc_model.specs.Entailed.{entailed_as}
 use Rattle.qc_model.specs.Refuted.{refuted_as}
 use Rattle.qc_model.proofs.Visible.{Fits}
 use Rattle.qc_model.proofs.Sound.{at_most_sound, below_sound, equal_sound, plus_sound, smaller_sound, greater_sound, has_it, or_false}
-use Rattle.qc_model.proofs.Sound as Sound
 use Rattle.model_table.proofs.Fits.{last_fits, both_false}
 use Rattle.model_table.proofs.Typing.{is_contradicted, Kinds, IsTruth, number_of, by_truth}
 use Rattle.model_table.proofs.Sums.{sum_equal_sound, sum_different_sound, sum_at_most_sound}
@@ -28,10 +28,10 @@ truth_apart d h refuted entailed f g e r t = by_truth (λ (x : ℤ). Among x d �
     cases : (b : Bool) → Among (number_of b) d → same_truth (is_one (number_of b)) h ≡ true → ⊥
     cases true m s =
         or_false (not (has_value d (pos 1))) refuted (λ n. both_false (has_value d (pos 1)) (has_it d (pos 1) m) n) (λ q. f q s)
-        (Sound.both (not (has_value d (pos 1)) || refuted) (not (has_value d (pos 0)) || entailed) e).0
+        (and_parts (not (has_value d (pos 1)) || refuted) (not (has_value d (pos 0)) || entailed) e).0
     cases false m s =
         or_false (not (has_value d (pos 0))) entailed (λ n. both_false (has_value d (pos 0)) (has_it d (pos 0) m) n) (λ q. both_false h (g q) s)
-        (Sound.both (not (has_value d (pos 1)) || refuted) (not (has_value d (pos 0)) || entailed) e).1
+        (and_parts (not (has_value d (pos 1)) || refuted) (not (has_value d (pos 0)) || entailed) e).1
 
 pub refutes : (m : Meaning) (vs : Given) (ds : Lefts) → Kinds m vs ds → Fits vs ds → refuted_as m ds ≡ true → holds_as m vs ≡ true → ⊥
 refutes equal vs ds k f r h = equal_sound vs ds f r h

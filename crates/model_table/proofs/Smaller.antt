@@ -4,7 +4,7 @@ use Rattle.std.specs.Prelude.{ℤ, pos, ◌≤ℤ◌, int_lt, int_le, ⊤}
 use Rattle.std.specs.Ordering.{int_eq}
 use Rattle.std.specs.List.{list_any, list_all}
 use Rattle.std.proofs.lemmas.Int.{ints}
-use Rattle.std.proofs.lemmas.Bool.{or_cases, or_left, or_right, and_from, true_from_ne_false}
+use Rattle.std.proofs.lemmas.Bool.{and_parts, or_cases, or_left, or_right, and_from, true_from_ne_false}
 use Rattle.qc_model.specs.declared.problem.Set.{Set}
 use Rattle.qc_model.specs.Content.{Game, Rule}
 use Rattle.qc_model.specs.Lists.{Among}
@@ -20,7 +20,6 @@ use Rattle.qc_model.specs.Valid.{IsValid, have_lengths, is_sum}
 use Rattle.qc_model.specs.declared.problem.Argument.{Argument}
 use Rattle.qc_model.specs.Visible.{ArgumentsBelow}
 use Rattle.qc_model.proofs.Sound.{differ}
-use Rattle.qc_model.proofs.Sound as Sound
 use Rattle.model_table.proofs.Typing.{is_contradicted, is_wrong_xor}
 use Rattle.model_table.proofs.Fits.{any_at, any_from, all_at}
 use Rattle.model_table.proofs.Typed.{lefts_of}
@@ -69,7 +68,7 @@ module _ (ds es : Lefts) (p : Parts ds es) where
 
   still_truth : (refuted entailed refuted_still entailed_still : Bool) → (refuted ≡ true → refuted_still ≡ true) → (entailed ≡ true → entailed_still ≡ true) → is_contradicted (last_left es) refuted entailed ≡ true → is_contradicted (last_left ds) refuted_still entailed_still ≡ true
   still_truth refuted entailed refuted_still entailed_still f g e =
-      let q = Sound.both (not (has_value (last_left es) (pos 1)) || refuted) (not (has_value (last_left es) (pos 0)) || entailed) e in
+      let q = and_parts (not (has_value (last_left es) (pos 1)) || refuted) (not (has_value (last_left es) (pos 0)) || entailed) e in
       and_from (not (has_value (last_left ds) (pos 1)) || refuted_still) (not (has_value (last_left ds) (pos 0)) || entailed_still)
       (either_still (pos 1) refuted refuted_still f q.0) (either_still (pos 0) entailed entailed_still g q.1)
     where
@@ -89,9 +88,9 @@ module _ (ds es : Lefts) (p : Parts ds es) where
 -- single values stay
 still_xor : (a b c x y z : Values) → IsPart a x → IsPart b y → IsPart c z → is_wrong_xor x y z ≡ true → is_wrong_xor a b c ≡ true
 still_xor a b c x y z p q r e =
-    let s = Sound.both (is_single x && is_single y && is_single z) (not (same_truth (is_one (least_value z)) (not (int_eq (least_value x) (least_value y))))) e in
-    let t = Sound.both (is_single x && is_single y) (is_single z) s.0 in
-    let u = Sound.both (is_single x) (is_single y) t.0 in
+    let s = and_parts (is_single x && is_single y && is_single z) (not (same_truth (is_one (least_value z)) (not (int_eq (least_value x) (least_value y))))) e in
+    let t = and_parts (is_single x && is_single y) (is_single z) s.0 in
+    let u = and_parts (is_single x) (is_single y) t.0 in
     subst (λ (k : Values). is_wrong_xor k b c ≡ true) (sym (p.only u.0)) (subst (λ (k : Values). is_wrong_xor x k c ≡ true) (sym (q.only u.1)) (subst (λ (k : Values). is_wrong_xor x y k ≡ true) (sym (r.only t.1)) e))
 
 -- the number of a sum, the same in both boxes
@@ -158,10 +157,10 @@ still_refuted exactly_one ds es p l e = still_xor (left_at ds 0) (left_at ds 1) 
 still_refuted all_items ds es p l e = still_miss (least_range (point (pos 1)) (lefts_at ds 0)) (least_range (point (pos 1)) (lefts_at es 0)) (range_at ds 1) (range_at es 1) (least_within (point (pos 1)) (point (pos 1)) (lefts_at ds 0) (lefts_at es 0) (itself (point (pos 1))) (parts_at ds es 0 p)) (within_at ds es p 1) e
 still_refuted some_item ds es p l e = still_miss (greatest_range (point (pos 0)) (lefts_at ds 0)) (greatest_range (point (pos 0)) (lefts_at es 0)) (range_at ds 1) (range_at es 1) (greatest_within (point (pos 0)) (point (pos 0)) (lefts_at ds 0) (lefts_at es 0) (itself (point (pos 0))) (parts_at ds es 0 p)) (within_at ds es p 1) e
 still_refuted odd_items ds es p l e =
-    let q = Sound.both (list_all is_single (lefts_at es 0)) (not (odd_ones (map least_value (lefts_at es 0)))) e in
+    let q = and_parts (list_all is_single (lefts_at es 0)) (not (odd_ones (map least_value (lefts_at es 0)))) e in
     subst (λ (xs : List Values). (list_all is_single xs && not (odd_ones (map least_value xs))) ≡ true) (sym (all_same (lefts_at ds 0) (lefts_at es 0) (parts_at ds es 0 p) q.0)) e
 still_refuted clause ds es p l e =
-    let q = Sound.both (list_all (is_only (pos 0)) (lefts_at es 0)) (list_all (is_only (pos 1)) (lefts_at es 1)) e in
+    let q = and_parts (list_all (is_only (pos 0)) (lefts_at es 0)) (list_all (is_only (pos 1)) (lefts_at es 1)) e in
     and_from (list_all (is_only (pos 0)) (lefts_at ds 0)) (list_all (is_only (pos 1)) (lefts_at ds 1))
     (still_all_only (pos 0) (lefts_at ds 0) (lefts_at es 0) (parts_at ds es 0 p) q.0) (still_all_only (pos 1) (lefts_at ds 1) (lefts_at es 1) (parts_at ds es 1 p) q.1)
 still_refuted all_different ds es p l e = still_crowd (lefts_at ds 0) (lefts_at es 0) (parts_at ds es 0 p) e

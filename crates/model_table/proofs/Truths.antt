@@ -4,6 +4,7 @@ use Rattle.std.specs.Prelude.{ℤ, pos}
 use Rattle.std.specs.Ordering.{int_eq}
 use Rattle.std.specs.Int.{int_min, int_max}
 use Rattle.std.specs.List.{list_any, list_all}
+use Rattle.std.proofs.lemmas.Bool.{and_parts}
 use Rattle.qc_model.specs.Lists.{Among, LiesIn}
 use Rattle.qc_model.specs.Domains.{Values, least_value, is_single}
 use Rattle.qc_model.specs.Ranges.{point, smaller_range, greater_range}
@@ -12,8 +13,7 @@ use Rattle.qc_model.specs.Holds.{Given, value_at, values_at, holds_as, same_trut
 use Rattle.qc_model.specs.Left.{Lefts, lefts_at, range_at, span, is_only, least_range, greatest_range}
 use Rattle.qc_model.specs.Refuted.{refuted_as}
 use Rattle.qc_model.proofs.Visible.{Fits}
-use Rattle.qc_model.proofs.Sound.{InRange, in_span, at_range, apart, smaller_in, greater_in, differ, not_true, or_false}
-use Rattle.qc_model.proofs.Sound as Sound
+use Rattle.qc_model.proofs.Sound.{InRange, in_span, at_range, apart, smaller_in, greater_in, differ, or_false}
 use Rattle.model_table.proofs.Fits.{many_fits, only_value}
 use Rattle.model_table.proofs.Typing.{number_of, IsTruth, AllTruths, by_truth, by_truths}
 use Rattle.model_table.proofs.Sums.{same_number, in_point}
@@ -115,19 +115,19 @@ some_item_sound vs ds t f r h =
 -- the one value left is n
 pub only_is : (n v : ℤ) (d : Values) → is_only n d ≡ true → Among v d → v ≡ n
 only_is n v d e h =
-    let p = Sound.both (is_single d) (int_eq (least_value d) n) e in
+    let p = and_parts (is_single d) (int_eq (least_value d) n) e in
     only_value v d p.0 h ∙ same_number (least_value d) n p.1
 
 only_refutes : (n : ℤ) (p : ℤ → Bool) → p n ≡ false → (vs : List ℤ) (ds : List Values) → LiesIn vs ds → list_all (is_only n) ds ≡ true → list_any p vs ≡ true → ⊥
 only_refutes n p e [] ds h o a = differ a
 only_refutes n p e (v ∷ vs) [] h o a = absurd h
 only_refutes n p e (v ∷ vs) (d ∷ ds) h o a =
-    let q = Sound.both (is_only n d) (list_all (is_only n) ds) o in
+    let q = and_parts (is_only n d) (list_all (is_only n) ds) o in
     or_false (p v) (list_any p vs) (λ (m : p v ≡ true). differ (sym e ∙ ap p (sym (only_is n v d q.0 h.0)) ∙ m)) (λ m. only_refutes n p e vs ds h.1 q.1 m) a
 
 pub clause_sound : (vs : Given) (ds : Lefts) → Fits vs ds → refuted_as clause ds ≡ true → holds_as clause vs ≡ true → ⊥
 clause_sound vs ds f r h =
-    let p = Sound.both (list_all (is_only (pos 0)) (lefts_at ds 0)) (list_all (is_only (pos 1)) (lefts_at ds 1)) r in
+    let p = and_parts (list_all (is_only (pos 0)) (lefts_at ds 0)) (list_all (is_only (pos 1)) (lefts_at ds 1)) r in
     or_false (list_any is_one (values_at vs 0)) (list_any is_zero (values_at vs 1))
     (λ m. only_refutes (pos 0) is_one refl (values_at vs 0) (lefts_at ds 0) (many_fits vs ds 0 f) p.0 m)
     (λ m. only_refutes (pos 1) is_zero refl (values_at vs 1) (lefts_at ds 1) (many_fits vs ds 1 f) p.1 m) h
