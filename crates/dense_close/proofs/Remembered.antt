@@ -1,33 +1,25 @@
 -- What was seen of variables, and the constraints that were settled then.
-use Rattle.std.proofs.Common.{rules, Fits, to_z, ◌≡◌, ◌≢◌, ◌<◌, ◌≤◌, ◌+◌, ◌==◌, ◌⊎◌, inl, inr, ℕ, suc, true, false, ◌&&◌, cond, List, [], ◌∷◌, length, refl, sym, ap, ◌∙◌, subst, arith, ℤ}
-use mir.Val.{SFits}
-use Rattle.std.proofs.Math.Facts.{Fits-lt-pow}
-use mir.Syntax.{w32, w64}
-use Rattle.std.specs.Prelude.{slice_get, slice_index_or, Some, MatchOption, not, int_lt, ◌≤ℤ◌, ◌+ℤ◌, ◌-ℤ◌, pos, neg_ℤ}
+use Rattle.std.proofs.Common.{◌≡◌, ◌≢◌, ◌<◌, ◌≤◌, ◌+◌, ◌⊎◌, inl, inr, ℕ, true, false, ◌&&◌, List, length, refl, sym, ap, ◌∙◌, subst, arith}
+use Rattle.std.specs.Prelude.{slice_get, slice_index_or, Some, MatchOption, not}
 use Rattle.std.specs.List.{list_all}
-use Rattle.std.proofs.lemmas.Bool.Decides.{nat_tests}
-use Rattle.std.proofs.lemmas.Int.{ints, to_z_pos}
 use Rattle.std.proofs.lemmas.List.{get_or_past}
 use Rattle.std.proofs.lemmas.Bool.{false_from_ne_true}
 use Rattle.qc_model.specs.Arguments.{variables_of}
 use Rattle.qc_model.specs.Block.{is_owned_within, constraints_within}
 use Rattle.qc_model.specs.Content.{Game, Rule}
-use Rattle.qc_model.specs.Domains.{Values, Box, declared_box, values_left, has_empty, is_none_left, is_ascending, least_value, greatest_value, greatest_from}
-use Rattle.qc_model.specs.Lists.{Among, numbers_from}
+use Rattle.qc_model.specs.Domains.{Values, Box, declared_box, values_left, has_empty}
+use Rattle.qc_model.specs.Lists.{Among}
 use Rattle.qc_model.specs.Refuted.{refuted_by}
 use Rattle.qc_model.specs.Verdict.{is_none_of}
-use Rattle.qc_model.specs.Valid.{IsValid, is_number}
+use Rattle.qc_model.specs.Valid.{IsValid}
 use Rattle.qc_model.proofs.Moves.{among_filter}
 use Rattle.qc_model.proofs.Readable.{first, second}
 use Rattle.model_arguments.specs.Asked.{is_box_of}
 use Rattle.model_arguments.proofs.Bools.{clash}
-use Rattle.model_arguments.proofs.Kept.{over_low, under_high}
-use Rattle.model_arguments.proofs.Values.{above_first, has_least, has_greatest, value_passes}
 use Rattle.model_levels.specs.Spans.{is_between, IsSpanOf}
 use Rattle.model_table.proofs.Fits.{all_at}
 use Rattle.proof_alike.proofs.Filling.{get_among}
-use Rattle.fd_store.specs.Held.{Held, trail_len, past_box, Follows}
-use Rattle.box_laws.proofs.Firsts.{least_is}
+use Rattle.fd_store.specs.Held.{Held, trail_len, past_box, Follows, AgreeApart}
 use Rattle.box_laws.proofs.Readings.{box_size}
 use Rattle.dense_closing.specs.Closing.{IsGreatestClosed}
 use Rattle.dense_closing.specs.ClosingSteps.{greatest_closed}
@@ -38,8 +30,8 @@ use Rattle.dense_closing.proofs.Own.{own_of}
 use Rattle.dense_closing.proofs.Within.{sub_self}
 use Rattle.dense_close.specs.declared.memory.Sight.{Sight}
 use Rattle.dense_quiet.specs.declared.taking.Taking.{Taking}
-use Rattle.dense_close.specs.Index.{Index, has_it, IsIndexOf}
-use Rattle.dense_close.specs.Memory.{Memory, nothing, seen_of, is_pending, TellsOf, IsSeen, IsMemory, HasSeen, IsAsSeen}
+use Rattle.dense_close.specs.Index.{Index, Having, has_it, IsIndexOf}
+use Rattle.dense_close.specs.Memory.{Memory, nothing, seen_of, is_pending, TellsOf, IsSeen, IsMemory, HasSeen, HasLooked, IsSeenOf, IsAsSeen, IsUnchanged}
 use Rattle.dense_close.specs.Narrowing.{AreSettled}
 use Rattle.dense_quiet.specs.Taking.{takes_of}
 use Rattle.dense_close.specs.Waiting.{Waiting, is_marked}
@@ -47,105 +39,62 @@ use Rattle.dense_quiet.proofs.Sums.{last_or_before}
 use Rattle.dense_close.proofs.Narrowed.{keeps_same, owned_by}
 use Rattle.dense_close.proofs.Own.{own_within}
 
--- ascending values reach at least as far as numbers in a row
-row_reaches : (w : ℤ) (us : Values) → is_ascending (w ∷ us) ≡ true → (w +ℤ pos (length us)) ≤ℤ greatest_value (w ∷ us)
-row_reaches w [] a = itself w
-  where
-    itself : (w : ℤ) → (w +ℤ pos 0) ≤ℤ w
-    itself w = grind (arith, ints)
-row_reaches w (x ∷ us) a =
-    let less : int_lt w x ≡ true = first (int_lt w x) (is_ascending (x ∷ us)) a in
-    subst (λ b. (w +ℤ pos (suc (length us))) ≤ℤ greatest_from (cond b x w) us) (sym less) (step w x (length us) (greatest_from x us) less (row_reaches x us (second (int_lt w x) (is_ascending (x ∷ us)) a)))
-  where
-    step : (w x : ℤ) (n : ℕ) (m : ℤ) → int_lt w x ≡ true → (x +ℤ pos n) ≤ℤ m → (w +ℤ pos (suc n)) ≤ℤ m
-    step w x n m h k = grind (arith, ints)
+-- a variable of which something else was seen, and one of which the same was
+pub looked_anew : (h : Having) (x : ℕ) (s : Sight) (vs : Values) (was then : Memory) → HasSeen h x s was then → TellsOf s vs → HasLooked h x vs was then
+looked_anew h x s vs was then p tells = record {
+  variables = p.variables;
+  constraints = p.constraints;
+  others = p.others;
+  own = subst (λ z. TellsOf z vs) (sym p.own) tells;
+  kept = p.kept;
+  same = λ k b u. absurd (clash (is_pending then k) (p.told k b) u);
+  seen = λ k b u. absurd (clash (is_pending then k) (p.told k b) u);
+}
 
--- those that reach no farther are numbers in a row
-in_a_row : (v : ℤ) (us : Values) → is_ascending (v ∷ us) ≡ true → greatest_value (v ∷ us) ≡ (v +ℤ pos (length us)) → (v ∷ us) ≡ numbers_from v (suc (length us))
-in_a_row v [] a e = refl
-in_a_row v (w ∷ us) a e =
-    let less : int_lt v w ≡ true = first (int_lt v w) (is_ascending (w ∷ us)) a in
-    let rest : is_ascending (w ∷ us) ≡ true = second (int_lt v w) (is_ascending (w ∷ us)) a in
-    let top : greatest_from w us ≡ (v +ℤ pos (suc (length us))) = ap (λ b. greatest_from (cond b w v) us) (sym less) ∙ e in
-    let next : w ≡ (v +ℤ pos 1) = one_more v w (length us) (greatest_from w us) less (row_reaches w us rest) top in
-    ap (λ ws. v ∷ ws) (in_a_row w us rest (top ∙ on v w (length us) next) ∙ ap (λ z. numbers_from z (suc (length us))) next)
-  where
-    one_more : (v w : ℤ) (n : ℕ) (m : ℤ) → int_lt v w ≡ true → (w +ℤ pos n) ≤ℤ m → m ≡ (v +ℤ pos (suc n)) → w ≡ (v +ℤ pos 1)
-    one_more v w n m h k e = grind (arith, ints)
+pub looked_same : (h : Having) (x : ℕ) (vs : Values) (m : Memory) → IsSeen (seen_of m x) vs → HasLooked h x vs m m
+looked_same h x vs m s = record {
+  variables = refl;
+  constraints = refl;
+  others = λ y n. refl;
+  own = λ n. s.same;
+  kept = λ k b. b;
+  same = λ k b u. refl;
+  seen = λ k b u. s;
+}
 
-    on : (v w : ℤ) (n : ℕ) → w ≡ (v +ℤ pos 1) → (v +ℤ pos (suc n)) ≡ (w +ℤ pos n)
-    on v w n e = grind (arith, ints)
+same_or_not : (x y : ℕ) → (x ≡ y) ⊎ (x ≢ y)
+same_or_not x y = grind arith
 
-pub row_of : (vs : Values) (least greatest : ℤ) (count : ℕ) → is_ascending vs ≡ true → count ≡ length vs → least ≡ least_value vs → greatest ≡ greatest_value vs → int_lt (greatest -ℤ least) (pos count) ≡ true → count ≢ 0 →
-    vs ≡ numbers_from least count
-row_of [] least greatest count a c l h e n = absurd (n c)
-row_of (v ∷ us) least greatest count a c l h e n =
-    let start : least ≡ v = l ∙ least_is v us (above_first v us a) in
-    in_a_row v us a (sym h ∙ end least greatest v (greatest_value (v ∷ us)) count (length us) start c h (row_reaches v us a) e) ∙ (ap (λ k. numbers_from v k) (sym c) ∙ ap (λ z. numbers_from z count) (sym start))
-  where
-    end : (least greatest v far : ℤ) (count n : ℕ) → least ≡ v → count ≡ suc n → greatest ≡ far → (v +ℤ pos n) ≤ℤ far → int_lt (greatest -ℤ least) (pos count) ≡ true → greatest ≡ (v +ℤ pos n)
-    end least greatest v far count n s c f r e = grind (arith, ints)
-
--- values that are counted, and their ends
-pub counted_some : (vs : Values) (count : ℕ) → count ≡ length vs → is_none_left vs ≡ false → count ≢ 0
-counted_some [] count e n = cc
-counted_some (v ∷ vs) count e n = λ z. more (length vs) (sym z ∙ e)
-  where
-    more : (n : ℕ) → 0 ≡ suc n → ⊥
-    more n q = omega (arith, q)
-
-pub count_is : (count : ℕ) → Fits w32 count → to_z w64 count ≡ pos count
-count_is count f = to_z_pos w64 count (below count (Fits-lt-pow f))
-  where
-    below : (n : ℕ) → n < 4294967296 → n < 9223372036854775808
-    below n h = omega arith
-
-pub gap_fits : (vs : Values) (least greatest : ℤ) → list_all is_number vs ≡ true → is_none_left vs ≡ false → least ≡ least_value vs → greatest ≡ greatest_value vs → SFits w64 (greatest -ℤ least)
-gap_fits vs least greatest n s l g =
-    let low : is_number least ≡ true = subst (λ z. is_number z ≡ true) (sym l) (value_passes is_number vs (least_value vs) n (has_least vs s)) in
-    let high : is_number greatest ≡ true = subst (λ z. is_number z ≡ true) (sym g) (value_passes is_number vs (greatest_value vs) n (has_greatest vs s)) in
-    let a = over_low least low in
-    let b = under_high least low in
-    let c = over_low greatest high in
-    let d = under_high greatest high in
-    let m : neg_ℤ (pos 4000000000) ≤ℤ (greatest -ℤ least) = omega (arith, ints) in
-    let k : (greatest -ℤ least) ≤ℤ pos 4000000000 = omega (arith, ints) in
-    fits (greatest -ℤ least) m k
-  where
-    fits : (v : ℤ) → neg_ℤ (pos 4000000000) ≤ℤ v → v ≤ℤ pos 4000000000 → SFits w64 v
-    fits v h k = search (rules, ints)
-
--- one variable more was looked at: something else is left to it, or the same
-pub seen_anew : (t : Taking) (g : Game) (ix : Index) → IsIndexOf g ix → (x : ℕ) (s : Sight) (was then : Memory) (box : Box) → IsAsSeen x t g was box → HasSeen ix.having x s was then → TellsOf s (values_left box x) → IsAsSeen (x + 1) t g then box
-seen_anew t g ix i x s was then box p h tells = record {
+-- one variable more was looked at
+pub seen_more : (t : Taking) (g : Game) (ix : Index) → IsIndexOf g ix → (before after : ℕ → Type 0) (x : ℕ) (was then : Memory) (box : Box) → IsSeenOf before t g was box → HasLooked ix.having x (values_left box x) was then →
+    ((y : ℕ) → after y → y ≢ x → before y) → IsSeenOf after t g then box
+seen_more t g ix i before after x was then box p h others = record {
   memory = record {
     variables = h.variables ∙ p.memory.variables;
     constraints = h.constraints ∙ p.memory.constraints;
-    settled = λ k c b e u l q. p.memory.settled k c b e (before k u) l (λ y m. subst (λ z. IsSeen z (values_left b y)) (h.others y (other k c e u y m)) (q y m));
+    settled = λ k c b e u l q. p.memory.settled k c b e (passed k u) l (λ y m. subst (λ z. IsSeen z (values_left b y)) (unchanged k c e u y m (same_or_not y x)) (q y m));
   };
-  tells = λ y l. at y (last_or_before y x l);
-  some = λ k c y e u l m. (let n = other k c e u y m in subst (λ z. IsSeen z (values_left box y)) (sym (h.others y n)) (p.some k c y e (before k u) (less y n (last_or_before y x l)) m));
+  tells = λ y l. at y l (same_or_not y x);
+  some = λ k c y e u l m. one k c e u y l m (same_or_not y x);
 }
   where
-    before : (k : ℕ) → is_pending then k ≡ false → is_pending was k ≡ false
-    before k u = false_from_ne_true (is_pending was k) (λ m. clash (is_pending then k) (h.kept k m) u)
+    passed : (k : ℕ) → is_pending then k ≡ false → is_pending was k ≡ false
+    passed k u = false_from_ne_true (is_pending was k) (λ m. clash (is_pending then k) (h.kept k m) u)
 
-    other : (k : ℕ) (c : Rule) → slice_get g.constraints k ≡ Some c → is_pending then k ≡ false → (y : ℕ) → Among y (variables_of c.args) → y ≢ x
-    other k c e u y m q = clash (is_pending then k) (h.told k (all_at (has_it ix.having k) (variables_of c.args) x (i.told k c e) (subst (λ z. Among z (variables_of c.args)) q m))) u
+    has : (k : ℕ) (c : Rule) → slice_get g.constraints k ≡ Some c → (y : ℕ) → Among y (variables_of c.args) → y ≡ x → has_it ix.having k x ≡ true
+    has k c e y m q = all_at (has_it ix.having k) (variables_of c.args) x (i.told k c e) (subst (λ z. Among z (variables_of c.args)) q m)
 
-    less : (y : ℕ) → y ≢ x → (y < x) ⊎ (y ≡ x) → y < x
-    less y n (inl l) = l
-    less y n (inr e) = absurd (n e)
+    unchanged : (k : ℕ) (c : Rule) → slice_get g.constraints k ≡ Some c → is_pending then k ≡ false → (y : ℕ) → Among y (variables_of c.args) → (y ≡ x) ⊎ (y ≢ x) → seen_of then y ≡ seen_of was y
+    unchanged k c e u y m (inl q) = subst (λ z. seen_of then z ≡ seen_of was z) (sym q) (h.same k (has k c e y m q) u)
+    unchanged k c e u y m (inr n) = h.others y n
 
-    here : (y : ℕ) → y ≡ x → TellsOf (seen_of then y) (values_left box y)
-    here y e = subst (λ z. TellsOf (seen_of then z) (values_left box z)) (sym e) (subst (λ z. TellsOf z (values_left box x)) (sym h.own) tells)
+    at : (y : ℕ) → after y → (y ≡ x) ⊎ (y ≢ x) → TellsOf (seen_of then y) (values_left box y)
+    at y l (inl q) = subst (λ z. TellsOf (seen_of then z) (values_left box z)) (sym q) h.own
+    at y l (inr n) = subst (λ z. TellsOf z (values_left box y)) (sym (h.others y n)) (p.tells y (others y l n))
 
-    apart : (y : ℕ) → y < x → y ≢ x
-    apart y l e = omega (arith, l, e)
-
-    at : (y : ℕ) → (y < x) ⊎ (y ≡ x) → TellsOf (seen_of then y) (values_left box y)
-    at y (inl l) = subst (λ z. TellsOf z (values_left box y)) (sym (h.others y (apart y l))) (p.tells y l)
-    at y (inr e) = here y e
+    one : (k : ℕ) (c : Rule) → slice_get g.constraints k ≡ Some c → is_pending then k ≡ false → (y : ℕ) → after y → Among y (variables_of c.args) → (y ≡ x) ⊎ (y ≢ x) → IsSeen (seen_of then y) (values_left box y)
+    one k c e u y l m (inl q) = subst (λ z. IsSeen (seen_of then z) (values_left box z)) (sym q) (h.seen k (has k c e y m q) u)
+    one k c e u y l m (inr n) = subst (λ z. IsSeen z (values_left box y)) (sym (h.others y n)) (p.some k c y e (passed k u) (others y l n) m)
 
 pub seen_same : (t : Taking) (g : Game) (x : ℕ) (m : Memory) (box : Box) → IsAsSeen x t g m box → IsSeen (seen_of m x) (values_left box x) → IsAsSeen (x + 1) t g m box
 seen_same t g x m box p s = record { memory = p.memory; tells = λ y l. at y (last_or_before y x l); some = λ k c y e u l a. either k c e u y a (last_or_before y x l) }
@@ -160,6 +109,33 @@ seen_same t g x m box p s = record { memory = p.memory; tells = λ y l. at y (la
     either : (k : ℕ) (c : Rule) → slice_get g.constraints k ≡ Some c → is_pending m k ≡ false → (y : ℕ) → Among y (variables_of c.args) → (y < x) ⊎ (y ≡ x) → IsSeen (seen_of m y) (values_left box y)
     either k c e u y a (inl l) = p.some k c y e u l a
     either k c e u y a (inr q) = here y q
+
+-- below the next number are those below it
+pub below_next : (x y : ℕ) → y < x + 1 → y ≢ x → y < x
+below_next x y l n = grind arith
+
+-- what was seen of a box on the way is so of each variable that has the same values now
+pub seen_since : (t : Taking) (g : Game) (m : Memory) (was box : Box) → IsAsSeen (length g.variables) t g m was → IsSeenOf (IsUnchanged g was box) t g m box
+seen_since t g m was box p = record {
+  memory = p.memory;
+  tells = λ x l. subst (TellsOf (seen_of m x)) l.1 (p.tells x l.0);
+  some = λ k c x e u l a. subst (IsSeen (seen_of m x)) l.1 (p.some k c x e u l.0 a);
+}
+
+-- at one place of the trail more, only one variable more may have them
+pub since_next : (g : Game) (x : ℕ) (was next box : Box) → AgreeApart x was next → (y : ℕ) → IsUnchanged g next box y → y ≢ x → IsUnchanged g was box y
+since_next g x was next box a y u n = (u.0, a y n ∙ u.1)
+
+-- and at its end all have them
+pub seen_at_end : (t : Taking) (g : Game) (m : Memory) (h : Held) (n : ℕ) → trail_len h ≤ n → IsSeenOf (IsUnchanged g (past_box h n) h.box) t g m h.box → IsAsSeen (length g.variables) t g m h.box
+seen_at_end t g m h n l p = record {
+  memory = p.memory;
+  tells = λ x b. p.tells x (here x b);
+  some = λ k c x e u b a. p.some k c x e u (here x b) a;
+}
+  where
+    here : (x : ℕ) → x < length g.variables → IsUnchanged g (past_box h n) h.box x
+    here x b = (b, ap (λ z. values_left z x) (get_or_past h.past n h.box l))
 
 place_of_own : (g : Game) → IsValid g → (k : ℕ) (c : Rule) (box : Box) → slice_get g.constraints k ≡ Some c → is_box_of g box ≡ true → (x : ℕ) → Among x (variables_of c.args) → x < length g.variables
 place_of_own g v k c box e d x m = subst (λ n. x < n) (box_size g box d) (own_within g v k c box e d x m)
@@ -204,19 +180,9 @@ closed_keeps t g v i stop first end box now d s found k c b e =
     closed : (not (has_empty now) && list_all (keeps_box (takes_of t g) now) cs) ≡ true
     closed = (subst (λ o. MatchOption o (NoneClosedBy (takes_of t g) cs box) (IsGreatestClosed (takes_of t g) cs box)) found (closing_finds (takes_of t g) g v i stop box d)).closed
 
--- a box whose trail didn't grow is the same
-pub same_box : (s t : Held) → Follows s t → trail_len t ≡ trail_len s → t.box ≡ s.box
-same_box s t f e = sym (own t (trail_len s) (omega (arith, e))) ∙ (f.boxes (trail_len s) (omega arith) ∙ own s (trail_len s) (omega arith))
-  where
-    own : (h : Held) (n : ℕ) → trail_len h ≤ n → past_box h n ≡ h.box
-    own h n l = get_or_past h.past n h.box l
-
--- so what was seen of it still is
-pub seen_unchanged : (t : Taking) (g : Game) (n : ℕ) (m : Memory) (s u : Held) (a b : ℕ) → Follows s u → a ≡ trail_len u → b ≡ trail_len s → not (a == b) ≡ false → IsAsSeen n t g m s.box → IsAsSeen n t g m u.box
-seen_unchanged t g n m s u a b f p q h seen = subst (λ box. IsAsSeen n t g m box) (sym (same_box s u f (sym p ∙ (equal a b h ∙ q)))) seen
-  where
-    equal : (a b : ℕ) → not (a == b) ≡ false → a ≡ b
-    equal a b h = grind (arith, nat_tests)
+-- the box that undoing leads back to
+pub box_before : (s t : Held) → Follows s t → (n : ℕ) → n ≡ trail_len s → past_box t n ≡ s.box
+box_before s t f n e = f.boxes n (omega (arith, e)) ∙ get_or_past s.past n s.box (omega (arith, e))
 
 -- a constraint that keeps the box and has a variable doesn't refute it
 pub kept_stands : (t : Taking) (g : Game) → IsValid g → (k : ℕ) (c : Rule) (box : Box) → slice_get g.constraints k ≡ Some c → is_box_of g box ≡ true → has_empty box ≡ false → keeps_box (takes_of t g) box c ≡ true → is_none_of (variables_of c.args) ≡ false →

@@ -56,12 +56,29 @@ pub record HasSeen (h : Having) (x : ℕ) (now : Sight) (was then : Memory) : Ty
   pub kept : (k : ℕ) → IsTrue (is_pending was k) → IsTrue (is_pending then k)
   pub told : (k : ℕ) → IsTrue (has_it h k x) → IsTrue (is_pending then k)
 
--- the first n variables were looked at: what was seen of them is so, and something was where a constraint that isn't pending has
--- them
-pub record IsAsSeen (n : ℕ) (t : Taking) (g : Game) (m : Memory) (box : Box) : Type 0 where
+-- x, which has these values, was looked at: the constraints that have it are pending, unless what is left to it was seen before
+pub record HasLooked (h : Having) (x : ℕ) (vs : Values) (was then : Memory) : Type 0 where
+  pub variables : length then.seen ≡ length was.seen
+  pub constraints : length then.pending ≡ length was.pending
+  pub others : (y : ℕ) → y ≢ x → seen_of then y ≡ seen_of was y
+  pub own : TellsOf (seen_of then x) vs
+  pub kept : (k : ℕ) → IsTrue (is_pending was k) → IsTrue (is_pending then k)
+  pub same : (k : ℕ) → IsTrue (has_it h k x) → IsFalse (is_pending then k) → seen_of then x ≡ seen_of was x
+  pub seen : (k : ℕ) → IsTrue (has_it h k x) → IsFalse (is_pending then k) → IsSeen (seen_of then x) vs
+
+-- these variables were looked at: what was seen of them is so, and something was where a constraint that isn't pending has them
+pub record IsSeenOf (looked : ℕ → Type 0) (t : Taking) (g : Game) (m : Memory) (box : Box) : Type 0 where
   pub memory : IsMemory t g m
-  pub tells : (x : ℕ) → x < n → TellsOf (seen_of m x) (values_left box x)
-  pub some : (k : ℕ) (c : Rule) (x : ℕ) → slice_get g.constraints k ≡ Some c → IsFalse (is_pending m k) → x < n → Among x (variables_of c.args) → IsSeen (seen_of m x) (values_left box x)
+  pub tells : (x : ℕ) → looked x → TellsOf (seen_of m x) (values_left box x)
+  pub some : (k : ℕ) (c : Rule) (x : ℕ) → slice_get g.constraints k ≡ Some c → IsFalse (is_pending m k) → looked x → Among x (variables_of c.args) → IsSeen (seen_of m x) (values_left box x)
+
+-- the first n variables were
+abbrev pub IsAsSeen : ℕ → Taking → Game → Memory → Box → Type 0
+IsAsSeen n t g m box = IsSeenOf (λ x. x < n) t g m box
+
+-- x has the same values in both boxes
+abbrev pub IsUnchanged : Game → Box → Box → ℕ → Type 0
+IsUnchanged g was box x = (x < length g.variables) × (values_left was x ≡ values_left box x)
 
 -- one that closings work in, and those that are kept
 pub record Memories : Type 0 where

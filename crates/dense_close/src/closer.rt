@@ -106,7 +106,7 @@ fn close_all(
     let closed = settle(task, list, remains);
     clear(list);
     if closed {
-        memories.end(task, remains, remains.mark().at != at);
+        memories.end(task, remains, at);
     }
     closed
 }

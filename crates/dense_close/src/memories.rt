@@ -5,6 +5,7 @@ ghost use Rattle.qc_model.specs.Domains.{has_empty};
 ghost use Rattle.qc_model.specs.Lists.{Among};
 ghost use Rattle.model_arguments.specs.Asked.{is_box_of};
 ghost use Rattle.model_levels.specs.Spans.{is_between};
+ghost use Rattle.fd_store.specs.Held.{trail_len, past_box};
 ghost use Rattle.dense_closing.specs.Takes.{keeps_box};
 ghost use Rattle.dense_quiet.specs.declared.taking.Taking.{Taking};
 ghost use Rattle.dense_close.specs.Memory.{Memory, IsOneOf, AreMemories, ComeFrom, IsAlike, IsAsSeen};
@@ -162,16 +163,17 @@ impl Memories {
         }
     }
 
-    /// Ends a closing with this box, which may have changed since it began: the constraints of the span are settled.
-    pub(crate) fn end(&mut self, task: &Task, remains: &Remains, changed: bool)
+    /// Ends a closing with this box, which began where the trail was so long: the constraints of the span are settled.
+    pub(crate) fn end(&mut self, task: &Task, remains: &Remains, at: usize)
         requires declared { IsTrue (is_box_of task.now.problem.now remains.now.box) }
         requires full { IsFalse (has_empty remains.now.box) }
         requires memories { AreMemories task.now.taking task.now.problem.now self.old }
-        requires seen { IsFalse changed → IsAsSeen (length task.now.problem.now.variables) task.now.taking task.now.problem.now self.old.present remains.now.box }
+        requires at { at ≤ trail_len remains.now }
+        requires seen { IsAsSeen (length task.now.problem.now.variables) task.now.taking task.now.problem.now self.old.present (past_box remains.now at) }
         requires keeps { (k : ℕ) (c : Rule) → IsTrue (is_between task.now.span.first task.now.span.end k) → slice_get task.now.problem.now.constraints k ≡ Some c → IsTrue (keeps_box (takes_of task.now.taking task.now.problem.now) remains.now.box c) }
         ensures { AreMemories task.now.taking task.now.problem.now self.new }
     {
-        self.present.look_again(task, remains.store(), changed);
+        self.present.look_again(task, remains.store(), at);
         self.present.settle(task, remains.mark().at);
         self.keep();
     }

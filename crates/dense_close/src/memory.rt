@@ -5,9 +5,10 @@ ghost use Rattle.qc_model.specs.Domains.{Box, values_left, is_none_left, least_v
 ghost use Rattle.qc_model.specs.Lists.{numbers_from};
 ghost use Rattle.model_arguments.specs.Asked.{is_box_of};
 ghost use Rattle.model_levels.specs.Spans.{is_between};
+ghost use Rattle.fd_store.specs.Held.{trail_len, past_box};
 ghost use Rattle.dense_closing.specs.Takes.{keeps_box};
 ghost use Rattle.dense_quiet.specs.declared.taking.Taking.{Taking};
-ghost use Rattle.dense_close.specs.Memory.{TellsOf, IsSeen, IsMemory, HasSeen, IsAsSeen, IsAlike, seen_of, is_pending as is_pending_in};
+ghost use Rattle.dense_close.specs.Memory.{TellsOf, IsSeen, IsMemory, HasSeen, HasLooked, IsAsSeen, IsAlike, seen_of, is_pending as is_pending_in};
 ghost use Rattle.dense_quiet.specs.Taking.{takes_of};
 ghost use Rattle.dense_close.specs.Waiting.{stands_in};
 
@@ -32,19 +33,6 @@ fn nothing() -> Sight
     Sight { least: 0, count: 0 }
 }
 
-// Whether what is left to x, which is so many values, is numbers in a row.
-#[inline(always)]
-fn has_no_gap(store: &Store, x: VarId, count: u32) -> bool
-    requires x { x.0 < length store.now.box }
-    requires some { is_none_left (values_left store.now.box x.0) ≡ false }
-    requires count { count ≡ length (values_left store.now.box x.0) }
-    ensures { let vs = values_left store.now.box x.0 in IsTrue result → vs ≡ numbers_from (least_value vs) count }
-{
-    store.known(x);
-    // ascending values have at least as many numbers from the least to the greatest
-    store.max(x) - store.min(x) < count as i64
-}
-
 // What is left to x, where it is numbers in a row.
 #[inline(always)]
 fn sight_of(store: &Store, x: VarId) -> Sight
@@ -52,12 +40,10 @@ fn sight_of(store: &Store, x: VarId) -> Sight
     requires some { is_none_left (values_left store.now.box x.0) ≡ false }
     ensures { TellsOf result (values_left store.now.box x.0) }
 {
+    let least = store.min(x);
     let count = store.size(x);
-    if has_no_gap(store, x, count) {
-        Sight {
-            least: store.min(x),
-            count,
-        }
+    if store.is_row(x, least, count) {
+        Sight { least, count }
     } else {
         nothing()
     }
@@ -167,14 +153,7 @@ impl Memory {
         ensures { IsTrue result → IsSeen (seen_of self.now x.0) (values_left store.now.box x.0) }
     {
         let seen = self.seen[x.0 as usize];
-        let count = store.size(x);
-        if seen.count != count {
-            return false;
-        }
-        if seen.least != store.min(x) {
-            return false;
-        }
-        has_no_gap(store, x, count)
+        store.is_row(x, seen.least, seen.count)
     }
 
     // The first variable from this one on of which something else is left than was seen of it, or their number.
@@ -197,15 +176,17 @@ impl Memory {
         end
     }
 
-    // Looks at x, once those before it were looked at.
+    // Looks at x.
     fn look_at(&mut self, task: &Task, store: &Store, x: VarId)
         requires declared { IsTrue (is_box_of task.now.problem.now store.now.box) }
         requires full { IsFalse (has_empty store.now.box) }
         requires x { x.0 < length task.now.problem.now.variables }
-        requires before { IsAsSeen x.0 task.now.taking task.now.problem.now self.old store.now.box }
-        ensures { IsAsSeen (x.0 + 1) task.now.taking task.now.problem.now self.new store.now.box }
+        requires variables { length self.old.seen ≡ length task.now.problem.now.variables }
+        ensures { HasLooked task.now.index.now.having x.0 (values_left store.now.box x.0) self.old self.new }
     {
-        self.see(task.index, x, sight_of(store, x));
+        if !self.is_as_seen(store, x) {
+            self.see(task.index, x, sight_of(store, x));
+        }
     }
 
     /// Looks at all variables. The constraints that have one of which something else is left than was seen of it are pending.
@@ -235,16 +216,18 @@ impl Memory {
         self.next_unseen(task, store, 0) == task.problem.variables()
     }
 
-    /// Looks at all variables again where something changed since.
-    pub(crate) fn look_again(&mut self, task: &Task, store: &Store, changed: bool)
+    /// Looks again at the variables that changed since the trail was so long, where all were looked at.
+    pub(crate) fn look_again(&mut self, task: &Task, store: &Store, at: usize)
         requires declared { IsTrue (is_box_of task.now.problem.now store.now.box) }
         requires full { IsFalse (has_empty store.now.box) }
-        requires memory { IsMemory task.now.taking task.now.problem.now self.old }
-        requires seen { IsFalse changed → IsAsSeen (length task.now.problem.now.variables) task.now.taking task.now.problem.now self.old store.now.box }
+        requires at { at ≤ trail_len store.now }
+        requires seen { IsAsSeen (length task.now.problem.now.variables) task.now.taking task.now.problem.now self.old (past_box store.now at) }
         ensures { IsAsSeen (length task.now.problem.now.variables) task.now.taking task.now.problem.now self.new store.now.box }
     {
-        if changed {
-            self.look(task, store);
+        task.problem.known();
+        for n in at..store.mark().at {
+            let x = store.changed_at(n);
+            self.look_at(task, store, VarId(x as u16));
         }
     }
 

@@ -1,7 +1,7 @@
-use Rattle.std.proofs.Common.{◌≤◌, sym, subst, length}
+use Rattle.std.proofs.Common.{◌≤◌, sym, subst, length, arith}
 use Rattle.dense_close.specs.Memory.{Memory, IsAsSeen}
 use Rattle.dense_close.proofs.Found.{inside_exist}
-use Rattle.dense_close.proofs.Remembered.{settled_awake, closed_keeps, seen_unchanged}
+use Rattle.dense_close.proofs.Remembered.{settled_awake, closed_keeps, box_before}
 use Rattle.dense_close.proofs.closer.close_all.Goals as goal
 
 pub clear-requires-clause-exist : goal.clear-requires-clause-exist
@@ -23,8 +23,11 @@ end-requires-clause-keeps c =
     let t = c.args.task.now in
     closed_keeps t.taking t.problem.now c.known.ensures t.from t.stop t.span.first t.span.end c.args.remains.now.box c.settle-closed.new.remains.box c.requires.declared t.span_is c.if-closed.ensures.answer
 
+pub end-requires-clause-at : goal.end-requires-clause-at
+end-requires-clause-at c = omega (arith, c.mark-at.ensures, c.settle-closed.ensures.past.longer)
+
 pub end-requires-clause-seen : goal.end-requires-clause-seen
-end-requires-clause-seen c = λ same.
-    (let t = c.args.task.now in
+end-requires-clause-seen c =
+    let t = c.args.task.now in
     let g = t.problem.now in
-    seen_unchanged t.taking g (length g.variables) c.begin.new.self.present c.args.remains.now c.settle-closed.new.remains c.mark.result.at c.mark-at.result.at c.settle-closed.ensures.past c.mark.ensures c.mark-at.ensures same c.begin.ensures.seen)
+    subst (λ box. IsAsSeen (length g.variables) t.taking g c.begin.new.self.present box) (sym (box_before c.args.remains.now c.settle-closed.new.remains c.settle-closed.ensures.past c.mark-at.result.at c.mark-at.ensures)) c.begin.ensures.seen
