@@ -1,7 +1,7 @@
 //! Which values a constraint leaves a variable, by a guess: mostly from the ends of what is left to its arguments.
 //!
 //! Nothing is promised of a guess: what lies outside it goes only where the constraint refutes it.
-ghost use Rattle.std.specs.Prelude.{◌<◌, length, IsTrue, IsFalse};
+ghost use Rattle.std.specs.Prelude.{◌≤◌, ◌<◌, length, IsTrue, IsFalse};
 ghost use Rattle.std.specs.List.{list_all};
 ghost use Rattle.qc_model.specs.Domains.{has_empty};
 ghost use Rattle.model_arguments.specs.Asked.{IsAsked};
@@ -11,7 +11,7 @@ use crate::ends::Ends;
 use crate::reading::{arg_met, ends_of, has, items_met};
 use crate::stretch::Stretch;
 use fd_store::Store;
-use model_arguments::{arguments, items_at, numbers_at};
+use model_arguments::{Span, arguments, items_at, numbers_at};
 use qc_model::{Arg, Argument, Constraint, Meaning, Problem, VarId, meaning_of};
 
 // All numbers that a variable can have.
@@ -160,18 +160,37 @@ fn of_product(a: Arg, b: Arg, c: Arg, x: VarId, store: &Store) -> Stretch
     joined(most, one.greatest.saturating_mul(other.greatest))
 }
 
+// Where places between these ends stand in an array of so many items, counted from 0.
+#[inline(always)]
+fn places_between(places: Ends, count: usize) -> Span
+    ensures { result.end ≤ count }
+{
+    if places.greatest < 1 {
+        return Span { first: 0, end: 0 };
+    }
+    let first = if places.least < 1 {
+        0
+    } else {
+        places.least as usize - 1
+    };
+    Span {
+        first,
+        end: count.min(places.greatest as usize),
+    }
+}
+
 // Of the number at place b to be c: the places, or the numbers, that are left together.
 fn of_element(b: Arg, numbers: &[i64], c: Arg, x: VarId, store: &Store) -> Stretch
     requires b { IsTrue (is_open store.now.box b) }
     requires c { IsTrue (is_open store.now.box c) }
 {
     let is_place = is_variable(b, x);
+    let span = places_between(ends_of(b, store), numbers.len());
     let mut found = no_number();
-    let mut place: i64 = 0;
-    for number in numbers {
-        place = place.saturating_add(1);
-        if has(b, place, store) && has(c, *number, store) {
-            found = joined(found, if is_place { place } else { *number });
+    for k in span.first..span.end {
+        let place = k as i64 + 1;
+        if has(b, place, store) && has(c, numbers[k], store) {
+            found = joined(found, if is_place { place } else { numbers[k] });
         }
     }
     found
@@ -212,10 +231,10 @@ fn of_item(b: Arg, items: &[Arg], c: Arg, x: VarId, store: &Store) -> Stretch
             high: left.greatest,
         };
     }
+    let span = places_between(places, items.len());
     let mut found = no_number();
-    let mut place: i64 = 0;
-    for k in 0..items.len() {
-        place = place.saturating_add(1);
+    for k in span.first..span.end {
+        let place = k as i64 + 1;
         if has(b, place, store) {
             let both = shared(ends_of(items[k], store), left);
             if both.low <= both.high {

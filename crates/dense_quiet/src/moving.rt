@@ -11,7 +11,7 @@ ghost use Rattle.dense_quiet.specs.Slack.{IsTermOf, IsMeasured, IsLong, IsPast};
 use crate::slack::{Room, are_close, least_room};
 use crate::stretch::Stretch;
 use crate::summing::product;
-use model_arguments::arguments;
+use model_arguments::{arguments, items_at};
 use qc_model::{Arg, Argument, Constraint, VarId};
 
 // How many steps of this size fit into the room, or as many as the width has.
@@ -100,15 +100,18 @@ pub fn is_free(factor: i64, room: Room, least: i64, greatest: i64) -> bool
     )
 }
 
-/// The factor of x, which is the item at this place, or 0 where it isn't.
+/// The factor of x, which is the item at this place, or at a later one where numbers stand among the items; 0 where it is none of
+/// these.
 pub fn factor_at(rule: &Constraint, place: usize, x: VarId) -> i64
     ensures { result ≢ pos 0 → IsTermOf rule.now result x }
 {
     let args = arguments(rule);
-    if !is_item(args, place, x) {
-        return 0;
+    for k in place..items_at(args, 1).len() {
+        if is_item(args, k, x) {
+            return number_at(args, k);
+        }
     }
-    number_at(args, place)
+    0
 }
 
 // The number at this place of those that stand first, or 0.
