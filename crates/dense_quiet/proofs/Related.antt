@@ -16,7 +16,7 @@ use Rattle.model_arguments.specs.Written.{arg_at}
 use Rattle.qc_refuter.proofs.Terms.{abs_sum}
 use Rattle.dense_closing.specs.Takes.{Takes}
 use Rattle.dense_quiet.specs.declared.relating.Relation.{Relation}
-use Rattle.dense_quiet.specs.declared.relating.Relation.TheVariants.{AtMost, Below, Sum, Product}
+use Rattle.dense_quiet.specs.declared.relating.Relation.TheVariants.{AtMost, Below, Sum, Product, Lesser, Greater}
 use Rattle.dense_quiet.specs.Quiet.{FailsAtPoints, SparesThree, by_spans, refuted_in, meaning_in}
 use Rattle.dense_quiet.specs.Slack.{is_taken, SparesTaken}
 use Rattle.dense_quiet.proofs.OneEnd.{quiet_three}
@@ -44,6 +44,8 @@ by_ranges AtMost ls = refl
 by_ranges Below ls = refl
 by_ranges Sum ls = refl
 by_ranges Product ls = refl
+by_ranges Lesser ls = refl
+by_ranges Greater ls = refl
 
 pub quiet_relation : (r : Relation) (takes : Takes) (c : Rule) (box : Box) → meaning_of c.pred ≡ meaning_in r → Distinct (variables_of c.args) → SparesThree (by_spans (refuted_in r)) (takes c) (arg_at c.args 0) (arg_at c.args 1) (arg_at c.args 2) box → SparesTaken takes c box
 quiet_relation r takes c box e d s = quiet_three (meaning_in r) (by_spans (refuted_in r)) (by_ranges r) takes c box e d s

@@ -3,13 +3,13 @@ use Rattle.std.specs.Prelude.{ℕ, Bool, not, List, [], ◌∷◌, ℤ, pos, ◌
 use Rattle.qc_model.specs.declared.problem.Arg.{Arg}
 use Rattle.qc_model.specs.Domains.{Values, Box, least_value, greatest_value}
 use Rattle.qc_model.specs.Left.{span, some_item_in}
-use Rattle.qc_model.specs.Meaning.{Meaning, at_most, below, plus, times}
-use Rattle.qc_model.specs.Ranges.{Range, range_of, point, ranges_miss, range_sum, product}
+use Rattle.qc_model.specs.Meaning.{Meaning, at_most, below, plus, times, smaller, greater}
+use Rattle.qc_model.specs.Ranges.{Range, range_of, point, ranges_miss, range_sum, product, smaller_range, greater_range}
 use Rattle.qc_model.specs.Refuted.{left_to}
 use Rattle.dense_quiet.specs.declared.ends.Ends.{Ends}
 use Rattle.dense_quiet.specs.declared.relating.Reach.{Reach}
 use Rattle.dense_quiet.specs.declared.relating.Relation.{Relation}
-use Rattle.dense_quiet.specs.declared.relating.Relation.TheVariants.{AtMost, Below, Sum, Product}
+use Rattle.dense_quiet.specs.declared.relating.Relation.TheVariants.{AtMost, Below, Sum, Product, Lesser, Greater}
 use Rattle.dense_quiet.specs.Slack.{is_taken}
 
 abbrev pub range_in : Ends → Range
@@ -46,6 +46,8 @@ refuted_in AtMost a b c = int_lt b.to a.from
 refuted_in Below a b c = int_le b.to a.from
 refuted_in Sum a b c = ranges_miss (range_sum a b) c
 refuted_in Product a b c = ranges_miss (product a b) c
+refuted_in Lesser a b c = ranges_miss (smaller_range a b) c
+refuted_in Greater a b c = ranges_miss (greater_range a b) c
 
 -- the meaning that says so
 abbrev pub meaning_in : Relation → Meaning
@@ -53,6 +55,8 @@ meaning_in AtMost = at_most
 meaning_in Below = below
 meaning_in Sum = plus
 meaning_in Product = times
+meaning_in Lesser = smaller
+meaning_in Greater = greater
 
 -- a test of ranges, for values
 abbrev pub by_spans : (Range → Range → Range → Bool) → Values → Values → Values → Bool

@@ -160,6 +160,66 @@ fn of_product(a: Arg, b: Arg, c: Arg, x: VarId, store: &Store) -> Stretch
     joined(most, one.greatest.saturating_mul(other.greatest))
 }
 
+// One of two numbers the lesser of which is within the ends: none is below it, and this one isn't above it where the other can't be it.
+fn beside_lesser(other: Ends, lesser: Ends) -> Stretch {
+    let mut s = all_numbers();
+    s.low = lesser.least;
+    if lesser.greatest < other.least {
+        s.high = lesser.greatest;
+    }
+    s
+}
+
+// The same of the greater.
+fn beside_greater(other: Ends, greater: Ends) -> Stretch {
+    let mut s = all_numbers();
+    s.high = greater.greatest;
+    if other.greatest < greater.least {
+        s.low = greater.least;
+    }
+    s
+}
+
+// Of the lesser of a and b to be c.
+fn of_lesser(a: Arg, b: Arg, c: Arg, x: VarId, store: &Store) -> Stretch
+    requires a { IsTrue (is_open store.now.box a) }
+    requires b { IsTrue (is_open store.now.box b) }
+    requires c { IsTrue (is_open store.now.box c) }
+{
+    let one = ends_of(a, store);
+    let other = ends_of(b, store);
+    if is_variable(a, x) {
+        return beside_lesser(other, ends_of(c, store));
+    }
+    if is_variable(b, x) {
+        return beside_lesser(one, ends_of(c, store));
+    }
+    Stretch {
+        low: one.least.min(other.least),
+        high: one.greatest.min(other.greatest),
+    }
+}
+
+// Of the greater of a and b to be c.
+fn of_greater(a: Arg, b: Arg, c: Arg, x: VarId, store: &Store) -> Stretch
+    requires a { IsTrue (is_open store.now.box a) }
+    requires b { IsTrue (is_open store.now.box b) }
+    requires c { IsTrue (is_open store.now.box c) }
+{
+    let one = ends_of(a, store);
+    let other = ends_of(b, store);
+    if is_variable(a, x) {
+        return beside_greater(other, ends_of(c, store));
+    }
+    if is_variable(b, x) {
+        return beside_greater(one, ends_of(c, store));
+    }
+    Stretch {
+        low: one.least.max(other.least),
+        high: one.greatest.max(other.greatest),
+    }
+}
+
 // Where places between these ends stand in an array of so many items, counted from 0.
 #[inline(always)]
 fn places_between(places: Ends, count: usize) -> Span
@@ -276,6 +336,8 @@ fn kept_as(meaning: Meaning, args: &[Argument], x: VarId, store: &Store) -> Stre
         Meaning::Equal => shared(ends_of(a, store), ends_of(b, store)),
         Meaning::Plus => of_sum(a, b, c, x, store),
         Meaning::Times => of_product(a, b, c, x, store),
+        Meaning::Smaller => of_lesser(a, b, c, x, store),
+        Meaning::Greater => of_greater(a, b, c, x, store),
         Meaning::Element => of_element(a, numbers_at(args, 1), c, x, store),
         Meaning::VariableElement => of_item(a, items_met(args, 1, store), c, x, store),
         Meaning::Clause => of_clause(args, x),
@@ -291,6 +353,7 @@ pub(crate) fn gives_guess(rule: &Constraint) -> bool {
     }
     match row.meaning {
         Meaning::AtMost | Meaning::Below | Meaning::Equal | Meaning::Plus | Meaning::Times => true,
+        Meaning::Smaller | Meaning::Greater => true,
         Meaning::Element | Meaning::VariableElement | Meaning::Clause => true,
         _ => false,
     }

@@ -40,6 +40,8 @@ fn is_quiet_as(
         Meaning::Below => is_quiet_by_ends(Relation::Below, problem, taking, rule, args, store),
         Meaning::Plus => is_quiet_by_ends(Relation::Sum, problem, taking, rule, args, store),
         Meaning::Times => is_quiet_by_ends(Relation::Product, problem, taking, rule, args, store),
+        Meaning::Smaller => is_quiet_by_ends(Relation::Lesser, problem, taking, rule, args, store),
+        Meaning::Greater => is_quiet_by_ends(Relation::Greater, problem, taking, rule, args, store),
         Meaning::Element => is_quiet_element(args, store),
         Meaning::VariableElement => is_quiet_variable_element(problem, rule, store),
         Meaning::Clause => is_quiet_clause(problem, rule, store),

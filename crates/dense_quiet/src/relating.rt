@@ -1,6 +1,6 @@
 //! Relations of numbers that are refuted by the ends of what is left to them alone.
 ghost use Rattle.std.specs.Prelude.{◌≡◌, ◌+ℤ◌, IsTrue};
-ghost use Rattle.qc_model.specs.Ranges.{point, ranges_miss, range_sum, product as product_range};
+ghost use Rattle.qc_model.specs.Ranges.{point, ranges_miss, range_sum, product as product_range, smaller_range, greater_range};
 ghost use Rattle.qc_model.specs.Valid.{is_number};
 ghost use Rattle.model_arguments.specs.Written.{arg_at};
 ghost use Rattle.qc_refuter.specs.Met.{are_met};
@@ -21,6 +21,8 @@ pub(crate) enum Relation {
     Below,
     Sum,
     Product,
+    Lesser,
+    Greater,
 }
 
 /// Numbers from one to another.
@@ -72,6 +74,27 @@ fn products(a: Ends, b: Ends) -> Reach
     }
 }
 
+// The lesser of two numbers, and the greater.
+#[inline(always)]
+fn lessers(a: Ends, b: Ends) -> Reach
+    ensures { reach result ≡ smaller_range (range_in a) (range_in b) }
+{
+    Reach {
+        from: a.least.min(b.least),
+        to: a.greatest.min(b.greatest),
+    }
+}
+
+#[inline(always)]
+fn greaters(a: Ends, b: Ends) -> Reach
+    ensures { reach result ≡ greater_range (range_in a) (range_in b) }
+{
+    Reach {
+        from: a.least.max(b.least),
+        to: a.greatest.max(b.greatest),
+    }
+}
+
 // Whether the relation is refuted where such ends are left. Of two numbers the third ends don't matter.
 #[inline(always)]
 fn is_refuted(relation: Relation, a: Ends, b: Ends, c: Ends) -> bool
@@ -82,6 +105,8 @@ fn is_refuted(relation: Relation, a: Ends, b: Ends, c: Ends) -> bool
         Relation::Below => b.greatest <= a.least,
         Relation::Sum => misses(sums(a, b), c),
         Relation::Product => misses(products(a, b), c),
+        Relation::Lesser => misses(lessers(a, b), c),
+        Relation::Greater => misses(greaters(a, b), c),
     }
 }
 

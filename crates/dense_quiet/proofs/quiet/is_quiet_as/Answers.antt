@@ -4,7 +4,7 @@ use Rattle.qc_model.specs.Meaning.{equal}
 use Rattle.qc_model.specs.RowMeaning.{plain_meaning}
 use Rattle.qc_refuter.proofs.Ready.{rule_met}
 use Rattle.model_arguments.specs.Written.{arg_at, ints_at}
-use Rattle.dense_quiet.specs.declared.relating.Relation.TheVariants.{AtMost, Below, Sum, Product}
+use Rattle.dense_quiet.specs.declared.relating.Relation.TheVariants.{AtMost, Below, Sum, Product, Lesser, Greater}
 use Rattle.dense_quiet.specs.Quiet.{SparesTwo, SparesThree, by_spans, refuted_in, misses_number}
 use Rattle.dense_quiet.specs.Taking.{takes_of}
 use Rattle.dense_quiet.proofs.OneEnd.{quiet_two}
@@ -39,6 +39,14 @@ pub is_quiet_by_ends-requires-in-Times : goal.is_quiet_by_ends-requires-in-Times
 is_quiet_by_ends-requires-in-Times c =
     rw c.arguments-args.ensures (rule_met c.args.problem.now c.args.store.now.box c.known.ensures.domains c.requires.asked.declared c.requires.asked.full c.args.rule.now c.requires.asked.rule)
 
+pub is_quiet_by_ends-requires-in-Smaller : goal.is_quiet_by_ends-requires-in-Smaller
+is_quiet_by_ends-requires-in-Smaller c =
+    rw c.arguments-args.ensures (rule_met c.args.problem.now c.args.store.now.box c.known.ensures.domains c.requires.asked.declared c.requires.asked.full c.args.rule.now c.requires.asked.rule)
+
+pub is_quiet_by_ends-requires-in-Greater : goal.is_quiet_by_ends-requires-in-Greater
+is_quiet_by_ends-requires-in-Greater c =
+    rw c.arguments-args.ensures (rule_met c.args.problem.now c.args.store.now.box c.known.ensures.domains c.requires.asked.declared c.requires.asked.full c.args.rule.now c.requires.asked.rule)
+
 pub returns-in-AtMost : goal.returns-in-AtMost
 returns-in-AtMost c = λ h.
     let r = c.args.rule.now in
@@ -66,6 +74,20 @@ returns-in-Times c = λ h.
     let takes = takes_of c.args.taking c.args.problem.now in
     quiet_relation Product takes r c.args.store.now.box (c.requires.meaning ∙ ap plain_meaning c.in-Times.is) c.requires.apart
     (subst (λ args. SparesThree (by_spans (refuted_in Product)) (takes r) (arg_at args 0) (arg_at args 1) (arg_at args 2) c.args.store.now.box) c.arguments-args.ensures (c.is_quiet_by_ends-in-Times.ensures h))
+
+pub returns-in-Smaller : goal.returns-in-Smaller
+returns-in-Smaller c = λ h.
+    let r = c.args.rule.now in
+    let takes = takes_of c.args.taking c.args.problem.now in
+    quiet_relation Lesser takes r c.args.store.now.box (c.requires.meaning ∙ ap plain_meaning c.in-Smaller.is) c.requires.apart
+    (subst (λ args. SparesThree (by_spans (refuted_in Lesser)) (takes r) (arg_at args 0) (arg_at args 1) (arg_at args 2) c.args.store.now.box) c.arguments-args.ensures (c.is_quiet_by_ends-in-Smaller.ensures h))
+
+pub returns-in-Greater : goal.returns-in-Greater
+returns-in-Greater c = λ h.
+    let r = c.args.rule.now in
+    let takes = takes_of c.args.taking c.args.problem.now in
+    quiet_relation Greater takes r c.args.store.now.box (c.requires.meaning ∙ ap plain_meaning c.in-Greater.is) c.requires.apart
+    (subst (λ args. SparesThree (by_spans (refuted_in Greater)) (takes r) (arg_at args 0) (arg_at args 1) (arg_at args 2) c.args.store.now.box) c.arguments-args.ensures (c.is_quiet_by_ends-in-Greater.ensures h))
 
 pub is_quiet_element-requires : goal.is_quiet_element-requires
 is_quiet_element-requires c =
