@@ -4,7 +4,7 @@
 //! holds, values that the player takes last are turned over as long as more clauses are true by the player's own values then.
 use crate::study::Analyst;
 use lemma_engine::Engine;
-use lemma_ground::TruthOf;
+use lemma_ground::{TruthOf, rule_at, variable_at};
 use qc_model::{ConId, Kind, VarId};
 use std::alloc::AllocError;
 
@@ -30,10 +30,6 @@ pub(crate) struct Slope {
 struct Count {
     own: usize,
     others: usize,
-}
-
-fn rule_at(k: usize) -> ConId {
-    ConId(u16::try_from(k).unwrap_or(u16::MAX))
 }
 
 /// What is known of the game for this, once.
@@ -73,17 +69,14 @@ pub(crate) fn slope_of(engine: &Engine, last_forall: usize) -> Result<Slope, All
 
 impl<'p> Analyst<'p> {
     /// The value of x in the position at hand, after values were turned over.
-    pub(crate) fn value(&self, engine: &Engine, x: VarId) -> i64 {
-        match self.turned.get(x.0 as usize) {
-            Some(Some(v)) => *v,
-            _ => engine.boxes.least(x),
-        }
+    pub(crate) fn value(&self, x: VarId) -> i64 {
+        self.values.get(x.0 as usize).copied().unwrap_or(0)
     }
 
     /// All values are as they are in the position.
-    pub(crate) fn turn_back(&mut self) {
-        for turned in self.turned.iter_mut() {
-            *turned = None;
+    pub(crate) fn take_values(&mut self, engine: &Engine) {
+        for (k, value) in self.values.iter_mut().enumerate() {
+            *value = engine.boxes.least(variable_at(k));
         }
     }
 
@@ -96,14 +89,14 @@ impl<'p> Analyst<'p> {
         for _ in 0..ROUNDS {
             let mut is_turned = false;
             for k in 0..engine.facts.variables() {
-                let x = VarId(u16::try_from(k).unwrap_or(u16::MAX));
+                let x = variable_at(k);
                 if !self.may_turn(engine, x) {
                     continue;
                 }
                 let mentions = self.mentions_of(x).len();
                 self.go_over(mentions);
-                if self.gain(engine, x, &counts) > 0 {
-                    self.turn_over(engine, x, &mut counts);
+                if self.gain(x, &counts) > 0 {
+                    self.turn_over(x, &mut counts);
                     is_turned = true;
                 }
             }
@@ -127,7 +120,7 @@ impl<'p> Analyst<'p> {
             let items = engine.facts.items_of(rule_at(k));
             self.go_over(items.len());
             for item in items {
-                if self.is_true(engine, item) {
+                if self.is_true(item) {
                     if self.is_free(engine, item.x) {
                         count.own = count.own.saturating_add(1);
                     } else {
@@ -147,8 +140,8 @@ impl<'p> Analyst<'p> {
         }
     }
 
-    fn is_true(&self, engine: &Engine, item: &TruthOf) -> bool {
-        self.value(engine, item.x) == item.value
+    fn is_true(&self, item: &TruthOf) -> bool {
+        self.value(item.x) == item.value
     }
 
     fn is_free(&self, engine: &Engine, x: VarId) -> bool {
@@ -156,8 +149,8 @@ impl<'p> Analyst<'p> {
     }
 
     // By how many more clauses are true by the player's own values once x is turned over; nothing, where one would be false.
-    fn gain(&self, engine: &Engine, x: VarId, counts: &[Count]) -> i64 {
-        let v = self.value(engine, x);
+    fn gain(&self, x: VarId, counts: &[Count]) -> i64 {
+        let v = self.value(x);
         let mut gain = 0i64;
         for mention in self.mentions_of(x) {
             let Some(count) = counts.get(mention.c.0 as usize) else {
@@ -177,8 +170,8 @@ impl<'p> Analyst<'p> {
         gain
     }
 
-    fn turn_over(&mut self, engine: &Engine, x: VarId, counts: &mut [Count]) {
-        let v = self.value(engine, x);
+    fn turn_over(&mut self, x: VarId, counts: &mut [Count]) {
+        let v = self.value(x);
         for mention in self.mentions_of(x) {
             if let Some(count) = counts.get_mut(mention.c.0 as usize) {
                 count.own = if mention.value == v {
@@ -188,8 +181,8 @@ impl<'p> Analyst<'p> {
                 };
             }
         }
-        if let Some(turned) = self.turned.get_mut(x.0 as usize) {
-            *turned = Some(if v == 1 { 0 } else { 1 });
+        if let Some(value) = self.values.get_mut(x.0 as usize) {
+            *value = if v == 1 { 0 } else { 1 };
         }
     }
 }

@@ -2,7 +2,7 @@
 use crate::resolving::Depth;
 use crate::study::{Analyst, Lesson};
 use lemma_engine::{Cause, Condition, Conflict, Engine, Finish, Known, Range, Taken};
-use lemma_needs::left_by;
+use lemma_needs::{ends_left_by, left_by};
 use qc_model::{Kind, VarId};
 use std::alloc::AllocError;
 
@@ -67,23 +67,14 @@ impl<'p> Analyst<'p> {
             conditions.push(condition)?;
         }
         levels = levels.max(self.levels_passed(engine, conflict.loser, depth));
-        let lemma = Known {
-            loser: conflict.loser,
-            place: depth.place,
+        let lemma = Known::new(
+            conflict.loser,
+            depth.place,
             conditions,
-            sums: summing.sums,
+            summing.sums,
             taken,
-            finish: match conflict.cause {
-                Cause::Emptied(_) => Finish::Emptied,
-                Cause::Rule(c) => Finish::Rule(c),
-                Cause::Lemma(n) => Finish::Lemma(n),
-                Cause::Goal => Finish::Goal,
-            },
-            activity: 0,
-            is_dead: false,
-            first: 0,
-            second: 0,
-        };
+            finish_of(conflict),
+        );
         Ok(Lesson {
             lemma,
             levels,
@@ -216,7 +207,7 @@ impl<'p> Analyst<'p> {
                 let x = VarId(u16::try_from(k).unwrap_or(u16::MAX));
                 let v = match conflict.choices.iter().find(|it| it.x.0 == x.0) {
                     Some(choice) => choice.v,
-                    None => self.value(engine, x),
+                    None => self.value(x),
                 };
                 ordered.push(Ordered {
                     at: *at,
@@ -228,6 +219,16 @@ impl<'p> Analyst<'p> {
     }
 }
 
+/// How the proof of a lemma ends that this conflict leaves.
+pub(crate) fn finish_of(conflict: &Conflict) -> Finish {
+    match conflict.cause {
+        Cause::Emptied(_) => Finish::Emptied,
+        Cause::Rule(c) => Finish::Rule(c),
+        Cause::Lemma(n) => Finish::Lemma(n),
+        Cause::Goal => Finish::Goal,
+    }
+}
+
 // What these changes leave of a variable.
 fn condition_of(
     engine: &Engine,
@@ -236,6 +237,14 @@ fn condition_of(
 ) -> Result<Option<Condition>, AllocError> {
     if places.is_empty() {
         return Ok(None);
+    }
+    if let Some((lo, hi)) = ends_left_by(engine, x, places) {
+        return Ok(Some(Condition {
+            x,
+            lo,
+            hi,
+            ranges: Vec::new(engine.alloc),
+        }));
     }
     let ranges = left_by(engine, x, places)?;
     let (Some(first), Some(last)) = (ranges.first().copied(), ranges.last().copied()) else {

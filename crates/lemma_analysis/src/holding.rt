@@ -1,8 +1,9 @@
 //! What makes constraints hold: one true item of each clause, as few as are found, and as little as is seen of the others.
+use crate::covering::Cover;
 use crate::study::Analyst;
 use lemma_engine::Engine;
-use lemma_ground::{TruthOf, rule_at};
-use lemma_needs::{Question, changes_of, needed};
+use lemma_ground::{TruthOf, rule_at, variable_at};
+use lemma_needs::{Question, needed};
 use qc_model::{ConId, Kind, VarId};
 use std::alloc::AllocError;
 
@@ -17,6 +18,13 @@ enum Rank {
     Losers,
 }
 
+// The value of a variable, and how gladly it is taken.
+#[derive(Clone, Copy)]
+struct Seen {
+    value: i64,
+    rank: Rank,
+}
+
 impl<'p> Analyst<'p> {
     /// Marks what makes the constraints from `first` to the one before `end` hold, which the winner has to keep. What
     /// variables of scopes from `below` on have needs no mark.
@@ -29,53 +37,80 @@ impl<'p> Analyst<'p> {
         loser: Kind,
     ) -> Result<(), AllocError> {
         for k in first..end {
-            if !engine.facts.is_clause(rule_at(k)) {
+            if !engine.facts.is_clause(rule_at(k)) && !engine.is_left_out(rule_at(k)) {
                 self.mark_rule(engine, rule_at(k), below)?;
             }
         }
-        let mut of_loser: Vec<ConId> = Vec::new(engine.alloc);
-        let mut of_winner: Vec<ConId> = Vec::new(engine.alloc);
-        let mut is_open = vec![in engine.alloc; false; engine.facts.rules()]?;
+        self.mark_clauses(engine, first, end, below, loser)
+    }
+
+    // The same for clauses alone.
+    fn mark_clauses(
+        &mut self,
+        engine: &Engine,
+        first: usize,
+        end: usize,
+        below: usize,
+        loser: Kind,
+    ) -> Result<(), AllocError> {
+        let mut cover = Cover::new(engine.alloc);
+        let mut of_winner = Vec::new(engine.alloc);
+        let of_loser = self.open_clauses(
+            engine,
+            (first, end),
+            below,
+            loser,
+            &mut cover,
+            &mut of_winner,
+        )?;
+        // what is marked for the loser's clauses serves the others too
+        self.mark_cover(engine, &of_loser, &mut cover)?;
+        for c in of_winner.as_slice() {
+            if cover.has_open(*c)
+                && let Some(x) = self.widest_item(engine, *c, &cover, below, loser)
+            {
+                self.mark_closing(engine, x, &mut cover)?;
+            }
+        }
+        self.unmark_spare(engine, &mut cover);
+        Ok(())
+    }
+
+    // The clauses that need a mark are open. Those that the loser's values alone make true are given; the others are put to the
+    // winner's.
+    fn open_clauses(
+        &mut self,
+        engine: &Engine,
+        rules: (usize, usize),
+        below: usize,
+        loser: Kind,
+        cover: &mut Cover,
+        of_winner: &mut Vec<ConId>,
+    ) -> Result<Vec<ConId>, AllocError> {
+        let mut of_loser = Vec::new(engine.alloc);
+        let mut seen = Vec::new(engine.alloc);
+        let (first, end) = rules;
+        let is_large = end.saturating_sub(first) >= engine.facts.variables() / 2;
         for k in first..end {
             let c = rule_at(k);
-            if !engine.facts.is_clause(c) {
+            if !engine.facts.is_clause(c) || engine.is_left_out(c) {
                 continue;
             }
+            if cover.is_empty() {
+                cover.make_room(engine)?;
+                if is_large {
+                    seen = self.all_seen(engine, below, loser)?;
+                }
+            }
             self.go_over(engine.facts.items_of(c).len());
-            match self.best_rank(engine, c, below, loser) {
+            match self.best_rank(engine, c, below, loser, &seen) {
                 Some(Rank::Free) => continue,
                 Some(Rank::Losers) | None => of_loser.push(c)?,
                 Some(_) => of_winner.push(c)?,
             }
-            set_open(&mut is_open, c, true);
+            cover.open(c);
         }
-        // what is marked for the loser's clauses serves the others too
-        self.mark_cover(engine, of_loser, &mut is_open)?;
-        for c in of_winner.as_slice() {
-            if has_open(&is_open, *c)
-                && let Some(x) = self.widest_item(engine, *c, &is_open, below, loser)
-            {
-                self.mark_closing(engine, x, &mut is_open)?;
-            }
-        }
-        Ok(())
-    }
-
-    // Marks a variable. Clauses that it makes true aren't open any more.
-    fn mark_closing(
-        &mut self,
-        engine: &Engine,
-        x: VarId,
-        is_open: &mut [bool],
-    ) -> Result<(), AllocError> {
-        self.mark_variable(engine, x)?;
-        let value = self.value(engine, x);
-        for mention in self.mentions_of(x) {
-            if mention.value == value {
-                set_open(is_open, mention.c, false);
-            }
-        }
-        Ok(())
+        Ok(of_loser)
     }
 
     // Of the variables that make a clause true and are taken most gladly, that which makes most open clauses true.
@@ -83,14 +118,19 @@ impl<'p> Analyst<'p> {
         &self,
         engine: &Engine,
         c: ConId,
-        is_open: &[bool],
+        cover: &Cover,
         below: usize,
         loser: Kind,
     ) -> Option<VarId> {
         let mut best: Option<(Rank, usize, VarId)> = None;
         for item in engine.facts.items_of(c) {
             if let Some(rank) = self.rank_of(engine, item, below, loser) {
-                let count = self.count_open(item, is_open);
+                if let Some((before, _, _)) = best
+                    && before < rank
+                {
+                    continue;
+                }
+                let count = self.count_open(item, cover);
                 let is_better = match best {
                     Some((before, most, _)) => rank < before || rank == before && count > most,
                     None => true,
@@ -105,22 +145,14 @@ impl<'p> Analyst<'p> {
     }
 
     // How many open clauses an item makes true.
-    fn count_open(&self, item: &TruthOf, is_open: &[bool]) -> usize {
+    fn count_open(&self, item: &TruthOf, cover: &Cover) -> usize {
         let mut count = 0usize;
         for mention in self.mentions_of(item.x) {
-            if mention.value == item.value && has_open(is_open, mention.c) {
+            if mention.value == item.value && cover.has_open(mention.c) {
                 count = count.saturating_add(1);
             }
         }
         count
-    }
-
-    fn mark_variable(&mut self, engine: &Engine, x: VarId) -> Result<(), AllocError> {
-        let mut places = Vec::new(engine.alloc);
-        changes_of(engine, x, engine.trail.len(), &mut places)?;
-        self.needed.clear();
-        self.needed.add_all(&places, false)?;
-        self.mark_needed()
     }
 
     fn mark_rule(&mut self, engine: &Engine, c: ConId, below: usize) -> Result<(), AllocError> {
@@ -144,26 +176,51 @@ impl<'p> Analyst<'p> {
     }
 
     fn rank_of(&self, engine: &Engine, item: &TruthOf, below: usize, loser: Kind) -> Option<Rank> {
-        if self.value(engine, item.x) != item.value {
+        if self.value(item.x) != item.value {
             return None;
         }
-        let scope = engine.facts.scope_of(item.x);
+        Some(self.rank_of_variable(engine, item.x, below, loser))
+    }
+
+    fn rank_of_variable(&self, engine: &Engine, x: VarId, below: usize, loser: Kind) -> Rank {
+        let scope = engine.facts.scope_of(x);
         if scope >= below {
-            return Some(Rank::Free);
+            return Rank::Free;
         }
-        match engine.trail.last_of(item.x) {
-            None => return Some(Rank::Free),
-            Some(place) if self.marks.has(place) => return Some(Rank::Free),
+        match engine.trail.last_of(x) {
+            None => return Rank::Free,
+            Some(place) if self.marks.has(place) => return Rank::Free,
             Some(_) => {}
         }
-        if engine.facts.side_of(item.x) == loser {
-            return Some(Rank::Losers);
+        if engine.facts.side_of(x) == loser {
+            return Rank::Losers;
         }
         if scope > self.last_scope_of(loser) {
-            Some(Rank::Last)
+            Rank::Last
         } else {
-            Some(Rank::Winners)
+            Rank::Winners
         }
+    }
+
+    fn seen_at(&self, engine: &Engine, x: VarId, below: usize, loser: Kind) -> Seen {
+        Seen {
+            value: self.value(x),
+            rank: self.rank_of_variable(engine, x, below, loser),
+        }
+    }
+
+    // What is seen of each variable.
+    fn all_seen(
+        &self,
+        engine: &Engine,
+        below: usize,
+        loser: Kind,
+    ) -> Result<Vec<Seen>, AllocError> {
+        let mut seen = Vec::new(engine.alloc);
+        for k in 0..engine.facts.variables() {
+            seen.push(self.seen_at(engine, variable_at(k), below, loser))?;
+        }
+        Ok(seen)
     }
 
     fn last_scope_of(&self, side: Kind) -> usize {
@@ -173,90 +230,33 @@ impl<'p> Analyst<'p> {
         }
     }
 
-    // The best rank of a clause's true items.
-    fn best_rank(&self, engine: &Engine, c: ConId, below: usize, loser: Kind) -> Option<Rank> {
+    // The best rank of a clause's true items. What was seen of variables needn't be looked up.
+    fn best_rank(
+        &self,
+        engine: &Engine,
+        c: ConId,
+        below: usize,
+        loser: Kind,
+        seen: &[Seen],
+    ) -> Option<Rank> {
         let mut best: Option<Rank> = None;
         for item in engine.facts.items_of(c) {
-            if best == Some(Rank::Free) {
-                break;
+            let it = match seen.get(item.x.0 as usize) {
+                Some(it) => *it,
+                None => self.seen_at(engine, item.x, below, loser),
+            };
+            if it.value != item.value {
+                continue;
             }
-            if let Some(rank) = self.rank_of(engine, item, below, loser) {
-                best = match best {
-                    Some(before) if before <= rank => Some(before),
-                    _ => Some(rank),
-                };
+            if it.rank == Rank::Free {
+                return Some(Rank::Free);
             }
+            best = match best {
+                Some(before) if before <= it.rank => best,
+                _ => Some(it.rank),
+            };
         }
         best
-    }
-
-    // Marks variables by which all these clauses are true, each time the one that makes most of them so.
-    fn mark_cover(
-        &mut self,
-        engine: &Engine,
-        clauses: Vec<ConId>,
-        is_open: &mut [bool],
-    ) -> Result<(), AllocError> {
-        let mut open = clauses;
-        let mut counts = vec![in engine.alloc; 0usize; engine.facts.variables()]?;
-        for _ in 0..engine.facts.variables().saturating_add(1) {
-            self.go_over(engine.facts.variables());
-            let mut left = Vec::new(engine.alloc);
-            for c in open.as_slice() {
-                if has_open(is_open, *c) {
-                    left.push(*c)?;
-                }
-            }
-            open = left;
-            if open.is_empty() {
-                return Ok(());
-            }
-            for count in counts.iter_mut() {
-                *count = 0;
-            }
-            for c in open.as_slice() {
-                let items = engine.facts.items_of(*c);
-                self.go_over(items.len().saturating_mul(2));
-                for item in items {
-                    if self.value(engine, item.x) == item.value
-                        && let Some(count) = counts.get_mut(item.x.0 as usize)
-                    {
-                        *count = count.saturating_add(1);
-                    }
-                }
-            }
-            let Some(x) = self.most_of(&counts) else {
-                return Ok(());
-            };
-            self.mark_closing(engine, x, is_open)?;
-        }
-        Ok(())
-    }
-
-    // The variable with the greatest count above 0; of equal ones that which conflicts rested on most.
-    fn most_of(&self, counts: &[usize]) -> Option<VarId> {
-        let mut best: Option<(usize, usize)> = None;
-        for (k, count) in counts.iter().enumerate() {
-            let is_better = match best {
-                Some((_, before)) => {
-                    *count > before
-                        || *count == before && best.map_or(false, |it| self.is_more_active(k, it.0))
-                }
-                None => *count > 0,
-            };
-            if is_better {
-                best = Some((k, *count));
-            }
-        }
-        let (k, _) = best?;
-        Some(VarId(u16::try_from(k).unwrap_or(u16::MAX)))
-    }
-
-    fn is_more_active(&self, a: usize, b: usize) -> bool {
-        match (self.activity.get(a), self.activity.get(b)) {
-            (Some(a), Some(b)) => a > b,
-            _ => false,
-        }
     }
 
     /// Marks what makes the restriction of a winner's scope hold.
@@ -268,15 +268,5 @@ impl<'p> Analyst<'p> {
     ) -> Result<(), AllocError> {
         let (first, end) = engine.facts.rules_at(scope);
         self.mark_holding(engine, first, end, scope, loser)
-    }
-}
-
-fn has_open(is_open: &[bool], c: ConId) -> bool {
-    is_open.get(c.0 as usize).copied().unwrap_or(false)
-}
-
-fn set_open(is_open: &mut [bool], c: ConId, value: bool) {
-    if let Some(slot) = is_open.get_mut(c.0 as usize) {
-        *slot = value;
     }
 }

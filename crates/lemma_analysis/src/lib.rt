@@ -7,8 +7,10 @@
 #![tactic(auto)]
 
 mod climbing;
+mod covering;
 mod drawing;
 mod holding;
+mod redrawing;
 mod resolving;
 mod study;
 mod summing;

@@ -1,9 +1,9 @@
 //! Putting in the place of changes what they rest on.
 use crate::study::Analyst;
 use lemma_engine::{Cause, Conflict, Engine};
-use lemma_ground::{Change, Why};
-use lemma_needs::needed_for;
-use qc_model::Kind;
+use lemma_ground::Why;
+use lemma_needs::{needed_for, rests_on_others};
+use qc_model::{Kind, VarId};
 use std::alloc::AllocError;
 
 /// How far the lemma reaches: the last scope that it speaks of with a variable of the loser's, and the level of its last
@@ -30,23 +30,15 @@ enum Next {
     Rest(Depth),
 }
 
-// Which changes count: all, those on a level, or those in later scopes than this one.
-#[derive(Clone, Copy)]
-enum Which {
-    Any,
-    OnLevel(usize),
-    Beyond(usize),
+// How often all that is marked is gone over for each change that is put aside.
+const PASSES: usize = 2;
+
+fn variable_of(engine: &Engine, place: usize) -> Option<VarId> {
+    Some(engine.trail.at(place)?.x)
 }
 
-// How often all that is marked is gone over for each change that is put aside.
-const PASSES: usize = 4;
-
-fn counts(engine: &Engine, which: Which, change: &Change) -> bool {
-    match which {
-        Which::Any => true,
-        Which::OnLevel(level) => change.level == level,
-        Which::Beyond(scope) => engine.facts.scope_of(change.x) > scope,
-    }
+fn level_of(engine: &Engine, place: usize) -> usize {
+    engine.trail.at(place).map_or(0, |it| it.level)
 }
 
 impl<'p> Analyst<'p> {
@@ -90,8 +82,8 @@ impl<'p> Analyst<'p> {
         Ok(Settled::Stuck)
     }
 
-    // Takes the mark of a change, and marks what it rests on. A decision rests on nothing else.
-    fn put_aside(&mut self, engine: &Engine, place: usize) -> Result<bool, AllocError> {
+    /// Takes the mark of a change, and marks what it rests on. A decision rests on nothing else.
+    pub(crate) fn put_aside(&mut self, engine: &Engine, place: usize) -> Result<bool, AllocError> {
         self.needed.clear();
         if !needed_for(
             engine,
@@ -102,83 +94,90 @@ impl<'p> Analyst<'p> {
         )? {
             return Ok(false);
         }
-        self.marks.remove(place);
-        self.resolved.push(place)?;
-        if let Some(change) = engine.trail.at(place) {
-            self.bump(change.x);
-        }
-        self.mark_needed()?;
+        self.set_aside(engine, place)?;
         Ok(true)
     }
 
+    // The same once it is known what the change rests on.
+    fn set_aside(&mut self, engine: &Engine, place: usize) -> Result<(), AllocError> {
+        self.marks.remove(place);
+        self.resolved.push(place)?;
+        if let Some(x) = variable_of(engine, place) {
+            self.bump(x);
+        }
+        self.mark_needed()
+    }
+
     fn next_to_do(&self, engine: &Engine, loser: Kind) -> Next {
-        let Some(level) = self.last_level(engine, loser) else {
+        let Some((place, level)) = self.latest(engine, loser) else {
             return Next::Rest(Depth { place: 0, level: 0 });
         };
         if level == 0 {
-            return self.latest(engine, loser, Which::Any, 0);
+            return Next::Resolve(place);
         }
         let Some(decided) = engine.trail.decided_on(level) else {
             return Next::Rest(Depth { place: 0, level: 0 });
         };
         if engine.facts.side_of(decided) != loser {
-            return self.latest(engine, loser, Which::OnLevel(level), level);
+            return Next::Resolve(place);
         }
         let scope = engine.facts.scope_of(decided);
-        let later = self.latest(engine, loser, Which::Beyond(scope), level);
-        if let Next::Resolve(_) = later {
-            return later;
+        let first = engine.trail.len_at(level.saturating_sub(1));
+        match self.beyond(engine, loser, scope, first) {
+            (Some(later), _) => Next::Resolve(later),
+            (None, count) if count > 1 => Next::Resolve(place),
+            (None, _) => Next::Rest(Depth {
+                place: scope.saturating_add(1),
+                level,
+            }),
         }
-        if self.count_on(engine, loser, level) > 1 {
-            return self.latest(engine, loser, Which::OnLevel(level), level);
-        }
-        Next::Rest(Depth {
-            place: scope.saturating_add(1),
-            level,
-        })
     }
 
-    // The last level with a marked change of the loser's.
-    fn last_level(&self, engine: &Engine, loser: Kind) -> Option<usize> {
-        let mut last = None;
+    // The latest of the loser's marked changes, and its level, which is the last with one.
+    fn latest(&self, engine: &Engine, loser: Kind) -> Option<(usize, usize)> {
+        let mut latest: Option<usize> = None;
         for place in self.marks.places() {
-            if let Some(change) = engine.trail.at(*place)
-                && engine.facts.side_of(change.x) == loser
-            {
-                last = last.max(Some(change.level));
+            if latest < Some(*place) && self.is_of(engine, loser, *place) {
+                latest = Some(*place);
             }
         }
-        last
+        let place = latest?;
+        Some((place, level_of(engine, place)))
     }
 
-    fn count_on(&self, engine: &Engine, loser: Kind, level: usize) -> usize {
+    fn is_of(&self, engine: &Engine, side: Kind, place: usize) -> bool {
+        match variable_of(engine, place) {
+            Some(x) => engine.facts.side_of(x) == side,
+            None => false,
+        }
+    }
+
+    // The latest of the loser's marked changes in later scopes than this one, and how many of the loser's stand at this place or
+    // behind it.
+    fn beyond(
+        &self,
+        engine: &Engine,
+        loser: Kind,
+        scope: usize,
+        first: usize,
+    ) -> (Option<usize>, usize) {
+        let mut later: Option<usize> = None;
         let mut count = 0usize;
         for place in self.marks.places() {
-            if let Some(change) = engine.trail.at(*place)
-                && engine.facts.side_of(change.x) == loser
-                && change.level == level
-            {
+            let Some(x) = variable_of(engine, *place) else {
+                continue;
+            };
+            if engine.facts.side_of(x) != loser {
+                continue;
+            }
+            if *place >= first {
                 count = count.saturating_add(1);
             }
-        }
-        count
-    }
-
-    // The latest of the loser's marked changes that count.
-    fn latest(&self, engine: &Engine, loser: Kind, which: Which, level: usize) -> Next {
-        let mut latest = None;
-        for place in self.marks.places() {
-            if let Some(change) = engine.trail.at(*place)
-                && engine.facts.side_of(change.x) == loser
-                && counts(engine, which, &change)
-            {
-                latest = latest.max(Some(*place));
+            if later < Some(*place) && engine.facts.scope_of(x) > scope {
+                later = Some(*place);
             }
         }
-        match latest {
-            Some(place) => Next::Resolve(place),
-            None => Next::Rest(Depth { place: 0, level }),
-        }
+        (later, count)
     }
 
     // Puts changes of the last scope aside that rest on marked ones alone, and those of level 0. Says whether there were any.
@@ -191,31 +190,56 @@ impl<'p> Analyst<'p> {
         let Some(scope) = depth.place.checked_sub(1) else {
             return Ok(false);
         };
-        for k in 0..self.marks.places().len() {
+        let mut k = 0usize;
+        for _ in 0..self.marks.places().len() {
             let Some(place) = self.marks.places().get(k).copied() else {
                 break;
             };
             if self.is_spent(engine) {
                 break;
             }
-            let Some(change) = engine.trail.at(place) else {
+            if !self.is_reducible(engine, loser, scope, depth, place) {
+                k = k.saturating_add(1);
                 continue;
-            };
-            let is_candidate = engine.facts.side_of(change.x) == loser
-                && engine.facts.scope_of(change.x) == scope
-                && change.why != Why::Decided
-                && change.level < depth.level;
-            if is_candidate
-                && (change.level == 0 || self.rests_on_marked(engine, place)?)
-                && self.put_aside(engine, place)?
-            {
-                return Ok(true);
             }
+            if level_of(engine, place) == 0 {
+                if self.put_aside(engine, place)? {
+                    return Ok(true);
+                }
+            } else if self.rests_on_marked(engine, place)? {
+                self.set_aside(engine, place)?;
+                continue;
+            }
+            k = k.saturating_add(1);
         }
         Ok(false)
     }
 
+    // Whether the change at a place is one of the loser's last scope that follows on an earlier level.
+    fn is_reducible(
+        &self,
+        engine: &Engine,
+        loser: Kind,
+        scope: usize,
+        depth: Depth,
+        place: usize,
+    ) -> bool {
+        match engine.trail.at(place) {
+            Some(change) => {
+                change.level < depth.level
+                    && engine.facts.side_of(change.x) == loser
+                    && engine.facts.scope_of(change.x) == scope
+                    && change.why != Why::Decided
+            }
+            None => false,
+        }
+    }
+
+    // Whether a change rests on marked ones alone.
     fn rests_on_marked(&mut self, engine: &Engine, place: usize) -> Result<bool, AllocError> {
+        if rests_on_others(engine, &self.marks, place) {
+            return Ok(false);
+        }
         self.needed.clear();
         if !needed_for(
             engine,

@@ -3,7 +3,7 @@ use crate::climbing::{Slope, slope_of};
 use crate::resolving::Settled;
 use lemma_engine::{AS_A_LOOK, Cause, Conflict, Engine, Known};
 use lemma_needs::{
-    Bench, Marks, Needs, Question, changes_of, needed, needed_for_clause, needed_for_lemma,
+    Bench, Marks, Needs, Question, add_changes_of, needed, needed_for_clause, needed_for_lemma,
 };
 use qc_model::{Kind, Problem, VarId};
 use std::alloc::{AllocError, Global};
@@ -27,8 +27,8 @@ pub struct Analyst<'p> {
     pub(crate) needed: Needs,
     // The winner's restricted scopes that were passed on the way to the conflict, as far as they count.
     pub(crate) is_passed: Vec<bool>,
-    // Values that were turned over, and what is known for that.
-    pub(crate) turned: Vec<Option<i64>>,
+    // The value of each variable in the position at hand, once values were turned over, and what is known for that.
+    pub(crate) values: Vec<i64>,
     pub(crate) slope: Slope,
     pub(crate) last_exists: usize,
     pub(crate) last_forall: usize,
@@ -67,12 +67,8 @@ impl<'p> Analyst<'p> {
                 Kind::Forall => last_forall = scope,
             }
         }
-        let mut turned = Vec::new(alloc);
-        for _ in 0..engine.facts.variables() {
-            turned.push(None)?;
-        }
         Ok(Analyst {
-            turned,
+            values: vec![in alloc; 0i64; engine.facts.variables()]?,
             slope: slope_of(engine, last_forall)?,
             bench: Bench::new(alloc, problem)?,
             marks: Marks::new(alloc),
@@ -119,7 +115,7 @@ impl<'p> Analyst<'p> {
         for passed in self.is_passed.iter_mut() {
             *passed = false;
         }
-        self.turn_back();
+        self.take_values(engine);
         if matches!(conflict.cause, Cause::Goal) {
             self.climb(engine)?;
         }
@@ -187,15 +183,17 @@ impl<'p> Analyst<'p> {
         Ok(())
     }
 
-    // Marks the changes that a conflict rests on.
-    fn mark_cause(&mut self, engine: &Engine, conflict: &Conflict) -> Result<(), AllocError> {
+    /// Marks the changes that a conflict rests on.
+    pub(crate) fn mark_cause(
+        &mut self,
+        engine: &Engine,
+        conflict: &Conflict,
+    ) -> Result<(), AllocError> {
         let end = engine.trail.len();
         self.needed.clear();
         match conflict.cause {
             Cause::Emptied(x) => {
-                let mut places = Vec::new(engine.alloc);
-                changes_of(engine, x, end, &mut places)?;
-                self.needed.add_all(&places, false)?;
+                add_changes_of(engine, x, end, &mut self.needed)?;
             }
             Cause::Lemma(n) => {
                 needed_for_lemma(engine, n, None, end, &mut self.needed)?;

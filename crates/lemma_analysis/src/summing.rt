@@ -34,11 +34,15 @@ impl<'p> Analyst<'p> {
         let mut summing = Summing {
             sums: Vec::new(engine.alloc),
             level: 0,
-            is_dropped: vec![in engine.alloc; false; engine.facts.variables()]?,
+            is_dropped: Vec::new(engine.alloc),
         };
         let Some(stop) = depth.place.checked_sub(1) else {
             return Ok(summing);
         };
+        if self.marks.sums().is_empty() {
+            return Ok(summing);
+        }
+        summing.is_dropped = vec![in engine.alloc; false; engine.facts.variables()]?;
         let mut is_soft = self.soft_variables(engine, loser, depth, marked)?;
         for sum in self.marks.sums() {
             if !is_any_soft(engine, &is_soft, sum) {

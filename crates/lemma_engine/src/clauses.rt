@@ -1,6 +1,6 @@
 //! Clauses of variables alone, which are looked at without a filter.
 use crate::engine::{Cause, Choice, Conflict, Engine, Hint};
-use lemma_ground::{TruthOf, Why};
+use lemma_ground::{Boxes, TruthOf, Why};
 use qc_model::{ConId, Kind};
 use std::alloc::AllocError;
 
@@ -17,54 +17,61 @@ pub(crate) fn other_value(value: i64) -> i64 {
     if value == 1 { 0 } else { 1 }
 }
 
+fn is_true(item: TruthOf, boxes: &Boxes) -> bool {
+    boxes.least(item.x) == item.value && boxes.greatest(item.x) == item.value
+}
+
+// Whether an item makes its clause true, or leaves it open beside the other one.
+fn is_open(item: TruthOf, boxes: &Boxes) -> bool {
+    boxes.least(item.x) != boxes.greatest(item.x)
+}
+
+/// Whether two items that were seen show that a clause has nothing to say. Where they are two, both are its keeper's.
+pub(crate) fn is_hinted(hint: &Hint, boxes: &Boxes) -> bool {
+    let Some(first) = hint.first else {
+        return false;
+    };
+    if is_true(first, boxes) {
+        return true;
+    }
+    let Some(second) = hint.second else {
+        return false;
+    };
+    is_true(second, boxes) || is_open(first, boxes) && is_open(second, boxes)
+}
+
 impl<'p> Engine<'p> {
-    fn is_true(&self, item: TruthOf) -> bool {
-        self.boxes.is_fixed(item.x) && self.boxes.least(item.x) == item.value
-    }
-
-    fn is_open(&self, item: TruthOf, side: Kind) -> bool {
-        self.facts.side_of(item.x) == side && self.boxes.size(item.x) > 1
-    }
-
-    /// Whether two items show that a clause has nothing to say.
-    pub(crate) fn is_hinted(&self, c: ConId) -> bool {
-        let items = self.facts.items_of(c);
-        let Some(hint) = self.hints.get(c.0 as usize) else {
-            return false;
-        };
-        let (Some(first), Some(second)) = (items.get(hint.first), items.get(hint.second)) else {
-            return false;
-        };
-        if self.is_true(*first) || self.is_true(*second) {
-            return true;
-        }
-        let side = self.facts.rule_side(c);
-        hint.first != hint.second && self.is_open(*first, side) && self.is_open(*second, side)
-    }
-
     fn sight_of(&mut self, c: ConId, side: Kind) -> Sight {
-        let mut open: Option<(usize, TruthOf)> = None;
+        let mut open: Option<TruthOf> = None;
         let mut earliest = usize::MAX;
-        for (k, item) in self.facts.items_of(c).iter().enumerate() {
-            if self.boxes.is_fixed(item.x) {
-                if self.boxes.least(item.x) == item.value {
-                    set_hint(&mut self.hints, c, k, k);
+        for item in self.facts.items_of(c) {
+            let least = self.boxes.least(item.x);
+            if least == self.boxes.greatest(item.x) {
+                if least == item.value {
+                    set_hint(&mut self.hints, c, *item, None);
                     return Sight::Settled;
                 }
             } else if self.facts.side_of(item.x) == side {
-                if let Some((other, _)) = open {
-                    set_hint(&mut self.hints, c, other, k);
+                if let Some(other) = open {
+                    set_hint(&mut self.hints, c, other, Some(*item));
                     return Sight::Settled;
                 }
-                open = Some((k, *item));
+                open = Some(*item);
             } else {
                 earliest = earliest.min(self.facts.scope_of(item.x));
             }
         }
         match open {
-            None => Sight::Lost,
-            Some((_, item)) => {
-                if earliest < self.facts.scope_of(item.x) {
+            // nothing is known of a variable that the winner chose before and that has no value here
+            None => {
+                if earliest < self.scope {
+                    Sight::Settled
+                } else {
+                    Sight::Lost
+                }
+            }
+            Some(item) => {
+                if earliest < self.scope.max(self.facts.scope_of(item.x)) {
                     Sight::Settled
                 } else {
                     Sight::Last(item)
@@ -105,8 +112,9 @@ impl<'p> Engine<'p> {
     }
 }
 
-fn set_hint(hints: &mut [Hint], c: ConId, first: usize, second: usize) {
+fn set_hint(hints: &mut [Hint], c: ConId, first: TruthOf, second: Option<TruthOf>) {
     if let Some(hint) = hints.get_mut(c.0 as usize) {
-        *hint = Hint { first, second };
+        hint.first = Some(first);
+        hint.second = second;
     }
 }

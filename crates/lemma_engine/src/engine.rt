@@ -1,7 +1,8 @@
 //! What a search goes over, and what it changes.
+use crate::clauses::is_hinted;
 use crate::known::Known;
 use crate::waiting::Waiting;
-use lemma_ground::{Boxes, Cut, Facts, Trail, Wakes, Why, rule_at};
+use lemma_ground::{Boxes, Cut, Facts, Trail, TruthOf, Wakes, Why, rule_at};
 use qc_model::{ConId, Kind, Problem, VarId};
 use std::alloc::{AllocError, Global};
 
@@ -42,11 +43,14 @@ pub(crate) struct Watch {
     pub(crate) other_hi: i64,
 }
 
-// Two items of a clause to look at first.
+// Of a constraint its scope, or one that isn't there where it is left out, and its keeper; of a clause two items to look at first,
+// once they were seen.
 #[derive(Clone, Copy)]
 pub(crate) struct Hint {
-    pub(crate) first: usize,
-    pub(crate) second: usize,
+    pub(crate) scope: usize,
+    pub(crate) side: Kind,
+    pub(crate) first: Option<TruthOf>,
+    pub(crate) second: Option<TruthOf>,
 }
 
 /// The values left, the changes that led to them, the lemmas known, what waits to be looked at, and the scope whose variables
@@ -74,6 +78,22 @@ pub struct Engine<'p> {
     pub(crate) steps_scopes: bool,
 }
 
+// From this scope on those of the player's that are of scopes before `exists` speak, and of the opponent's before `forall`.
+#[derive(Clone, Copy)]
+struct Reach {
+    first: usize,
+    exists: usize,
+    forall: usize,
+}
+
+fn is_within(hint: &Hint, reach: &Reach) -> bool {
+    let end = match hint.side {
+        Kind::Exists => reach.exists,
+        Kind::Forall => reach.forall,
+    };
+    reach.first <= hint.scope && hint.scope < end
+}
+
 // A constraint of so many variables takes long.
 const MANY: usize = 4;
 
@@ -90,8 +110,10 @@ impl<'p> Engine<'p> {
             let c = rule_at(k);
             is_slow.push(!facts.is_clause(c) && facts.own_of(c).len() > MANY)?;
             hints.push(Hint {
-                first: 0,
-                second: 0,
+                scope: facts.rule_scope(c),
+                side: facts.rule_side(c),
+                first: None,
+                second: None,
             })?;
         }
         let mut watches: Vec<Vec<Watch>> = Vec::new(alloc);
@@ -143,8 +165,27 @@ impl<'p> Engine<'p> {
 
     /// Whether a constraint speaks where the next scope is this one.
     pub(crate) fn is_active_at(&self, c: ConId, scope: usize) -> bool {
-        let own = self.facts.rule_scope(c);
-        own >= scope && own < self.facts.reach_from(self.facts.rule_side(c), scope)
+        match self.hints.get(c.0 as usize) {
+            Some(hint) => {
+                hint.scope >= scope && hint.scope < self.facts.reach_from(hint.side, scope)
+            }
+            None => false,
+        }
+    }
+
+    /// Leaves a constraint out from now on: it isn't looked at any more.
+    pub fn leave_out(&mut self, c: ConId) {
+        if let Some(hint) = self.hints.get_mut(c.0 as usize) {
+            hint.scope = usize::MAX;
+        }
+    }
+
+    /// Whether a constraint is left out.
+    pub fn is_left_out(&self, c: ConId) -> bool {
+        match self.hints.get(c.0 as usize) {
+            Some(hint) => hint.scope == usize::MAX,
+            None => true,
+        }
     }
 
     /// Lets all constraints wait that speak here and didn't at an earlier scope.
@@ -168,27 +209,34 @@ impl<'p> Engine<'p> {
     pub(crate) fn wake(&mut self, x: VarId, least: i64, greatest: i64) -> Result<(), AllocError> {
         let is_raised = self.boxes.least(x) > least;
         let is_lowered = self.boxes.greatest(x) < greatest;
-        let count = self.facts.wakers_of(x).len();
-        self.pass_over(count);
-        for k in 0..count {
-            let Some(waker) = self.facts.wakers_of(x).get(k).copied() else {
-                break;
-            };
+        let reach = self.reach();
+        let mut count = 0usize;
+        for waker in self.facts.wakers_of(x) {
+            count = count.saturating_add(1);
             let concerns = match waker.when {
                 Wakes::Raised => is_raised,
                 Wakes::Lowered => is_lowered,
                 Wakes::Changed => true,
             };
-            if concerns && self.can_wake(waker.c) {
+            if concerns
+                && let Some(hint) = self.hints.get(waker.c.0 as usize)
+                && is_within(hint, &reach)
+                && !is_hinted(hint, &self.boxes)
+            {
                 self.waiting.add_rule(waker.c)?;
             }
         }
+        self.pass_over(count);
         self.waiting.add_variable(x)
     }
 
-    // Whether a constraint doesn't wait, speaks here, and may have something to say.
-    fn can_wake(&self, c: ConId) -> bool {
-        !self.waiting.has_rule(c) && self.is_active_at(c, self.scope) && !self.is_hinted(c)
+    // Which constraints speak here.
+    fn reach(&self) -> Reach {
+        Reach {
+            first: self.scope,
+            exists: self.facts.reach_from(Kind::Exists, self.scope),
+            forall: self.facts.reach_from(Kind::Forall, self.scope),
+        }
     }
 
     /// Takes values of the loser's out of x, and notes why. A conflict comes where none would be left.

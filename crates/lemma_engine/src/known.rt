@@ -1,6 +1,7 @@
 //! Lemmas as the search keeps them.
 use lemma_ground::{Boxes, Why};
 use qc_model::{ConId, Kind, VarId};
+use std::alloc::{AllocError, Global};
 
 /// The values from `lo` to `hi`.
 #[derive(Clone, Copy, PartialEq, Eq)]
@@ -75,7 +76,46 @@ pub enum Outlook {
     Void,
 }
 
+impl Known {
+    /// A lemma that wasn't of use yet.
+    pub fn new(
+        loser: Kind,
+        place: usize,
+        conditions: Vec<Condition>,
+        sums: Vec<SumCondition>,
+        taken: Vec<Taken>,
+        finish: Finish,
+    ) -> Known {
+        Known {
+            loser,
+            place,
+            conditions,
+            sums,
+            taken,
+            finish,
+            activity: 0,
+            is_dead: false,
+            first: 0,
+            second: 0,
+        }
+    }
+}
+
 impl Condition {
+    /// The condition once more.
+    pub fn copied(&self, alloc: Global) -> Result<Condition, AllocError> {
+        let mut ranges = Vec::new(alloc);
+        for range in self.ranges.as_slice() {
+            ranges.push(*range)?;
+        }
+        Ok(Condition {
+            x: self.x,
+            lo: self.lo,
+            hi: self.hi,
+            ranges,
+        })
+    }
+
     /// Whether all values left meet it, some, or none. The ends alone tell it mostly.
     #[inline]
     pub fn outlook(&self, boxes: &Boxes) -> Outlook {

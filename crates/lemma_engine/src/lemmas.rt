@@ -6,10 +6,10 @@ use qc_model::{Kind, VarId};
 use std::alloc::AllocError;
 use std::mem;
 
-// What a lemma comes to: this condition can't hold any more; two conditions on the loser's variables are open; one is, and
-// maybe a condition on the winner's that is to be decided before; all are met, or the winner can meet them.
+/// What a lemma comes to: this condition can't hold any more, or isn't known to; two conditions on the loser's variables are
+/// open; one is, and maybe a condition on the winner's that is to be decided before; all are met, or the winner can meet them.
 #[derive(Clone, Copy)]
-enum Sight {
+pub(crate) enum Sight {
     Void(usize),
     Open(usize, usize),
     Last(usize),
@@ -76,14 +76,18 @@ impl<'p> Engine<'p> {
             }
         }
         match (open, wait) {
+            // nothing is known of a variable that the winner chose before and that has no value here
+            (None, Some((j, scope))) if scope < self.scope => Sight::Void(j),
             (None, _) => Sight::Lost,
-            (Some((k, x)), Some((j, scope))) if scope < self.facts.scope_of(x) => Sight::Open(k, j),
+            (Some((k, x)), Some((j, scope))) if scope < self.scope.max(self.facts.scope_of(x)) => {
+                Sight::Open(k, j)
+            }
             (Some((k, _)), _) => Sight::Last(k),
         }
     }
 
-    // What a lemma that speaks here comes to, and who loses by it.
-    fn sight_at(&self, n: usize) -> Option<(Kind, Sight)> {
+    /// What a lemma that speaks here comes to, and who loses by it.
+    pub(crate) fn sight_at(&self, n: usize) -> Option<(Kind, Sight)> {
         let lemma = self.known.get(n)?;
         if !self.is_speaking(lemma) || !self.sums_hold(lemma) {
             return None;
@@ -223,8 +227,8 @@ impl<'p> Engine<'p> {
         }
     }
 
-    // The k-th condition can't hold.
-    fn remove_last(
+    /// The k-th condition can't hold.
+    pub(crate) fn remove_last(
         &mut self,
         n: usize,
         k: usize,
@@ -260,7 +264,7 @@ impl<'p> Engine<'p> {
         self.remove(x, lo, hi, Why::Lemma(n), loser)
     }
 
-    fn condition_at(&self, n: usize, k: usize) -> Option<(VarId, i64, i64, usize)> {
+    pub(crate) fn condition_at(&self, n: usize, k: usize) -> Option<(VarId, i64, i64, usize)> {
         let condition = self.known.get(n)?.conditions.get(k)?;
         Some((
             condition.x,
@@ -270,12 +274,12 @@ impl<'p> Engine<'p> {
         ))
     }
 
-    fn range_at(&self, n: usize, k: usize, r: usize) -> Option<(i64, i64)> {
+    pub(crate) fn range_at(&self, n: usize, k: usize, r: usize) -> Option<(i64, i64)> {
         let range = self.known.get(n)?.conditions.get(k)?.ranges.get(r)?;
         Some((range.lo, range.hi))
     }
 
-    fn lost_lemma(&self, n: usize, loser: Kind) -> Result<Conflict, AllocError> {
+    pub(crate) fn lost_lemma(&self, n: usize, loser: Kind) -> Result<Conflict, AllocError> {
         let mut choices = Vec::new(self.alloc);
         if let Some(lemma) = self.known.get(n) {
             for condition in lemma.conditions.as_slice() {

@@ -15,6 +15,7 @@ mod known;
 mod lemmas;
 mod moving;
 mod rules;
+mod trying;
 mod waiting;
 
 pub use engine::{AS_A_LOOK, Cause, Choice, Conflict, Engine};

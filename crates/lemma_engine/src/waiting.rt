@@ -30,10 +30,6 @@ impl Waiting {
         })
     }
 
-    pub(crate) fn has_rule(&self, c: ConId) -> bool {
-        self.rule_waits.get(c.0 as usize).copied().unwrap_or(true)
-    }
-
     pub(crate) fn add_variable(&mut self, x: VarId) -> Result<(), AllocError> {
         if let Some(waits) = self.variable_waits.get_mut(x.0 as usize) {
             if *waits {

@@ -14,5 +14,6 @@ pub use asking::{Kept, Question, needed};
 pub use bench::Bench;
 pub use marks::{Marks, Need, Needs, SumUse};
 pub use reasons::{
-    GREATEST_SUM, LEAST_SUM, changes_of, left_by, needed_for, needed_for_clause, needed_for_lemma,
+    GREATEST_SUM, LEAST_SUM, add_changes_of, ends_left_by, left_by, needed_for, needed_for_clause,
+    needed_for_lemma, rests_on_others,
 };

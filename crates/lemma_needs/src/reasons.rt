@@ -1,7 +1,7 @@
 //! What a change rests on.
 use crate::asking::{Kept, Question, needed};
 use crate::bench::Bench;
-use crate::marks::{Needs, SumUse};
+use crate::marks::{Marks, Needs, SumUse};
 use lemma_engine::{Condition, Engine, Known, Range};
 use lemma_ground::{Change, Why};
 use qc_model::{ConId, VarId};
@@ -12,8 +12,8 @@ pub const LEAST_SUM: i64 = -(1 << 62);
 
 pub const GREATEST_SUM: i64 = 1 << 62;
 
-/// Appends the places of a variable's changes before a place.
-pub fn changes_of(
+// Appends the places of a variable's changes before a place.
+fn changes_of(
     engine: &Engine,
     x: VarId,
     end: usize,
@@ -25,6 +25,27 @@ pub fn changes_of(
             break;
         };
         places.push(place)?;
+        next = match engine.trail.at(place) {
+            Some(change) => change.before,
+            None => None,
+        };
+    }
+    Ok(())
+}
+
+/// Appends a variable's changes before a place.
+pub fn add_changes_of(
+    engine: &Engine,
+    x: VarId,
+    end: usize,
+    needs: &mut Needs,
+) -> Result<(), AllocError> {
+    let mut next = engine.trail.last_before(x, end);
+    for _ in 0..engine.trail.len() {
+        let Some(place) = next else {
+            break;
+        };
+        needs.add(place, false)?;
         next = match engine.trail.at(place) {
             Some(change) => change.before,
             None => None,
@@ -60,6 +81,25 @@ pub fn left_by(engine: &Engine, x: VarId, places: &[usize]) -> Result<Vec<Range>
     Ok(left)
 }
 
+/// The ends of what is left of a variable's domain after one change, where no value between them went.
+pub fn ends_left_by(engine: &Engine, x: VarId, places: &[usize]) -> Option<(i64, i64)> {
+    let [place] = places else {
+        return None;
+    };
+    let change = engine.trail.at(*place)?;
+    let (least, greatest) = (engine.facts.least_of(x), engine.facts.greatest_of(x));
+    let (lo, hi) = if change.keeps {
+        (least.max(change.lo), greatest.min(change.hi))
+    } else if change.lo <= least {
+        (least.max(change.hi.saturating_add(1)), greatest)
+    } else if greatest <= change.hi {
+        (least, greatest.min(change.lo.saturating_sub(1)))
+    } else {
+        return None;
+    };
+    if lo <= hi { Some((lo, hi)) } else { None }
+}
+
 fn push_range(ranges: &mut Vec<Range>, lo: i64, hi: i64) -> Result<(), AllocError> {
     if lo <= hi {
         ranges.push(Range { lo, hi })?;
@@ -79,6 +119,9 @@ fn meets(range: &Range, condition: &Condition) -> bool {
 
 /// Whether the changes at these places leave only values that meet the condition.
 fn is_met_by(engine: &Engine, condition: &Condition, places: &[usize]) -> Result<bool, AllocError> {
+    if let Some((lo, hi)) = ends_left_by(engine, condition.x, places) {
+        return Ok(meets(&Range { lo, hi }, condition));
+    }
     let left = left_by(engine, condition.x, places)?;
     Ok(left.iter().all(|range| meets(range, condition)))
 }
@@ -104,6 +147,14 @@ fn needed_for_condition(
     is_losers: bool,
     needs: &mut Needs,
 ) -> Result<(), AllocError> {
+    let Some(last) = engine.trail.last_before(condition.x, end) else {
+        return Ok(());
+    };
+    if let Some(change) = engine.trail.at(last)
+        && change.before.is_none()
+    {
+        return needed_for_alone(engine, condition, last, &change, is_losers, needs);
+    }
     let mut places = Vec::new(engine.alloc);
     changes_of(engine, condition.x, end, &mut places)?;
     if !is_losers && !is_met_by(engine, condition, &places)? {
@@ -117,6 +168,24 @@ fn needed_for_condition(
         leave_out(engine, condition, &mut places)?;
     }
     needs.add_all(&places, false)
+}
+
+// The same for a variable with one change alone.
+fn needed_for_alone(
+    engine: &Engine,
+    condition: &Condition,
+    place: usize,
+    change: &Change,
+    is_losers: bool,
+    needs: &mut Needs,
+) -> Result<(), AllocError> {
+    if !is_losers && !is_met_by(engine, condition, &[place])? {
+        return Ok(());
+    }
+    if is_of_use(change, condition) {
+        needs.add(place, false)?;
+    }
+    Ok(())
 }
 
 // Leaves one change after the other out, as long as the others are enough.
@@ -202,9 +271,7 @@ pub fn needed_for_clause(
             None => false,
         };
         if !is_own {
-            let mut places = Vec::new(engine.alloc);
-            changes_of(engine, item.x, end, &mut places)?;
-            needs.add_all(&places, false)?;
+            add_changes_of(engine, item.x, end, needs)?;
         }
     }
     Ok(())
@@ -245,4 +312,43 @@ pub fn needed_for(
         }
     }
     Ok(true)
+}
+
+/// Whether the change at a place is seen at once to rest on one that isn't marked. Where it isn't seen it may do so as well.
+pub fn rests_on_others(engine: &Engine, marks: &Marks, place: usize) -> bool {
+    let Some(change) = engine.trail.at(place) else {
+        return true;
+    };
+    match change.why {
+        Why::Decided => true,
+        Why::Rule(c) => engine.facts.items_of(c).iter().any(|it| it.x.0 != change.x.0
+            && has_other(engine, marks, it.x, place)),
+        Why::Lemma(n) => match engine.known.get(n) {
+            Some(lemma) => lemma.conditions.iter().any(|it| it.x.0 != change.x.0
+                && engine.facts.side_of(it.x) == lemma.loser
+                && has_other_for(engine, marks, it, place)),
+            None => true,
+        },
+    }
+}
+
+// Whether the last change of x before a place isn't marked.
+fn has_other(engine: &Engine, marks: &Marks, x: VarId, place: usize) -> bool {
+    match engine.trail.last_before(x, place) {
+        Some(last) => !marks.has(last),
+        None => false,
+    }
+}
+
+// Whether the one change of a condition's variable before a place isn't marked, and is of use.
+fn has_other_for(engine: &Engine, marks: &Marks, condition: &Condition, place: usize) -> bool {
+    let Some(last) = engine.trail.last_before(condition.x, place) else {
+        return false;
+    };
+    match engine.trail.at(last) {
+        Some(change) => {
+            change.before.is_none() && !marks.has(last) && is_of_use(&change, condition)
+        }
+        None => false,
+    }
 }

@@ -1,11 +1,14 @@
 //! One search, from the start of the game until it is known who wins, and the list that it leaves.
 use crate::deciding::first_values;
-use crate::listing::{List, listed};
+use crate::listing::{List, core_of, listed};
 use crate::search::is_decided;
+use crate::trimming::{can_trim, trimmed};
 use crate::walking::walk_from;
 use lemma_analysis::Analyst;
-use lemma_engine::Engine;
-use qc_model::Problem;
+use lemma_engine::{Engine, Known};
+use lemma_ground::rule_at;
+use lemma_list::{Ending, Reason, Step};
+use qc_model::{ConId, Problem};
 use std::alloc::{AllocError, Global};
 use std::mem;
 
@@ -51,13 +54,22 @@ impl<'p> Attempt<'p> {
         })
     }
 
-    /// Searches anew, without the lemmas, with what it keeps. It gives up after so many looks.
-    pub(crate) fn begin_again(&mut self, keeps: Keeps, budget: u64) -> Result<(), AllocError> {
+    /// Searches anew, without the lemmas, with what it keeps, and without the loser's constraints that a list doesn't name. It
+    /// gives up after so many looks.
+    pub(crate) fn begin_again(
+        &mut self,
+        keeps: Keeps,
+        core: Option<&List>,
+        budget: u64,
+    ) -> Result<(), AllocError> {
         self.engine.go_back(0);
         let values = mem::replace(&mut self.engine.saved, Vec::new(self.alloc));
         let activity = self.analyst.take_activity(self.alloc);
         self.engine = Engine::new(self.alloc, self.problem)?;
         self.analyst = Analyst::new(self.alloc, self.problem, &self.engine, budget)?;
+        if let Some(list) = core {
+            keep_named(self.alloc, &mut self.engine, list)?;
+        }
         match keeps {
             Keeps::Values => self.engine.saved = values,
             Keeps::Activity => {
@@ -77,11 +89,66 @@ impl<'p> Attempt<'p> {
         if !is_decided(&mut self.engine, &mut self.analyst)? {
             return Ok(None);
         }
-        listed(self.alloc, self.problem, &self.engine)
+        listed(self.alloc, self.problem, &self.engine.known)
+    }
+
+    /// The lemmas of the list. They aren't known any more then.
+    pub(crate) fn take_core(&mut self) -> Result<Vec<Known>, AllocError> {
+        let known = mem::replace(&mut self.engine.known, Vec::new(self.alloc));
+        core_of(self.alloc, known)
+    }
+
+    /// Whether lemmas of this game can be shown anew.
+    pub(crate) fn can_trim(&self) -> bool {
+        can_trim(&self.engine)
+    }
+
+    /// The list of these lemmas after they were shown anew, within so many looks. None where they can't be.
+    pub(crate) fn trimmed(
+        &self,
+        core: Vec<Known>,
+        budget: u64,
+    ) -> Result<Option<List>, AllocError> {
+        if !self.can_trim() {
+            return Ok(None);
+        }
+        let known = trimmed(self.alloc, self.problem, core, budget)?;
+        listed(self.alloc, self.problem, &known)
     }
 
     /// How many looks it took.
     pub(crate) fn looks(&self) -> u64 {
         self.engine.looks().saturating_add(self.analyst.looks())
+    }
+}
+
+// Leaves out the loser's constraints that a list doesn't name.
+fn keep_named(alloc: Global, engine: &mut Engine, list: &List) -> Result<(), AllocError> {
+    let mut is_named = vec![in alloc; false; engine.facts.rules()]?;
+    for shown in list.shown.as_slice() {
+        for step in shown.steps.as_slice() {
+            if let Step::Cut {
+                by: Reason::Constraint(c),
+                ..
+            } = step
+            {
+                name(&mut is_named, *c);
+            }
+        }
+        if let Ending::Lost(Reason::Constraint(c)) = shown.ending {
+            name(&mut is_named, c);
+        }
+    }
+    for (k, named) in is_named.iter().enumerate() {
+        if !*named && engine.facts.rule_side(rule_at(k)) == list.loser {
+            engine.leave_out(rule_at(k));
+        }
+    }
+    Ok(())
+}
+
+fn name(is_named: &mut [bool], c: ConId) {
+    if let Some(it) = is_named.get_mut(c.0 as usize) {
+        *it = true;
     }
 }

@@ -1,4 +1,5 @@
 //! Which value is taken next.
+use crate::ordering::Order;
 use lemma_analysis::Analyst;
 use lemma_engine::{Choice, Engine};
 use qc_model::{Kind, VarId};
@@ -35,22 +36,15 @@ fn variable(k: usize) -> VarId {
 }
 
 /// A value of the scope's open variable on which most conflicts rested of late: the one that it had last.
-pub(crate) fn next_choice(engine: &Engine, analyst: &mut Analyst) -> Option<Choice> {
-    let (first, end) = engine.facts.variables_at(engine.scope);
-    analyst.go_over(end.saturating_sub(first));
-    let mut best: Option<usize> = None;
-    let mut most = -1.0f64;
-    for k in first..end {
-        if engine.boxes.size(variable(k)) > 1 {
-            let activity = analyst.activity.get(k).copied().unwrap_or(0.0);
-            if activity > most {
-                best = Some(k);
-                most = activity;
-            }
-        }
-    }
-    let x = variable(best?);
-    let saved = engine.saved.get(best?).copied().unwrap_or(None);
+pub(crate) fn next_choice(
+    engine: &Engine,
+    analyst: &mut Analyst,
+    order: &mut Order,
+) -> Option<Choice> {
+    let (found, gone_over) = order.first_open(engine, analyst.activity.as_slice());
+    analyst.go_over(gone_over);
+    let x = variable(found?);
+    let saved = engine.saved.get(found?).copied().unwrap_or(None);
     let v = match saved {
         Some(v) if engine.boxes.has(x, v) => v,
         _ => engine.boxes.least(x),

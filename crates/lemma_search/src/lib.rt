@@ -7,10 +7,12 @@
 mod attempt;
 mod deciding;
 mod listing;
+mod ordering;
 mod pacing;
 mod replay;
 mod search;
 mod shortening;
+mod trimming;
 mod walking;
 
 pub use listing::{List, Shown};

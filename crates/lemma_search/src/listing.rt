@@ -1,6 +1,6 @@
 //! Lists of lemmas as values, and which of the lemmas known a list needs.
 use crate::replay::replayed;
-use lemma_engine::{Engine, Finish, Known, Taken};
+use lemma_engine::{Finish, Known, Taken};
 use lemma_ground::{Boxes, Why};
 use lemma_list::{Ending, Lemma, LemmaId, Step};
 use qc_model::{Kind, Problem};
@@ -29,20 +29,24 @@ pub(crate) struct Use {
     pub(crate) number: Option<LemmaId>,
 }
 
+/// A list of so many lemmas at most forgets none: what they take is little, and each line that forgets one makes it longer.
+const FEW_LEMMAS: usize = 1000;
+
 /// The list of what the last lemma known rests on. None where it has more lemmas than can be named.
 pub(crate) fn listed(
     alloc: Global,
     problem: &Problem,
-    engine: &Engine,
+    known: &[Known],
 ) -> Result<Option<List>, AllocError> {
-    let Some(last) = engine.known.last() else {
+    let Some(last) = known.last() else {
         return Ok(None);
     };
-    let mut uses = uses_of(alloc, engine)?;
+    let mut uses = uses_of(alloc, known)?;
+    let forgets = count_used(&uses) > FEW_LEMMAS;
     let mut bench = Boxes::new(alloc, problem)?;
     let mut shown: Vec<Shown> = Vec::new(alloc);
-    for (k, lemma) in engine.known.iter().enumerate() {
-        let is_last = k.saturating_add(1) == engine.known.len();
+    for (k, lemma) in known.iter().enumerate() {
+        let is_last = k.saturating_add(1) == known.len();
         if !is_last && !is_used(&uses, k) {
             continue;
         }
@@ -53,7 +57,7 @@ pub(crate) fn listed(
             it.number = Some(LemmaId(number));
         }
         let mut entry = replayed(alloc, &mut bench, lemma, &uses)?;
-        if !is_last {
+        if forgets && !is_last {
             forget(alloc, &mut entry, &uses, lemma, k)?;
         }
         shown.push(entry)?;
@@ -71,9 +75,12 @@ fn is_used(uses: &[Use], k: usize) -> bool {
     }
 }
 
-// The lemmas that a lemma's steps and end name.
-fn named_by(alloc: Global, lemma: &Known) -> Result<Vec<usize>, AllocError> {
-    let mut named = Vec::new(alloc);
+fn count_used(uses: &[Use]) -> usize {
+    uses.iter().filter(|it| it.last.is_some()).count()
+}
+
+/// Appends the lemmas that a lemma's steps and end name.
+pub(crate) fn add_named(lemma: &Known, named: &mut Vec<usize>) -> Result<(), AllocError> {
     for step in lemma.taken.as_slice() {
         if let Taken::Cut {
             why: Why::Lemma(n),
@@ -86,24 +93,24 @@ fn named_by(alloc: Global, lemma: &Known) -> Result<Vec<usize>, AllocError> {
     if let Finish::Lemma(n) = lemma.finish {
         named.push(n)?;
     }
-    Ok(named)
+    Ok(())
 }
 
 // What the last lemma needs, from the last one to the first.
-fn uses_of(alloc: Global, engine: &Engine) -> Result<Vec<Use>, AllocError> {
-    let mut uses = Vec::new(alloc);
-    for _ in 0..engine.known.len() {
-        uses.push(Use {
-            last: None,
-            number: None,
-        })?;
-    }
-    for (k, lemma) in engine.known.iter().enumerate().rev() {
-        let is_last = k.saturating_add(1) == engine.known.len();
+fn uses_of(alloc: Global, known: &[Known]) -> Result<Vec<Use>, AllocError> {
+    let mut uses = vec![in alloc; Use {
+        last: None,
+        number: None
+    }; known.len()]?;
+    let mut named = Vec::new(alloc);
+    for (k, lemma) in known.iter().enumerate().rev() {
+        let is_last = k.saturating_add(1) == known.len();
         if !is_last && !is_used(&uses, k) {
             continue;
         }
-        for n in named_by(alloc, lemma)?.as_slice() {
+        named.clear();
+        add_named(lemma, &mut named)?;
+        for n in named.as_slice() {
             if let Some(it) = uses.get_mut(*n)
                 && it.last.is_none()
             {
@@ -114,6 +121,48 @@ fn uses_of(alloc: Global, engine: &Engine) -> Result<Vec<Use>, AllocError> {
     Ok(uses)
 }
 
+/// Of these lemmas those that the last one needs, by themselves.
+pub(crate) fn core_of(alloc: Global, known: Vec<Known>) -> Result<Vec<Known>, AllocError> {
+    let uses = uses_of(alloc, &known)?;
+    let mut numbers = Vec::new(alloc);
+    let mut count = 0usize;
+    for it in uses.iter() {
+        numbers.push(count)?;
+        if it.last.is_some() {
+            count = count.saturating_add(1);
+        }
+    }
+    let mut rest = known;
+    let mut core = Vec::new(alloc);
+    for k in (0..uses.len()).rev() {
+        let Some(mut lemma) = rest.pop() else {
+            break;
+        };
+        if core.is_empty() || is_used(&uses, k) {
+            renumber(&mut lemma, &numbers);
+            core.push(lemma)?;
+        }
+    }
+    core.reverse();
+    Ok(core)
+}
+
+// The lemmas that a lemma names have these numbers now.
+fn renumber(lemma: &mut Known, numbers: &[usize]) {
+    for step in lemma.taken.iter_mut() {
+        if let Taken::Cut {
+            why: Why::Lemma(n),
+            ..
+        } = step
+        {
+            *n = numbers.get(*n).copied().unwrap_or(usize::MAX);
+        }
+    }
+    if let Finish::Lemma(n) = lemma.finish {
+        lemma.finish = Finish::Lemma(numbers.get(n).copied().unwrap_or(usize::MAX));
+    }
+}
+
 // The lemmas that this one is the last to name aren't named any more.
 fn forget(
     alloc: Global,
@@ -122,7 +171,9 @@ fn forget(
     lemma: &Known,
     k: usize,
 ) -> Result<(), AllocError> {
-    for n in named_by(alloc, lemma)?.as_slice() {
+    let mut named = Vec::new(alloc);
+    add_named(lemma, &mut named)?;
+    for n in named.as_slice() {
         if let Some(it) = uses.get(*n)
             && it.last == Some(k)
             && let Some(number) = it.number

@@ -2,6 +2,7 @@
 use crate::attempt::Attempt;
 use crate::deciding::next_choice;
 use crate::listing::List;
+use crate::ordering::Order;
 use crate::pacing::Pace;
 use crate::shortening::shortest;
 use lemma_analysis::Analyst;
@@ -14,7 +15,8 @@ use std::alloc::{AllocError, Global};
 /// it keeps too much. Nothing is promised of a list that comes. It fails only where memory runs out.
 ///
 /// Once it is known who wins, it is found again from the values with which the search ended, as long as that is quick and looks
-/// are left, and the shortest list is given.
+/// are left, every other time without the loser's constraints that the shortest list doesn't name. The lemmas of the shortest list
+/// are shown anew then, where no scope is restricted.
 ///
 /// What is gone over besides counts for the budget too, so much of it for a look as takes about as long. All lemmas learnt are
 /// kept with the steps that show them, up to 12,000,000 literals, sums and steps, where each lemma counts as 16 more: together
@@ -59,15 +61,19 @@ enum Turn {
 /// Goes on until the last lemma says who wins, or it gives up.
 pub(crate) fn is_decided(engine: &mut Engine, analyst: &mut Analyst) -> Result<bool, AllocError> {
     let mut pace = Pace::new();
+    let mut order = Order::new(engine.alloc, engine)?;
     for _ in 0..u64::MAX {
-        match one_turn(engine, analyst, &mut pace)? {
+        match one_turn(engine, analyst, &mut pace, &mut order)? {
             Turn::Goes => {}
             Turn::Spent => return Ok(false),
-            Turn::Met(conflict) => match learn_from(engine, analyst, &mut pace, conflict)? {
-                Learnt::More => pace.count(),
-                Learnt::All => return Ok(true),
-                Learnt::Stuck => return Ok(false),
-            },
+            Turn::Met(conflict) => {
+                match learn_from(engine, analyst, &mut pace, conflict)? {
+                    Learnt::More => pace.count(),
+                    Learnt::All => return Ok(true),
+                    Learnt::Stuck => return Ok(false),
+                }
+                order.begin_again();
+            }
         }
         if pace.is_full(engine.live) {
             engine.forget_half()?;
@@ -80,6 +86,7 @@ fn one_turn(
     engine: &mut Engine,
     analyst: &mut Analyst,
     pace: &mut Pace,
+    order: &mut Order,
 ) -> Result<Turn, AllocError> {
     let most = analyst.looks_left();
     if let Some(conflict) = engine.propagate(most)? {
@@ -104,9 +111,10 @@ fn one_turn(
     }
     if pace.is_over() && engine.trail.levels() > 0 {
         engine.go_back(0);
+        order.begin_again();
         return Ok(Turn::Goes);
     }
-    match next_choice(engine, analyst) {
+    match next_choice(engine, analyst, order) {
         Some(choice) => engine.decide(choice.x, choice.v)?,
         None => return Ok(Turn::Spent),
     }

@@ -2,31 +2,32 @@
 //!
 //! A search goes many ways before it finds how a side wins, and what it has learnt on some of them stands in the list. One that
 //! begins with the values with which it ended comes to the same end soon, and mostly by other lemmas; the shortest list is kept.
+//!
+//! Of the constraints that the loser has to keep a list mostly names a few. The game without the others is lost as well, by the
+//! same list, so every other time the search goes over those alone: it is quicker then, and its list rests on no others.
+//!
+//! At the end the lemmas of the shortest list are shown anew, by those that are needed anyhow.
 use crate::attempt::{Attempt, Keeps};
 use crate::listing::{List, Shown};
 use lemma_list::{Ending, Step};
 use std::alloc::AllocError;
 
-/// What is kept each time that the search begins again.
-const TIMES: [Keeps; 9] = [
-    Keeps::Values,
-    Keeps::Both,
-    Keeps::Values,
-    Keeps::Both,
-    Keeps::Values,
-    Keeps::Both,
-    Keeps::Values,
-    Keeps::Both,
-    Keeps::Activity,
-];
+/// How often it begins again at most.
+const TIMES: usize = 40;
 
 /// Which part of the looks that are left it takes in all.
 const PART: u64 = 500;
 
 /// So many looks, those of the first search among them, are few, and may be taken where as many are left.
-const FEW: u64 = 80_000;
+const FEW: u64 = 120_000;
 
-/// The shortest of this list and those that are found by searching again, within a small part of so many looks, or few.
+/// Which part of these is kept at most to show the lemmas of the shortest list anew, and how many looks for each lemma.
+const TRIMMING: u64 = 4;
+
+const FOR_EACH: u64 = 200;
+
+/// The shortest of this list and those that are found by searching again, within a small part of so many looks, or few, and
+/// then by showing its lemmas anew.
 pub(crate) fn shortest(
     attempt: &mut Attempt,
     first: List,
@@ -34,25 +35,57 @@ pub(crate) fn shortest(
 ) -> Result<List, AllocError> {
     let mut found = first;
     let mut size = size_of(&found);
+    // what needs one lemma alone is short
+    if found.shown.len() < 2 {
+        return Ok(found);
+    }
+    let mut core = attempt.take_core()?;
     let more = FEW.saturating_sub(attempt.looks());
-    let mut left = (budget / PART).max(more.min(budget));
-    for keeps in TIMES {
-        // what needs one lemma alone is short
+    let extra = (budget / PART).max(more.min(budget));
+    let trimming = looks_for_trimming(attempt, &found, extra);
+    let mut left = extra.saturating_sub(trimming);
+    for k in 0..TIMES {
         if found.shown.len() < 2 {
-            break;
+            return Ok(found);
         }
-        attempt.begin_again(keeps, left)?;
-        let Some(list) = attempt.list()? else {
+        let named = if k % 2 == 0 { Some(&found) } else { None };
+        attempt.begin_again(kept_at(k), named, left)?;
+        let again = attempt.list()?;
+        left = left.saturating_sub(attempt.looks());
+        let Some(list) = again else {
             break;
         };
-        left = left.saturating_sub(attempt.looks());
         let other = size_of(&list);
-        if other < size {
+        if other < size && list.loser == found.loser {
             found = list;
             size = other;
+            core = attempt.take_core()?;
         }
     }
+    if let Some(list) = attempt.trimmed(core, trimming.saturating_add(left))?
+        && size_of(&list) < size
+    {
+        found = list;
+    }
     Ok(found)
+}
+
+// How many of so many looks are kept to show a list's lemmas anew.
+fn looks_for_trimming(attempt: &Attempt, list: &List, looks: u64) -> u64 {
+    if !attempt.can_trim() {
+        return 0;
+    }
+    let enough = (list.shown.len() as u64).saturating_mul(FOR_EACH);
+    enough.min(looks / TRIMMING)
+}
+
+// What is kept the k-th time that the search begins again.
+fn kept_at(k: usize) -> Keeps {
+    match k % 4 {
+        0 => Keeps::Values,
+        2 => Keeps::Activity,
+        _ => Keeps::Both,
+    }
 }
 
 // How many letters and numbers the list's text has.
