@@ -1,5 +1,5 @@
 -- From the pieces that a reader keeps and tells to the bytes that it was given.
-use Rattle.std.proofs.Common.{◌≡◌, inl, inr, refl, sym, ap, ◌∙◌, subst, ℕ, suc, ◌+◌, ◌<◌, ◌≤◌, ◌^◌, List, [], ◌∷◌, ◌++◌, length, true, false, Option, Some, None, arith, length-append}
+use Rattle.std.proofs.Common.{◌≡◌, inl, inr, refl, sym, ap, ◌∙◌, subst, ℕ, suc, ◌+◌, ◌<◌, ◌≤◌, ◌^◌, List, [], ◌∷◌, ◌++◌, length, Bool, true, false, Option, Some, None, arith, length-append}
 use Rattle.std.specs.Prelude.{flat_map, codes}
 use Rattle.std.specs.Fmt.{signed_decimal}
 use Rattle.std.specs.List.{list_all}
@@ -16,13 +16,13 @@ use Rattle.dense_text.specs.declared.reader.Fed.TheVariants.{More, Whole, Bad}
 use Rattle.dense_text.specs.declared.reader.End.TheVariants.{Whole as WholeEnd, CutShort, Bad as BadEnd}
 use Rattle.dense_text.specs.Kept.{Held, held}
 use Rattle.dense_text.specs.Pieces.{piece_text, piece_fits}
-use Rattle.dense_text.specs.Grammar.{at_start, at, allows, open_after, place_after}
-use Rattle.dense_text.specs.States.{State, due, state_at}
+use Rattle.dense_text.specs.Grammar.{Place, at_start, at_value, at, allows, open_after, place_after}
+use Rattle.dense_text.specs.States.{State, state_at}
 use Rattle.dense_text.specs.Standing.{Standing, going, no_text, next_standing, standing_from, standing}
 use Rattle.dense_text.specs.Places.{BeginsText, IsFault}
 use Rattle.dense_text.specs.Telling.{is_ended, Tells}
 use Rattle.dense_text.specs.Reader.{tell, standing_of, StandsFor, HasRoom, HasStopped, Says, SaysWhole, IsTold, Ends, Goes}
-use Rattle.dense_text.specs.WholeLines.{BeginsWith, IsDue, held_after, GoesOver}
+use Rattle.dense_text.specs.WholeLines.{BeginsWith, IsAt, IsAfterHead, held_after, GoesOver}
 use Rattle.dense_text.proofs.OneText.{told_of, text_stands, append_standing}
 use Rattle.dense_text.proofs.PiecesRead.{piece_read}
 use Rattle.dense_text.proofs.Faults.{standing_next, nothing_pending, no_earlier}
@@ -137,50 +137,65 @@ begins_somehow d Skip a = (115, codes "\n", refl)
 begins_somehow d LeftOpen a = (111, codes "\n", refl)
 begins_somehow d Dot a = (46, codes "\n", refl)
 
--- a reader before a line goes over the piece with which the bytes begin
-module _ (d : Due) (bytes : List ℕ) (i : Piece) (rest : List ℕ) (b : BeginsWith d i bytes rest) where
-  text_goes : (n : ℕ) (before : List ℕ) (told : List Piece) → standing before ≡ going told n (due d) → standing (before ++ piece_text i) ≡ standing_of (told ++ i ∷ []) (held_after (Some (held n (due d))) i)
+-- so it isn't empty; nor is a value, which a byte ends
+end_long : (last : Bool) → 1 ≤ length (end_text last)
+end_long true = omega arith
+end_long false = omega arith
+
+some_bytes : (p : Place) (i : Piece) → IsAfterHead p → allows p i ≡ true → 1 ≤ length (piece_text i)
+some_bytes at_start i w a = absurd w
+some_bytes (at_value u) (Value v z last) w a =
+    let e : length (piece_text (Value v z last)) ≡ length (signed_decimal z) + length (end_text last) = length-append (signed_decimal z) (end_text last) in
+    let one = end_long last in
+    omega (arith, e, one)
+some_bytes (at_value u) i w a = absurd (cc)
+some_bytes (at d) i w a =
+    let b = begins_somehow d i a in
+    let one : length (piece_text i) ≡ suc (length b.1) = ap length b.2 in
+    omega (arith, one)
+
+-- a reader before a line or a value goes over the piece with which the bytes begin
+module _ (p : Place) (w : IsAfterHead p) (bytes : List ℕ) (i : Piece) (rest : List ℕ) (b : BeginsWith p i bytes rest) where
+  text_goes : (n : ℕ) (before : List ℕ) (told : List Piece) → standing before ≡ going told n (state_at p) → standing (before ++ piece_text i) ≡ standing_of (told ++ i ∷ []) (held_after (Some (held n (state_at p))) i)
   text_goes n before told h =
       append_standing (going [] 0 (state_at at_start)) before (piece_text i)
       ∙ ap (λ (x : Standing). standing_from x (piece_text i)) h
-      ∙ ap (standing_from (going told n (due d))) (sym (append-nil (piece_text i)))
-      ∙ piece_read (at d) i told n [] b.allowed b.fits
+      ∙ ap (standing_from (going told n (state_at p))) (sym (append-nil (piece_text i)))
+      ∙ piece_read p i told n [] b.allowed b.fits
 
   many : (before : List ℕ) → length before + 1 ≤ length (before ++ piece_text i)
   many before =
-      let w = begins_somehow d i b.allowed in
+      let one = some_bytes p i w b.allowed in
       let e : length (before ++ piece_text i) ≡ length before + length (piece_text i) = length-append before (piece_text i) in
-      let one : length (piece_text i) ≡ suc (length w.1) = ap length w.2 in
       omega (arith, e, one)
 
   shorter : length rest < length bytes
   shorter =
-      let w = begins_somehow d i b.allowed in
+      let one = some_bytes p i w b.allowed in
       let whole : length bytes ≡ length (piece_text i) + length rest = ap length b.text ∙ length-append (piece_text i) rest in
-      let one : length (piece_text i) ≡ suc (length w.1) = ap length w.2 in
       omega (arith, whole, one)
 
-  line_goes : (n : ℕ) (new : Option Held) → (n + 1 < 2 ^ 64 → new ≡ held_after (Some (held n (due d))) i) → (before : List ℕ) (told : List Piece) → length (before ++ piece_text i) < 2 ^ 64 → StandsFor (Some (held n (due d))) before told
-      → StandsFor new (before ++ piece_text i) (told ++ i ∷ []) × SaysWhole (before ++ piece_text i) (told ++ i ∷ []) i
-  line_goes n new to before told l h =
+  piece_goes : (n : ℕ) (new : Option Held) → (n + 1 < 2 ^ 64 → new ≡ held_after (Some (held n (state_at p))) i) → (before : List ℕ) (told : List Piece) → length (before ++ piece_text i) < 2 ^ 64
+      → StandsFor (Some (held n (state_at p))) before told → StandsFor new (before ++ piece_text i) (told ++ i ∷ []) × SaysWhole (before ++ piece_text i) (told ++ i ∷ []) i
+  piece_goes n new to before told l h =
       let few = h.1.few in
       let size = many before in
-      let after : Option Held = held_after (Some (held n (due d))) i in
+      let after : Option Held = held_after (Some (held n (state_at p))) i in
       let s : StandsFor after (before ++ piece_text i) (told ++ i ∷ []) = stood after (before ++ piece_text i) (told ++ i ∷ []) (text_goes n before told h.0) in
       let r = s.1 in
       let text = r.text ∙ ap (λ (u : List ℕ). flat_map piece_text (told ++ i ∷ []) ++ u) (nothing_pending (place_after (open_after n i) i)) ∙ append-nil (flat_map piece_text (told ++ i ∷ [])) in
       (subst (λ (k : Option Held). StandsFor k (before ++ piece_text i) (told ++ i ∷ [])) (sym (to (omega (arith, few, size, l)))) s, (r.begins, text, b.fits, r.accepted))
 
-  from_due : (n : ℕ) (s : State) (new : Option Held) → s ≡ due d → (HasRoom (Some (held n s)) → new ≡ held_after (Some (held n s)) i) → GoesOver (Some (held n s)) new bytes i rest
-  from_due n s new e to =
+  from_place : (n : ℕ) (s : State) (new : Option Held) → s ≡ state_at p → (HasRoom (Some (held n s)) → new ≡ held_after (Some (held n s)) i) → GoesOver (Some (held n s)) new bytes i rest
+  from_place n s new e to =
       subst (λ (t : State). GoesOver (Some (held n t)) new bytes i rest) (sym e) (record {
         text = b.text;
         shorter = shorter;
-        is_line = (d, b.allowed);
-        stands = λ before told l h. (line_goes n new to before told l h).0;
-        says = λ before told l h. (line_goes n new to before told l h).1;
+        comes = (p, refl, w, b.allowed);
+        stands = λ before told l h. (piece_goes n new to before told l h).0;
+        says = λ before told l h. (piece_goes n new to before told l h).1;
       })
 
-  pub goes_over : (old new : Option Held) → IsDue old d → ((c : Due) → IsDue old c → HasRoom old → new ≡ held_after old i) → GoesOver old new bytes i rest
+  pub goes_over : (old new : Option Held) → IsAt old p → ((q : Place) → IsAt old q → HasRoom old → new ≡ held_after old i) → GoesOver old new bytes i rest
   goes_over None new e to = absurd e
-  goes_over (Some h) new e to = from_due h.branches h.state new e (λ room. to d e room)
+  goes_over (Some h) new e to = from_place h.branches h.state new e (λ room. to p e room)

@@ -8,7 +8,7 @@
 //! on whether a branch is open: its next case comes then, and else the text has ended (`specs/Grammar`). So the branches that are
 //! open are counted, and nothing more is kept of them.
 //!
-//! Text is read byte by byte, and a line of a tree at once where all its bytes are there (`whole_line`).
+//! Text is read byte by byte, and a line of a tree or a value of a tuple at once where all its bytes are there (`whole_line`).
 #![tactic(auto)]
 
 mod laws;

@@ -1,9 +1,9 @@
 // What is read of a piece, byte by byte.
-ghost use Rattle.std.specs.Prelude.{◌≡◌, ◌<◌, ◌∷◌, [], ◌++◌, true, false, length, cond, nat_eq, MatchOption, Some, None};
+ghost use Rattle.std.specs.Prelude.{◌≡◌, ◌<◌, ◌∷◌, [], ◌++◌, true, false, length, cond, nat_eq, MatchOption, Some, None, IfSome};
 ghost use Rattle.lemma_text.specs.Numerals.{value_fits, FitsNumeral};
 ghost use Rattle.lemma_text.specs.Asked.{counted};
 ghost use Rattle.lemma_text.specs.declared.parts.Numeral.TheVariants.{Start};
-ghost use Rattle.dense_text.specs.Grammar.{place_after, onward as onward_place, after_value as place_after_value};
+ghost use Rattle.dense_text.specs.Grammar.{at_value, place_after, onward as onward_place, after_value as place_after_value};
 ghost use Rattle.dense_text.specs.Forms.{letter, all_lines, fields, piece_of};
 ghost use Rattle.dense_text.specs.States.{next, word_next, word_end, word_text, outcome_next, won_next, may as may_come, line_next, valued, lettered as lettered_state, more, whole, wrong, state_at};
 ghost use Rattle.dense_text.specs.Asked.{asks, number_of};
@@ -115,6 +115,44 @@ fn after_value(of: Tuple, last: bool) -> Part
         Tuple::Given => Part::Line(Due::Givens),
         Tuple::Reply => Part::Line(Due::AfterStep),
         Tuple::Chosen => Part::Line(Due::Node),
+    }
+}
+
+// Of which tuple a value comes next, where nothing of it is read yet.
+pub(crate) fn value_begins(part: Part) -> Option<Tuple>
+    ensures { IfSome result (λ u. state_of part ≡ state_at (at_value u)) }
+{
+    match part {
+        Part::Number { slot, numeral } => value_asked(slot, numeral),
+        Part::Word { .. } | Part::Outcome | Part::Won | Part::Line(_) | Part::Lettered(_) => None,
+    }
+}
+
+fn value_asked(slot: Slot, numeral: Numeral) -> Option<Tuple>
+    ensures { IfSome result (λ u. number_of slot numeral ≡ state_at (at_value u)) }
+{
+    match numeral {
+        Numeral::Start => tuple_of(slot),
+        Numeral::Minus | Numeral::Zero | Numeral::Digits { .. } => None,
+    }
+}
+
+fn tuple_of(slot: Slot) -> Option<Tuple>
+    ensures { IfSome result (λ u. number_of slot Start ≡ state_at (at_value u)) }
+{
+    match slot {
+        Slot::TupleValue(of) => Some(of),
+        Slot::Optimum
+        | Slot::Turns
+        | Slot::GivenScope
+        | Slot::HorizonScope
+        | Slot::AgainNode
+        | Slot::NoPlayScope
+        | Slot::BoundVariable
+        | Slot::BoundLow { .. }
+        | Slot::BoundHigh { .. }
+        | Slot::BranchVariable
+        | Slot::RangeHigh => None,
     }
 }
 
@@ -374,7 +412,7 @@ fn number_ended(slot: Slot, number: i64, byte: u8) -> PartNext
 }
 
 // The end of a tuple's value, after which another may come.
-fn value_ended(of: Tuple, value: i64, byte: u8) -> PartNext
+pub(crate) fn value_ended(of: Tuple, value: i64, byte: u8) -> PartNext
     ensures next { after_of result ≡ valued (ValueOf of) (value ∷ []) [] byte }
     ensures fits { FitsNext result }
 {

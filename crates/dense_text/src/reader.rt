@@ -1,16 +1,17 @@
-//! Reading the text of a dense certificate byte by byte, or a line at once.
+//! Reading the text of a dense certificate byte by byte, or a line or a value at once.
 ghost use Rattle.std.specs.Prelude.{◌≡◌, ◌∷◌, [], ◌++◌, ◌+◌, ◌<◌, ◌^◌, length, List, ℕ, IfNone, IfSome};
 ghost use Rattle.dense_text.specs.declared.piece.Piece.{Piece};
 ghost use Rattle.dense_text.specs.Grammar.{open_after as open_then};
 ghost use Rattle.dense_text.specs.Reader.{StandsFor, Says, Ends, Goes, HasRoom, tell};
 ghost use Rattle.dense_text.specs.Kept.{state_of, kept, FitsKept};
 ghost use Rattle.dense_text.specs.Telling.{is_ended as has_ended, is_last as ends_text};
-ghost use Rattle.dense_text.specs.WholeLines.{GoesOver, IsDue, held_after};
+ghost use Rattle.dense_text.specs.Grammar.{Place, at, at_value};
+ghost use Rattle.dense_text.specs.WholeLines.{GoesOver, IsAt, held_after};
 
-use crate::part::{Part, PartNext, next_part, part_after};
+use crate::part::{Part, PartNext, next_part, part_after, value_begins};
 use crate::parts::{Due, Word};
-use crate::piece::Piece;
-use crate::whole_line::{line_with_values, whole_line};
+use crate::piece::{Piece, Tuple};
+use crate::whole_line::{line_with_values, whole_line, whole_value};
 use std::marker::Model;
 
 /// What became of the text with a byte.
@@ -83,7 +84,7 @@ impl DenseReader {
     // Which lines may come here, where one begins.
     #[inline(always)]
     fn due(&self) -> Option<Due>
-        ensures { IfSome result (λ d. IsDue self.now d) }
+        ensures { IfSome result (λ d. IsAt self.now (at d)) }
     {
         let Some(part) = self.part else {
             return None;
@@ -98,10 +99,20 @@ impl DenseReader {
         }
     }
 
+    // Of which tuple a value comes, where one begins.
+    fn value_due(&self) -> Option<Tuple>
+        ensures { IfSome result (λ u. IsAt self.now (at_value u)) }
+    {
+        let Some(part) = self.part else {
+            return None;
+        };
+        value_begins(part)
+    }
+
     // Goes over a whole piece.
     #[inline(always)]
     fn go_over(&mut self, piece: Piece)
-        ensures { (d : Due) → IsDue self.old d → HasRoom self.old → self.new ≡ held_after self.old piece }
+        ensures { (p : Place) → IsAt self.old p → HasRoom self.old → self.new ≡ held_after self.old piece }
     {
         self.branches = open_after(self.branches, piece);
         self.part = Some(part_after(self.branches, piece));
@@ -124,15 +135,30 @@ impl DenseReader {
         Some((piece, rest))
     }
 
-    /// The same for a line with values.
+    /// The same for a line with values. Of a tuple's line the beginning is read at once, and then each value.
     pub fn feed_values<'a>(&mut self, bytes: &'a [u8]) -> Option<(Piece, &'a [u8])>
         ensures none { IfNone result (self.new ≡ self.old) }
         ensures line { IfSome result (λ r. GoesOver self.old self.new bytes.now r.0 r.1.now) }
     {
         let Some(due) = self.due() else {
-            return None;
+            return self.feed_value(bytes);
         };
         let Some((piece, rest)) = line_with_values(due, bytes) else {
+            return None;
+        };
+        self.go_over(piece);
+        Some((piece, rest))
+    }
+
+    // The same for a value of a tuple.
+    fn feed_value<'a>(&mut self, bytes: &'a [u8]) -> Option<(Piece, &'a [u8])>
+        ensures none { IfNone result (self.new ≡ self.old) }
+        ensures line { IfSome result (λ r. GoesOver self.old self.new bytes.now r.0 r.1.now) }
+    {
+        let Some(of) = self.value_due() else {
+            return None;
+        };
+        let Some((piece, rest)) = whole_value(of, bytes) else {
             return None;
         };
         self.go_over(piece);

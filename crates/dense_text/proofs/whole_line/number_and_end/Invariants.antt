@@ -1,6 +1,6 @@
 use Rattle.std.proofs.Common.{◌≡◌, ◌++◌, length}
 use Rattle.lemma_text.specs.Numerals.{numeral_text, FitsNumeral}
-use Rattle.dense_text.proofs.whole_line.number.Given as goal
+use Rattle.dense_text.proofs.whole_line.number_and_end.Given as goal
 
 -- the bytes before the rest are what was read of the number
 abbrev pub invariant-loop-byte : goal.invariant-loop-byte
