@@ -19,7 +19,7 @@ const TIMES: usize = 40;
 const PART: u64 = 500;
 
 /// So many looks, those of the first search among them, are few, and may be taken where as many are left.
-const FEW: u64 = 120_000;
+const FEW: u64 = 90_000;
 
 /// Which part of these is kept at most to show the lemmas of the shortest list anew, and how many looks for each lemma.
 const TRIMMING: u64 = 4;
