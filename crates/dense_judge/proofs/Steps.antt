@@ -1,17 +1,18 @@
 -- What one byte more makes of a reading.
 use Rattle.std.proofs.Common.{◌≡◌, ◌<◌, ◌≤◌, ◌^◌, ◌+◌, ◌-◌, true, ℕ, List, [], ◌∷◌, ◌++◌, length, take, refl, sym, ap, ◌∙◌, subst, arith, length-append, append-nil, append_assoc, Option, Some, None}
+use Rattle.std.specs.Prelude.{ℤ}
 use Rattle.std.proofs.lemmas.List.{take-append-le}
+use Rattle.proof_tree.specs.declared.tree.Outcome.{Outcome}
 use Rattle.dense_ledger.specs.Ledger.{first_ledger}
 use Rattle.dense_text.specs.declared.piece.Piece.{Piece}
 use Rattle.dense_text.specs.declared.piece.Piece.TheVariants.{Head as HeadPiece, Given, Reply, Chosen, Value, Named, Horizon, Stuck, Goal, Again, NoPlay, Close, Bound, Empty, Barred, BestLeft, Next, Branch, Range, Skip, LeftOpen, Dot}
-use Rattle.dense_text.specs.declared.parts.Due.{Due}
 use Rattle.dense_text.specs.declared.reader.Fed.{Fed}
 use Rattle.dense_text.specs.declared.reader.Fed.TheVariants.{More, Whole, Bad}
 use Rattle.dense_text.specs.Kept.{Held}
 use Rattle.dense_text.specs.Reader.{StandsFor, Says, tell}
 use Rattle.dense_text.specs.Pieces.{piece_text}
-use Rattle.dense_text.specs.Grammar.{at as due_at, allows}
-use Rattle.dense_text.specs.WholeLines.{GoesOver}
+use Rattle.dense_text.specs.Grammar.{Place, at_start, at_value, at as due_at, allows}
+use Rattle.dense_text.specs.WholeLines.{IsAfterHead, GoesOver}
 use Rattle.dense_text.specs.Places.{BeginsText, IsFault}
 use Rattle.dense_check.specs.declared.machine.DenseMachine.{DenseMachine}
 use Rattle.dense_check.specs.Telling.{game_of, Tells}
@@ -110,37 +111,43 @@ pub still_stopped : (s : Stop) (n : ℕ) (bytes next : List ℕ) → IsStopped s
 still_stopped BadStop n bytes next h = λ more. subst (IsFault n) (sym (append_assoc bytes next more)) (h (next ++ more))
 still_stopped Spent n bytes next h = h
 
--- a line is no head
-not_head : (d : Due) (p : Piece) → allows (due_at d) p ≡ true → (h : Option Head) → first_head h p ≡ h
-not_head d p a (Some h) = refl
-not_head d (HeadPiece o v) a None = absurd (cc)
-not_head d (Given k bare) a None = refl
-not_head d (Reply bare) a None = refl
-not_head d (Chosen bare) a None = refl
-not_head d (Value u v last) a None = refl
-not_head d Named a None = refl
-not_head d (Horizon k) a None = refl
-not_head d Stuck a None = refl
-not_head d Goal a None = refl
-not_head d (Again n) a None = refl
-not_head d (NoPlay k) a None = refl
-not_head d Close a None = refl
-not_head d (Bound x low high) a None = refl
-not_head d Empty a None = refl
-not_head d Barred a None = refl
-not_head d BestLeft a None = refl
-not_head d Next a None = refl
-not_head d (Branch x) a None = refl
-not_head d (Range high) a None = refl
-not_head d Skip a None = refl
-not_head d LeftOpen a None = refl
-not_head d Dot a None = refl
+-- a head comes at the start alone
+at_start_alone : (place : Place) (o : Outcome) (v : Option ℤ) → IsAfterHead place → allows place (HeadPiece o v) ≡ true → ⊥
+at_start_alone at_start o v w a = w
+at_start_alone (at_value u) o v w a = absurd (cc)
+at_start_alone (due_at d) o v w a = absurd (cc)
+
+-- so a line, or a value, is none
+not_head : (place : Place) (p : Piece) → IsAfterHead place → allows place p ≡ true → (h : Option Head) → first_head h p ≡ h
+not_head place p w a (Some h) = refl
+not_head place (HeadPiece o v) w a None = absurd (at_start_alone place o v w a)
+not_head place (Given k bare) w a None = refl
+not_head place (Reply bare) w a None = refl
+not_head place (Chosen bare) w a None = refl
+not_head place (Value u v last) w a None = refl
+not_head place Named w a None = refl
+not_head place (Horizon k) w a None = refl
+not_head place Stuck w a None = refl
+not_head place Goal w a None = refl
+not_head place (Again n) w a None = refl
+not_head place (NoPlay k) w a None = refl
+not_head place Close w a None = refl
+not_head place (Bound x low high) w a None = refl
+not_head place Empty w a None = refl
+not_head place Barred w a None = refl
+not_head place BestLeft w a None = refl
+not_head place Next w a None = refl
+not_head place (Branch x) w a None = refl
+not_head place (Range high) w a None = refl
+not_head place Skip w a None = refl
+not_head place LeftOpen w a None = refl
+not_head place Dot w a None = refl
 
 -- the bytes of a line
 line_bytes : (r s : Option Held) (bytes rest : List ℕ) (p : Piece) → GoesOver r s bytes p rest → length bytes ≡ length (piece_text p) + length rest
 line_bytes r s bytes rest p g = ap length g.text ∙ length-append (piece_text p) rest
 
--- a line that is read at once, and taken
+-- a line or a value that is read at once, and taken
 line_read : (r s : Option Held) (k k2 : Gather) (m m2 : DenseMachine) (h : Option Head) (n : ℕ) (before bytes rest : List ℕ) (p : Piece) → GoesOver r s bytes p rest → n + length bytes ≤ 2 ^ 32 →
     ((a : Gathered) → HasTaken k m a → HasTaken k2 m2 (gathered a p)) → IsReading r k m h n before → IsReading s k2 m2 h (n + (length bytes - length rest)) (before ++ piece_text p)
 line_read r s k k2 m m2 h n before bytes rest p g room takes i =
@@ -153,7 +160,7 @@ line_read r s k k2 m m2 h n before bytes rest p g room takes i =
       stands = g.stands before i.told few i.stands;
       begins = (g.says before i.told few i.stands).0;
       counted = omega (arith, e, size, all);
-      head_is = sym (not_head g.is_line.0 p g.is_line.1 h) ∙ ap (λ q. first_head q p) i.head_is ∙ sym (head_more None i.told p);
+      head_is = sym (not_head g.comes.0 p g.comes.2 g.comes.3 h) ∙ ap (λ q. first_head q p) i.head_is ∙ sym (head_more None i.told p);
       taken = subst (HasTaken k2 m2) (sym (gathered_more no_pieces i.told p)) (takes (all_gathered no_pieces i.told) i.taken);
     }
 

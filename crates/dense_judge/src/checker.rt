@@ -1,4 +1,4 @@
-//! The checker. It reads a line at once where all its bytes are there, and else byte by byte.
+//! The checker. It reads a line, or a value of a tuple, at once where all its bytes are there, and else byte by byte.
 ghost use Rattle.std.specs.Prelude.{◌≡◌, ◌≤◌, ◌+◌, ◌^◌, ◌++◌, ◌∷◌, [], None, Some, length, IfOk, OnOk, OnErr, IsErr, ℕ, List};
 ghost use Rattle.qc_model.specs.Content.{Game};
 ghost use Rattle.dense_check.specs.Telling.{game_of, IsReady as IsReadyMachine};
@@ -134,7 +134,8 @@ impl<'p> DenseChecker<'p> {
         }
     }
 
-    // Reads the next line with values, or else the next byte, where none was a fault: the bytes that are left.
+    // Reads the next line with values, the beginning of a tuple's, or the next value of one, or else the next byte, where none was a
+    // fault: the bytes that are left.
     #[inline(never)]
     fn next_seldom<'a>(&mut self, bytes: &'a [u8]) -> Result<&'a [u8], AllocError>
         requires ready { IsReadyMachine self.old.machine }
