@@ -1,25 +1,29 @@
 -- Values of a variable that a sum refutes because they are past its room.
-use Rattle.std.proofs.Common.{◌≡◌, ◌≢◌, ℕ, zero, suc, ◌<◌, true, false, List, [], ◌∷◌, length, set, refl, sym, ap, ◌∙◌, subst, arith, ℤ}
-use Rattle.std.specs.Prelude.{pos, ◌*ℤ◌, ◌≤ℤ◌, slice_get, Some}
+use Rattle.std.proofs.Common.{◌≡◌, ◌≢◌, ℕ, zero, suc, ◌<◌, true, false, not, List, [], ◌∷◌, length, set, refl, sym, ap, ◌∙◌, subst, arith, ℤ}
+use Rattle.std.specs.Prelude.{pos, ◌*ℤ◌, ◌≤ℤ◌, ◌<ℤ◌, slice_get, Some}
 use Rattle.std.specs.List.{list_all}
+use Rattle.std.proofs.lemmas.Int.{ints}
 use Rattle.std.proofs.lemmas.Option.{same_Some}
 use Rattle.qc_model.specs.declared.problem.Argument.{Argument}
 use Rattle.qc_model.specs.declared.problem.Argument.TheVariants.{One, Many, Numbers, Members}
 use Rattle.qc_model.specs.declared.problem.VarId.{VarId}
 use Rattle.qc_model.specs.Content.{Game, Rule}
-use Rattle.qc_model.specs.Domains.{Values, Box, values_left, least_value, greatest_value, has_empty}
+use Rattle.qc_model.specs.Domains.{Values, Box, values_left, has_value, is_within, is_sub_box, least_value, greatest_value, has_empty}
 use Rattle.qc_model.specs.Refuted.{refuted_by}
 use Rattle.qc_model.specs.Valid.{IsValid, is_number}
 use Rattle.model_arguments.specs.Asked.{is_box_of}
 use Rattle.model_arguments.specs.Written.{ints_at}
 use Rattle.model_arguments.proofs.Boxes.{some_left, left_small}
-use Rattle.model_arguments.proofs.Kept.{ordered}
+use Rattle.model_arguments.proofs.Kept.{ordered, at_least, at_most, is_out_low, is_out_high}
+use Rattle.model_arguments.proofs.Values.{value_passes}
 use Rattle.model_table.proofs.Ordered.{constraint_at}
 use Rattle.qc_refuter.proofs.Ready.{rule_met}
 use Rattle.qc_refuter.specs.Met.{is_met, are_met}
 use Rattle.qc_model.proofs.Readable.{first, second}
 use Rattle.dense_quiet.specs.declared.slack.Room.{Room}
-use Rattle.dense_close.specs.Cutting.{IsBarred}
+use Rattle.dense_quiet.specs.declared.stretch.Kept.{Kept}
+use Rattle.dense_closing.proofs.Within.{all_from, sub_values}
+use Rattle.dense_close.specs.Cutting.{IsBarred, IsSureOf}
 use Rattle.dense_quiet.specs.Slack.{RoomTells, IsTermOf, IsMeasured, IsPast}
 use Rattle.dense_close.proofs.Cuts.{least_small, greatest_small}
 use Rattle.dense_close.proofs.Indexed.{some_at}
@@ -60,12 +64,12 @@ measured g valid k box x n u v d f there l some at low high =
 
 pub barred_over : (g : Game) (k : ℕ) (box : Box) (x : VarId) (n : ℤ) (r : Room) (w low high : ℤ) → x.0 < length box → ((c : Rule) → slice_get g.constraints k ≡ Some c → RoomTells c r box) → ((c : Rule) → slice_get g.constraints k ≡ Some c → IsTermOf c n x) →
     w ≡ least_value (values_left box x.0) → IsPast r n w low high → IsBarred g k x.0 box low high
-barred_over g k box x n r w low high l t at e p = λ c there vs some within.
+barred_over g k box x n r w low high l t at e p = λ c there vs some left within.
     past_refuted c r box x n l (t c there) (at c there) w low high (subst (λ z. IsIn (n *ℤ z) (term n (values_left box x.0))) (sym e) (least_in n (values_left box x.0))) vs some within p
 
 pub barred_under : (g : Game) (k : ℕ) (box : Box) (x : VarId) (n : ℤ) (r : Room) (w low high : ℤ) → x.0 < length box → ((c : Rule) → slice_get g.constraints k ≡ Some c → RoomTells c r box) → ((c : Rule) → slice_get g.constraints k ≡ Some c → IsTermOf c n x) →
     w ≡ greatest_value (values_left box x.0) → IsPast r n w low high → IsBarred g k x.0 box low high
-barred_under g k box x n r w low high l t at e p = λ c there vs some within.
+barred_under g k box x n r w low high l t at e p = λ c there vs some left within.
     past_refuted c r box x n l (t c there) (at c there) w low high (subst (λ z. IsIn (n *ℤ z) (term n (values_left box x.0))) (sym e) (greatest_in n (values_left box x.0))) vs some within p
 
 -- values that are barred stay so while the variable loses others
@@ -88,5 +92,32 @@ set_alike (c ∷ a) (d ∷ b) (suc x) us e f = ap (λ z. z ∷ set a x us) (f 0 
     never_zero : (y : ℕ) → 0 ≡ suc y → ⊥
     never_zero y q = omega arith
 
-pub barred_after : (g : Game) (k x : ℕ) (box now : Box) (low high : ℤ) → length now ≡ length box → ((y : ℕ) → y ≢ x → values_left now y ≡ values_left box y) → IsBarred g k x box low high → IsBarred g k x now low high
-barred_after g k x box now low high e f b = λ c there vs some within. subst (λ z. refuted_by c z ≡ true) (sym (set_alike now box x vs e f)) (b c there vs some within)
+left_before : (box now : Box) (x : ℕ) (vs : Values) → is_sub_box now box ≡ true → list_all (has_value (values_left now x)) vs ≡ true → list_all (has_value (values_left box x)) vs ≡ true
+left_before box now x vs s left = all_from (has_value (values_left box x)) vs (λ v m. value_passes (has_value (values_left box x)) (values_left now x) v (sub_values now box x s) (value_passes (has_value (values_left now x)) vs v left m))
+
+pub barred_after : (g : Game) (k x : ℕ) (box now : Box) (low high : ℤ) → length now ≡ length box → ((y : ℕ) → y ≢ x → values_left now y ≡ values_left box y) → is_sub_box now box ≡ true → IsBarred g k x box low high → IsBarred g k x now low high
+barred_after g k x box now low high e f s b = λ c there vs some left within.
+    subst (λ z. refuted_by c z ≡ true) (sym (set_alike now box x vs e f)) (b c there vs some (left_before box now x vs s left) within)
+
+-- so do those outside of what is left for sure
+pub sure_after : (s : Kept) (g : Game) (k x : ℕ) (box now : Box) → length now ≡ length box → ((y : ℕ) → y ≢ x → values_left now y ≡ values_left box y) → is_sub_box now box ≡ true → IsSureOf s g k x box → IsSureOf s g k x now
+sure_after s g k x box now e f b h = λ sure c there vs left out.
+    subst (λ z. refuted_by c z ≡ true) (sym (set_alike now box x vs e f)) (h sure c there vs (left_before box now x vs b left) out)
+
+-- values on one side of it are barred
+all_out : (low high from to : ℤ) (vs : Values) → ((v : ℤ) → is_within from to v ≡ true → not (is_within low high v) ≡ true) → list_all (is_within from to) vs ≡ true → list_all (λ v. not (is_within low high v)) vs ≡ true
+all_out low high from to vs f h = all_from (λ v. not (is_within low high v)) vs (λ v m. f v (value_passes (is_within from to) vs v h m))
+
+pub barred_below : (s : Kept) (g : Game) (k x : ℕ) (box : Box) (from to : ℤ) → s.sure ≡ true → to <ℤ s.stretch.low → IsSureOf s g k x box → IsBarred g k x box from to
+barred_below s g k x box from to sure below h = λ c there vs some left within.
+    h sure c there vs left (all_out s.stretch.low s.stretch.high from to vs (λ v w. is_out_low s.stretch.low s.stretch.high v (under v to s.stretch.low (at_most from to v w) below)) within)
+  where
+    under : (a b c : ℤ) → a ≤ℤ b → b <ℤ c → a <ℤ c
+    under a b c h k = omega (arith, ints)
+
+pub barred_above : (s : Kept) (g : Game) (k x : ℕ) (box : Box) (from to : ℤ) → s.sure ≡ true → s.stretch.high <ℤ from → IsSureOf s g k x box → IsBarred g k x box from to
+barred_above s g k x box from to sure above h = λ c there vs some left within.
+    h sure c there vs left (all_out s.stretch.low s.stretch.high from to vs (λ v w. is_out_high s.stretch.low s.stretch.high v (over s.stretch.high from v above (at_least from to v w))) within)
+  where
+    over : (a b c : ℤ) → a <ℤ b → b ≤ℤ c → a <ℤ c
+    over a b c h k = omega (arith, ints)

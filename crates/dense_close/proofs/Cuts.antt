@@ -22,7 +22,7 @@ use Rattle.model_arguments.specs.Asked.{is_box_of, IsAsked}
 use Rattle.model_arguments.proofs.Boxes.{some_left, sub_ascending, sub_without}
 use Rattle.model_arguments.proofs.Kept.{over_low, under_high, low_end, high_end, some_of, keeps, inside, through}
 use Rattle.qc_model.specs.Valid.{is_number}
-use Rattle.model_arguments.proofs.Values.{value_passes, has_least, has_greatest, only_within}
+use Rattle.model_arguments.proofs.Values.{value_passes, all_kept, has_least, has_greatest, only_within}
 use Rattle.model_table.proofs.Ordered.{constraint_at}
 use Rattle.fd_store.specs.Held.{count_left}
 use Rattle.proof_tree.specs.declared.tree.Step.TheVariants.{Prune}
@@ -30,6 +30,7 @@ use Rattle.proof_tree.specs.Steps.{removes_some, is_refuted_within}
 use Rattle.dense_closing.specs.Ends.{is_end, may_take, is_end_step}
 use Rattle.dense_closing.specs.Takes.{Takes}
 use Rattle.dense_closing.proofs.Keeping.{steps_keep}
+use Rattle.dense_closing.proofs.Within.{all_own as own_values}
 use Rattle.dense_close.specs.declared.cutting.End.{End}
 use Rattle.dense_close.specs.declared.cutting.End.TheVariants.{Least, Greatest}
 use Rattle.dense_close.specs.Cutting.{IsInside, end_of, IsStretch, IsBarred, IsCut, HasCut}
@@ -115,7 +116,9 @@ pub stretch_barred : (e : End) (g : Game) (k : ℕ) (box : Box) (x : ℕ) (low h
 stretch_barred e g k box x low high v l f q a b h =
     let below = subst (λ w. low ≤ℤ w) q a in
     let above = subst (λ w. w ≤ℤ high) q b in
-    stretch_of e g k box x low high l f below above (λ c there. h c there (values_within low high (values_left box x)) (some_spanned e box x low high l f below above) (all_own (is_within low high) (values_left box x)))
+    stretch_of e g k box x low high l f below above (λ c there.
+    h c there (values_within low high (values_left box x)) (some_spanned e box x low high l f below above)
+    (all_kept (has_value (values_left box x)) (is_within low high) (values_left box x) (own_values (values_left box x))) (all_own (is_within low high) (values_left box x)))
 
 pub longer_up : (least greatest low high far end : ℤ) → IsInside least greatest low high → ((n : ℤ) → (n ≤ℤ end) ↔ ((n ≤ℤ far) × (n ≤ℤ greatest))) → far ≡ high +ℤ ((high -ℤ low) +ℤ pos 1) → IsInside least greatest low end × (high ≤ℤ end)
 longer_up least greatest low high far end i h e =

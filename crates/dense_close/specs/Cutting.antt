@@ -5,12 +5,14 @@ use Rattle.qc_model.specs.Arguments.{variables_of}
 use Rattle.qc_model.specs.Block.{is_owned_within, constraints_within}
 use Rattle.qc_model.specs.Closed.{refutes_at}
 use Rattle.qc_model.specs.Content.{Game, Rule}
-use Rattle.qc_model.specs.Domains.{Values, Box, values_left, values_within, is_within, least_value, greatest_value, box_within, is_none_left, is_sub_box}
+use Rattle.qc_model.specs.Domains.{Values, Box, values_left, has_value, values_within, is_within, least_value, greatest_value, box_within, is_none_left, is_sub_box}
 use Rattle.qc_model.specs.Lists.{Among}
 use Rattle.qc_model.specs.Refuted.{refuted_by}
 use Rattle.fd_store.specs.Held.{count_left}
 use Rattle.dense_closing.specs.Ends.{is_end}
 use Rattle.dense_closing.specs.Takes.{Takes, is_closed_by}
+use Rattle.dense_quiet.specs.declared.stretch.Kept.{Kept}
+use Rattle.dense_quiet.specs.Guessing.{IsKept}
 use Rattle.dense_close.specs.declared.cutting.End.{End}
 use Rattle.dense_close.specs.declared.cutting.End.TheVariants.{Least, Greatest}
 
@@ -29,9 +31,14 @@ pub record IsStretch (g : Game) (k x : ℕ) (box : Box) (low high : ℤ) : Type 
   pub end : IsTrue (is_end low high (values_left box x))
   pub refuted : (c : Rule) → slice_get g.constraints k ≡ Some c → IsTrue (refuted_by c (box_within box x low high))
 
--- constraint k refutes the box with any of the values from low to high alone left to x
+-- constraint k refutes the box with any of its values from low to high alone left to x
 abbrev pub IsBarred : Game → ℕ → ℕ → Box → ℤ → ℤ → Type 0
-IsBarred g k x box low high = (c : Rule) → slice_get g.constraints k ≡ Some c → (vs : Values) → IsFalse (is_none_left vs) → IsTrue (list_all (is_within low high) vs) → IsTrue (refuted_by c (set box x vs))
+IsBarred g k x box low high =
+    (c : Rule) → slice_get g.constraints k ≡ Some c → (vs : Values) → IsFalse (is_none_left vs) → IsTrue (list_all (has_value (values_left box x)) vs) → IsTrue (list_all (is_within low high) vs) → IsTrue (refuted_by c (set box x vs))
+
+-- where it is sure what constraint k leaves of x, that refutes all other values
+abbrev pub IsSureOf : Kept → Game → ℕ → ℕ → Box → Type 0
+IsSureOf s g k x box = IsTrue s.sure → (c : Rule) → slice_get g.constraints k ≡ Some c → IsKept c x box s.stretch.low s.stretch.high
 
 -- the numbers from low to high are some, and lie from least to greatest
 pub record IsInside (least greatest low high : ℤ) : Type 0 where

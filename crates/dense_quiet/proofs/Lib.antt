@@ -12,5 +12,6 @@ pub mod Places
 pub mod Related
 pub mod Replaced
 pub mod Shared
+pub mod Spread
 pub mod Sums
 pub mod ToldLaws

@@ -1,7 +1,9 @@
 -- What a reading of a constraint promises of it.
 use Rattle.std.specs.Prelude.{⊤, IsTrue}
+use Rattle.qc_model.specs.Arguments.{variables_of}
 use Rattle.qc_model.specs.Content.{Rule}
 use Rattle.qc_model.specs.Domains.{Box}
+use Rattle.qc_model.specs.Lists.{Distinct}
 use Rattle.qc_model.specs.Refuted.{refuted_by}
 use Rattle.dense_closing.specs.Takes.{Takes}
 use Rattle.dense_quiet.specs.declared.seeing.Advice.{Advice}
@@ -10,11 +12,12 @@ use Rattle.dense_quiet.specs.declared.seeing.Seen.{Seen}
 use Rattle.dense_quiet.specs.declared.seeing.Seen.TheVariants.{Quiet, Refuted, Advised, Nothing}
 use Rattle.dense_quiet.specs.Slack.{RoomTells, IsLong, SparesTaken}
 
--- the room of a sum tells how far each of its terms can go; all else is a guess
+-- the room of a sum tells how far each of its terms can go; all else is a guess, and one by ends may be sure where no variable stands
+-- twice
 abbrev pub AdviceTells : Advice → Rule → Box → Type 0
 AdviceTells (Room r) c box = IsLong r × RoomTells c r box
 AdviceTells (Filled s) c box = ⊤
-AdviceTells Ends c box = ⊤
+AdviceTells Ends c box = Distinct (variables_of c.args)
 
 -- it refutes nothing that it may take, or the box; or there is advice on it
 abbrev pub SeenTells : Seen → Takes → Rule → Box → Type 0

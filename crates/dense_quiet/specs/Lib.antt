@@ -5,3 +5,4 @@ pub mod Told
 pub mod Clauses
 pub mod Differing
 pub mod Advice
+pub mod Guessing

@@ -1,15 +1,21 @@
 //! Which values a constraint leaves a variable, by a guess: mostly from the ends of what is left to its arguments.
 //!
-//! Nothing is promised of a guess: what lies outside it goes only where the constraint refutes it.
-ghost use Rattle.std.specs.Prelude.{◌≤◌, ◌<◌, length, IsTrue, IsFalse};
+//! Mostly nothing is promised of a guess: what lies outside it goes only where the constraint refutes it. Of an array of numbers a guess
+//! is sure: all places that are left with their numbers have been seen.
+ghost use Rattle.std.specs.Prelude.{◌≡◌, ◌≤◌, ◌<◌, ◌+◌, ◌≤ℤ◌, ℕ, pos, cond, length, IsTrue, IsFalse};
 ghost use Rattle.std.specs.List.{list_all};
-ghost use Rattle.qc_model.specs.Domains.{has_empty};
+ghost use Rattle.qc_model.specs.Arguments.{variables_of};
+ghost use Rattle.qc_model.specs.Domains.{has_empty, has_value, is_within as is_in};
+ghost use Rattle.qc_model.specs.Lists.{Distinct};
+ghost use Rattle.qc_model.specs.Refuted.{left_to};
 ghost use Rattle.model_arguments.specs.Asked.{IsAsked};
+ghost use Rattle.model_arguments.specs.Repeats.{is_variable as is_the_variable};
 ghost use Rattle.qc_refuter.specs.Met.{are_met, is_open};
+ghost use Rattle.dense_quiet.specs.Guessing.{IsKept, IsSpread, IsSpreadOf};
 
 use crate::ends::Ends;
 use crate::reading::{arg_met, ends_of, has, items_met};
-use crate::stretch::Stretch;
+use crate::stretch::{Kept, Stretch};
 use fd_store::Store;
 use model_arguments::{Span, arguments, items_at, numbers_at};
 use qc_model::{Arg, Argument, Constraint, Meaning, Problem, VarId, meaning_of};
@@ -32,18 +38,35 @@ fn no_number() -> Stretch {
 
 // The numbers of the stretch, and this one.
 #[inline(always)]
-fn joined(s: Stretch, n: i64) -> Stretch {
+fn joined(s: Stretch, n: i64) -> Stretch
+    ensures low { result.low ≤ℤ s.low }
+    ensures high { s.high ≤ℤ result.high }
+    ensures has { IsTrue (is_in result.low result.high n) }
+{
     Stretch {
-        low: if n < s.low { n } else { s.low },
-        high: if s.high < n { n } else { s.high },
+        low: s.low.min(n),
+        high: s.high.max(n),
+    }
+}
+
+// A guess of which nothing is promised.
+#[inline(always)]
+fn guessed(stretch: Stretch) -> Kept
+    ensures { IsFalse result.sure }
+{
+    Kept {
+        stretch,
+        sure: false,
     }
 }
 
 #[inline(always)]
-fn is_variable(arg: Arg, x: VarId) -> bool {
+fn is_variable(arg: Arg, x: VarId) -> bool
+    ensures { result ≡ is_the_variable arg x.0 }
+{
     match arg {
         Arg::Num(_) => false,
-        Arg::Var(y) => x.0 == y.0,
+        Arg::Var(y) => y.0 == x.0,
     }
 }
 
@@ -223,37 +246,86 @@ fn of_greater(a: Arg, b: Arg, c: Arg, x: VarId, store: &Store) -> Stretch
 // Where places between these ends stand in an array of so many items, counted from 0.
 #[inline(always)]
 fn places_between(places: Ends, count: usize) -> Span
-    ensures { result.end ≤ count }
+    ensures end { result.end ≤ count }
+    ensures all { (k : ℕ) → k < count → places.least ≤ℤ pos (k + 1) → pos (k + 1) ≤ℤ places.greatest → (result.first ≤ k) × (k < result.end) }
 {
     if places.greatest < 1 {
         return Span { first: 0, end: 0 };
     }
-    let first = if places.least < 1 {
-        0
-    } else {
-        places.least as usize - 1
-    };
+    let end = count.min(places.greatest as usize);
+    if places.least < 1 {
+        return Span { first: 0, end };
+    }
     Span {
-        first,
-        end: count.min(places.greatest as usize),
+        first: places.least as usize - 1,
+        end,
     }
 }
 
-// Of the number at place b to be c: the places, or the numbers, that are left together.
-fn of_element(b: Arg, numbers: &[i64], c: Arg, x: VarId, store: &Store) -> Stretch
+// The stretch, and place k, counted from 0, where it is left to b and its number to c; or, if not for places, that number.
+#[inline(always)]
+fn with_place(
+    found: Stretch,
+    is_place: bool,
+    b: Arg,
+    k: usize,
+    number: i64,
+    c: Arg,
+    store: &Store,
+) -> Stretch
+    requires k { k < 4611686018427387904 }
     requires b { IsTrue (is_open store.now.box b) }
     requires c { IsTrue (is_open store.now.box c) }
+    ensures low { result.low ≤ℤ found.low }
+    ensures high { found.high ≤ℤ result.high }
+    ensures has { IsTrue (has_value (left_to store.now.box b) (pos (k + 1))) → IsTrue (has_value (left_to store.now.box c) number) → IsTrue (is_in result.low result.high (cond is_place (pos (k + 1)) number)) }
 {
-    let is_place = is_variable(b, x);
+    let place = k as i64 + 1;
+    if !has(b, place, store) {
+        return found;
+    }
+    if !has(c, number, store) {
+        return found;
+    }
+    if is_place {
+        return joined(found, place);
+    }
+    joined(found, number)
+}
+
+// Of the number at place b to be c: the places, or the numbers, that are left together.
+fn of_element(b: Arg, numbers: &[i64], c: Arg, is_place: bool, store: &Store) -> Stretch
+    requires b { IsTrue (is_open store.now.box b) }
+    requires c { IsTrue (is_open store.now.box c) }
+    ensures { IsSpread is_place (left_to store.now.box b) numbers.now (left_to store.now.box c) result.low result.high }
+{
     let span = places_between(ends_of(b, store), numbers.len());
     let mut found = no_number();
     for k in span.first..span.end {
-        let place = k as i64 + 1;
-        if has(b, place, store) && has(c, numbers[k], store) {
-            found = joined(found, if is_place { place } else { numbers[k] });
-        }
+        found = with_place(found, is_place, b, k, numbers[k], c, store);
     }
     found
+}
+
+// The same of a constraint with these arguments, for its variable x.
+fn kept_in_array(args: &[Argument], x: VarId, store: &Store) -> Kept
+    requires { IsTrue (are_met store.now.box args.now) }
+    ensures { IsTrue result.sure → IsSpreadOf args.now x.0 store.now.box result.stretch.low result.stretch.high }
+{
+    let b = arg_met(args, 0, store);
+    let c = arg_met(args, 2, store);
+    let is_place = is_variable(b, x);
+    let stretch = of_element(b, numbers_at(args, 1), c, is_place, store);
+    if is_place {
+        return Kept {
+            stretch,
+            sure: true,
+        };
+    }
+    Kept {
+        stretch,
+        sure: is_variable(c, x),
+    }
 }
 
 // The numbers that both may have, by their ends.
@@ -323,8 +395,8 @@ fn of_clause(args: &[Argument], x: VarId) -> Stretch {
     s
 }
 
-// The same of a constraint with this meaning and these arguments.
-fn kept_as(meaning: Meaning, args: &[Argument], x: VarId, store: &Store) -> Stretch
+// The same of a constraint with this meaning, of no array of numbers, and these arguments.
+fn guess_as(meaning: Meaning, args: &[Argument], x: VarId, store: &Store) -> Stretch
     requires { IsTrue (are_met store.now.box args.now) }
 {
     let a = arg_met(args, 0, store);
@@ -338,7 +410,6 @@ fn kept_as(meaning: Meaning, args: &[Argument], x: VarId, store: &Store) -> Stre
         Meaning::Times => of_product(a, b, c, x, store),
         Meaning::Smaller => of_lesser(a, b, c, x, store),
         Meaning::Greater => of_greater(a, b, c, x, store),
-        Meaning::Element => of_element(a, numbers_at(args, 1), c, x, store),
         Meaning::VariableElement => of_item(a, items_met(args, 1, store), c, x, store),
         Meaning::Clause => of_clause(args, x),
         _ => all_numbers(),
@@ -359,14 +430,19 @@ pub(crate) fn gives_guess(rule: &Constraint) -> bool {
     }
 }
 
-/// Which values the constraint leaves x, by the ends of what is left to its arguments.
-pub fn kept_by_ends(problem: &Problem, rule: &Constraint, x: VarId, store: &Store) -> Stretch
+/// Which values the constraint leaves x, by the ends of what is left to its arguments. Where that is sure, and no variable stands twice,
+/// it refutes all others.
+pub fn kept_by_ends(problem: &Problem, rule: &Constraint, x: VarId, store: &Store) -> Kept
     requires { IsAsked problem.now rule.now store.now.box }
+    ensures { IsTrue result.sure → Distinct (variables_of rule.now.args) → IsKept rule.now x.0 store.now.box result.stretch.low result.stretch.high }
 {
     problem.known();
     let row = meaning_of(rule.pred);
     if row.reified {
-        return all_numbers();
+        return guessed(all_numbers());
     }
-    kept_as(row.meaning, arguments(rule), x, store)
+    match row.meaning {
+        Meaning::Element => kept_in_array(arguments(rule), x, store),
+        _ => guessed(guess_as(row.meaning, arguments(rule), x, store)),
+    }
 }

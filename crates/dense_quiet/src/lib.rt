@@ -17,8 +17,9 @@
 //!   and comparisons with their truth (`told`) are quiet where the ends of what is left to their arguments tell so (`quiet`). Else these
 //!   give a guess, but for comparisons with their truth.
 //!
-//! What filled numbers and ends tell of a variable is a guess (`kept_beside`, `kept_by_ends`), of which nothing is promised: what lies
-//! outside it goes only where the constraint, asked once, refutes it.
+//! What filled numbers and ends tell of a variable is a guess (`kept_beside`, `kept_by_ends`), of which mostly nothing is promised: what
+//! lies outside it goes only where the constraint, asked once, refutes it. Of arrays of numbers it is sure, and what lies outside goes
+//! without asking.
 #![tactic(auto)]
 
 mod clauses;
@@ -43,5 +44,5 @@ pub use guessing::{kept_beside, kept_by_ends};
 pub use moving::{factor_at, is_free, past_greatest, past_least};
 pub use seeing::{Advice, Seen, see};
 pub use slack::Room;
-pub use stretch::Stretch;
+pub use stretch::{Kept, Stretch};
 pub use taking::{Taking, is_universal, may_take, owner_of};

@@ -6,3 +6,10 @@ pub struct Stretch {
     pub low: i64,
     pub high: i64,
 }
+
+/// The numbers that a constraint leaves a variable, by a guess; where it is sure, the constraint refutes all others.
+#[derive(Clone, Copy)]
+pub struct Kept {
+    pub stretch: Stretch,
+    pub sure: bool,
+}

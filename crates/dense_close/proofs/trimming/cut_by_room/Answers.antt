@@ -3,7 +3,8 @@ use Rattle.std.proofs.lemmas.Int.{to_z-of_z}
 use mir.Val.{SFits}
 use mir.Syntax.{w64}
 use Rattle.fd_store.specs.Held.{Held}
-use Rattle.qc_model.specs.Domains.{values_left, least_value, greatest_value}
+use Rattle.qc_model.specs.Domains.{values_left, declared_box, least_value, greatest_value}
+use Rattle.dense_closing.proofs.Within.{sub_self}
 use Rattle.dense_quiet.specs.Slack.{IsMeasured, IsPast}
 use Rattle.dense_close.proofs.Barred.{measured, barred_over, barred_under, barred_after}
 use Rattle.dense_close.proofs.trimming.cut_by_room.Goals as goal
@@ -73,5 +74,5 @@ cut_stretch-from_above-requires-clause-barred c =
     let is : v ≡ least_value (values_left box c.args.x.0) = subst (λ (h : Held). v ≡ least_value (values_left h.box c.args.x.0)) c.store.ensures c.min-least.ensures in
     let past : IsPast c.args.room c.args.factor v s.low s.high = simp to_z-of_z at c.past_least-above.ensures in
     let cut = c.cut_stretch-from_below.ensures.cut in
-    barred_after g c.args.c.0 c.args.x.0 box c.cut_stretch-from_below.new.remains.box s.low s.high cut.count cut.others
+    barred_after g c.args.c.0 c.args.x.0 box c.cut_stretch-from_below.new.remains.box s.low s.high cut.count cut.others (cut.fewer box (sub_self box (declared_box g) c.requires.declared))
     (barred_over g c.args.c.0 box c.args.x c.args.factor c.args.room v s.low s.high c.requires.x c.requires.tells c.requires.place is past)

@@ -1,0 +1,23 @@
+-- What a guess that is sure promises.
+use Rattle.std.specs.Prelude.{ℕ, ◌<◌, ◌+◌, Bool, not, ◌||◌, cond, List, length, get_or, set, IsTrue, ℤ, pos}
+use Rattle.std.specs.List.{list_all}
+use Rattle.qc_model.specs.declared.problem.Argument.{Argument}
+use Rattle.qc_model.specs.Content.{Rule}
+use Rattle.qc_model.specs.Domains.{Values, Box, values_left, has_value, is_within}
+use Rattle.qc_model.specs.Refuted.{left_to, refuted_by}
+use Rattle.model_arguments.specs.Repeats.{is_variable}
+use Rattle.model_arguments.specs.Written.{arg_at, ints_at}
+
+-- of the values left to x the constraint refutes all together that aren't from low to high, and whichever of them are left
+abbrev pub IsKept : Rule → ℕ → Box → ℤ → ℤ → Type 0
+IsKept c x box low high = (vs : Values) → IsTrue (list_all (has_value (values_left box x)) vs) → IsTrue (list_all (λ v. not (is_within low high v)) vs) → IsTrue (refuted_by c (set box x vs))
+
+-- where a place of the array, counted from 1, and its number are both left, the place is from low to high; or, if not for places, the
+-- number is
+abbrev pub IsSpread : Bool → Values → List ℤ → Values → ℤ → ℤ → Type 0
+IsSpread places b ns c low high = (k : ℕ) → k < length ns → IsTrue (has_value b (pos (k + 1))) → IsTrue (has_value c (get_or ns k (pos 0))) → IsTrue (is_within low high (cond places (pos (k + 1)) (get_or ns k (pos 0))))
+
+-- x is the place in the array, or else the number there, and those left together are from low to high
+pub record IsSpreadOf (args : List Argument) (x : ℕ) (box : Box) (low high : ℤ) : Type 0 where
+  pub own : IsTrue (is_variable (arg_at args 0) x || is_variable (arg_at args 2) x)
+  pub spread : IsSpread (is_variable (arg_at args 0) x) (left_to box (arg_at args 0)) (ints_at args 1) (left_to box (arg_at args 2)) low high
