@@ -20,6 +20,7 @@ A line ends with what is to be looked at:
     WRONG       the outcome isn't the known one
     UNCHECKED   `check` doesn't answer `yes` with the outcome
     SLOW        more than twice the model's time, of games that take the model 0.05 seconds or more
+    MORE TURNS  no dense certificate within twice the model's turns, of the same games
     LONG        more than 1.2 times the model's bytes
     SLOW CHECK  longer than to solve
     VERSION N   the certificate is no dense one: the search for these gave way
@@ -40,6 +41,7 @@ import os
 import re
 import subprocess
 import tempfile
+from dataclasses import dataclass
 
 from measure.ladder import least, problems_of
 from measure.rungs import FAMILIES
@@ -52,6 +54,15 @@ TURNS = "10000000"
 LONG_FOR_MODEL = 0.05
 SLOW, LONG = 2, 1.2
 LINE = "{:26} {:9} {:9} {:>7} s {:>7} s {:>6}  {:>9} {:>9} bytes {:>6}  {:>7} s {:>4} MB  {}"
+
+
+@dataclass
+class Model:
+    """What the solver in C++ took."""
+
+    seconds: float
+    bytes: int
+    turns: int
 
 
 def compiled(folder):
@@ -97,12 +108,19 @@ def checked(options, problem, certificate):
 
 
 def modelled(options, problem, known):
-    """Seconds and bytes of the solver in C++; None where it doesn't settle the game."""
+    """Seconds, bytes and turns of the solver in C++; None where it doesn't settle the game."""
     with tempfile.TemporaryFile() as file:
         least(options, [options.model, "--turns", TURNS, *WAYS, problem], file)
         file.seek(0)
-        told = re.search(r'"outcome":"([^"]*)".*"cpu":([0-9.]+).*"bytes":([0-9]+)', file.read().decode())
-    return (float(told[2]), int(told[3])) if told and told[1] == known else None
+        told = re.search(r'"outcome":"([^"]*)".*"cpu":([0-9.]+).*"turns":([0-9]+).*"bytes":([0-9]+)', file.read().decode())
+    return Model(float(told[2]), int(told[4]), int(told[3])) if told and told[1] == known else None
+
+
+def settles_within(options, problem, turns):
+    """Whether the program settles the game by a dense certificate within so many turns."""
+    found = subprocess.run([options.program, "solve", problem, "--turns", str(turns)], stdout=subprocess.PIPE, check=False)
+    version, outcome = (found.stdout.split(b"\n", 2) + [b"", b""])[:2]
+    return version == b"qcert 4" and not outcome.startswith(b"open")
 
 
 def by(now, then):
@@ -119,14 +137,17 @@ def line_of(options, folder, name, text, known):
     model = modelled(options, problem, known)
     # an optimum by two lists is stated as `best V LENGTH`
     stated = f"true {outcome.split()[1]}" if outcome.startswith("best ") else outcome
+    counts = model and model.seconds >= LONG_FOR_MODEL
     notes = [note for note, holds in (
         ("WRONG", stated != known), ("UNCHECKED", answer != f"yes {stated}"), ("SLOW CHECK", check > solve),
         ("VERSION " + version, version != "4"), ("NO MODEL", not model),
-        ("SLOW", model and model[0] >= LONG_FOR_MODEL and solve > SLOW * model[0]), ("LONG", model and size > LONG * model[1]),
+        ("SLOW", counts and solve > SLOW * model.seconds),
+        ("MORE TURNS", counts and not settles_within(options, problem, SLOW * model.turns)),
+        ("LONG", model and size > LONG * model.bytes),
     ) if holds]
-    seconds, bytes_ = model or (0, 0)
-    print(LINE.format(name, known, stated, f"{solve:.3f}", f"{seconds:.3f}", by(solve, seconds), size, bytes_, by(size, bytes_),
-                      f"{check:.3f}", f"{megabytes:.0f}", "; ".join(notes)).rstrip(), flush=True)
+    than = model or Model(0, 0, 0)
+    print(LINE.format(name, known, stated, f"{solve:.3f}", f"{than.seconds:.3f}", by(solve, than.seconds),
+                      size, than.bytes, by(size, than.bytes), f"{check:.3f}", f"{megabytes:.0f}", "; ".join(notes)).rstrip(), flush=True)
     return "WRONG" not in notes and "UNCHECKED" not in notes
 
 
