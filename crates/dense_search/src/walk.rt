@@ -1,15 +1,9 @@
 //! The way through a game, from scope to scope and value to value.
-use crate::ahead::{Ahead, is_dead_end, look_ahead};
-use crate::bounds::{bound_by, bound_here};
-use crate::closing::close_here;
-use crate::endings::{is_opposed, is_settled, keep_alone, node_over, rival_below};
-use crate::lines::Lines;
-use crate::loose::bound_loosely;
-use crate::patience::wants_much;
-use crate::place::{Place, after, one_less};
-use crate::scouting::found_freely;
-use crate::search::Search;
-use crate::stop::Stop;
+use dense_loose::{bound_loosely, note_leaf};
+use dense_place::{
+    Ahead, Lines, Place, Search, Stop, after, bound_by, bound_here, close_here, found_freely, is_dead_end, is_opposed, is_settled,
+    keep_alone, look_ahead, node_over, one_less, rival_below, wants_much,
+};
 use joins::Found;
 use qc_model::{ScopeId, Sense, VarId};
 
@@ -155,7 +149,7 @@ fn leaf(search: &mut Search, depth: u32, place: Place) -> Result<bool, Stop> {
     search.board.add_node(place.scope, found);
     search.note_reached(place.scope, before)?;
     let settled = is_settled(search, place);
-    search.note_leaf(place.scope, settled, found)?;
+    note_leaf(search, place.scope, settled, found)?;
     Ok(settled)
 }
 
@@ -311,16 +305,5 @@ fn best_end(search: &Search, scope: ScopeId, x: VarId) -> Option<i64> {
     match first.sense {
         Sense::Min => None,
         Sense::Max => Some(search.board.greatest(x)),
-    }
-}
-
-impl<'p> Search<'p> {
-    /// Saves the box. Where a variable has no value left, the search is out of its way.
-    pub(crate) fn save(&mut self) -> Result<(), Stop> {
-        if self.board.save()? {
-            Ok(())
-        } else {
-            Err(Stop::Spent)
-        }
     }
 }

@@ -5,36 +5,36 @@ use crate::stop::Stop;
 use qc_model::{ScopeId, Sense};
 
 /// How deep the search goes at most: in each scope it goes through five calls, and four for each of its variables.
-pub(crate) const DEPTH: u32 = 4_096;
+pub const DEPTH: u32 = 4_096;
 
 /// What the scope above has reached, so that nothing that is no better counts: a first value, and whether an equal one is no
 /// better, since nothing else is asked for.
 #[derive(Clone, Copy)]
-pub(crate) struct Rival {
-    pub(crate) sense: Sense,
-    pub(crate) value: i64,
-    pub(crate) ties: bool,
+pub struct Rival {
+    pub sense: Sense,
+    pub value: i64,
+    pub ties: bool,
 }
 
 /// A scope, what the one above has reached, whether a bound of the block stands above, and the number of the horizon in force.
 #[derive(Clone, Copy)]
-pub(crate) struct Place {
-    pub(crate) scope: ScopeId,
-    pub(crate) rival: Option<Rival>,
-    pub(crate) bounded: bool,
-    pub(crate) horizon: Option<u8>,
+pub struct Place {
+    pub scope: ScopeId,
+    pub rival: Option<Rival>,
+    pub bounded: bool,
+    pub horizon: Option<u8>,
 }
 
 impl Place {
     /// Whether nobody passes the scope that begins here.
-    pub(crate) fn is_at_horizon(self) -> bool {
+    pub fn is_at_horizon(self) -> bool {
         self.horizon == Some(self.scope.0)
     }
 }
 
 impl Rival {
     /// Whether a first value is no use beside it.
-    pub(crate) fn beats(self, value: i64) -> bool {
+    pub fn beats(self, value: i64) -> bool {
         if value == self.value {
             return self.ties;
         }
@@ -43,7 +43,7 @@ impl Rival {
 }
 
 /// Whether one value is better than another.
-pub(crate) fn is_better(sense: Sense, one: i64, other: i64) -> bool {
+pub fn is_better(sense: Sense, one: i64, other: i64) -> bool {
     match sense {
         Sense::Min => one < other,
         Sense::Max => one > other,
@@ -51,12 +51,12 @@ pub(crate) fn is_better(sense: Sense, one: i64, other: i64) -> bool {
 }
 
 /// The scope after this one, or the goal.
-pub(crate) fn after(scope: ScopeId) -> ScopeId {
+pub fn after(scope: ScopeId) -> ScopeId {
     ScopeId(scope.0.saturating_add(1))
 }
 
 /// One level less of those that may still be gone down.
-pub(crate) fn one_less(depth: u32) -> Result<u32, Stop>
+pub fn one_less(depth: u32) -> Result<u32, Stop>
     ensures { IfOk result (λ less. less < depth) }
 {
     if depth == 0 {

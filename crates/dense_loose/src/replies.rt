@@ -1,12 +1,7 @@
 //! A follower's node while the leader's choices are open: what he can count on, and what is left then.
-use crate::bounds::useless_values;
-use crate::closing::close_here;
-use crate::place::{after, is_better};
-use crate::search::Search;
-use crate::stop::Stop;
 use dense_board::Closing;
+use dense_place::{Search, Stop, after, close_here, is_better, useless_values};
 use qc_model::{Condition, ScopeId, Sense, Target, VarId};
-use std::alloc::Global;
 
 /// How many values of one variable are tried for a reply.
 const MOST_TRIES: u32 = 10_000;
@@ -16,7 +11,7 @@ const MOST_TRIES: u32 = 10_000;
 pub(crate) struct Reply {
     tuple: Vec<i64>,
     value: i64,
-    lead: Option<i64>,
+    pub(crate) lead: Option<i64>,
 }
 
 /// What is known of the follower's best reply at an answer of the opponent: it was looked for, and there may be one; or nothing but the
@@ -25,41 +20,6 @@ pub(crate) struct Reply {
 pub(crate) enum Sought {
     Found(Option<Reply>),
     Not(Option<i64>),
-}
-
-/// For each answer of the opponent, by its number, the value that led to the follower's best reply last.
-#[derive(Drop)]
-pub(crate) struct Leads {
-    values: Vec<Option<i64>>,
-}
-
-impl Leads {
-    pub(crate) fn new(alloc: Global) -> Leads {
-        Leads {
-            values: Vec::new(alloc),
-        }
-    }
-
-    pub(crate) fn at(&self, answer: usize) -> Option<i64> {
-        match self.values.get(answer) {
-            None => None,
-            Some(value) => *value,
-        }
-    }
-
-    /// Keeps what led to a reply.
-    pub(crate) fn note(&mut self, answer: usize, reply: &Reply) -> Result<(), Stop> {
-        if reply.lead.is_none() {
-            return Ok(());
-        }
-        for _ in self.values.len()..answer.saturating_add(1) {
-            self.values.push(None)?;
-        }
-        if let Some(value) = self.values.get_mut(answer) {
-            *value = reply.lead;
-        }
-        Ok(())
-    }
 }
 
 // A hunt for the best reply of the follower: what he wishes, the best so far, and whether nothing better is left.
