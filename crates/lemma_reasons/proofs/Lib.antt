@@ -6,4 +6,5 @@ mod Rows
 mod Answering
 pub mod Asking
 mod Told
+mod Picking
 mod Showing

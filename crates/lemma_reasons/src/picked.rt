@@ -1,7 +1,7 @@
 //! Elements of arrays of variables, by the item that the index picks.
-ghost use Rattle.std.specs.Prelude.{◌≡◌, ◌≤◌, ◌&&◌, IsTrue, length, map, pos};
+ghost use Rattle.std.specs.Prelude.{◌≡◌, ◌≤◌, IsTrue, length, map, pos};
 ghost use Rattle.std.specs.List.{list_all};
-ghost use Rattle.qc_model.specs.Left.{left_at, lefts_at, is_only as is_only_in, are_one_value as are_one_value_in};
+ghost use Rattle.qc_model.specs.Left.{left_at, lefts_at, are_one_value as are_one_value_in};
 ghost use Rattle.qc_model.specs.Meaning.{variable_element as VariableElement, meaning_of as meaning_in};
 ghost use Rattle.qc_model.specs.Refuted.{left_to};
 ghost use Rattle.model_arguments.specs.Asked.{IsAsked};
@@ -38,14 +38,6 @@ fn items_met<'a>(args: &'a [Argument], place: usize, store: &Store) -> &'a [Arg]
     }
 }
 
-// Whether one value is left to the argument, n.
-fn is_only(n: i64, arg: Arg, store: &Store) -> bool
-    requires { IsTrue (is_open store.now.box arg) }
-    ensures { result ≡ is_only_in n (left_to store.now.box arg) }
-{
-    is_fixed(arg, store) && least(arg, store) == n
-}
-
 // Whether one value is left to both arguments, the same.
 fn are_one_value(a: Arg, b: Arg, store: &Store) -> bool
     requires a { IsTrue (is_open store.now.box a) }
@@ -53,16 +45,6 @@ fn are_one_value(a: Arg, b: Arg, store: &Store) -> bool
     ensures { result ≡ are_one_value_in (left_to store.now.box a) (left_to store.now.box b) }
 {
     is_fixed(a, store) && is_fixed(b, store) && least(a, store) == least(b, store)
-}
-
-// Whether the index b has one value, this place, and the item there the one value of c.
-fn is_at(b: Arg, place: i64, item: Arg, c: Arg, store: &Store) -> bool
-    requires b { IsTrue (is_open store.now.box b) }
-    requires item { IsTrue (is_open store.now.box item) }
-    requires c { IsTrue (is_open store.now.box c) }
-    ensures { result ≡ (is_only_in place (left_to store.now.box b) && are_one_value_in (left_to store.now.box item) (left_to store.now.box c)) }
-{
-    is_only(place, b, store) && are_one_value(item, c, store)
 }
 
 // Whether the index b has one value, at whose place, counted from 1, an item stands that has the one value of c.
@@ -73,12 +55,17 @@ fn is_picked(b: Arg, items: &[Arg], c: Arg, store: &Store) -> bool
     requires c { IsTrue (is_open store.now.box c) }
     ensures { result ≡ is_picked_in (pos 1) (left_to store.now.box b) (map (left_to store.now.box) items.now) (left_to store.now.box c) }
 {
-    for k in 0..items.len() {
-        if is_at(b, k as i64 + 1, items[k], c, store) {
-            return true;
-        }
+    if !is_fixed(b, store) {
+        return false;
     }
-    false
+    let place = least(b, store);
+    if place < 1 {
+        return false;
+    }
+    if place > items.len() as i64 {
+        return false;
+    }
+    are_one_value(items[place as usize - 1], c, store)
 }
 
 // Whether an element with these arguments is entailed so.
