@@ -70,6 +70,6 @@ placed box items b c v a e s low high =
     let place : v ≡ pos 1 +ℤ pos (nat_abs v - 1) = grind (arith, ints, low) in
     let item = get_or-map (left_to box) items (nat_abs v - 1) a (left_to box a) within in
     sym (
-        item_picked (pos 1) (left_to box b) (map (left_to box) items) (left_to box c) (nat_abs v - 1) (left_to box a) (omega (arith, many, within)) s (sym e ∙ place)
-        ∙ ap (λ d. are_one_value d (left_to box c)) item
+    item_picked (pos 1) (left_to box b) (map (left_to box) items) (left_to box c) (nat_abs v - 1) (left_to box a) (omega (arith, many, within)) s (sym e ∙ place)
+    ∙ ap (λ d. are_one_value d (left_to box c)) item
     )

@@ -28,7 +28,7 @@ returns-then-place-items c =
     let small : SFits w64 c.least-place.result = search rules in
     let t = simp to_z-of_z at c.if-place-items.true in
     let s : (pos 1 +ℤ pos (length (map (left_to c.args.store.now.box) c.args.items.now))) ≤ℤ least_value (left_to c.args.store.now.box c.args.b) =
-        grind (arith, ints, n, c.requires.few, c.least-place.ensures, t) in
+    grind (arith, ints, n, c.requires.few, c.least-place.ensures, t) in
     sym (behind_picked (pos 1) (left_to c.args.store.now.box c.args.b) (map (left_to c.args.store.now.box) c.args.items.now) (left_to c.args.store.now.box c.args.c) s)
 
 pub returns : goal.returns
