@@ -1,6 +1,7 @@
 pub mod ClauseLaws
 pub mod Distances
 pub mod EndsCounted
+pub mod Filled
 pub mod FullRanges
 pub mod ItemLaws
 pub mod ItemPlaces

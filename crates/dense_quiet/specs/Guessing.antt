@@ -1,16 +1,33 @@
 -- What a guess that is sure promises.
-use Rattle.std.specs.Prelude.{ℕ, ◌<◌, ◌+◌, Bool, not, ◌||◌, cond, List, length, get_or, set, IsTrue, ℤ, pos}
+use Rattle.std.specs.Prelude.{ℕ, ◌<◌, ◌+◌, Bool, not, ◌||◌, cond, List, length, get_or, set, IsTrue, IsFalse, ℤ, pos, int_lt}
 use Rattle.std.specs.List.{list_all}
 use Rattle.qc_model.specs.declared.problem.Argument.{Argument}
 use Rattle.qc_model.specs.Content.{Rule}
-use Rattle.qc_model.specs.Domains.{Values, Box, values_left, has_value, is_within}
+use Rattle.qc_model.specs.Domains.{Values, Box, values_left, has_value, is_none_left, is_within}
 use Rattle.qc_model.specs.Refuted.{left_to, refuted_by}
 use Rattle.model_arguments.specs.Repeats.{is_variable}
 use Rattle.model_arguments.specs.Written.{arg_at, ints_at}
 
--- of the values left to x the constraint refutes all together that aren't from low to high, and whichever of them are left
+-- where p holds of some of the values, whichever these are, the test passes for them together
+abbrev pub PassesFor : (Values → Bool) → Values → (ℤ → Bool) → Type 0
+PassesFor test d p = (vs : Values) → IsFalse (is_none_left vs) → IsTrue (list_all (has_value d) vs) → IsTrue (list_all p vs) → IsTrue (test vs)
+
+-- so it does for values below low, and for values above high
+pub record PassesOutside (test : Values → Bool) (d : Values) (low high : ℤ) : Type 0 where
+  pub below : PassesFor test d (λ v. int_lt v low)
+  pub above : PassesFor test d (λ v. int_lt high v)
+
+-- the constraint refutes the box with these values alone left to x
+abbrev pub refuted_with : Rule → ℕ → Box → Values → Bool
+refuted_with c x box vs = refuted_by c (set box x vs)
+
+-- so it does with any of those left to x below low, and with any of those above high
 abbrev pub IsKept : Rule → ℕ → Box → ℤ → ℤ → Type 0
-IsKept c x box low high = (vs : Values) → IsTrue (list_all (has_value (values_left box x)) vs) → IsTrue (list_all (λ v. not (is_within low high v)) vs) → IsTrue (refuted_by c (set box x vs))
+IsKept c x box low high = PassesOutside (refuted_with c x box) (values_left box x) low high
+
+-- and with any that aren't from low to high, on both sides at once
+abbrev pub IsSpared : Rule → ℕ → Box → ℤ → ℤ → Type 0
+IsSpared c x box low high = (vs : Values) → IsTrue (list_all (has_value (values_left box x)) vs) → IsTrue (list_all (λ v. not (is_within low high v)) vs) → IsTrue (refuted_with c x box vs)
 
 -- where a place of the array, counted from 1, and its number are both left, the place is from low to high; or, if not for places, the
 -- number is

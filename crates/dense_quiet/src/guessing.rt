@@ -5,13 +5,14 @@
 ghost use Rattle.std.specs.Prelude.{◌≡◌, ◌≤◌, ◌<◌, ◌+◌, ◌≤ℤ◌, ℕ, pos, cond, length, IsTrue, IsFalse};
 ghost use Rattle.std.specs.List.{list_all};
 ghost use Rattle.qc_model.specs.Arguments.{variables_of};
-ghost use Rattle.qc_model.specs.Domains.{has_empty, has_value, is_within as is_in};
+ghost use Rattle.qc_model.specs.Domains.{has_value, is_within as is_in};
 ghost use Rattle.qc_model.specs.Lists.{Distinct};
+ghost use Rattle.qc_model.specs.Meaning.{meaning_of as meaning_by, element};
 ghost use Rattle.qc_model.specs.Refuted.{left_to};
 ghost use Rattle.model_arguments.specs.Asked.{IsAsked};
 ghost use Rattle.model_arguments.specs.Repeats.{is_variable as is_the_variable};
 ghost use Rattle.qc_refuter.specs.Met.{are_met, is_open};
-ghost use Rattle.dense_quiet.specs.Guessing.{IsKept, IsSpread, IsSpreadOf};
+ghost use Rattle.dense_quiet.specs.Guessing.{IsKept, IsSpared, IsSpread, IsSpreadOf};
 
 use crate::ends::Ends;
 use crate::reading::{arg_met, ends_of, has, items_met};
@@ -51,7 +52,7 @@ fn joined(s: Stretch, n: i64) -> Stretch
 
 // A guess of which nothing is promised.
 #[inline(always)]
-fn guessed(stretch: Stretch) -> Kept
+pub(crate) fn guessed(stretch: Stretch) -> Kept
     ensures { IsFalse result.sure }
 {
     Kept {
@@ -60,44 +61,14 @@ fn guessed(stretch: Stretch) -> Kept
     }
 }
 
+/// Whether the argument is the variable.
 #[inline(always)]
-fn is_variable(arg: Arg, x: VarId) -> bool
+pub(crate) fn is_variable(arg: Arg, x: VarId) -> bool
     ensures { result ≡ is_the_variable arg x.0 }
 {
     match arg {
         Arg::Num(_) => false,
         Arg::Var(y) => y.0 == x.0,
-    }
-}
-
-// Whether the number is one of the stretch.
-fn is_within(n: i64, s: Stretch) -> bool {
-    s.low <= n && n <= s.high
-}
-
-/// Which values numbers that some items fill leave x, another item or one of these: all of them where both its ends are among the
-/// numbers, since then it may be one of those items.
-pub fn kept_beside(filled: Stretch, x: VarId, store: &Store) -> Stretch
-    requires x { x.0 < length store.now.box }
-    requires full { IsFalse (has_empty store.now.box) }
-{
-    let low = store.min(x);
-    let high = store.max(x);
-    let begins = is_within(low, filled);
-    let ends = is_within(high, filled);
-    if begins == ends {
-        return Stretch { low, high };
-    }
-    if begins {
-        Stretch {
-            low: filled.high.saturating_add(1),
-            high,
-        }
-    } else {
-        Stretch {
-            low,
-            high: filled.low.saturating_sub(1),
-        }
     }
 }
 
@@ -431,10 +402,11 @@ pub(crate) fn gives_guess(rule: &Constraint) -> bool {
 }
 
 /// Which values the constraint leaves x, by the ends of what is left to its arguments. Where that is sure, and no variable stands twice,
-/// it refutes all others.
+/// it refutes those below them together, and those above them; of an array of numbers all others together.
 pub fn kept_by_ends(problem: &Problem, rule: &Constraint, x: VarId, store: &Store) -> Kept
     requires { IsAsked problem.now rule.now store.now.box }
-    ensures { IsTrue result.sure → Distinct (variables_of rule.now.args) → IsKept rule.now x.0 store.now.box result.stretch.low result.stretch.high }
+    ensures kept { IsTrue result.sure → Distinct (variables_of rule.now.args) → IsKept rule.now x.0 store.now.box result.stretch.low result.stretch.high }
+    ensures array { meaning_by rule.now.pred ≡ element → IsTrue result.sure → Distinct (variables_of rule.now.args) → IsSpared rule.now x.0 store.now.box result.stretch.low result.stretch.high }
 {
     problem.known();
     let row = meaning_of(rule.pred);
