@@ -1,9 +1,9 @@
 //! The ends that go by what was seen of a constraint.
 //!
 //! One reading tells how far each of a constraint's variables can go. For sums that is so by a law (`trimming`); of others it's a
-//! guess, where there is one. Where the guess is sure, as of an array of numbers, or of numbers that other items fill, the values
-//! past it go by a law too; else they go where the constraint refutes them together, which it is asked once. So few ends are sought step
-//! by step.
+//! guess, where there is one. Where the guess is sure, as of an array of numbers, of the sum of two numbers, or of numbers that other
+//! items fill, the values past it go by a law too; else they go where the constraint refutes them together, which it is asked once. So
+//! few ends are sought step by step.
 ghost use Rattle.std.specs.Prelude.{◌≡◌, ◌≢◌, ◌<◌, pos, length, slice_get, Some, IsTrue, IsFalse};
 ghost use Rattle.qc_model.specs.Content.{Rule};
 ghost use Rattle.qc_model.specs.Domains.{has_empty};

@@ -7,6 +7,7 @@ pub mod ItemLaws
 pub mod ItemPlaces
 pub mod LeftAlone
 pub mod OneEnd
+pub mod Outside
 pub mod PastRoom
 pub mod Placed
 pub mod Places

@@ -18,8 +18,8 @@
 //!   give a guess, but for comparisons with their truth.
 //!
 //! What filled numbers and ends tell of a variable is a guess (`kept_beside`, `kept_by_ends`), of which mostly nothing is promised: what
-//! lies outside it goes only where the constraint, asked once, refutes it. It is sure of arrays of numbers, and of filled numbers where
-//! the items that fill them are counted (`filling`): then what lies outside goes without asking.
+//! lies outside it goes only where the constraint, asked once, refutes it. It is sure of arrays of numbers, of the sum of two numbers, and
+//! of filled numbers where the items that fill them are counted (`filling`): then what lies outside goes without asking.
 #![tactic(auto)]
 
 mod clauses;
