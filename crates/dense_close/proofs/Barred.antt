@@ -1,6 +1,6 @@
 -- Values of a variable that a sum refutes because they are past its room.
-use Rattle.std.proofs.Common.{◌≡◌, ◌≢◌, ℕ, zero, suc, ◌<◌, true, false, not, List, [], ◌∷◌, length, set, refl, sym, ap, ◌∙◌, subst, arith, ℤ}
-use Rattle.std.specs.Prelude.{pos, ◌*ℤ◌, ◌≤ℤ◌, ◌<ℤ◌, slice_get, Some}
+use Rattle.std.proofs.Common.{◌≡◌, ◌≢◌, ℕ, zero, suc, ◌<◌, true, false, List, [], ◌∷◌, length, set, refl, sym, ap, ◌∙◌, subst, arith, ℤ}
+use Rattle.std.specs.Prelude.{pos, ◌*ℤ◌, ◌≤ℤ◌, ◌<ℤ◌, int_lt, slice_get, Some}
 use Rattle.std.specs.List.{list_all}
 use Rattle.std.proofs.lemmas.Int.{ints}
 use Rattle.std.proofs.lemmas.Option.{same_Some}
@@ -14,7 +14,7 @@ use Rattle.qc_model.specs.Valid.{IsValid, is_number}
 use Rattle.model_arguments.specs.Asked.{is_box_of}
 use Rattle.model_arguments.specs.Written.{ints_at}
 use Rattle.model_arguments.proofs.Boxes.{some_left, left_small}
-use Rattle.model_arguments.proofs.Kept.{ordered, at_least, at_most, is_out_low, is_out_high}
+use Rattle.model_arguments.proofs.Kept.{ordered, at_least, at_most, is_lower}
 use Rattle.model_arguments.proofs.Values.{value_passes}
 use Rattle.model_table.proofs.Ordered.{constraint_at}
 use Rattle.qc_refuter.proofs.Ready.{rule_met}
@@ -101,23 +101,24 @@ barred_after g k x box now low high e f s b = λ c there vs some left within.
 
 -- so do those outside of what is left for sure
 pub sure_after : (s : Kept) (g : Game) (k x : ℕ) (box now : Box) → length now ≡ length box → ((y : ℕ) → y ≢ x → values_left now y ≡ values_left box y) → is_sub_box now box ≡ true → IsSureOf s g k x box → IsSureOf s g k x now
-sure_after s g k x box now e f b h = λ sure c there vs left out.
-    subst (λ z. refuted_by c z ≡ true) (sym (set_alike now box x vs e f)) (h sure c there vs (left_before box now x vs b left) out)
+sure_after s g k x box now e f b h = λ sure c there.
+    let was = h sure c there in
+    record {
+      below = λ vs some left p. subst (λ z. refuted_by c z ≡ true) (sym (set_alike now box x vs e f)) (was.below vs some (left_before box now x vs b left) p);
+      above = λ vs some left p. subst (λ z. refuted_by c z ≡ true) (sym (set_alike now box x vs e f)) (was.above vs some (left_before box now x vs b left) p);
+    }
 
 -- values on one side of it are barred
-all_out : (low high from to : ℤ) (vs : Values) → ((v : ℤ) → is_within from to v ≡ true → not (is_within low high v) ≡ true) → list_all (is_within from to) vs ≡ true → list_all (λ v. not (is_within low high v)) vs ≡ true
-all_out low high from to vs f h = all_from (λ v. not (is_within low high v)) vs (λ v m. f v (value_passes (is_within from to) vs v h m))
-
 pub barred_below : (s : Kept) (g : Game) (k x : ℕ) (box : Box) (from to : ℤ) → s.sure ≡ true → to <ℤ s.stretch.low → IsSureOf s g k x box → IsBarred g k x box from to
 barred_below s g k x box from to sure below h = λ c there vs some left within.
-    h sure c there vs left (all_out s.stretch.low s.stretch.high from to vs (λ v w. is_out_low s.stretch.low s.stretch.high v (under v to s.stretch.low (at_most from to v w) below)) within)
+    (h sure c there).below vs some left (all_from (λ v. int_lt v s.stretch.low) vs (λ v m. is_lower v s.stretch.low (under v to s.stretch.low (at_most from to v (value_passes (is_within from to) vs v within m)) below)))
   where
     under : (a b c : ℤ) → a ≤ℤ b → b <ℤ c → a <ℤ c
     under a b c h k = omega (arith, ints)
 
 pub barred_above : (s : Kept) (g : Game) (k x : ℕ) (box : Box) (from to : ℤ) → s.sure ≡ true → s.stretch.high <ℤ from → IsSureOf s g k x box → IsBarred g k x box from to
 barred_above s g k x box from to sure above h = λ c there vs some left within.
-    h sure c there vs left (all_out s.stretch.low s.stretch.high from to vs (λ v w. is_out_high s.stretch.low s.stretch.high v (over s.stretch.high from v above (at_least from to v w))) within)
+    (h sure c there).above vs some left (all_from (λ v. int_lt s.stretch.high v) vs (λ v m. is_lower s.stretch.high v (over s.stretch.high from v above (at_least from to v (value_passes (is_within from to) vs v within m)))))
   where
     over : (a b c : ℤ) → a <ℤ b → b ≤ℤ c → a <ℤ c
     over a b c h k = omega (arith, ints)

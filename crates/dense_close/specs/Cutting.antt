@@ -36,7 +36,7 @@ abbrev pub IsBarred : Game → ℕ → ℕ → Box → ℤ → ℤ → Type 0
 IsBarred g k x box low high =
     (c : Rule) → slice_get g.constraints k ≡ Some c → (vs : Values) → IsFalse (is_none_left vs) → IsTrue (list_all (has_value (values_left box x)) vs) → IsTrue (list_all (is_within low high) vs) → IsTrue (refuted_by c (set box x vs))
 
--- where it is sure what constraint k leaves of x, that refutes all other values
+-- where it is sure what constraint k leaves of x, that refutes the values below, and those above
 abbrev pub IsSureOf : Kept → Game → ℕ → ℕ → Box → Type 0
 IsSureOf s g k x box = IsTrue s.sure → (c : Rule) → slice_get g.constraints k ≡ Some c → IsKept c x box s.stretch.low s.stretch.high
 

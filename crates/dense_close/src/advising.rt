@@ -1,8 +1,9 @@
 //! The ends that go by what was seen of a constraint.
 //!
 //! One reading tells how far each of a constraint's variables can go. For sums that is so by a law (`trimming`); of others it's a
-//! guess, where there is one. Where the guess is sure, as of an array of numbers, the values past it go by a law too; else they go where
-//! the constraint refutes them together, which it is asked once. So few ends are sought step by step.
+//! guess, where there is one. Where the guess is sure, as of an array of numbers, of the sum of two numbers, or of numbers that other
+//! items fill, the values past it go by a law too; else they go where the constraint refutes them together, which it is asked once. So
+//! few ends are sought step by step.
 ghost use Rattle.std.specs.Prelude.{◌≡◌, ◌≢◌, ◌<◌, pos, length, slice_get, Some, IsTrue, IsFalse};
 ghost use Rattle.qc_model.specs.Content.{Rule};
 ghost use Rattle.qc_model.specs.Domains.{has_empty};
@@ -133,6 +134,22 @@ fn cut_term(
     cut_by_room(problem, c, x, factor, room, remains)
 }
 
+// Takes the values of x among numbers that other items of the constraint c fill. Whether some went.
+fn cut_beside(problem: &Problem, c: ConId, x: VarId, filled: Stretch, remains: &mut Remains) -> bool
+    requires c { c.0 < length problem.now.constraints }
+    requires declared { IsTrue (is_box_of problem.now remains.old.box) }
+    requires full { IsFalse (has_empty remains.old.box) }
+    requires x { x.0 < length remains.old.box }
+    ensures cut { IsCut problem.now c.0 x.0 remains.old.box remains.new.box }
+    ensures past { Follows remains.old remains.new }
+    ensures gone { HasCut result remains.old.box remains.new.box }
+{
+    problem.known();
+    let rule = problem.constraint(c);
+    let kept = kept_beside(problem, rule, filled, x, remains.store());
+    cut_outside(problem, c, x, kept, remains)
+}
+
 /// Takes the values of x, the variable at this place of the constraint c, that it refutes by what was seen of it. Whether some went.
 pub(crate) fn cut_advised(
     problem: &Problem,
@@ -154,14 +171,7 @@ pub(crate) fn cut_advised(
     problem.known();
     match advice {
         Advice::Room(room) => cut_term(problem, c, place, x, room, remains),
-        Advice::Filled(filled) => {
-            let stretch = kept_beside(filled, x, remains.store());
-            let kept = Kept {
-                stretch,
-                sure: false,
-            };
-            cut_outside(problem, c, x, kept, remains)
-        }
+        Advice::Filled(filled) => cut_beside(problem, c, x, filled, remains),
         Advice::Ends => {
             let kept = kept_by_ends(problem, problem.constraint(c), x, remains.store());
             cut_outside(problem, c, x, kept, remains)

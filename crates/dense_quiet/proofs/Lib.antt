@@ -1,11 +1,13 @@
 pub mod ClauseLaws
 pub mod Distances
 pub mod EndsCounted
+pub mod Filled
 pub mod FullRanges
 pub mod ItemLaws
 pub mod ItemPlaces
 pub mod LeftAlone
 pub mod OneEnd
+pub mod Outside
 pub mod PastRoom
 pub mod Placed
 pub mod Places

@@ -158,25 +158,20 @@ quiet_two m test means takes r box e d s = spares_two test takes r box (arg_at r
         let ls = map (fill (left_to at)) r.args in
         ap (λ n. refuted_as n ls) e ∙ (means ls ∙ (ap (λ z. test z (left_at ls 1)) (left_written at r.args 0) ∙ ap (λ z. test (left_to at (arg_at r.args 0)) z) (left_written at r.args 1)))
 
+-- what refutes three arguments
+pub three_is : (m : Meaning) (test : Values → Values → Values → Bool) → ((ls : Lefts) → refuted_as m ls ≡ test (left_at ls 0) (left_at ls 1) (left_at ls 2)) → (r : Rule) → meaning_of r.pred ≡ m → (at : Box) →
+    refuted_by r at ≡ test (left_to at (arg_at r.args 0)) (left_to at (arg_at r.args 1)) (left_to at (arg_at r.args 2))
+three_is m test means r e at =
+    let ls = map (fill (left_to at)) r.args in
+    let a = arg_at r.args 0 in
+    let b = arg_at r.args 1 in
+    ap (λ n. refuted_as n ls) e
+    ∙ (means ls
+    ∙ (ap (λ z. test z (left_at ls 1) (left_at ls 2)) (left_written at r.args 0)
+    ∙ (ap (λ z. test (left_to at a) z (left_at ls 2)) (left_written at r.args 1)
+    ∙ ap (λ z. test (left_to at a) (left_to at b) z) (left_written at r.args 2))))
+
 pub quiet_three : (m : Meaning) (test : Values → Values → Values → Bool) → ((ls : Lefts) → refuted_as m ls ≡ test (left_at ls 0) (left_at ls 1) (left_at ls 2)) → (takes : Takes) (r : Rule) (box : Box) → meaning_of r.pred ≡ m → Distinct (variables_of r.args) →
     SparesThree test (takes r) (arg_at r.args 0) (arg_at r.args 1) (arg_at r.args 2) box → SparesTaken takes r box
 quiet_three m test means takes r box e d s =
-    spares_three test takes r box a b c (λ at h. is at ∙ h) (args_apart r.args 0 1 (omega arith) d) (args_apart r.args 0 2 (omega arith) d) (args_apart r.args 1 2 (omega arith) d) s
-  where
-    a : Arg
-    a = arg_at r.args 0
-
-    b : Arg
-    b = arg_at r.args 1
-
-    c : Arg
-    c = arg_at r.args 2
-
-    is : (at : Box) → refuted_by r at ≡ test (left_to at a) (left_to at b) (left_to at c)
-    is at =
-        let ls = map (fill (left_to at)) r.args in
-        ap (λ n. refuted_as n ls) e
-        ∙ (means ls
-        ∙ (ap (λ z. test z (left_at ls 1) (left_at ls 2)) (left_written at r.args 0)
-        ∙ (ap (λ z. test (left_to at a) z (left_at ls 2)) (left_written at r.args 1)
-        ∙ ap (λ z. test (left_to at a) (left_to at b) z) (left_written at r.args 2))))
+    spares_three test takes r box (arg_at r.args 0) (arg_at r.args 1) (arg_at r.args 2) (λ at h. three_is m test means r e at ∙ h) (args_apart r.args 0 1 (omega arith) d) (args_apart r.args 0 2 (omega arith) d) (args_apart r.args 1 2 (omega arith) d) s

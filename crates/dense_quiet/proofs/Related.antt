@@ -39,7 +39,7 @@ module _ (test : Range → Range → Range → Bool) (ok : ℕ → Bool) (x y z 
       })))
 
 -- a relation tests ranges alone
-by_ranges : (r : Relation) (ls : Lefts) → refuted_as (meaning_in r) ls ≡ refuted_in r (range_at ls 0) (range_at ls 1) (range_at ls 2)
+pub by_ranges : (r : Relation) (ls : Lefts) → refuted_as (meaning_in r) ls ≡ refuted_in r (range_at ls 0) (range_at ls 1) (range_at ls 2)
 by_ranges AtMost ls = refl
 by_ranges Below ls = refl
 by_ranges Sum ls = refl

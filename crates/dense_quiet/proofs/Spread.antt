@@ -1,11 +1,10 @@
 -- Values of a place or a number of an array that go because nothing is left with them.
 use Rattle.std.proofs.Common.{◌≡◌, ℕ, zero, suc, ◌<◌, ◌≤◌, ◌+◌, Bool, true, false, not, ◌&&◌, ◌||◌, cond, List, [], ◌∷◌, length, get_or, set, refl, sym, ap, ◌∙◌, subst, arith, ℤ, inl, inr}
-use Rattle.std.specs.Prelude.{pos, ◌+ℤ◌, ◌≤ℤ◌}
+use Rattle.std.specs.Prelude.{pos, ◌+ℤ◌, ◌≤ℤ◌, int_lt}
 use Rattle.std.specs.List.{list_all}
 use Rattle.std.proofs.lemmas.Int.{ints}
 use Rattle.std.proofs.lemmas.List.{get_or-set_other}
 use Rattle.std.proofs.lemmas.Bool.{or_from, not_from_false, false_from_ne_true}
-use Rattle.qc_model.specs.declared.predicates.Meaning.TheVariants.{Element}
 use Rattle.qc_model.specs.declared.predicates.Said.{Said}
 use Rattle.qc_model.specs.declared.problem.Arg.{Arg}
 use Rattle.qc_model.specs.declared.problem.Arg.TheVariants.{Var, Num}
@@ -22,9 +21,10 @@ use Rattle.qc_model.specs.RowMeaning.{plain_meaning, row_meaning}
 use Rattle.qc_model.proofs.Readable.{first, second}
 use Rattle.model_arguments.specs.Repeats.{is_variable, same_variable}
 use Rattle.model_arguments.specs.Written.{arg_at, ints_at}
-use Rattle.model_arguments.proofs.Kept.{at_least, at_most, inside, low_end, high_end, through}
+use Rattle.model_arguments.proofs.Kept.{at_least, at_most, inside, lower, is_out_low, is_out_high, low_end, high_end, through}
 use Rattle.model_arguments.proofs.Values.{value_passes}
-use Rattle.dense_quiet.specs.Guessing.{IsKept, IsSpread, IsSpreadOf}
+use Rattle.dense_closing.proofs.Within.{all_from}
+use Rattle.dense_quiet.specs.Guessing.{IsSpared, IsKept, IsSpread, IsSpreadOf}
 use Rattle.dense_quiet.specs.Quiet.{misses_number}
 use Rattle.dense_quiet.proofs.OneEnd.{args_apart, not_both}
 use Rattle.dense_quiet.proofs.Placed.{element_is}
@@ -66,7 +66,7 @@ numbers_gone : (b c vs : Values) (ns : List ℤ) (low high : ℤ) → IsSpread f
 numbers_gone b c vs ns low high s left o = none_at b vs ns (λ k l h m. outside low high vs (get_or ns k (pos 0)) o m (s k l h (value_passes (has_value c) vs (get_or ns k (pos 0)) left m)))
 
 -- another argument has what it had
-kept_left : (box : Box) (x : ℕ) (vs : Values) (a : Arg) → is_variable a x ≡ false → left_to (set box x vs) a ≡ left_to box a
+pub kept_left : (box : Box) (x : ℕ) (vs : Values) (a : Arg) → is_variable a x ≡ false → left_to (set box x vs) a ≡ left_to box a
 kept_left box x vs (Num n) h = refl
 kept_left box x vs (Var y) h = get_or-set_other box x y.0 vs [] (apart_numbers y.0 x h)
 
@@ -80,15 +80,15 @@ own_at [] x vs h = sym (none_of_none vs h)
 own_at (d ∷ box) zero vs h = refl
 own_at (d ∷ box) (suc x) vs h = own_at box x vs h
 
-own_left : (box : Box) (x : ℕ) (vs : Values) (a : Arg) → is_variable a x ≡ true → list_all (has_value (values_left box x)) vs ≡ true → (left_to (set box x vs) a ≡ vs) × (list_all (has_value (left_to box a)) vs ≡ true)
+pub own_left : (box : Box) (x : ℕ) (vs : Values) (a : Arg) → is_variable a x ≡ true → list_all (has_value (values_left box x)) vs ≡ true → (left_to (set box x vs) a ≡ vs) × (list_all (has_value (left_to box a)) vs ≡ true)
 own_left box x vs (Num n) h left = cc
 own_left box x vs (Var y) h left =
     let e = sym (equal_numbers y.0 x h) in
     (subst (λ z. values_left (set box x vs) z ≡ vs) e (own_at box x vs left), subst (λ z. list_all (has_value (values_left box z)) vs ≡ true) e left)
 
 -- so the constraint refutes all others
-pub spread_kept : (r : Rule) (box : Box) (x : ℕ) (low high : ℤ) → meaning_of r.pred ≡ element → Distinct (variables_of r.args) → IsSpreadOf r.args x box low high → IsKept r x box low high
-spread_kept r box x low high e d s = λ vs left o. by vs left o (is_variable (arg_at r.args 0) x) refl
+pub spread_spared : (r : Rule) (box : Box) (x : ℕ) (low high : ℤ) → meaning_of r.pred ≡ element → Distinct (variables_of r.args) → IsSpreadOf r.args x box low high → IsSpared r x box low high
+spread_spared r box x low high e d s = λ vs left o. by vs left o (is_variable (arg_at r.args 0) x) refl
   where
     b : Arg
     b = arg_at r.args 0
@@ -117,8 +117,16 @@ spread_kept r box x low high e d s = λ vs left o. by vs left o (is_variable (ar
         let own = own_left box x vs c number left in
         misses (set box x vs) (left_to box b) vs (kept_left box x vs b q) own.0 (numbers_gone (left_to box b) (left_to box c) vs ns low high (spread false q) own.1 o)
 
-pub row_element : (s : Said) (p : Pred) → row_meaning s ≡ meaning_of p → s.reified ≡ false → s.meaning ≡ Element → meaning_of p ≡ element
-row_element s p e f m = sym e ∙ (ap (λ t. cond t (reified (plain_meaning s.meaning)) (plain_meaning s.meaning)) f ∙ ap plain_meaning m)
+-- those on one side among them
+pub spared_kept : (r : Rule) (box : Box) (x : ℕ) (low high : ℤ) → IsSpared r x box low high → IsKept r x box low high
+spared_kept r box x low high h = record {
+  below = λ vs some left b. h vs left (all_from (λ v. not (is_within low high v)) vs (λ v m. is_out_low low high v (lower v low (value_passes (λ w. int_lt w low) vs v b m))));
+  above = λ vs some left a. h vs left (all_from (λ v. not (is_within low high v)) vs (λ v m. is_out_high low high v (lower high v (value_passes (λ w. int_lt high w) vs v a m))));
+}
+
+-- the meaning of a predicate that has no truth
+pub row_plain : (s : Said) (p : Pred) → row_meaning s ≡ meaning_of p → s.reified ≡ false → meaning_of p ≡ plain_meaning s.meaning
+row_plain s p e f = sym e ∙ ap (λ t. cond t (reified (plain_meaning s.meaning)) (plain_meaning s.meaning)) f
 
 -- the places that a span has passed
 abbrev pub IsSeen : Bool → Values → List ℤ → Values → ℕ → ℕ → ℤ → ℤ → Type 0

@@ -6,3 +6,4 @@ pub mod Clauses
 pub mod Differing
 pub mod Advice
 pub mod Guessing
+pub mod Filling

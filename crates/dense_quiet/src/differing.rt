@@ -53,8 +53,8 @@ pub(crate) enum Sight {
     Unknown,
 }
 
-// The least value left to the item.
-fn least(item: Arg, store: &Store) -> i64
+/// The least value left to the item.
+pub(crate) fn least(item: Arg, store: &Store) -> i64
     requires { IsTrue (is_open store.now.box item) }
     ensures { result ≡ least_value (left_to store.now.box item) }
 {
@@ -64,8 +64,8 @@ fn least(item: Arg, store: &Store) -> i64
     }
 }
 
-// The greatest one.
-fn greatest(item: Arg, store: &Store) -> i64
+/// The greatest one.
+pub(crate) fn greatest(item: Arg, store: &Store) -> i64
     requires { IsTrue (is_open store.now.box item) }
     ensures { result ≡ greatest_value (left_to store.now.box item) }
 {

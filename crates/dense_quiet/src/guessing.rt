@@ -1,20 +1,28 @@
 //! Which values a constraint leaves a variable, by a guess: mostly from the ends of what is left to its arguments.
 //!
-//! Mostly nothing is promised of a guess: what lies outside it goes only where the constraint refutes it. Of an array of numbers a guess
-//! is sure: all places that are left with their numbers have been seen.
-ghost use Rattle.std.specs.Prelude.{◌≡◌, ◌≤◌, ◌<◌, ◌+◌, ◌≤ℤ◌, ℕ, pos, cond, length, IsTrue, IsFalse};
+//! Mostly nothing is promised of a guess: what lies outside it goes only where the constraint refutes it. Two guesses are sure. Of an
+//! array of numbers all places that are left with their numbers have been seen. And past the ends of a sum's guess the ends of what is
+//! left to the two others don't meet what is left.
+ghost use Rattle.std.specs.Prelude.{◌≡◌, ◌≤◌, ◌<◌, ◌+◌, ◌≤ℤ◌, ◌-ℤ◌, ℕ, pos, cond, length, IsTrue, IsFalse};
 ghost use Rattle.std.specs.List.{list_all};
 ghost use Rattle.qc_model.specs.Arguments.{variables_of};
-ghost use Rattle.qc_model.specs.Domains.{has_empty, has_value, is_within as is_in};
+ghost use Rattle.qc_model.specs.Domains.{has_value, is_within as is_in};
 ghost use Rattle.qc_model.specs.Lists.{Distinct};
+ghost use Rattle.qc_model.specs.Meaning.{meaning_of as meaning_by, element};
+ghost use Rattle.qc_model.specs.Ranges.{range_sum};
 ghost use Rattle.qc_model.specs.Refuted.{left_to};
+ghost use Rattle.qc_model.specs.Valid.{is_number};
 ghost use Rattle.model_arguments.specs.Asked.{IsAsked};
 ghost use Rattle.model_arguments.specs.Repeats.{is_variable as is_the_variable};
+ghost use Rattle.model_arguments.specs.Written.{arg_at};
 ghost use Rattle.qc_refuter.specs.Met.{are_met, is_open};
-ghost use Rattle.dense_quiet.specs.Guessing.{IsKept, IsSpread, IsSpreadOf};
+ghost use Rattle.dense_quiet.specs.declared.relating.Relation.TheVariants.{Sum};
+ghost use Rattle.dense_quiet.specs.Guessing.{IsKept, IsSpared, KeepsOneOf, IsSpread, IsSpreadOf, range_kept, range_less};
+ghost use Rattle.dense_quiet.specs.Quiet.{by_spans, range_in, refuted_in};
 
 use crate::ends::Ends;
 use crate::reading::{arg_met, ends_of, has, items_met};
+use crate::relating::sum;
 use crate::stretch::{Kept, Stretch};
 use fd_store::Store;
 use model_arguments::{Span, arguments, items_at, numbers_at};
@@ -51,7 +59,7 @@ fn joined(s: Stretch, n: i64) -> Stretch
 
 // A guess of which nothing is promised.
 #[inline(always)]
-fn guessed(stretch: Stretch) -> Kept
+pub(crate) fn guessed(stretch: Stretch) -> Kept
     ensures { IsFalse result.sure }
 {
     Kept {
@@ -60,44 +68,14 @@ fn guessed(stretch: Stretch) -> Kept
     }
 }
 
+/// Whether the argument is the variable.
 #[inline(always)]
-fn is_variable(arg: Arg, x: VarId) -> bool
+pub(crate) fn is_variable(arg: Arg, x: VarId) -> bool
     ensures { result ≡ is_the_variable arg x.0 }
 {
     match arg {
         Arg::Num(_) => false,
         Arg::Var(y) => y.0 == x.0,
-    }
-}
-
-// Whether the number is one of the stretch.
-fn is_within(n: i64, s: Stretch) -> bool {
-    s.low <= n && n <= s.high
-}
-
-/// Which values numbers that some items fill leave x, another item or one of these: all of them where both its ends are among the
-/// numbers, since then it may be one of those items.
-pub fn kept_beside(filled: Stretch, x: VarId, store: &Store) -> Stretch
-    requires x { x.0 < length store.now.box }
-    requires full { IsFalse (has_empty store.now.box) }
-{
-    let low = store.min(x);
-    let high = store.max(x);
-    let begins = is_within(low, filled);
-    let ends = is_within(high, filled);
-    if begins == ends {
-        return Stretch { low, high };
-    }
-    if begins {
-        Stretch {
-            low: filled.high.saturating_add(1),
-            high,
-        }
-    } else {
-        Stretch {
-            low,
-            high: filled.low.saturating_sub(1),
-        }
     }
 }
 
@@ -115,33 +93,76 @@ fn of_order(a: Arg, b: Arg, gap: i64, x: VarId, store: &Store) -> Stretch
     s
 }
 
+// The difference of two numbers within the limit.
+#[inline(always)]
+fn less(a: i64, b: i64) -> i64
+    requires a { IsTrue (is_number a) }
+    requires b { IsTrue (is_number b) }
+    ensures { result ≡ (a -ℤ b) }
+{
+    a - b
+}
+
 // The numbers of c without those of a.
-fn difference(c: Ends, a: Ends) -> Stretch {
+#[inline(always)]
+fn difference(c: Ends, a: Ends) -> Stretch
+    ensures { range_kept result ≡ range_less (range_in c) (range_in a) }
+{
     Stretch {
-        low: c.least.saturating_sub(a.greatest),
-        high: c.greatest.saturating_sub(a.least),
+        low: less(c.least, a.greatest),
+        high: less(c.greatest, a.least),
+    }
+}
+
+// The numbers of a with those of b.
+#[inline(always)]
+fn total(a: Ends, b: Ends) -> Stretch
+    ensures { range_kept result ≡ range_sum (range_in a) (range_in b) }
+{
+    Stretch {
+        low: sum(a.least, b.least),
+        high: sum(a.greatest, b.greatest),
     }
 }
 
 // Of a sum of a and b to be c.
-fn of_sum(a: Arg, b: Arg, c: Arg, x: VarId, store: &Store) -> Stretch
+fn of_sum(a: Arg, b: Arg, c: Arg, x: VarId, store: &Store) -> Kept
     requires a { IsTrue (is_open store.now.box a) }
     requires b { IsTrue (is_open store.now.box b) }
     requires c { IsTrue (is_open store.now.box c) }
+    ensures { IsTrue result.sure → KeepsOneOf (by_spans (refuted_in Sum)) x.0 a b c store.now.box result.stretch.low result.stretch.high }
 {
     let one = ends_of(a, store);
     let other = ends_of(b, store);
-    let sum = ends_of(c, store);
+    let both = ends_of(c, store);
     if is_variable(a, x) {
-        return difference(sum, other);
+        return Kept {
+            stretch: difference(both, other),
+            sure: true,
+        };
     }
     if is_variable(b, x) {
-        return difference(sum, one);
+        return Kept {
+            stretch: difference(both, one),
+            sure: true,
+        };
     }
-    Stretch {
-        low: one.least.saturating_add(other.least),
-        high: one.greatest.saturating_add(other.greatest),
+    let is_sum = is_variable(c, x);
+    Kept {
+        stretch: total(one, other),
+        sure: is_sum,
     }
+}
+
+// The same of a constraint with these arguments.
+fn kept_in_sum(args: &[Argument], x: VarId, store: &Store) -> Kept
+    requires { IsTrue (are_met store.now.box args.now) }
+    ensures { IsTrue result.sure → KeepsOneOf (by_spans (refuted_in Sum)) x.0 (arg_at args.now 0) (arg_at args.now 1) (arg_at args.now 2) store.now.box result.stretch.low result.stretch.high }
+{
+    let a = arg_met(args, 0, store);
+    let b = arg_met(args, 1, store);
+    let c = arg_met(args, 2, store);
+    of_sum(a, b, c, x, store)
 }
 
 // A factor of products from low to high, where the other factor is a number above 0.
@@ -406,7 +427,6 @@ fn guess_as(meaning: Meaning, args: &[Argument], x: VarId, store: &Store) -> Str
         Meaning::AtMost => of_order(a, b, 0, x, store),
         Meaning::Below => of_order(a, b, 1, x, store),
         Meaning::Equal => shared(ends_of(a, store), ends_of(b, store)),
-        Meaning::Plus => of_sum(a, b, c, x, store),
         Meaning::Times => of_product(a, b, c, x, store),
         Meaning::Smaller => of_lesser(a, b, c, x, store),
         Meaning::Greater => of_greater(a, b, c, x, store),
@@ -431,10 +451,11 @@ pub(crate) fn gives_guess(rule: &Constraint) -> bool {
 }
 
 /// Which values the constraint leaves x, by the ends of what is left to its arguments. Where that is sure, and no variable stands twice,
-/// it refutes all others.
+/// it refutes those below them together, and those above them; of an array of numbers all others together.
 pub fn kept_by_ends(problem: &Problem, rule: &Constraint, x: VarId, store: &Store) -> Kept
     requires { IsAsked problem.now rule.now store.now.box }
-    ensures { IsTrue result.sure → Distinct (variables_of rule.now.args) → IsKept rule.now x.0 store.now.box result.stretch.low result.stretch.high }
+    ensures kept { IsTrue result.sure → Distinct (variables_of rule.now.args) → IsKept rule.now x.0 store.now.box result.stretch.low result.stretch.high }
+    ensures array { meaning_by rule.now.pred ≡ element → IsTrue result.sure → Distinct (variables_of rule.now.args) → IsSpared rule.now x.0 store.now.box result.stretch.low result.stretch.high }
 {
     problem.known();
     let row = meaning_of(rule.pred);
@@ -443,6 +464,7 @@ pub fn kept_by_ends(problem: &Problem, rule: &Constraint, x: VarId, store: &Stor
     }
     match row.meaning {
         Meaning::Element => kept_in_array(arguments(rule), x, store),
+        Meaning::Plus => kept_in_sum(arguments(rule), x, store),
         _ => guessed(guess_as(row.meaning, arguments(rule), x, store)),
     }
 }

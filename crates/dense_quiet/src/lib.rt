@@ -18,8 +18,8 @@
 //!   give a guess, but for comparisons with their truth.
 //!
 //! What filled numbers and ends tell of a variable is a guess (`kept_beside`, `kept_by_ends`), of which mostly nothing is promised: what
-//! lies outside it goes only where the constraint, asked once, refutes it. Of arrays of numbers it is sure, and what lies outside goes
-//! without asking.
+//! lies outside it goes only where the constraint, asked once, refutes it. It is sure of arrays of numbers, of the sum of two numbers, and
+//! of filled numbers where the items that fill them are counted (`filling`): then what lies outside goes without asking.
 #![tactic(auto)]
 
 mod clauses;
@@ -27,6 +27,7 @@ mod differing;
 mod elements;
 mod ends;
 mod equality;
+mod filling;
 mod guessing;
 mod items;
 mod moving;
@@ -40,7 +41,8 @@ mod summing;
 mod taking;
 mod told;
 
-pub use guessing::{kept_beside, kept_by_ends};
+pub use filling::kept_beside;
+pub use guessing::kept_by_ends;
 pub use moving::{factor_at, is_free, past_greatest, past_least};
 pub use seeing::{Advice, Seen, see};
 pub use slack::Room;

@@ -40,9 +40,9 @@ fn misses(numbers: Reach, ends: Ends) -> bool
     numbers.to < ends.least || ends.greatest < numbers.from
 }
 
-// The sum of two numbers within the limit.
+/// The sum of two numbers within the limit.
 #[inline(always)]
-fn sum(a: i64, b: i64) -> i64
+pub(crate) fn sum(a: i64, b: i64) -> i64
     requires a { IsTrue (is_number a) }
     requires b { IsTrue (is_number b) }
     ensures { result ≡ (a +ℤ b) }

@@ -7,7 +7,8 @@ pub struct Stretch {
     pub high: i64,
 }
 
-/// The numbers that a constraint leaves a variable, by a guess; where it is sure, the constraint refutes all others.
+/// The numbers that a constraint leaves a variable, by a guess; where it is sure, the constraint refutes those below them together, and
+/// those above them.
 #[derive(Clone, Copy)]
 pub struct Kept {
     pub stretch: Stretch,

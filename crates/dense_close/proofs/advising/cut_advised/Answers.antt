@@ -22,14 +22,14 @@ cut_term-requires-clause-tells c = λ r e. (subst (λ a. AdviceTells a r c.args.
 pub kept_by_ends-kept-requires : goal.kept_by_ends-kept-requires
 kept_by_ends-kept-requires c =
     let g = c.args.problem.now in
-    subst (λ (h : Held). IsAsked g c.constraint.result.now h.box) (sym c.store-in-Ends.ensures) (asked g c.known.ensures c.args.remains.now.box c.requires.declared c.requires.full c.args.c.0 c.constraint.result.now c.constraint.ensures)
+    subst (λ (h : Held). IsAsked g c.constraint.result.now h.box) (sym c.store.ensures) (asked g c.known.ensures c.args.remains.now.box c.requires.declared c.requires.full c.args.c.0 c.constraint.result.now c.constraint.ensures)
 
-pub cut_outside-requires-in-Ends-clause-told : goal.cut_outside-requires-in-Ends-clause-told
-cut_outside-requires-in-Ends-clause-told c = λ sure.
+pub cut_outside-requires-clause-told : goal.cut_outside-requires-clause-told
+cut_outside-requires-clause-told c = λ sure.
     let g = c.args.problem.now in
     let r = c.constraint.result.now in
     let box = c.args.remains.now.box in
     let s = c.kept_by_ends-kept.result.stretch in
     let apart : Distinct (variables_of r.args) = subst (λ a. AdviceTells a r box) c.in-Ends.is (c.requires.tells r c.constraint.ensures) in
-    let kept : IsKept r c.args.x.0 box s.low s.high = subst (λ (h : Held). IsKept r c.args.x.0 h.box s.low s.high) c.store-in-Ends.ensures (c.kept_by_ends-kept.ensures sure apart) in
+    let kept : IsKept r c.args.x.0 box s.low s.high = subst (λ (h : Held). IsKept r c.args.x.0 h.box s.low s.high) c.store.ensures (c.kept_by_ends-kept.ensures.kept sure apart) in
     one_rule g c.args.c.0 r c.constraint.ensures (λ z. IsKept z c.args.x.0 box s.low s.high) kept
