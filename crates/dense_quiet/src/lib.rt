@@ -41,8 +41,8 @@ mod taking;
 mod told;
 
 pub use guessing::{kept_beside, kept_by_ends};
-pub use moving::{factor_at, is_free, past_greatest, past_least};
+pub use moving::{factor_at, is_free, past_greatest, past_least, past_room};
 pub use seeing::{Advice, Seen, see};
-pub use slack::Room;
+pub use slack::{Room, is_quiet_term};
 pub use stretch::{Kept, Stretch};
 pub use taking::{Taking, is_universal, may_take, owner_of};
