@@ -30,13 +30,13 @@ use Rattle.dense_close.proofs.Indexed.{some_at}
 use Rattle.dense_quiet.proofs.PastRoom.{IsIn, term, least_in, greatest_in, past_refuted}
 
 -- the numbers of a constraint are within the limit
-number_passes : (ns : List ℤ) (i : ℕ) (n : ℤ) → list_all is_number ns ≡ true → slice_get ns i ≡ Some n → is_number n ≡ true
+pub number_passes : (ns : List ℤ) (i : ℕ) (n : ℤ) → list_all is_number ns ≡ true → slice_get ns i ≡ Some n → is_number n ≡ true
 number_passes [] zero n h e = cc
 number_passes [] (suc i) n h e = cc
 number_passes (m ∷ ns) zero n h e = subst (λ z. is_number z ≡ true) (same_Some m n e) (first (is_number m) (list_all is_number ns) h)
 number_passes (m ∷ ns) (suc i) n h e = number_passes ns i n (second (is_number m) (list_all is_number ns) h) e
 
-numbers_small : (box : Box) (args : List Argument) (k : ℕ) → are_met box args ≡ true → list_all is_number (ints_at args k) ≡ true
+pub numbers_small : (box : Box) (args : List Argument) (k : ℕ) → are_met box args ≡ true → list_all is_number (ints_at args k) ≡ true
 numbers_small box [] zero h = refl
 numbers_small box [] (suc k) h = refl
 numbers_small box (One a ∷ args) zero h = refl

@@ -1,4 +1,5 @@
 pub mod Advised
+pub mod AtMost
 pub mod Barred
 pub mod Cuts
 pub mod Found

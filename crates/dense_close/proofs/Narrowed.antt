@@ -1,5 +1,5 @@
 -- What a closing leaves as it goes on, and which constraints keep it.
-use Rattle.std.proofs.Common.{◌≡◌, ℕ, zero, suc, ◌==◌, Bool, true, false, not, ◌&&◌, ◌||◌, cond, List, [], ◌∷◌, length, set, refl, sym, ap, ◌∙◌, subst, arith, ℤ}
+use Rattle.std.proofs.Common.{◌≡◌, ◌≢◌, ℕ, zero, suc, ◌==◌, Bool, true, false, not, ◌&&◌, ◌||◌, cond, List, [], ◌∷◌, length, set, refl, sym, ap, ◌∙◌, subst, arith, ℤ}
 use Rattle.std.specs.Prelude.{slice_get, Some}
 use Rattle.std.specs.List.{list_all}
 use Rattle.std.proofs.lemmas.List.{length-set}
@@ -81,16 +81,20 @@ module _ (g : Game) (c : Rule) (b d : Box) (l : length b ≡ length d) (h : (y :
 pub less_marked : (was then : Waiting) (k : ℕ) → ((j : ℕ) → is_marked was j ≡ true → is_marked then j ≡ true) → is_marked then k ≡ false → is_marked was k ≡ false
 less_marked was then k f u = false_from_ne_true (is_marked was k) (λ m. clash (is_marked then k) (f k m) u)
 
--- after one constraint took values of x, and those that have x wait, the others are settled as before
-pub others_woken : (t : Taking) (g : Game) (ix : Index) (first end own x : ℕ) (was then : Waiting) (box now : Box) → IsIndexOf g ix → IsCut g own x box now → ((j : ℕ) → is_marked was j ≡ true → is_marked then j ≡ true) →
-    ((k : ℕ) → is_between first end k ≡ true → has_it ix.having k x ≡ true → is_marked then k ≡ true) → OthersSettled own t g first end was box → OthersSettled own t g first end then now
-others_woken t g ix first end own x was then box now i h kept woken old k b n u c e = by (is_among (variables_of c.args) x) refl
+-- after one constraint took values of x, and the others that have x wait, the others are settled as before
+pub others_told : (t : Taking) (g : Game) (ix : Index) (first end own x : ℕ) (was then : Waiting) (box now : Box) → IsIndexOf g ix → IsCut g own x box now → ((j : ℕ) → is_marked was j ≡ true → is_marked then j ≡ true) →
+    ((k : ℕ) → is_between first end k ≡ true → k ≢ own → has_it ix.having k x ≡ true → is_marked then k ≡ true) → OthersSettled own t g first end was box → OthersSettled own t g first end then now
+others_told t g ix first end own x was then box now i h kept woken old k b n u c e = by (is_among (variables_of c.args) x) refl
   where
     by : (a : Bool) → is_among (variables_of c.args) x ≡ a → keeps_box (takes_of t g) now c ≡ true
-    by true m = absurd (clash (is_marked then k) (woken k b (all_at (has_it ix.having k) (variables_of c.args) x (i.told k c e) (own_of (variables_of c.args) x m))) u)
+    by true m = absurd (clash (is_marked then k) (woken k b n (all_at (has_it ix.having k) (variables_of c.args) x (i.told k c e) (own_of (variables_of c.args) x m))) u)
     by false m =
         keeps_same g c now box h.count (λ y a. h.others y (λ q. clash (is_among (variables_of c.args) x) (subst (λ z. is_among (variables_of c.args) z ≡ true) q a) m)) (takes_of t g)
         (old k b n (less_marked was then k kept u) c e)
+
+pub others_woken : (t : Taking) (g : Game) (ix : Index) (first end own x : ℕ) (was then : Waiting) (box now : Box) → IsIndexOf g ix → IsCut g own x box now → ((j : ℕ) → is_marked was j ≡ true → is_marked then j ≡ true) →
+    ((k : ℕ) → is_between first end k ≡ true → has_it ix.having k x ≡ true → is_marked then k ≡ true) → OthersSettled own t g first end was box → OthersSettled own t g first end then now
+others_woken t g ix first end own x was then box now i h kept woken old = others_told t g ix first end own x was then box now i h kept (λ k b n m. woken k b m) old
 
 -- where it doesn't refute the box with one value of x, it doesn't refute the box
 pub stands_by : (g : Game) → IsValid g → (k : ℕ) (c : Rule) (box : Box) (x : ℕ) (v : ℤ) → slice_get g.constraints k ≡ Some c → is_box_of g box ≡ true → has_empty box ≡ false → has_value (values_left box x) v ≡ true → refutes_at c box x v ≡ false → refuted_by c box ≡ false

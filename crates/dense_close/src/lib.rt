@@ -21,6 +21,7 @@
 
 mod advising;
 mod answerless;
+mod bounding;
 mod closer;
 mod cutting;
 mod having;

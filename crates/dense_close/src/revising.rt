@@ -10,12 +10,14 @@ ghost use Rattle.model_levels.specs.Spans.{is_between};
 ghost use Rattle.fd_store.specs.Held.{Follows};
 ghost use Rattle.dense_close.specs.Cutting.{IsCut, HasCut, SparesEnd};
 ghost use Rattle.dense_quiet.specs.Advice.{AdviceTells};
+ghost use Rattle.dense_quiet.specs.Slack.{IsBounded};
 ghost use Rattle.dense_quiet.specs.Taking.{takes_of};
 ghost use Rattle.dense_close.specs.Waiting.{Waiting};
 ghost use Rattle.dense_close.specs.Narrowing.{IsNarrowed, IsListOf, OthersSettled, HasLooked, IsRevised};
 ghost use Rattle.dense_close.specs.declared.cutting.End.TheVariants.{Least, Greatest};
 
 use crate::advising::cut_advised;
+use crate::bounding::bound_all;
 use crate::cutting::{End, cut_end};
 use crate::task::Task;
 use crate::waiting::WorkList;
@@ -331,6 +333,35 @@ fn revise_advised(
     revise_each(task, c, list, remains)
 }
 
+// The same where it is an at-most sum with so much room. It spares what is left, so it doesn't wait for what it took.
+fn revise_bounded(
+    task: &Task,
+    c: ConId,
+    room: i64,
+    list: &mut WorkList,
+    remains: &mut Remains,
+) -> Revised
+    requires c { c.0 < length task.now.problem.now.constraints }
+    requires inside { IsTrue (is_between task.now.span.first task.now.span.end c.0) }
+    requires declared { IsTrue (is_box_of task.now.problem.now remains.old.box) }
+    requires full { IsFalse (has_empty remains.old.box) }
+    requires list { IsListOf task.now.problem.now task.now.span.first task.now.span.end list.old }
+    requires others { OthersSettled c.0 task.now.taking task.now.problem.now task.now.span.first task.now.span.end list.old remains.old.box }
+    requires bounded { (rule : Rule) → slice_get task.now.problem.now.constraints c.0 ≡ Some rule → IsBounded rule room remains.old.box }
+    ensures narrowed { IsNarrowed task.now.taking task.now.problem.now task.now.from task.now.stop remains.old.box remains.new.box }
+    ensures past { Follows remains.old remains.new }
+    ensures list { IsListOf task.now.problem.now task.now.span.first task.now.span.end list.new }
+    ensures answer { IsRevised result task.now.taking task.now.problem.now task.now.from task.now.stop task.now.span.first task.now.span.end list.old list.new remains.old.box remains.new.box }
+{
+    task.problem.known();
+    let _ = task.problem.constraint(c);
+    if bound_all(task, c, room, list, remains) {
+        Revised::Changed
+    } else {
+        Revised::Stable
+    }
+}
+
 // The same for a constraint in which no variable stands twice.
 fn revise_apart(task: &Task, c: ConId, list: &mut WorkList, remains: &mut Remains) -> Revised
     requires c { c.0 < length task.now.problem.now.constraints }
@@ -351,13 +382,14 @@ fn revise_apart(task: &Task, c: ConId, list: &mut WorkList, remains: &mut Remain
     match see(task.problem, task.taking, rule, remains.store()) {
         Seen::Quiet => Revised::Stable,
         Seen::Refuted => Revised::Lost,
+        Seen::Bounded(room) => revise_bounded(task, c, room, list, remains),
         Seen::Advised(advice) => revise_advised(task, c, advice, list, remains),
         Seen::Nothing => revise_each(task, c, list, remains),
     }
 }
 
 /// Takes the ends that the constraint c of the span refutes and may take, each of its variables once. Where values went, all
-/// constraints that have the variable wait, c itself among them.
+/// constraints that have the variable wait, c itself among them, unless it spares what is left.
 pub(crate) fn revise(task: &Task, c: ConId, list: &mut WorkList, remains: &mut Remains) -> Revised
     requires inside { IsTrue (is_between task.now.span.first task.now.span.end c.0) }
     requires declared { IsTrue (is_box_of task.now.problem.now remains.old.box) }

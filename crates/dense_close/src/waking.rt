@@ -1,5 +1,5 @@
 //! Which constraints a change lets wait.
-ghost use Rattle.std.specs.Prelude.{◌≡◌, ◌<◌, ℕ, IsTrue, length};
+ghost use Rattle.std.specs.Prelude.{◌≡◌, ◌≢◌, ◌<◌, ℕ, IsTrue, length};
 ghost use Rattle.model_levels.specs.Spans.{is_between};
 ghost use Rattle.dense_close.specs.Index.{has_it};
 ghost use Rattle.dense_close.specs.Memory.{is_pending};
@@ -38,6 +38,31 @@ pub(crate) fn wake(task: &Task, x: VarId, list: &mut WorkList)
 {
     for c in task.index.having(x) {
         wake_one(task, *c, list);
+    }
+}
+
+// Lets c wait where it is in the span, unless it is this one.
+fn wake_other(task: &Task, own: ConId, c: ConId, list: &mut WorkList)
+    requires list { IsListOf task.now.problem.now task.now.span.first task.now.span.end list.old }
+    ensures list { IsListOf task.now.problem.now task.now.span.first task.now.span.end list.new }
+    ensures kept { (k : ℕ) → IsTrue (is_marked list.old k) → IsTrue (is_marked list.new k) }
+    ensures woken { c.0 ≢ own.0 → IsTrue (is_between task.now.span.first task.now.span.end c.0) → IsTrue (is_marked list.new c.0) }
+{
+    if c.0 == own.0 {
+        return;
+    }
+    wake_one(task, c, list);
+}
+
+/// Lets the constraints of the span that have x wait, but for this one.
+pub(crate) fn wake_others(task: &Task, own: ConId, x: VarId, list: &mut WorkList)
+    requires list { IsListOf task.now.problem.now task.now.span.first task.now.span.end list.old }
+    ensures list { IsListOf task.now.problem.now task.now.span.first task.now.span.end list.new }
+    ensures kept { (k : ℕ) → IsTrue (is_marked list.old k) → IsTrue (is_marked list.new k) }
+    ensures woken { (k : ℕ) → IsTrue (is_between task.now.span.first task.now.span.end k) → k ≢ own.0 → IsTrue (has_it task.now.index.now.having k x.0) → IsTrue (is_marked list.new k) }
+{
+    for c in task.index.having(x) {
+        wake_other(task, own, *c, list);
     }
 }
 

@@ -30,7 +30,7 @@ by_right a w (suc e) = ap (λ z. z *ℤ a) (+ℤ-suc_ℤ w (pos e)) ∙ (suc_ℤ
 reached : (w v : ℤ) → w ≤ℤ v → v ≡ w +ℤ pos (nat_abs (v -ℤ w))
 reached w v h = omega (arith, ints)
 
-moved_by : (n w v : ℤ) → w ≤ℤ v → n *ℤ v ≡ (n *ℤ w) +ℤ (n *ℤ pos (nat_abs (v -ℤ w)))
+pub moved_by : (n w v : ℤ) → w ≤ℤ v → n *ℤ v ≡ (n *ℤ w) +ℤ (n *ℤ pos (nat_abs (v -ℤ w)))
 moved_by n w v h =
     let e = nat_abs (v -ℤ w) in
     by (n *ℤ v) (v *ℤ n) (n *ℤ w) (w *ℤ n) (n *ℤ pos e) (pos e *ℤ n) (*ℤ_comm n v) (*ℤ_comm n w) (*ℤ_comm n (pos e)) (ap (λ z. z *ℤ n) (reached w v h) ∙ by_right n w e)

@@ -1,6 +1,8 @@
+pub mod Bounded
 pub mod ClauseLaws
 pub mod Distances
 pub mod EndsCounted
+pub mod FarEnds
 pub mod Filled
 pub mod FullRanges
 pub mod ItemLaws

@@ -109,7 +109,7 @@ tells_smaller g v k c r small box e d s f t = record {
 abbrev pub term : ℤ → Values → Range
 term n d = product (point n) (span d)
 
-record IsMoved (old new was is : Range) : Type 0 where
+pub record IsMoved (old new was is : Range) : Type 0 where
   pub from : new.from +ℤ was.from ≡ old.from +ℤ is.from
   pub to : new.to +ℤ was.to ≡ old.to +ℤ is.to
 
@@ -120,7 +120,7 @@ module _ (box : Box) (x : VarId) (us : Values) (n : ℤ) (l : x.0 < length box) 
   apart_from a (b ∷ xs) zero h e = subst (λ z. same_variable a z ≡ false) (same_Some b (Var x) e) (or_parts (same_variable a b) (list_any (same_variable a) xs) h).0
   apart_from a (b ∷ xs) (suc i) h e = apart_from a xs i (or_parts (same_variable a b) (list_any (same_variable a) xs) h).1 e
 
-  sum_moved : (ns : List ℤ) (xs : List Arg) (i : ℕ) → has_repeat xs ≡ false → slice_get ns i ≡ Some n → slice_get xs i ≡ Some (Var x) →
+  pub sum_moved : (ns : List ℤ) (xs : List Arg) (i : ℕ) → has_repeat xs ≡ false → slice_get ns i ≡ Some n → slice_get xs i ≡ Some (Var x) →
       IsMoved (sum_range ns (map (left_to box) xs)) (sum_range ns (map (left_to (set box x.0 us)) xs)) (term n (values_left box x.0)) (term n us)
   sum_moved [] xs zero r p q = cc
   sum_moved [] xs (suc i) r p q = cc

@@ -243,3 +243,6 @@ room_tight low high u h = omega (arith, ints)
 
 pub room_less : (low high u s : ℤ) → (pos 0 ≤ℤ u → (low +ℤ u) ≤ℤ high) → s ≤ℤ u → pos 0 ≤ℤ s → (low +ℤ s) ≤ℤ high
 room_less low high u s h l z = let k = h (let m = l in omega (arith, ints)) in omega (arith, ints)
+
+pub same_bound : (a b : ℤ) → Num a ≡ Num b → a ≡ b
+same_bound a b e = cc

@@ -1,5 +1,5 @@
 -- Sums that have so much room that no end of a variable breaks them.
-use Rattle.std.specs.Prelude.{◌≡◌, ◌≢◌, ◌⊎◌, ℕ, Bool, true, false, cond, List, map, slice_get, Some, IsTrue, IsFalse, ℤ, pos, ◌*ℤ◌, ◌+ℤ◌, ◌≤ℤ◌, ◌<ℤ◌}
+use Rattle.std.specs.Prelude.{◌≡◌, ◌≢◌, ◌⊎◌, ℕ, Bool, true, false, cond, List, map, slice_get, Some, IsTrue, IsFalse, ℤ, pos, ◌*ℤ◌, ◌+ℤ◌, ◌≤ℤ◌, ◌<ℤ◌, int_lt}
 use Rattle.qc_model.specs.declared.problem.Arg.{Arg}
 use Rattle.qc_model.specs.declared.problem.Arg.TheVariants.{Var, Num}
 use Rattle.qc_model.specs.declared.problem.Pred.TheVariants.{IntLinEq, IntLinLe}
@@ -7,7 +7,7 @@ use Rattle.qc_model.specs.declared.problem.VarId.{VarId}
 use Rattle.qc_model.specs.Arguments.{variables_of}
 use Rattle.qc_model.specs.Closed.{refutes_at}
 use Rattle.qc_model.specs.Content.{Rule}
-use Rattle.qc_model.specs.Domains.{Values, Box, values_left, least_value, greatest_value}
+use Rattle.qc_model.specs.Domains.{Values, Box, values_left, is_within, least_value, greatest_value}
 use Rattle.qc_model.specs.Left.{sum_range}
 use Rattle.qc_model.specs.Lists.{Among}
 use Rattle.qc_model.specs.Ranges.{Range}
@@ -61,11 +61,32 @@ pub record RoomTells (c : Rule) (r : Room) (box : Box) : Type 0 where
   pub under : r.under <ℤ most_room → bound ≤ℤ ((sum_left c box).from +ℤ r.under)
   pub over : r.over <ℤ most_room → IsTrue is_equal × ((sum_left c box).to ≤ℤ (bound +ℤ r.over))
 
+-- from where the sum begins up to the number there is as much room as is told, if there is some
+abbrev pub HasRoom : Rule → ℤ → Box → Type 0
+HasRoom c s box = (m : ℤ) → arg_at c.args 2 ≡ Num m → pos 0 ≤ℤ s → ((sum_left c box).from +ℤ s) ≤ℤ m
+
+-- the constraint is a sum that is to be at most a number, in which no variable stands twice, and there is this much room from where the
+-- sum begins up to the number, or more where it is as much as is told at most
+pub record IsBounded (c : Rule) (s : ℤ) (box : Box) : Type 0 where
+  pub bound : ℤ
+  pub pred : c.pred ≡ IntLinLe
+  pub number : arg_at c.args 2 ≡ Num bound
+  pub once : IsFalse (has_repeat (args_at c.args 1))
+  pub some : pos 0 ≤ℤ s
+  pub fits : ((sum_left c box).from +ℤ s) ≤ℤ bound
+  pub tight : s <ℤ most_room → bound ≤ℤ ((sum_left c box).from +ℤ s)
+
 -- x stands in the sum, with this factor
 pub record IsTermOf (c : Rule) (n : ℤ) (x : VarId) : Type 0 where
   pub place : ℕ
   pub factor : slice_get (ints_at c.args 0) place ≡ Some n
   pub item : slice_get (args_at c.args 1) place ≡ Some (Var x)
+
+-- the item stands in the sum, with this factor
+pub record IsItemOf (c : Rule) (n : ℤ) (a : Arg) : Type 0 where
+  pub place : ℕ
+  pub factor : slice_get (ints_at c.args 0) place ≡ Some n
+  pub item : slice_get (args_at c.args 1) place ≡ Some a
 
 -- a factor other than 0, and the values from least to greatest, all within the limit
 pub record IsMeasured (n least greatest : ℤ) : Type 0 where
@@ -89,3 +110,14 @@ IsBelow r n w low high = (v : ℤ) → low ≤ℤ v → v ≤ℤ high → (r.ove
 
 abbrev pub IsPast : Room → ℤ → ℤ → ℤ → ℤ → Type 0
 IsPast r n w low high = IsAbove r n w low high ⊎ IsBelow r n w low high
+
+-- the end at which a term with this factor is least
+abbrev pub least_end : ℤ → ℤ → ℤ → ℤ
+least_end n least greatest = cond (int_lt n (pos 0)) greatest least
+
+-- the numbers from low to high are at an end of those from least to greatest, and with these and no others a term with this factor is
+-- more than s above the least that it can be
+pub record IsFar (s n least greatest low high : ℤ) : Type 0 where
+  pub end : (low ≡ least) ⊎ (high ≡ greatest)
+  pub far : (v : ℤ) → low ≤ℤ v → v ≤ℤ high → (s <ℤ most_room) × (((n *ℤ least_end n least greatest) +ℤ s) <ℤ (n *ℤ v))
+  pub near : (v : ℤ) → least ≤ℤ v → v ≤ℤ greatest → IsFalse (is_within low high v) → (n *ℤ v) ≤ℤ ((n *ℤ least_end n least greatest) +ℤ s)

@@ -43,8 +43,8 @@ mod told;
 
 pub use filling::kept_beside;
 pub use guessing::kept_by_ends;
-pub use moving::{factor_at, is_free, past_greatest, past_least};
+pub use moving::{factor_at, is_free, past_greatest, past_least, past_room};
 pub use seeing::{Advice, Seen, see};
-pub use slack::Room;
+pub use slack::{Room, is_quiet_term};
 pub use stretch::{Kept, Stretch};
 pub use taking::{Taking, is_universal, may_take, owner_of};

@@ -6,7 +6,7 @@ ghost use Rattle.std.specs.Prelude.{◌≢◌, true, false, ◌≡◌, pos, ◌+
 ghost use Rattle.qc_model.specs.declared.problem.Arg.TheVariants.{Var};
 ghost use Rattle.qc_model.specs.Valid.{is_number};
 ghost use Rattle.model_arguments.specs.Written.{args_at, ints_at};
-ghost use Rattle.dense_quiet.specs.Slack.{IsTermOf, IsMeasured, IsLong, IsPast};
+ghost use Rattle.dense_quiet.specs.Slack.{IsTermOf, IsMeasured, IsLong, IsPast, IsFar};
 
 use crate::slack::{Room, are_close, least_room};
 use crate::stretch::Stretch;
@@ -22,6 +22,7 @@ fn steps(room: i64, size: i64, width: i64) -> i64
     ensures low { pos 0 ≤ℤ result }
     ensures high { result ≤ℤ width }
     ensures past { result <ℤ width → room <ℤ (size *ℤ (result +ℤ pos 1)) }
+    ensures fits { (size *ℤ result) ≤ℤ room }
 {
     let count = room / size;
     if count < width { count } else { width }
@@ -86,6 +87,62 @@ pub fn past_greatest(factor: i64, room: Room, least: i64, greatest: i64) -> Stre
     Stretch {
         low: least,
         high: greatest - down - 1,
+    }
+}
+
+// How many steps so much room lets a variable with a negative factor go down.
+fn steps_back(factor: i64, room: i64, width: i64) -> i64
+    requires factor { IsTrue (is_number factor) }
+    requires falling { int_lt factor (pos 0) ≡ true }
+    requires room { pos 0 ≤ℤ room }
+    requires width { pos 0 ≤ℤ width }
+    ensures low { pos 0 ≤ℤ result }
+    ensures high { result ≤ℤ width }
+    ensures past { result <ℤ width → room <ℤ (neg_ℤ factor *ℤ (result +ℤ pos 1)) }
+    ensures fits { (neg_ℤ factor *ℤ result) ≤ℤ room }
+{
+    steps(room, -factor, width)
+}
+
+// The values from least to greatest that are farther above the least than so much room lets a variable with a positive factor go.
+fn far_up(factor: i64, room: i64, least: i64, greatest: i64) -> Stretch
+    requires measured { IsMeasured factor least greatest }
+    requires rising { int_lt factor (pos 0) ≡ false }
+    requires room { pos 0 ≤ℤ room }
+    ensures { IsFar room factor least greatest result.low result.high }
+{
+    let most = steps(room, factor, greatest - least);
+    Stretch {
+        low: least + most + 1,
+        high: greatest,
+    }
+}
+
+// Those that are farther below the greatest than it lets one with a negative factor go.
+fn far_down(factor: i64, room: i64, least: i64, greatest: i64) -> Stretch
+    requires measured { IsMeasured factor least greatest }
+    requires falling { int_lt factor (pos 0) ≡ true }
+    requires room { pos 0 ≤ℤ room }
+    ensures { IsFar room factor least greatest result.low result.high }
+{
+    let most = steps_back(factor, room, greatest - least);
+    Stretch {
+        low: least,
+        high: greatest - most - 1,
+    }
+}
+
+/// Of the values from least to greatest those with which a term with this factor is more than so much room above the least that it can
+/// be.
+pub fn past_room(factor: i64, room: i64, least: i64, greatest: i64) -> Stretch
+    requires measured { IsMeasured factor least greatest }
+    requires room { pos 0 ≤ℤ room }
+    ensures { IsFar room factor least greatest result.low result.high }
+{
+    if factor < 0 {
+        far_down(factor, room, least, greatest)
+    } else {
+        far_up(factor, room, least, greatest)
     }
 }
 

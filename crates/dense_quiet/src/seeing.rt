@@ -4,7 +4,7 @@ ghost use Rattle.qc_model.specs.Lists.{Distinct};
 ghost use Rattle.model_arguments.specs.Asked.{IsAsked};
 ghost use Rattle.dense_closing.specs.Takes.{Takes};
 ghost use Rattle.dense_quiet.specs.Advice.{SeenTells};
-ghost use Rattle.dense_quiet.specs.Slack.{RoomTells};
+ghost use Rattle.dense_quiet.specs.Slack.{RoomTells, HasRoom};
 ghost use Rattle.dense_quiet.specs.Taking.{takes_of};
 
 use crate::differing::{Sight, look};
@@ -14,7 +14,7 @@ use crate::slack::{Room, is_short, slack_of};
 use crate::stretch::Stretch;
 use crate::taking::Taking;
 use fd_store::Store;
-use qc_model::{Constraint, Problem};
+use qc_model::{Constraint, Pred, Problem};
 
 /// What was seen of a constraint that isn't quiet, which tells how far its variables can go: the room of a sum; numbers that some items
 /// fill where all are to differ; or nothing that a guess by its arguments wouldn't tell.
@@ -26,24 +26,28 @@ pub enum Advice {
 }
 
 /// What one reading tells: that the constraint refutes neither the box nor an end of a variable that it may take; or that it refutes the
-/// box; or how far its variables can go; or nothing.
+/// box; or that it is a sum that is to be at most a number, and how far it is from it; or how far its variables can go; or nothing.
 #[derive(Clone, Copy)]
 pub enum Seen {
     Quiet,
     Refuted,
+    Bounded(i64),
     Advised(Advice),
     Nothing,
 }
 
 // Of a sum with this room.
 fn seen_of_sum(rule: &Constraint, room: Room, store: &Store) -> Seen
-    requires { RoomTells rule.now room store.now.box }
+    requires tells { RoomTells rule.now room store.now.box }
+    requires fits { HasRoom rule.now room.under store.now.box }
     ensures { (takes : Takes) → SeenTells result takes rule.now store.now.box }
 {
     if is_short(room) {
-        Seen::Refuted
-    } else {
-        Seen::Advised(Advice::Room(room))
+        return Seen::Refuted;
+    }
+    match rule.pred {
+        Pred::IntLinLe => Seen::Bounded(room.under),
+        _ => Seen::Advised(Advice::Room(room)),
     }
 }
 

@@ -15,7 +15,7 @@ ghost use Rattle.qc_model.specs.Valid.{is_number};
 ghost use Rattle.model_arguments.specs.Asked.{IsAsked};
 ghost use Rattle.model_arguments.specs.Written.{arg_at, ints_at};
 ghost use Rattle.qc_refuter.specs.Met.{is_open, are_met};
-ghost use Rattle.dense_quiet.specs.Slack.{IsNear, is_taken, AreNear, AllNear, SparesTaken, most_room, RoomTells, IsLong};
+ghost use Rattle.dense_quiet.specs.Slack.{IsNear, is_taken, AreNear, AllNear, SparesTaken, most_room, RoomTells, HasRoom, IsLong};
 ghost use Rattle.dense_quiet.specs.Taking.{takes_of};
 
 use crate::reading::{items_met, may_take_item};
@@ -68,8 +68,8 @@ pub(crate) fn are_close(a: i64, b: i64, s: i64) -> bool
     b - a <= s && a - b <= s
 }
 
-// Whether the ends of a term are, where the constraint may take the item.
-fn is_quiet(
+/// Whether the ends of a term are, or the constraint may not take the item.
+pub fn is_quiet_term(
     problem: &Problem,
     taking: Taking,
     rule: &Constraint,
@@ -81,7 +81,8 @@ fn is_quiet(
     requires factor { IsTrue (is_number factor) }
     requires open { IsTrue (is_open store.now.box item) }
     requires room { pos 0 ≤ℤ s }
-    ensures { IsTrue result → IsTrue (is_taken (takes_of taking problem.now rule.now) item) → IsNear s factor (left_to store.now.box item) }
+    ensures near { IsTrue result → IsTrue (is_taken (takes_of taking problem.now rule.now) item) → IsNear s factor (left_to store.now.box item) }
+    ensures taken { IsFalse result → IsTrue (is_taken (takes_of taking problem.now rule.now) item) }
 {
     if is_near(factor, item, s, store) {
         return true;
@@ -105,7 +106,7 @@ fn are_near(
     ensures { IsTrue result → AreNear (takes_of taking problem.now rule.now) s factors.now items.now store.now.box }
 {
     for k in 0..factors.len().min(items.len()) {
-        if !is_quiet(problem, taking, rule, factors[k], items[k], s, store) {
+        if !is_quiet_term(problem, taking, rule, factors[k], items[k], s, store) {
             return false;
         }
     }
@@ -258,6 +259,7 @@ fn slack_below(
     requires apart { Distinct (variables_of rule.now.args) }
     ensures roomy { IsTrue result.roomy → SparesTaken (takes_of taking problem.now) rule.now store.now.box }
     ensures tells { IsTrue result.sum → RoomTells rule.now result.room store.now.box }
+    ensures fits { IsTrue result.sum → HasRoom rule.now result.room.under store.now.box }
 {
     problem.known();
     let args = arguments(rule);
@@ -293,6 +295,7 @@ fn slack_of_sum(
     requires apart { Distinct (variables_of rule.now.args) }
     ensures roomy { IsTrue result.roomy → SparesTaken (takes_of taking problem.now) rule.now store.now.box }
     ensures tells { IsTrue result.sum → RoomTells rule.now result.room store.now.box }
+    ensures fits { IsTrue result.sum → HasRoom rule.now result.room.under store.now.box }
 {
     match one_at(arguments(rule), 2) {
         Arg::Var(_) => unknown(),
@@ -307,6 +310,7 @@ pub(crate) fn slack_of(problem: &Problem, taking: Taking, rule: &Constraint, sto
     requires apart { Distinct (variables_of rule.now.args) }
     ensures roomy { IsTrue result.roomy → SparesTaken (takes_of taking problem.now) rule.now store.now.box }
     ensures tells { IsTrue result.sum → RoomTells rule.now result.room store.now.box }
+    ensures fits { IsTrue result.sum → HasRoom rule.now result.room.under store.now.box }
 {
     match rule.pred {
         Pred::IntLinLe => slack_of_sum(problem, taking, rule, false, store),

@@ -1,9 +1,14 @@
-use Rattle.std.proofs.Common.{◌≡◌, refl, subst, sym, true}
+use Rattle.std.proofs.Common.{rules, ◌≡◌, refl, subst, sym, true}
+use Rattle.std.specs.Prelude.{slice_get, Some}
+use Rattle.std.proofs.lemmas.Int.{to_z-of_z}
+use mir.Val.{SFits}
+use mir.Syntax.{w64}
+use Rattle.qc_model.specs.Content.{Rule}
 use Rattle.qc_model.specs.Refuted.{refuted_by}
 use Rattle.fd_store.specs.Held.{Held}
 use Rattle.model_arguments.specs.Asked.{IsAsked}
 use Rattle.dense_quiet.specs.Advice.{AdviceTells}
-use Rattle.dense_quiet.specs.Slack.{SparesTaken}
+use Rattle.dense_quiet.specs.Slack.{IsBounded, SparesTaken}
 use Rattle.dense_quiet.specs.Taking.{takes_of}
 use Rattle.dense_close.proofs.Cuts.{asked}
 use Rattle.dense_close.proofs.Looked.{lost_by, one_rule, settled_all, settled_roomy}
@@ -42,3 +47,13 @@ revise_advised-requires-clause-tells c =
     let box = c.args.remains.now.box in
     let tells : AdviceTells c.in-Advised.advice r box = subst (λ (h : Held). AdviceTells c.in-Advised.advice r h.box) c.store.ensures c.in-Advised.ensures in
     one_rule t.problem.now c.args.c.0 r c.constraint-rule.ensures (λ z. AdviceTells c.in-Advised.advice z box) tells
+
+pub revise_bounded-requires-clause-bounded : goal.revise_bounded-requires-clause-bounded
+revise_bounded-requires-clause-bounded c =
+    let t = c.args.task.now in
+    let r = c.constraint-rule.result.now in
+    let box = c.args.remains.now.box in
+    let bounded : IsBounded r c.in-Bounded.room box = subst (λ (h : Held). IsBounded r c.in-Bounded.room h.box) c.store.ensures c.in-Bounded.ensures in
+    let s_fits : SFits w64 c.in-Bounded.room = search rules in
+    let all : (z : Rule) → slice_get t.problem.now.constraints c.args.c.0 ≡ Some z → IsBounded z c.in-Bounded.room box = one_rule t.problem.now c.args.c.0 r c.constraint-rule.ensures (λ z. IsBounded z c.in-Bounded.room box) bounded in
+    simp to_z-of_z all

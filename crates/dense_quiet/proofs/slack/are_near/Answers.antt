@@ -20,7 +20,7 @@ loop-k-preserved c =
     let n_fits : SFits w64 (get_or ns k (pos 0)) = search rules in
     let s_fits : SFits w64 c.args.s = search rules in
     let ok = takes_of c.args.taking c.args.problem.now c.args.rule.now in
-    let one : is_taken ok (get_or xs k (Var (record { 0 = 0 }))) ≡ true → IsNear c.args.s (get_or ns k (pos 0)) (left_to box (get_or xs k (Var (record { 0 = 0 })))) = simp to_z-of_z at (c.is_quiet.ensures c.if-not-is_quiet.false) in
+    let one : is_taken ok (get_or xs k (Var (record { 0 = 0 }))) ≡ true → IsNear c.args.s (get_or ns k (pos 0)) (left_to box (get_or xs k (Var (record { 0 = 0 })))) = simp to_z-of_z at (c.is_quiet_term.ensures.near c.if-not-is_quiet_term.false) in
     let before : (i : ℕ) (n : ℤ) (a : Arg) → i < k → slice_get ns i ≡ Some n → slice_get xs i ≡ Some a → is_taken ok a ≡ true → IsNear c.args.s n (left_to box a) = simp to_z-of_z at c.loop-k.invariant in
     let more : (i : ℕ) (n : ℤ) (a : Arg) → i < k + 1 → slice_get ns i ≡ Some n → slice_get xs i ≡ Some a → is_taken ok a ≡ true → IsNear c.args.s n (left_to box a) =
     near_more ok c.args.s k ns xs box (pos 0) (Var (record { 0 = 0 })) before one in

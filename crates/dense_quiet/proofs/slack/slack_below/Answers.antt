@@ -1,4 +1,4 @@
-use Rattle.std.proofs.Common.{rules, ◌≡◌, ◌∙◌, ap, subst, map, true, false}
+use Rattle.std.proofs.Common.{rules, ◌≡◌, ◌∙◌, sym, ap, subst, map, true, false}
 use Rattle.std.specs.Prelude.{pos, ◌+ℤ◌, ◌≤ℤ◌, ◌<ℤ◌}
 use Rattle.std.proofs.lemmas.Int.{to_z-of_z}
 use mir.Val.{SFits}
@@ -12,7 +12,7 @@ use Rattle.qc_refuter.proofs.Ready.{rule_met}
 use Rattle.dense_quiet.specs.Slack.{AreNear, AllNear, sum_left, most_room}
 use Rattle.dense_quiet.specs.Taking.{takes_of}
 use Rattle.dense_quiet.proofs.PastRoom.{once_at}
-use Rattle.dense_quiet.proofs.Sums.{roomy, room_less}
+use Rattle.dense_quiet.proofs.Sums.{roomy, room_less, same_bound}
 use Rattle.dense_quiet.proofs.slack.slack_below.Goals as goal
 
 pub factors_met-factors-requires : goal.factors_met-factors-requires
@@ -83,3 +83,17 @@ returns-clause-tells c = λ h.
       under = λ l. subst (λ (z : Range). c.args.bound ≤ℤ (z.from +ℤ u)) whole (under l);
       over = λ l. ((over l).0, subst (λ (z : Range). z.to ≤ℤ (c.args.bound +ℤ o)) whole (over l).1);
     }
+
+pub returns-clause-fits : goal.returns-clause-fits
+returns-clause-fits c = λ h m number long.
+    let r = c.args.rule.now in
+    let box = c.args.store.now.box in
+    let u = c.room_of-room.result.under in
+    let u_fits : SFits w64 u = search rules in
+    let b_fits : SFits w64 c.args.bound = search rules in
+    let factors : c.factors_met-factors.result.now ≡ ints_at r.args 0 = c.factors_met-factors.ensures.is ∙ ap (λ a. ints_at a 0) c.arguments-args.ensures in
+    let items : c.items_met-items.result.now ≡ args_at r.args 1 = c.items_met-items.ensures.is ∙ ap (λ a. args_at a 1) c.arguments-args.ensures in
+    let whole : range_of c.read_sum-reading.result.extent.from c.read_sum-reading.result.extent.to ≡ sum_left r box =
+    c.read_sum-reading.ensures.value ∙ (ap (λ ns. sum_range ns (map (left_to box) c.items_met-items.result.now)) factors ∙ ap (λ xs. sum_range (ints_at r.args 0) (map (left_to box) xs)) items) in
+    let under : pos 0 ≤ℤ u → (c.read_sum-reading.result.extent.from +ℤ u) ≤ℤ c.args.bound = simp to_z-of_z at c.room_of-room.ensures.under in
+    subst (λ b. ((sum_left r box).from +ℤ u) ≤ℤ b) (same_bound c.args.bound m (sym c.requires.bound ∙ number)) (subst (λ (z : Range). (z.from +ℤ u) ≤ℤ c.args.bound) whole (under long))
