@@ -4,8 +4,8 @@
 //! is none (`dense_closing`). So a checker of dense certificates needs no steps. `Closer` keeps the constraints that are to be
 //! looked at in a queue. One that is taken out is held against each of its variables that it may take and that have several values
 //! left: what it refutes at their ends goes, and each constraint of the span that has such a variable waits again, itself among
-//! them. Where it took nothing it keeps the box; where it refutes the box as it is, no box within is closed. So once none waits, all
-//! keep the box, and it is closed.
+//! them unless it is known to keep the box. Where it took nothing it keeps the box; where it refutes the box as it is, no box within is
+//! closed. So once none waits, all keep the box, and it is closed.
 //!
 //! Nor does a closing begin with all constraints of the span. What was left to each variable when it was last looked at is kept, and
 //! which constraints weren't found settled since then (`memory`): where a constraint's variables all have the values that they had,
@@ -15,8 +15,9 @@
 //!
 //! A constraint in which no variable stands twice is first read as a whole (`dense_quiet`). Mostly that tells that it refutes nothing
 //! that it may take, or how far each variable can go, and what lies past that goes (`advising`): for sums without a further question
-//! (`trimming`), else where the constraint, asked once, refutes it. Other values go by stretches (`cutting`): where a constraint refutes
-//! an end, it is asked of twice as many numbers from there on, as long as it refutes them together.
+//! (`trimming`), else where the constraint, asked once, refutes it. A sum that is to be at most a number keeps the box that it leaves so,
+//! and doesn't wait again for what it took (`bounding`). Other values go by stretches (`cutting`): where a constraint refutes an end, it
+//! is asked of twice as many numbers from there on, as long as it refutes them together.
 #![tactic(auto)]
 
 mod advising;

@@ -389,7 +389,7 @@ fn revise_apart(task: &Task, c: ConId, list: &mut WorkList, remains: &mut Remain
 }
 
 /// Takes the ends that the constraint c of the span refutes and may take, each of its variables once. Where values went, all
-/// constraints that have the variable wait, c itself among them, unless it spares what is left.
+/// constraints that have the variable wait, c itself among them unless it spares what is left.
 pub(crate) fn revise(task: &Task, c: ConId, list: &mut WorkList, remains: &mut Remains) -> Revised
     requires inside { IsTrue (is_between task.now.span.first task.now.span.end c.0) }
     requires declared { IsTrue (is_box_of task.now.problem.now remains.old.box) }

@@ -1,7 +1,7 @@
 //! Ends of a sum's variables, taken at once.
 //!
 //! The room of a sum tells how far each of its variables can go. So the values that one constraint takes of all its variables go by one
-//! reading.
+//! reading. It's for sums that are to be a number: of one that is to be at most a number more is known (`bounding`).
 ghost use Rattle.std.specs.Prelude.{◌≢◌, ◌≡◌, ◌<◌, pos, length, slice_get, Some, IsTrue, IsFalse};
 ghost use Rattle.qc_model.specs.Content.{Rule};
 ghost use Rattle.qc_model.specs.Domains.{has_empty};

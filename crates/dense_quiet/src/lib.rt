@@ -5,12 +5,14 @@
 //! arguments mostly tells so: the constraint is *quiet*. Where it isn't, the same reading mostly tells how far each variable can go. Only
 //! constraints in which no variable stands twice are read so, and only ends that the constraint may take (`Taking`) count.
 //!
-//! `see` reads a constraint. It says that it is quiet; or that it refutes the box; or how far its variables can go (`Advice`); or
-//! nothing, and then each end is to be asked of. How a constraint is read goes by its kind:
+//! `see` reads a constraint. It says that it is quiet; or that it refutes the box; or that it is a sum that is to be at most a number,
+//! and how far it is from it; or how far its variables can go (`Advice`); or nothing, and then each end is to be asked of. How a
+//! constraint is read goes by its kind:
 //!
 //! - A linear constraint has room: how far its sum is from its bound. Where the ends of each term are nearer to each other than that, it
 //!   refutes no end (`slack`, `summing`). Else a division tells how far each variable can go, and what lies past that is refuted, by a
-//!   law (`factor_at`, `is_free`, `past_least`, `past_greatest`).
+//!   law (`factor_at`, `is_free`, `past_least`, `past_greatest`). Once that is gone a sum that is to be at most a number is quiet
+//!   (`is_quiet_term`, `past_room`).
 //! - Items that are to differ are quiet unless some of them fill numbers among which an end of another lies (`differing`). Then these
 //!   numbers are the advice.
 //! - Comparisons, sums and products of two numbers (`relating`, `equality`), items of arrays (`elements`, `items`), clauses (`clauses`)

@@ -1,7 +1,8 @@
 //! How far the room of a sum lets each of its variables move.
 //!
 //! How far a sum is from its bound tells by one division how far each of its variables can go: with any value past it, whatever the
-//! others are, the sum is past its bound.
+//! others are, the sum is past its bound. Of a sum that is to be at most a number each variable can go that far, and keeps the value with
+//! which its term is least.
 ghost use Rattle.std.specs.Prelude.{◌≢◌, true, false, ◌≡◌, pos, ◌+ℤ◌, ◌*ℤ◌, neg_ℤ, ◌≤ℤ◌, ◌<ℤ◌, int_lt, slice_get, Some, IsTrue};
 ghost use Rattle.qc_model.specs.declared.problem.Arg.TheVariants.{Var};
 ghost use Rattle.qc_model.specs.Valid.{is_number};

@@ -16,8 +16,8 @@ use crate::taking::Taking;
 use fd_store::Store;
 use qc_model::{Constraint, Pred, Problem};
 
-/// What was seen of a constraint that isn't quiet, which tells how far its variables can go: the room of a sum; numbers that some items
-/// fill where all are to differ; or nothing that a guess by its arguments wouldn't tell.
+/// What was seen of a constraint that isn't quiet, which tells how far its variables can go: the room of a sum that is to be a number;
+/// numbers that some items fill where all are to differ; or nothing that a guess by its arguments wouldn't tell.
 #[derive(Clone, Copy)]
 pub enum Advice {
     Room(Room),
