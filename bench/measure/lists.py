@@ -1,7 +1,7 @@
 """Yardsticks of lists of lemmas: plain games (plain.py), by the program and by a model of its search in the same run.
 
-    bench/run lists [--list] [--ladder] [--only FAMILY] [--seeds N] [--program PATH] [--search WORDS] [--model PATH]
-                    [--seconds N] [--runs N] [--texts FOLDER] [--save FILE]
+    bench/run lists [--list] [--ladder | --other] [--only FAMILY] [--first S] [--seeds N] [--program PATH] [--search WORDS]
+                    [--model PATH] [--seconds N] [--runs N] [--texts FOLDER] [--save FILE]
 
 Nothing here is part of the gate.
 
@@ -28,8 +28,10 @@ The script's status is 1 where something is WRONG or UNCHECKED.
 
 --list     says which games there are, and their known answers
 --ladder   the plain games of the ladder (rungs.py) in place of these
+--other    games of other sizes, on which nothing was tuned
 --only     one family: formulas, interdiction, shop, knapsack, nim or boards; of the ladder puzzles too
 --seeds    so many games of a kind; three else
+--first    the first seed; 1 else
 --search   another search than `qdense solve`, by words in which PROBLEM stands for the file with the game and LIST for that
            of the list (without LIST it's the output), as `"PROGRAM PROBLEM -o LIST"`; what it finds is checked by the program
            if there is one
@@ -204,9 +206,11 @@ def tell_sum(rows):
 def games(options):
     """The plain games of the families that are asked for, seed by seed."""
     families = rungs.FAMILIES if options.ladder else plain.FAMILIES
+    sizes = () if options.ladder else (plain.OTHER if options.other else plain.USUAL,)
+    seeds = range(options.first, options.first + options.seeds)
     for family, problems in families.items():
-        for seed in range(1, options.seeds + 1) if options.only in (None, family) else ():
-            for name, text, known, *_ in problems(random.Random(f"{seed} {family}")):
+        for seed in seeds if options.only in (None, family) else ():
+            for name, text, known, *_ in problems(random.Random(f"{seed} {family}"), *sizes):
                 if not re.search("minimize|maximize|aggregate", text):
                     yield family, f"{name} ({seed})", text, known
 
@@ -255,8 +259,11 @@ def save(path, rows):
 def options_of(words):
     parser = argparse.ArgumentParser(prog="bench/run lists", description="Measures lists of lemmas beside a model.")
     parser.add_argument("--list", action="store_true")
-    parser.add_argument("--ladder", action="store_true")
+    which = parser.add_mutually_exclusive_group()
+    which.add_argument("--ladder", action="store_true")
+    which.add_argument("--other", action="store_true")
     parser.add_argument("--only", choices=rungs.FAMILIES, metavar="FAMILY")
+    parser.add_argument("--first", type=int, default=1)
     parser.add_argument("--seeds", type=int, default=3)
     add_option(parser, "qdense")
     parser.add_argument("--search", metavar="WORDS", help=TOLD)

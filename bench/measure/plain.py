@@ -2,9 +2,13 @@
 the ladder.
 
 Known answers come from plain methods, as those of the ladder do, whose functions are used here. Those of formulas aren't known:
-they have too many variables for a table of all values. Each family is one function: it gets the source of chance, and yields
-(name, text, known).
+they have too many variables for a table of all values. Each family is one function: it gets the source of chance and the sizes, and
+yields (name, text, known).
+
+There are two lots of sizes. The search was tuned on games of the first one; those of the second one are there to be looked at
+once something is done, and not before.
 """
+from dataclasses import dataclass
 from itertools import permutations
 
 from measure.rungs import (
@@ -28,18 +32,64 @@ from measure.rungs import (
     true_where,
 )
 
-# ---- Formulas at random, with clauses of three literals and of five.
+# ---- Sizes.
 
 
-def formulas(pick):
-    for sizes, clauses, literals in (
+@dataclass(frozen=True)
+class Sizes:
+    """Of formulas the variables of each block, the clauses, and the literals of one; of links the layers, the height and the cuts;
+    of shops the jobs and delays; of knapsacks the items and those that are forbidden; of nim the least and the greatest heap; the
+    counters of Fibonacci nim; and the nodes of kayles."""
+
+    formulas: tuple
+    links: tuple
+    shops: tuple
+    knapsacks: tuple
+    heaps: tuple
+    counters: tuple
+    nodes: int
+
+
+USUAL = Sizes(
+    formulas=(
         ((16, 150), 390, 3),
         ((22, 24), 205, 5),
         ((160, 30, 160), 690, 3),
         ((24, 18, 24), 222, 5),
         ((20, 80, 20, 200), 620, 3),
         ((17, 17, 17, 17), 200, 5),
-    ):
+    ),
+    links=((4, 4, 3), (3, 5, 2)),
+    shops=((6, 3),),
+    knapsacks=((17, 2),),
+    heaps=(2, 5),
+    counters=(22, 23, 24, 26, 27),
+    nodes=16,
+)
+
+OTHER = Sizes(
+    formulas=(
+        ((18, 130), 350, 3),
+        ((20, 26), 205, 5),
+        ((140, 40, 150), 650, 3),
+        ((22, 20, 22), 215, 5),
+        ((30, 60, 30, 190), 600, 3),
+        ((16, 18, 16, 18), 200, 5),
+    ),
+    links=((3, 4, 3), (4, 4, 2)),
+    shops=((6, 2),),
+    knapsacks=((16, 2),),
+    heaps=(1, 6),
+    counters=(19, 20, 25, 28, 29),
+    nodes=15,
+)
+
+
+# ---- Formulas at random, with clauses of three literals and of five.
+
+
+def formulas(pick, of):
+    for sizes, clauses, literals in of.formulas:
         blocks, last = [], 0
         for k, size in enumerate(sizes):
             blocks.append(("exists" if (len(sizes) - k) % 2 else "forall", range(last, last + size)))
@@ -59,8 +109,8 @@ def random_clause(pick, blocks, literals):
 # ---- A leader removes links, so that each way that is left has a length: the best one, and one more.
 
 
-def interdiction(pick):
-    for layers, height, cuts in (4, 4, 3), (3, 5, 2):
+def interdiction(pick, of):
+    for layers, height, cuts in of.links:
         net = Layers(pick, layers, height)
         best = max(net.shortest_ways(cuts))
         yield f"all ways long {layers}-{height}-{cuts}", net.every_way_text(cuts, best), "true"
@@ -70,8 +120,8 @@ def interdiction(pick):
 # ---- Jobs in an order, some of which are then delayed: all done within the best number of hours, and one less.
 
 
-def shop(pick):
-    for jobs, delays in ((6, 3),):
+def shop(pick, of):
+    for jobs, delays in of.shops:
         first, second = ([pick.randint(1, 6) for _ in range(jobs)] for _ in range(2))
         late = pick.randint(2, 4)
         worst = lambda order: max(makespan(order, first, second, late, delayed) for delayed in some(jobs, delays))
@@ -89,8 +139,8 @@ def with_goal(text, constraint):
 # ---- Items are forbidden, then a knapsack is filled: never beyond the best value, and one less.
 
 
-def knapsack(pick):
-    for items, gone in ((17, 2),):
+def knapsack(pick, of):
+    for items, gone in of.knapsacks:
         weights, values = ([pick.randint(3, 15) for _ in range(items)] for _ in range(2))
         room = sum(weights) // 2
         filled = lambda forbidden: fullest([k for k in range(items) if k not in forbidden], weights, values, room)
@@ -110,18 +160,18 @@ def knapsack_text(weights, values, room, gone, most):
 # ---- Counters and boards, which are plain games as they are.
 
 
-def nim(pick):
-    heaps = [pick.randint(2, 5) for _ in range(3)]
+def nim(pick, of):
+    heaps = [pick.randint(*of.heaps) for _ in range(3)]
     xor = 0
     for heap in heaps:
         xor ^= heap
     yield "nim " + "-".join(map(str, heaps)), nim_text(heaps), true_where(xor)
-    counters = pick.choice((22, 23, 24, 26, 27))
+    counters = pick.choice(of.counters)
     yield f"Fibonacci nim {counters}", fibonacci_text(counters), true_where(counters not in fibonacci(counters))
 
 
-def boards(pick):
-    nodes = 16
+def boards(pick, of):
+    nodes = of.nodes
     near = [{k} | {j for j in range(nodes) if (j - k) % nodes in (1, nodes - 1)} for k in range(nodes)]
     for _ in range(2):
         a, b = pick.sample(range(nodes), 2)
