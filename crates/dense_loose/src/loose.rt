@@ -5,9 +5,10 @@
 //! leader, and a follower answers (`Worst`); or what follows is summed over the opponent's choices (`Sum`).
 use crate::answers::bound_by_sum;
 use dense_board::{Board, Closing};
-use dense_place::{Lines, Move, Rival, Search, Shape, Stop, after, rival_below};
+use dense_place::{KnownReply, Lines, Move, Rival, Search, Shape, Stop, after, rival_below};
 use joins::Found;
-use qc_model::ScopeId;
+use qc_model::{ScopeId, Target};
+use std::alloc::Global;
 
 /// How many tuples of a follower are kept, and how many of the opponent.
 const MOST_REPLIES: usize = 200;
@@ -24,9 +25,7 @@ pub fn bound_loosely(search: &mut Search, scope: ScopeId) -> Result<bool, Stop> 
     let Some(reached) = rival_below(search, scope) else {
         return Ok(false);
     };
-    if !search.board.may_go_on(scope) {
-        return Ok(false);
-    }
+    // the scope may go on, since closing leaves no box that refutes a constraint of it
     match shape {
         Shape::No => Ok(false),
         Shape::Opposed => bound_by_reply(search, scope, reached),
@@ -55,54 +54,56 @@ fn try_reply(
     at: usize,
     reached: Rival,
 ) -> Result<bool, Stop> {
-    let Some(kept) = search.pools.pool(follower).get(at) else {
+    let Some(kept) = search.pools.at_mut(follower, at) else {
         return Ok(false);
     };
-    if !reached.beats(kept.worth) || is_still_hindered(&mut search.board, follower, kept)? {
+    if !reached.beats(kept.worth) {
         return Ok(false);
     }
-    let Some(value) = left_after(&mut search.board, follower, kept.tuple.as_slice())? else {
-        return note_hindrance(search, follower, at);
+    let Some(value) = counted_value(search.alloc, &mut search.board, follower, kept)? else {
+        return Ok(false);
     };
     if !reached.beats(value) {
         return Ok(false);
     }
-    search.lines.put(b"n\n")?;
-    search.lines.put_line(b"f", kept.tuple.as_slice())?;
-    search.lines.put(b"y\n")?;
+    if let Some(reply) = &kept.reply {
+        search.lines.put(reply.lines.as_slice())?;
+    }
     search.board.add_node(scope, Found::AtMost(value));
     Ok(true)
 }
 
-// Whether what kept the follower from counting on the reply does so here.
-fn is_still_hindered(board: &mut Board, follower: ScopeId, kept: &Move) -> Result<bool, Stop> {
-    match &kept.hindrance {
-        None => Ok(false),
-        Some(by) => Ok(board.is_hindered(follower, kept.tuple.as_slice(), by)?),
+// What the tuple comes to, where the follower can count on it.
+fn counted_value(
+    alloc: Global,
+    board: &mut Board,
+    follower: ScopeId,
+    kept: &mut Move,
+) -> Result<Option<i64>, Stop> {
+    let Some(reply) = &mut kept.reply else {
+        return Ok(None);
+    };
+    let tuple = kept.tuple.as_slice();
+    if !board.meets(alloc, follower, tuple, &mut reply.needs)? {
+        return Ok(None);
     }
+    Ok(wished_value(board, follower, tuple))
 }
 
-// Keeps with a reply what keeps the follower from counting on it. It doesn't serve here.
-fn note_hindrance(search: &mut Search, follower: ScopeId, at: usize) -> Result<bool, Stop> {
-    if let Some(kept) = search.pools.at_mut(follower, at) {
-        kept.hindrance = search
-            .board
-            .hindrance(search.alloc, follower, kept.tuple.as_slice())?;
+// The one value with the tuple of what the follower wishes for, if it has one.
+fn wished_value(board: &Board, follower: ScopeId, tuple: &[i64]) -> Option<i64> {
+    let level = board.level(follower)?;
+    let first = board.demanded(after(follower)).first()?;
+    let Target::Var(x) = first.target else {
+        return None;
+    };
+    let at = (x.0 as usize).checked_sub(level.from);
+    if let Some(at) = at
+        && let Some(value) = tuple.get(at)
+    {
+        return Some(*value);
     }
-    Ok(false)
-}
-
-// The best value that a reply leaves to what is demanded of the follower first, where he can count on it.
-fn left_after(board: &mut Board, follower: ScopeId, tuple: &[i64]) -> Result<Option<i64>, Stop> {
-    if !board.save()? {
-        return Err(Stop::Spent);
-    }
-    let mut best = None;
-    if board.reply(follower, tuple) {
-        best = board.best_left(follower);
-    }
-    board.restore();
-    Ok(best)
+    if board.size(x) == 1 { Some(board.least(x)) } else { None }
 }
 
 // A tuple of the opponent after which nothing is better for the leader than what was reached, whatever is chosen.
@@ -202,7 +203,7 @@ fn keep_move(search: &mut Search, opponent: ScopeId) -> Result<(), Stop> {
     let kept = Move {
         tuple,
         worth: 0,
-        hindrance: None,
+        reply: None,
     };
     search.pools.add(opponent, kept, MOST_MOVES)
 }
@@ -214,12 +215,29 @@ fn keep_reply(search: &mut Search, follower: ScopeId) -> Result<(), Stop> {
     };
     let worth = *worth;
     let tuple = search.board.tuple(search.alloc, follower)?;
+    let reply = reply_of(search, follower, tuple.as_slice())?;
     let kept = Move {
         tuple,
         worth,
-        hindrance: None,
+        reply,
     };
     search.pools.add(follower, kept, MOST_REPLIES)
+}
+
+// What is kept of a tuple as a reply, where it may be one.
+fn reply_of(
+    search: &mut Search,
+    follower: ScopeId,
+    tuple: &[i64],
+) -> Result<Option<KnownReply>, Stop> {
+    let Some(needs) = search.board.needs(search.alloc, follower, tuple)? else {
+        return Ok(None);
+    };
+    let mut lines = Lines::new(search.alloc);
+    lines.put(b"n\n")?;
+    lines.put_line(b"f", tuple)?;
+    lines.put(b"y\n")?;
+    Ok(Some(KnownReply { needs, lines }))
 }
 
 fn before(scope: ScopeId) -> ScopeId {

@@ -49,18 +49,9 @@ pub(crate) fn follow(
     if !close_here(search, follower)? {
         return Ok((None, None));
     }
-    let reply = match sought {
-        Sought::Found(reply) => reply,
-        Sought::Not(lead) => best_reply(search, follower, lead)?,
+    let Some(reply) = put_reply(search, follower, sought)? else {
+        return Ok((None, None));
     };
-    if let Some(reply) = &reply
-        && search.board.reply(follower, reply.tuple.as_slice())
-    {
-        search.lines.put_line(b"f", reply.tuple.as_slice())?;
-        if !close_here(search, follower)? {
-            return Ok((None, None));
-        }
-    }
     let left = match search.board.best_left(follower) {
         None => return Err(Stop::Spent),
         Some(left) => left,
@@ -71,6 +62,99 @@ pub(crate) fn follow(
     }
     search.lines.put(b"y\n")?;
     Ok((Some(left), reply))
+}
+
+// What became of the follower's reply: it was put, and the box was closed after it; or there is none; or nothing was left.
+type Put = Option<Option<Reply>>;
+
+// Puts the reply where there is one, and closes the box after it. None comes where nothing is left then; that there is no reply is
+// handed on too.
+fn put_reply(search: &mut Search, follower: ScopeId, sought: Sought) -> Result<Put, Stop> {
+    let reply = match sought {
+        Sought::Found(reply) => reply,
+        Sought::Not(lead) => {
+            let led = put_led(search, follower, lead)?;
+            if led.is_some() {
+                return Ok(Some(led));
+            }
+            best_reply(search, follower, lead)?
+        }
+    };
+    if let Some(found) = &reply
+        && search.board.reply(follower, found.tuple.as_slice())
+    {
+        search.lines.put_line(b"f", found.tuple.as_slice())?;
+        if !close_here(search, follower)? {
+            return Ok(None);
+        }
+    }
+    Ok(Some(reply))
+}
+
+// The reply to which the value leads that led to the best one before. It is put, and the box closed after it, where that leaves nothing
+// better; else there is none, and the box and the lines are as they were. So nothing has to be closed to see that it is the best.
+fn put_led(
+    search: &mut Search,
+    follower: ScopeId,
+    lead: Option<i64>,
+) -> Result<Option<Reply>, Stop> {
+    let Some(reply) = led_reply(search, follower, lead)? else {
+        return Ok(None);
+    };
+    let begin = search.lines.len();
+    search.save()?;
+    if is_best(search, follower, reply.tuple.as_slice())? {
+        search.board.forget();
+        return Ok(Some(reply));
+    }
+    search.board.restore();
+    search.lines.drop_from(begin);
+    Ok(None)
+}
+
+// Puts the tuple as a reply where he can count on it, closes the box, and says whether nothing better is left to his wish.
+fn is_best(search: &mut Search, follower: ScopeId, tuple: &[i64]) -> Result<bool, Stop> {
+    let Some(wish) = wish_of(search, follower) else {
+        return Ok(false);
+    };
+    if !search.board.reply(follower, tuple) {
+        return Ok(false);
+    }
+    search.lines.put_line(b"f", tuple)?;
+    Ok(close_here(search, follower)? && search.board.size(wish.x) == 1)
+}
+
+// The tuple to which that value of his first open variable leads.
+fn led_reply(
+    search: &mut Search,
+    follower: ScopeId,
+    lead: Option<i64>,
+) -> Result<Option<Reply>, Stop> {
+    let Some(led) = lead else {
+        return Ok(None);
+    };
+    let Some(x) = search.board.first_open(follower) else {
+        return Ok(None);
+    };
+    if !search.board.has(x, led) {
+        return Ok(None);
+    }
+    let Some(tuple) = tuple_from(search, follower, x, led)? else {
+        return Ok(None);
+    };
+    match wished_in(search, follower, tuple.as_slice()) {
+        None => Ok(None),
+        Some(value) => Ok(Some(Reply { tuple, value, lead })),
+    }
+}
+
+// What the follower wishes for in a tuple of his, where it is a variable of his own.
+fn wished_in(search: &Search, follower: ScopeId, tuple: &[i64]) -> Option<i64> {
+    let wish = wish_of(search, follower)?;
+    let level = search.board.level(follower)?;
+    let at = (wish.x.0 as usize).checked_sub(level.from)?;
+    let value = tuple.get(at)?;
+    Some(*value)
 }
 
 // Writes the values of x each with what is left, where that is better than all together; the best of them, None where none is left.

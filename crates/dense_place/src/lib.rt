@@ -35,7 +35,7 @@ pub use leads::Leads;
 pub use lines::Lines;
 pub use patience::{Patience, wants_much};
 pub use place::{DEPTH, Place, Rival, after, is_better, one_less};
-pub use pools::{Move, Pools};
+pub use pools::{KnownReply, Move, Pools};
 pub use scouting::found_freely;
 pub use search::Search;
 pub use shape::Shape;

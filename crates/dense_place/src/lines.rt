@@ -39,7 +39,7 @@ impl Lines {
 
     fn put_number(&mut self, number: i64) -> Result<(), Stop> {
         let mut buffer = Buffer::new();
-        self.put(b" ")?;
+        self.bytes.push(b' ')?;
         self.put(buffer.format(number).as_bytes())
     }
 

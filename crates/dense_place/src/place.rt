@@ -2,7 +2,7 @@
 ghost use Rattle.std.specs.Prelude.{◌<◌, IfOk};
 
 use crate::stop::Stop;
-use qc_model::{ScopeId, Sense};
+use qc_model::{ScopeId, Sense, VarId};
 
 /// How deep the search goes at most: in each scope it goes through five calls, and four for each of its variables.
 pub const DEPTH: u32 = 4_096;
@@ -16,13 +16,15 @@ pub struct Rival {
     pub ties: bool,
 }
 
-/// A scope, what the one above has reached, whether a bound of the block stands above, and the number of the horizon in force.
+/// A scope, what the one above has reached, whether a bound of the block stands above, the number of the horizon in force, and a variable
+/// before which those of the scope have one value each.
 #[derive(Clone, Copy)]
 pub struct Place {
     pub scope: ScopeId,
     pub rival: Option<Rival>,
     pub bounded: bool,
     pub horizon: Option<u8>,
+    pub open_from: VarId,
 }
 
 impl Place {

@@ -1,16 +1,23 @@
 //! Tuples that were of use to bound a leader's choices while they are open.
+use crate::lines::Lines;
 use crate::stop::Stop;
-use dense_board::{Board, Hindrance};
+use dense_board::{Board, Needs};
 use qc_model::ScopeId;
 use std::alloc::{AllocError, Global};
 
-/// A tuple that was of use, what it is worth to the leader, and of a reply what kept the follower from counting on it when it was last
-/// looked at closely, if anything did.
+/// A tuple that was of use, and what it is worth to the leader.
 #[derive(Drop)]
 pub struct Move {
     pub tuple: Vec<i64>,
     pub worth: i64,
-    pub hindrance: Option<Hindrance>,
+    pub reply: Option<KnownReply>,
+}
+
+/// Of a tuple of a follower what he needs to count on it, and the lines that say that he does.
+#[derive(Drop)]
+pub struct KnownReply {
+    pub needs: Needs,
+    pub lines: Lines,
 }
 
 /// For each scope tuples of it that were of use, the latest first.

@@ -4,7 +4,7 @@ use crate::walk::node;
 use dense_board::{Board, Given};
 use dense_place::{DEPTH, Lines, Place, Search, Stop, given_tuples};
 use joins::Found;
-use qc_model::{Problem, ScopeId};
+use qc_model::{Problem, ScopeId, VarId};
 use std::alloc::{AllocError, Global};
 
 /// The text of a dense certificate for the game, found within so many turns. None comes where these don't suffice, or the search has
@@ -36,6 +36,7 @@ fn written(alloc: Global, problem: &Problem, turns: u64) -> Result<Option<Vec<u8
         rival: None,
         bounded: false,
         horizon: None,
+        open_from: VarId(0),
     };
     let found = node(&mut search, DEPTH, root)?;
     text_of(alloc, &search, given.as_slice(), found)

@@ -129,7 +129,10 @@ fn part(search: &mut Search, depth: u32, place: Place) -> Result<bool, Stop> {
     if place.horizon.is_none() && bound_loosely(search, place.scope)? {
         return Ok(false);
     }
-    match search.board.first_open(place.scope) {
+    match search
+        .board
+        .first_open_from(place.scope, place.open_from)
+    {
         None => leaf(search, depth, place),
         Some(x) => branch(search, depth, place, x),
     }
@@ -170,6 +173,7 @@ fn below(search: &Search, place: Place) -> Place {
         rival: rival_below(search, place.scope),
         bounded: place.bounded && search.board.is_players(place.scope),
         horizon: place.horizon,
+        open_from: VarId(0),
     }
 }
 
@@ -258,6 +262,10 @@ fn case(search: &mut Search, depth: u32, place: Place, x: VarId, value: i64) -> 
     search.spend()?;
     search.save()?;
     let _ = search.board.keep(x, value);
+    let place = Place {
+        open_from: x,
+        ..place
+    };
     let settled = part(search, depth, place)?;
     search.board.restore();
     Ok(settled)
