@@ -118,12 +118,7 @@ impl<'p> Board<'p> {
 
     // Adds what each constraint of scope i and of what comes next needs, where the scope's variables have one value each. It says whether
     // those hold that have no other variables.
-    fn add_needs(
-        &self,
-        alloc: Global,
-        i: ScopeId,
-        needs: &mut Needs,
-    ) -> Result<bool, AllocError> {
+    fn add_needs(&self, alloc: Global, i: ScopeId, needs: &mut Needs) -> Result<bool, AllocError> {
         if !self.is_scope(i) {
             return Ok(false);
         }

@@ -1,6 +1,8 @@
 //! A sum over the opponent's choices bounded while the leader's are open.
 use crate::replies::{Reply, Sought, follow};
-use dense_place::{DEPTH, Rival, Search, Stop, after, close_here, is_open_move, one_less, put_skipped};
+use dense_place::{
+    DEPTH, Rival, Search, Stop, after, close_here, is_open_move, one_less, put_skipped,
+};
 use joins::Found;
 use qc_model::{ScopeId, VarId};
 

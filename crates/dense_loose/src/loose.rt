@@ -103,7 +103,11 @@ fn wished_value(board: &Board, follower: ScopeId, tuple: &[i64]) -> Option<i64> 
     {
         return Some(*value);
     }
-    if board.size(x) == 1 { Some(board.least(x)) } else { None }
+    if board.size(x) == 1 {
+        Some(board.least(x))
+    } else {
+        None
+    }
 }
 
 // A tuple of the opponent after which nothing is better for the leader than what was reached, whatever is chosen.

@@ -49,8 +49,9 @@ pub(crate) fn follow(
     if !close_here(search, follower)? {
         return Ok((None, None));
     }
-    let Some(reply) = put_reply(search, follower, sought)? else {
-        return Ok((None, None));
+    let reply = match put_reply(search, follower, sought)? {
+        Put::Lost => return Ok((None, None)),
+        Put::Closed(reply) => reply,
     };
     let left = match search.board.best_left(follower) {
         None => return Err(Stop::Spent),
@@ -64,18 +65,23 @@ pub(crate) fn follow(
     Ok((Some(left), reply))
 }
 
-// What became of the follower's reply: it was put, and the box was closed after it; or there is none; or nothing was left.
-type Put = Option<Option<Reply>>;
+// What became of the follower's reply.
+#[derive(Drop)]
+enum Put {
+    // it was put, if there is one, and the box was closed after it
+    Closed(Option<Reply>),
+    // nothing was left then
+    Lost,
+}
 
-// Puts the reply where there is one, and closes the box after it. None comes where nothing is left then; that there is no reply is
-// handed on too.
+// Puts the reply where there is one, and closes the box after it.
 fn put_reply(search: &mut Search, follower: ScopeId, sought: Sought) -> Result<Put, Stop> {
     let reply = match sought {
         Sought::Found(reply) => reply,
         Sought::Not(lead) => {
             let led = put_led(search, follower, lead)?;
             if led.is_some() {
-                return Ok(Some(led));
+                return Ok(Put::Closed(led));
             }
             best_reply(search, follower, lead)?
         }
@@ -85,14 +91,15 @@ fn put_reply(search: &mut Search, follower: ScopeId, sought: Sought) -> Result<P
     {
         search.lines.put_line(b"f", found.tuple.as_slice())?;
         if !close_here(search, follower)? {
-            return Ok(None);
+            return Ok(Put::Lost);
         }
     }
-    Ok(Some(reply))
+    Ok(Put::Closed(reply))
 }
 
-// The reply to which the value leads that led to the best one before. It is put, and the box closed after it, where that leaves nothing
-// better; else there is none, and the box and the lines are as they were. So nothing has to be closed to see that it is the best.
+// The reply to which the value leads that led to the best one before. It is put, and the box closed after it, where nothing better is
+// left; else there is none, and the box and the lines are as they were. So whether something better is left is mostly seen by the closing
+// that is needed anyway.
 fn put_led(
     search: &mut Search,
     follower: ScopeId,
@@ -103,7 +110,7 @@ fn put_led(
     };
     let begin = search.lines.len();
     search.save()?;
-    if is_best(search, follower, reply.tuple.as_slice())? {
+    if is_best(search, follower, &reply)? {
         search.board.forget();
         return Ok(Some(reply));
     }
@@ -112,16 +119,20 @@ fn put_led(
     Ok(None)
 }
 
-// Puts the tuple as a reply where he can count on it, closes the box, and says whether nothing better is left to his wish.
-fn is_best(search: &mut Search, follower: ScopeId, tuple: &[i64]) -> Result<bool, Stop> {
-    let Some(wish) = wish_of(search, follower) else {
-        return Ok(false);
-    };
+// Puts the reply where he can count on it, closes the box, and says whether nothing better is left to his wish.
+fn is_best(search: &mut Search, follower: ScopeId, reply: &Reply) -> Result<bool, Stop> {
+    let tuple = reply.tuple.as_slice();
     if !search.board.reply(follower, tuple) {
         return Ok(false);
     }
     search.lines.put_line(b"f", tuple)?;
-    Ok(close_here(search, follower)? && search.board.size(wish.x) == 1)
+    if !close_here(search, follower)? {
+        return Ok(false);
+    }
+    search.save()?;
+    let is_left = leave_better(search, follower, reply.value);
+    search.board.restore();
+    Ok(!is_left)
 }
 
 // The tuple to which that value of his first open variable leads.

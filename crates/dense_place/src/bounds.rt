@@ -73,12 +73,7 @@ fn put_bound(
 }
 
 /// The values left to the variable demanded first after the scope that are worse than one, or equal too.
-pub fn useless_values(
-    board: &Board,
-    scope: ScopeId,
-    best: i64,
-    ties: bool,
-) -> Option<Values> {
+pub fn useless_values(board: &Board, scope: ScopeId, best: i64, ties: bool) -> Option<Values> {
     let first = board.demanded(after(scope)).first()?;
     let Target::Var(x) = first.target else {
         return None;

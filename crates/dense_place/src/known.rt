@@ -98,12 +98,7 @@ impl<'p> Search<'p> {
     }
 
     /// Keeps the lines of a node by themselves, where it may be told again, and puts `a K` in their place.
-    pub fn remember(
-        &mut self,
-        place: Place,
-        begin: usize,
-        found: Found,
-    ) -> Result<(), Stop> {
+    pub fn remember(&mut self, place: Place, begin: usize, found: Found) -> Result<(), Stop> {
         if self.lines.len().saturating_sub(begin) < LEAST_BYTES {
             return Ok(());
         }

@@ -1,8 +1,9 @@
 //! The way through a game, from scope to scope and value to value.
 use dense_loose::{bound_loosely, note_leaf};
 use dense_place::{
-    Ahead, Lines, Place, Search, Stop, after, bound_by, bound_here, close_here, found_freely, is_dead_end, is_opposed, is_settled,
-    keep_alone, look_ahead, node_over, one_less, rival_below, wants_much,
+    Ahead, Lines, Place, Search, Stop, after, bound_by, bound_here, close_here, found_freely,
+    is_dead_end, is_opposed, is_settled, keep_alone, look_ahead, node_over, one_less, rival_below,
+    wants_much,
 };
 use joins::Found;
 use qc_model::{ScopeId, Sense, VarId};
@@ -129,10 +130,7 @@ fn part(search: &mut Search, depth: u32, place: Place) -> Result<bool, Stop> {
     if place.horizon.is_none() && bound_loosely(search, place.scope)? {
         return Ok(false);
     }
-    match search
-        .board
-        .first_open_from(place.scope, place.open_from)
-    {
+    match search.board.first_open_from(place.scope, place.open_from) {
         None => leaf(search, depth, place),
         Some(x) => branch(search, depth, place, x),
     }
