@@ -16,5 +16,5 @@ mod saving;
 mod starting;
 
 pub use board::{Board, Closing};
-pub use hindering::Needs;
+pub use hindering::Hindrance;
 pub use starting::Given;

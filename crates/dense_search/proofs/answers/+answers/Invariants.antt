@@ -1,4 +1,4 @@
-use Rattle.dense_loose.proofs.answers.+answers.Given as goal
+use Rattle.dense_search.proofs.answers.+answers.Given as goal
 
 abbrev pub decreases-answers : goal.decreases-answers
 decreases-answers l = l.depth

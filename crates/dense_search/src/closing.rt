@@ -7,7 +7,7 @@ use qc_model::ScopeId;
 
 /// Closes the box for the constraints in force at the scope, and puts `c` where that takes something. Where nothing is left it puts
 /// `e`, and says so; at an unrestricted scope of the opponent that is a lost leaf.
-pub fn close_here(search: &mut Search, scope: ScopeId) -> Result<bool, Stop> {
+pub(crate) fn close_here(search: &mut Search, scope: ScopeId) -> Result<bool, Stop> {
     match search.board.close(scope) {
         Closing::Same => Ok(true),
         Closing::Narrowed => {
@@ -22,7 +22,7 @@ pub fn close_here(search: &mut Search, scope: ScopeId) -> Result<bool, Stop> {
 }
 
 /// Puts `e`, where no box within is closed, or a move has no answer.
-pub fn nothing_left(search: &mut Search, scope: ScopeId) -> Result<(), Stop> {
+pub(crate) fn nothing_left(search: &mut Search, scope: ScopeId) -> Result<(), Stop> {
     search.lines.put(b"e\n")?;
     if is_open_move(search, scope) {
         search.board.add_node(scope, Found::Lost);
@@ -32,7 +32,7 @@ pub fn nothing_left(search: &mut Search, scope: ScopeId) -> Result<(), Stop> {
 }
 
 /// Whether it is a scope of the opponent without a restriction.
-pub fn is_open_move(search: &Search, scope: ScopeId) -> bool {
+pub(crate) fn is_open_move(search: &Search, scope: ScopeId) -> bool {
     match search.board.level(scope) {
         None => false,
         Some(level) => !search.board.is_players(scope) && level.rules.is_empty(),

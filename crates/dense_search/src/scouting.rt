@@ -28,7 +28,7 @@ struct Scout {
 }
 
 /// Whether a free search may find a bound for a node of the scope.
-pub fn may_scout(board: &Board, scope: ScopeId) -> bool {
+pub(crate) fn may_scout(board: &Board, scope: ScopeId) -> bool {
     scout_of(board, scope).is_some()
 }
 
@@ -56,7 +56,7 @@ fn scout_of(board: &Board, scope: ScopeId) -> Option<Scout> {
 }
 
 /// The best value that a free search of the scope finds for what is demanded first.
-pub fn found_freely(search: &mut Search, scope: ScopeId) -> Result<Option<i64>, Stop> {
+pub(crate) fn found_freely(search: &mut Search, scope: ScopeId) -> Result<Option<i64>, Stop> {
     let Some(mut scout) = scout_of(&search.board, scope) else {
         return Ok(None);
     };

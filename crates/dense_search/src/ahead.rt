@@ -11,7 +11,7 @@ use qc_model::ScopeId;
 
 /// What was seen ahead of a node: the player has lost; or the owner of its scope is stuck; or it is gone into, at a place.
 #[derive(Clone, Copy)]
-pub enum Ahead {
+pub(crate) enum Ahead {
     Lost,
     Stuck,
     On(Place),
@@ -19,7 +19,7 @@ pub enum Ahead {
 
 /// Looks ahead of a node. Where nobody passes the scopes up to one, it puts `h K`; or `l K`, where the opponent is never stuck on the
 /// way.
-pub fn look_ahead(search: &mut Search, place: Place) -> Result<Ahead, Stop> {
+pub(crate) fn look_ahead(search: &mut Search, place: Place) -> Result<Ahead, Stop> {
     if search.board.is_free() {
         return Ok(Ahead::On(place));
     }
@@ -87,7 +87,7 @@ fn is_unplayed(search: &mut Search, scope: ScopeId) -> Result<bool, Stop> {
 
 /// Looks ahead of a part of a scope's own tree, where closing sees no further than the block though the opponent is never stuck from the
 /// scope on. Where nobody passes the scopes ahead, it puts `l K`, and the scope has its leaf.
-pub fn is_dead_end(search: &mut Search, scope: ScopeId) -> Result<bool, Stop> {
+pub(crate) fn is_dead_end(search: &mut Search, scope: ScopeId) -> Result<bool, Stop> {
     if search.board.is_free()
         || !search.board.is_free_from(scope)
         || !is_lost_choice(search, scope)

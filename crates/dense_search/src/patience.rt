@@ -36,7 +36,7 @@ enum Tried {
 
 /// When nodes begin again.
 #[derive(Clone, Copy)]
-pub struct Patience {
+pub(crate) struct Patience {
     // how many turns are left where the node of the last scope is said to take long
     slow: Option<u64>,
     // how many were left when the first scope began
@@ -55,7 +55,7 @@ pub struct Patience {
 }
 
 impl Patience {
-    pub fn new() -> Patience {
+    pub(crate) fn new() -> Patience {
         Patience {
             slow: None,
             begun: 0,
@@ -70,14 +70,14 @@ impl Patience {
 }
 
 /// Whether it is a scope of the player with a wish, and not the last one.
-pub fn is_leader(board: &Board, scope: ScopeId) -> bool {
+pub(crate) fn is_leader(board: &Board, scope: ScopeId) -> bool {
     board.is_players(scope)
         && after(scope).0 as usize != board.scopes()
         && !board.demanded(after(scope)).is_empty()
 }
 
 /// Whether it is such a scope, and more is better.
-pub fn wants_much(board: &Board, scope: ScopeId) -> bool {
+pub(crate) fn wants_much(board: &Board, scope: ScopeId) -> bool {
     is_leader(board, scope)
         && match board.demanded(after(scope)).first() {
             None => false,
@@ -87,7 +87,7 @@ pub fn wants_much(board: &Board, scope: ScopeId) -> bool {
 
 impl<'p> Search<'p> {
     /// A node of the scope begins.
-    pub fn watch(&mut self, scope: ScopeId) {
+    pub(crate) fn watch(&mut self, scope: ScopeId) {
         if may_scout(&self.board, scope) {
             self.patience.slow = self.turns.checked_sub(LONG);
         }
@@ -106,17 +106,17 @@ impl<'p> Search<'p> {
     }
 
     /// Whether the scope goes through the least values first, though it wants much.
-    pub fn rises(&self, scope: ScopeId) -> bool {
+    pub(crate) fn rises(&self, scope: ScopeId) -> bool {
         scope.0 == 0 && self.patience.rises
     }
 
     /// A node of the last scope ends, or begins again.
-    pub fn unwatch(&mut self) {
+    pub(crate) fn unwatch(&mut self) {
         self.patience.slow = None;
     }
 
     /// The first scope begins again, and goes to the best tuple that it has reached.
-    pub fn go_back(&mut self) {
+    pub(crate) fn go_back(&mut self) {
         self.unwatch();
         self.replied = false;
         self.patience.goes_back = true;
@@ -124,13 +124,13 @@ impl<'p> Search<'p> {
     }
 
     /// Whether the scope is on its way to the best tuple that it has reached.
-    pub fn goes_back(&self, scope: ScopeId) -> bool {
+    pub(crate) fn goes_back(&self, scope: ScopeId) -> bool {
         scope.0 == 0 && self.patience.goes_back
     }
 
     /// A leaf of the scope was found, which had reached so much before. Where that is more now, its tuple is kept, and the first scope may
     /// begin again.
-    pub fn note_reached(&mut self, scope: ScopeId, before: Option<i64>) -> Result<(), Stop> {
+    pub(crate) fn note_reached(&mut self, scope: ScopeId, before: Option<i64>) -> Result<(), Stop> {
         if scope.0 > 0 || !is_leader(&self.board, scope) {
             return Ok(());
         }
@@ -165,7 +165,7 @@ impl<'p> Search<'p> {
     }
 
     /// Takes a turn.
-    pub fn spend(&mut self) -> Result<(), Stop> {
+    pub(crate) fn spend(&mut self) -> Result<(), Stop> {
         if self.turns == 0 {
             return Err(Stop::Spent);
         }

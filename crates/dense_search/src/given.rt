@@ -12,7 +12,7 @@ const MOST_TRIES: u32 = 2_000;
 const DEEPEST: u32 = 1_100;
 
 /// A tuple for each scope of the opponent that has a restriction, where one was found that is always allowed.
-pub fn given_tuples(alloc: Global, problem: &Problem) -> Result<Vec<Given>, Stop> {
+pub(crate) fn given_tuples(alloc: Global, problem: &Problem) -> Result<Vec<Given>, Stop> {
     let mut board = Board::new(alloc, problem, &[])?;
     let mut given = Vec::new(alloc);
     for i in 0..board.scopes() {

@@ -1,4 +1,4 @@
-use Rattle.dense_place.proofs.scouting.+scout.Given as goal
+use Rattle.dense_search.proofs.scouting.+scout.Given as goal
 
 abbrev pub decreases-go_on : goal.decreases-go_on
 decreases-go_on l = l.depth

@@ -4,7 +4,7 @@ use std::alloc::{AllocError, AllocFailed};
 /// No memory was left; or no turn, or the search met what it has no lines for; or a node of the last scope takes long; or the first
 /// scope begins again.
 #[derive(Clone, Copy, PartialEq, Eq)]
-pub enum Stop {
+pub(crate) enum Stop {
     Memory,
     Spent,
     Slow,

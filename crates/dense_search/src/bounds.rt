@@ -13,15 +13,15 @@ const GREATEST: i64 = 1_000_000_000;
 
 /// Values of a variable, from the first to the last of them.
 #[derive(Clone, Copy)]
-pub struct Values {
-    pub x: VarId,
-    pub first: i64,
-    pub last: i64,
+pub(crate) struct Values {
+    pub(crate) x: VarId,
+    pub(crate) first: i64,
+    pub(crate) last: i64,
 }
 
 /// Takes out of the variable that is demanded first what is no better than what the scope has reached, and closes the box again.
 /// None comes where nothing is left then; else the place, below a bound where values went.
-pub fn bound_here(search: &mut Search, place: Place) -> Result<Option<Place>, Stop> {
+pub(crate) fn bound_here(search: &mut Search, place: Place) -> Result<Option<Place>, Stop> {
     let Some(best) = search.board.incumbent(place.scope) else {
         return Ok(Some(place));
     };
@@ -41,7 +41,7 @@ pub fn bound_here(search: &mut Search, place: Place) -> Result<Option<Place>, St
 }
 
 /// Takes out of the variable that is demanded first what is worse than a value. The place comes, below a bound where values went.
-pub fn bound_by(search: &mut Search, place: Place, best: i64) -> Result<Place, Stop> {
+pub(crate) fn bound_by(search: &mut Search, place: Place, best: i64) -> Result<Place, Stop> {
     Ok(put_bound(search, place, best, false)?.unwrap_or(place))
 }
 
@@ -73,7 +73,12 @@ fn put_bound(
 }
 
 /// The values left to the variable demanded first after the scope that are worse than one, or equal too.
-pub fn useless_values(board: &Board, scope: ScopeId, best: i64, ties: bool) -> Option<Values> {
+pub(crate) fn useless_values(
+    board: &Board,
+    scope: ScopeId,
+    best: i64,
+    ties: bool,
+) -> Option<Values> {
     let first = board.demanded(after(scope)).first()?;
     let Target::Var(x) = first.target else {
         return None;

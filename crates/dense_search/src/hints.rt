@@ -5,13 +5,13 @@ use std::alloc::{AllocError, Global};
 
 /// For each scope the tuple that settled it last: one value for each of its variables.
 #[derive(Drop)]
-pub struct Hints {
+pub(crate) struct Hints {
     values: Vec<i64>,
     has_tuple: Vec<bool>,
 }
 
 impl Hints {
-    pub fn new(alloc: Global, board: &Board) -> Result<Hints, AllocError> {
+    pub(crate) fn new(alloc: Global, board: &Board) -> Result<Hints, AllocError> {
         Ok(Hints {
             values: vec![in alloc; 0; board.variables()]?,
             has_tuple: vec![in alloc; false; board.scopes()]?,
@@ -19,7 +19,7 @@ impl Hints {
     }
 
     /// Keeps the least values left to the variables of the scope.
-    pub fn note(&mut self, board: &Board, scope: ScopeId) {
+    pub(crate) fn note(&mut self, board: &Board, scope: ScopeId) {
         if board.is_empty() {
             return;
         }
@@ -38,7 +38,7 @@ impl Hints {
     }
 
     /// The value that a variable of the scope had then.
-    pub fn value(&self, scope: ScopeId, x: VarId) -> Option<i64> {
+    pub(crate) fn value(&self, scope: ScopeId, x: VarId) -> Option<i64> {
         if !*self.has_tuple.get(scope.0 as usize)? {
             return None;
         }

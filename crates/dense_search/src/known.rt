@@ -14,25 +14,25 @@ const LEAST_BYTES: usize = 16;
 /// A node whose lines are kept by themselves: its scope, the horizon that was in force, the least value of each variable where it
 /// stood, and what it came to.
 #[derive(Drop)]
-pub struct KnownNode {
-    pub scope: u8,
-    pub horizon: Option<u8>,
-    pub position: Vec<i64>,
-    pub found: Found,
-    pub vector: Vec<i64>,
-    pub lines: Vec<u8>,
+pub(crate) struct KnownNode {
+    pub(crate) scope: u8,
+    pub(crate) horizon: Option<u8>,
+    pub(crate) position: Vec<i64>,
+    pub(crate) found: Found,
+    pub(crate) vector: Vec<i64>,
+    pub(crate) lines: Vec<u8>,
 }
 
 /// All such nodes.
 #[derive(Drop)]
-pub struct KnownNodes {
+pub(crate) struct KnownNodes {
     // for each place that of its node in the list and one, or 0
     places: Vec<u32>,
-    pub nodes: Vec<KnownNode>,
+    pub(crate) nodes: Vec<KnownNode>,
 }
 
 impl KnownNodes {
-    pub fn new(alloc: Global) -> Result<KnownNodes, AllocError> {
+    pub(crate) fn new(alloc: Global) -> Result<KnownNodes, AllocError> {
         Ok(KnownNodes {
             places: vec![in alloc; 0u32; PLACES]?,
             nodes: Vec::new(alloc),
@@ -74,7 +74,7 @@ impl<'p> Search<'p> {
     }
 
     /// Puts `a K` where node K is known and looks the same, and says what it came to.
-    pub fn look_up(&mut self, place: Place) -> Result<Option<Found>, Stop> {
+    pub(crate) fn look_up(&mut self, place: Place) -> Result<Option<Found>, Stop> {
         let Some(number) = self.number_of(place) else {
             return Ok(None);
         };
@@ -98,7 +98,12 @@ impl<'p> Search<'p> {
     }
 
     /// Keeps the lines of a node by themselves, where it may be told again, and puts `a K` in their place.
-    pub fn remember(&mut self, place: Place, begin: usize, found: Found) -> Result<(), Stop> {
+    pub(crate) fn remember(
+        &mut self,
+        place: Place,
+        begin: usize,
+        found: Found,
+    ) -> Result<(), Stop> {
         if self.lines.len().saturating_sub(begin) < LEAST_BYTES {
             return Ok(());
         }

@@ -7,7 +7,7 @@ use joins::Found;
 use qc_model::{Condition, ScopeId, VarId};
 
 /// Whether the scope needs no other leaf: whatever they are, it comes to the same, or to what is of no use to the scope above.
-pub fn is_settled(search: &mut Search, place: Place) -> bool {
+pub(crate) fn is_settled(search: &mut Search, place: Place) -> bool {
     if search.board.is_settled(place.scope) {
         return true;
     }
@@ -37,7 +37,7 @@ fn is_reply(search: &mut Search, scope: ScopeId, rival: Rival) -> bool {
 }
 
 /// Whether it is the last scope, and wants the opposite of what is demanded of it first.
-pub fn is_opposed(board: &Board, scope: ScopeId) -> bool {
+pub(crate) fn is_opposed(board: &Board, scope: ScopeId) -> bool {
     if after(scope).0 as usize != board.scopes() {
         return false;
     }
@@ -62,7 +62,7 @@ fn are_opposite(one: Option<&Condition>, other: Option<&Condition>) -> bool {
 }
 
 /// What the scope has reached, for the scope after it.
-pub fn rival_below(search: &Search, scope: ScopeId) -> Option<Rival> {
+pub(crate) fn rival_below(search: &Search, scope: ScopeId) -> Option<Rival> {
     let value = search.board.incumbent(scope)?;
     let list = search.board.demanded(after(scope));
     let first = list.first()?;
@@ -74,7 +74,7 @@ pub fn rival_below(search: &Search, scope: ScopeId) -> Option<Rival> {
 }
 
 /// What a node comes to whose own tree has ended. What comes again is kept by itself.
-pub fn node_over(search: &mut Search, place: Place, begin: usize) -> Result<Found, Stop> {
+pub(crate) fn node_over(search: &mut Search, place: Place, begin: usize) -> Result<Found, Stop> {
     if search.replied {
         search.replied = false;
         return reply_stands(search, place, begin);
@@ -109,7 +109,7 @@ fn reply_stands(search: &mut Search, place: Place, begin: usize) -> Result<Found
 
 /// Of the cases put since `body`, which begin at a value's each, keeps that of one value, which begins at `begin`; all other values of
 /// x are skipped.
-pub fn keep_alone(
+pub(crate) fn keep_alone(
     search: &mut Search,
     scope: ScopeId,
     x: VarId,
@@ -137,7 +137,7 @@ pub fn keep_alone(
 }
 
 /// Puts that the values from the first to the last are skipped.
-pub fn put_skipped(search: &mut Search, first: i64, last: i64) -> Result<(), Stop> {
+pub(crate) fn put_skipped(search: &mut Search, first: i64, last: i64) -> Result<(), Stop> {
     if first < last {
         search.lines.put_line(b"r", &[last])?;
     }
@@ -146,7 +146,7 @@ pub fn put_skipped(search: &mut Search, first: i64, last: i64) -> Result<(), Sto
 
 impl<'p> Search<'p> {
     /// The tuple that the scope is hinted at, if any.
-    pub fn hinted_tuple(&self, scope: ScopeId) -> Result<Option<Vec<i64>>, Stop> {
+    pub(crate) fn hinted_tuple(&self, scope: ScopeId) -> Result<Option<Vec<i64>>, Stop> {
         let Some(level) = self.board.level(scope) else {
             return Ok(None);
         };

@@ -1,7 +1,12 @@
 //! A follower's node while the leader's choices are open: what he can count on, and what is left then.
+use crate::bounds::useless_values;
+use crate::closing::close_here;
+use crate::place::{after, is_better};
+use crate::search::Search;
+use crate::stop::Stop;
 use dense_board::Closing;
-use dense_place::{Search, Stop, after, close_here, is_better, useless_values};
 use qc_model::{Condition, ScopeId, Sense, Target, VarId};
+use std::alloc::Global;
 
 /// How many values of one variable are tried for a reply.
 const MOST_TRIES: u32 = 10_000;
@@ -11,7 +16,7 @@ const MOST_TRIES: u32 = 10_000;
 pub(crate) struct Reply {
     tuple: Vec<i64>,
     value: i64,
-    pub(crate) lead: Option<i64>,
+    lead: Option<i64>,
 }
 
 /// What is known of the follower's best reply at an answer of the opponent: it was looked for, and there may be one; or nothing but the
@@ -20,6 +25,41 @@ pub(crate) struct Reply {
 pub(crate) enum Sought {
     Found(Option<Reply>),
     Not(Option<i64>),
+}
+
+/// For each answer of the opponent, by its number, the value that led to the follower's best reply last.
+#[derive(Drop)]
+pub(crate) struct Leads {
+    values: Vec<Option<i64>>,
+}
+
+impl Leads {
+    pub(crate) fn new(alloc: Global) -> Leads {
+        Leads {
+            values: Vec::new(alloc),
+        }
+    }
+
+    pub(crate) fn at(&self, answer: usize) -> Option<i64> {
+        match self.values.get(answer) {
+            None => None,
+            Some(value) => *value,
+        }
+    }
+
+    /// Keeps what led to a reply.
+    pub(crate) fn note(&mut self, answer: usize, reply: &Reply) -> Result<(), Stop> {
+        if reply.lead.is_none() {
+            return Ok(());
+        }
+        for _ in self.values.len()..answer.saturating_add(1) {
+            self.values.push(None)?;
+        }
+        if let Some(value) = self.values.get_mut(answer) {
+            *value = reply.lead;
+        }
+        Ok(())
+    }
 }
 
 // A hunt for the best reply of the follower: what he wishes, the best so far, and whether nothing better is left.
@@ -49,10 +89,18 @@ pub(crate) fn follow(
     if !close_here(search, follower)? {
         return Ok((None, None));
     }
-    let reply = match put_reply(search, follower, sought)? {
-        Put::Lost => return Ok((None, None)),
-        Put::Closed(reply) => reply,
+    let reply = match sought {
+        Sought::Found(reply) => reply,
+        Sought::Not(lead) => best_reply(search, follower, lead)?,
     };
+    if let Some(reply) = &reply
+        && search.board.reply(follower, reply.tuple.as_slice())
+    {
+        search.lines.put_line(b"f", reply.tuple.as_slice())?;
+        if !close_here(search, follower)? {
+            return Ok((None, None));
+        }
+    }
     let left = match search.board.best_left(follower) {
         None => return Err(Stop::Spent),
         Some(left) => left,
@@ -63,109 +111,6 @@ pub(crate) fn follow(
     }
     search.lines.put(b"y\n")?;
     Ok((Some(left), reply))
-}
-
-// What became of the follower's reply.
-#[derive(Drop)]
-enum Put {
-    // it was put, if there is one, and the box was closed after it
-    Closed(Option<Reply>),
-    // nothing was left then
-    Lost,
-}
-
-// Puts the reply where there is one, and closes the box after it.
-fn put_reply(search: &mut Search, follower: ScopeId, sought: Sought) -> Result<Put, Stop> {
-    let reply = match sought {
-        Sought::Found(reply) => reply,
-        Sought::Not(lead) => {
-            let led = put_led(search, follower, lead)?;
-            if led.is_some() {
-                return Ok(Put::Closed(led));
-            }
-            best_reply(search, follower, lead)?
-        }
-    };
-    if let Some(found) = &reply
-        && search.board.reply(follower, found.tuple.as_slice())
-    {
-        search.lines.put_line(b"f", found.tuple.as_slice())?;
-        if !close_here(search, follower)? {
-            return Ok(Put::Lost);
-        }
-    }
-    Ok(Put::Closed(reply))
-}
-
-// The reply to which the value leads that led to the best one before. It is put, and the box closed after it, where nothing better is
-// left; else there is none, and the box and the lines are as they were. So whether something better is left is mostly seen by the closing
-// that is needed anyway.
-fn put_led(
-    search: &mut Search,
-    follower: ScopeId,
-    lead: Option<i64>,
-) -> Result<Option<Reply>, Stop> {
-    let Some(reply) = led_reply(search, follower, lead)? else {
-        return Ok(None);
-    };
-    let begin = search.lines.len();
-    search.save()?;
-    if is_best(search, follower, &reply)? {
-        search.board.forget();
-        return Ok(Some(reply));
-    }
-    search.board.restore();
-    search.lines.drop_from(begin);
-    Ok(None)
-}
-
-// Puts the reply where he can count on it, closes the box, and says whether nothing better is left to his wish.
-fn is_best(search: &mut Search, follower: ScopeId, reply: &Reply) -> Result<bool, Stop> {
-    let tuple = reply.tuple.as_slice();
-    if !search.board.reply(follower, tuple) {
-        return Ok(false);
-    }
-    search.lines.put_line(b"f", tuple)?;
-    if !close_here(search, follower)? {
-        return Ok(false);
-    }
-    search.save()?;
-    let is_left = leave_better(search, follower, reply.value);
-    search.board.restore();
-    Ok(!is_left)
-}
-
-// The tuple to which that value of his first open variable leads.
-fn led_reply(
-    search: &mut Search,
-    follower: ScopeId,
-    lead: Option<i64>,
-) -> Result<Option<Reply>, Stop> {
-    let Some(led) = lead else {
-        return Ok(None);
-    };
-    let Some(x) = search.board.first_open(follower) else {
-        return Ok(None);
-    };
-    if !search.board.has(x, led) {
-        return Ok(None);
-    }
-    let Some(tuple) = tuple_from(search, follower, x, led)? else {
-        return Ok(None);
-    };
-    match wished_in(search, follower, tuple.as_slice()) {
-        None => Ok(None),
-        Some(value) => Ok(Some(Reply { tuple, value, lead })),
-    }
-}
-
-// What the follower wishes for in a tuple of his, where it is a variable of his own.
-fn wished_in(search: &Search, follower: ScopeId, tuple: &[i64]) -> Option<i64> {
-    let wish = wish_of(search, follower)?;
-    let level = search.board.level(follower)?;
-    let at = (wish.x.0 as usize).checked_sub(level.from)?;
-    let value = tuple.get(at)?;
-    Some(*value)
 }
 
 // Writes the values of x each with what is left, where that is better than all together; the best of them, None where none is left.

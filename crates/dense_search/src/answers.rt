@@ -1,8 +1,10 @@
 //! A sum over the opponent's choices bounded while the leader's are open.
+use crate::closing::{close_here, is_open_move};
+use crate::endings::put_skipped;
+use crate::place::{DEPTH, Rival, after, one_less};
 use crate::replies::{Reply, Sought, follow};
-use dense_place::{
-    DEPTH, Rival, Search, Stop, after, close_here, is_open_move, one_less, put_skipped,
-};
+use crate::search::Search;
+use crate::stop::Stop;
 use joins::Found;
 use qc_model::{ScopeId, VarId};
 
@@ -143,7 +145,7 @@ fn answer(
     let sought = sought_at(search, tally);
     let (left, reply) = follow(search, after(opponent), tally.closely, sought)?;
     if let Some(reply) = &reply {
-        search.leads.note(tally.leaf, reply.lead)?;
+        search.leads.note(tally.leaf, reply)?;
     }
     keep_reply(tally, reply)?;
     let Some(left) = left else {
