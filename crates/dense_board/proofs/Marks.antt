@@ -1,6 +1,6 @@
 -- What holds at saved places, as the store goes on and back.
-use Rattle.std.proofs.Common.{◌≡◌, ◌≤◌, ◌⊎◌, ℕ, zero, suc, true, false, List, [], ◌∷◌, ◌++◌, length, refl, sym, ap, subst, arith, inl, inr, Some}
-use Rattle.std.specs.Prelude.{slice_get}
+use Rattle.std.proofs.Common.{◌≡◌, ◌≤◌, ◌⊎◌, ℕ, zero, suc, true, false, List, [], ◌∷◌, ◌++◌, length, refl, sym, ap, subst, arith, inl, inr, Option, Some, None}
+use Rattle.std.specs.Prelude.{slice_get, IfNone, IfSome}
 use Rattle.std.proofs.lemmas.Option.{slice_get_within}
 use Rattle.qc_model.specs.Content.{Game}
 use Rattle.qc_model.specs.Domains.{has_empty}
@@ -84,6 +84,17 @@ saved_back g s t ms m h u = record {
     back k n i =
         let l : n.at ≤ m.at = h.rises k (length ms) n m (let w = slice_get_within ms k n i in omega (arith, w)) (earlier ms m k n i) (last_there ms m) in
         saved_still g s t n (h.each k n (earlier ms m k n i)) (omega (arith, l, u.len)) (u.boxes n.at l)
+
+-- one place less
+saved_less : (g : Game) (s : Held) (ms : List Mark) (m : Mark) → AreSaved g s (ms ++ m ∷ []) → AreSaved g s ms
+saved_less g s ms m h = record {
+  each = λ k n i. h.each k n (earlier ms m k n i);
+  rises = λ j k a b l p q. h.rises j k a b l (earlier ms m j a p) (earlier ms m k b q);
+}
+
+pub saved_popped : (g : Game) (s : Held) (ms ns : List Mark) (last : Option Mark) → IfNone last (ns ≡ ms) → IfSome last (λ m. ms ≡ ns ++ m ∷ []) → AreSaved g s ms → AreSaved g s ns
+saved_popped g s ms ns None e f h = subst (λ (ks : List Mark). AreSaved g s ks) (sym e) h
+saved_popped g s ms ns (Some m) e f h = saved_less g s ns m (subst (λ (ks : List Mark). AreSaved g s ks) f h)
 
 pub saved_none : (g : Game) (s : Held) → AreSaved g s []
 saved_none g s = record { each = λ k m i. cc; rises = λ j k a b l p q. cc }

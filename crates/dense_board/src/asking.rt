@@ -165,9 +165,14 @@ impl<'p> Board<'p> {
 
     /// The first variable of scope i that has several values left.
     pub fn first_open(&self, i: ScopeId) -> Option<VarId> {
+        self.first_open_from(i, VarId(0))
+    }
+
+    /// The first variable of scope i that has several values left, from x on.
+    pub fn first_open_from(&self, i: ScopeId, x: VarId) -> Option<VarId> {
         let level = self.level(i)?;
         level.problem.known();
-        for at in level.from..level.stop {
+        for at in level.from.max(x.0 as usize)..level.stop {
             let x = VarId(at as u16);
             if self.size(x) > 1 {
                 return Some(x);

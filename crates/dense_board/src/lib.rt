@@ -16,5 +16,5 @@ mod saving;
 mod starting;
 
 pub use board::{Board, Closing};
-pub use hindering::Hindrance;
+pub use hindering::Needs;
 pub use starting::Given;

@@ -48,6 +48,13 @@ impl<'p> Board<'p> {
         }
     }
 
+    /// Forgets the box that was saved last, and stays at the one that is here; where none is, nothing happens.
+    pub fn forget(&mut self)
+        ensures same { self.new.levels ≡ self.old.levels }
+    {
+        let _ = pop_mark(&mut self.saved);
+    }
+
     /// Goes back to the box that was saved before all but so many others, and forgets it and those after it.
     pub fn restore_to(&mut self, count: usize) {
         for _ in count..self.saved.len() {

@@ -3,10 +3,7 @@
 //! While the search goes on, the lines of each node that may be told again are kept by themselves, and `a K` stands for node K of
 //! these. In a certificate the node stands, with `m`, where it is told first, and `a N` where it is told again, where N counts the
 //! nodes so named in the order in which they begin. A node that is told once has no name.
-use crate::known::KnownNode;
-use crate::lines::Lines;
-use crate::search::Search;
-use crate::stop::Stop;
+use dense_place::{KnownNode, Lines, Search, Stop};
 
 /// How deep named nodes stand in one another at most: once in each scope.
 const DEEPEST: usize = 80;

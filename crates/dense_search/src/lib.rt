@@ -7,23 +7,8 @@
 //! it judged, and falls back to another search where it isn't believed.
 #![tactic(auto)]
 
-mod ahead;
-mod answers;
-mod bounds;
-mod closing;
-mod endings;
 mod expanding;
-mod given;
-mod hints;
-mod known;
-mod lines;
-mod loose;
-mod patience;
-mod place;
-mod replies;
-mod scouting;
 mod search;
-mod stop;
 mod walk;
 
 pub use search::certify;

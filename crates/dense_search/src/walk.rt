@@ -1,15 +1,10 @@
 //! The way through a game, from scope to scope and value to value.
-use crate::ahead::{Ahead, is_dead_end, look_ahead};
-use crate::bounds::{bound_by, bound_here};
-use crate::closing::close_here;
-use crate::endings::{is_opposed, is_settled, keep_alone, node_over, rival_below};
-use crate::lines::Lines;
-use crate::loose::bound_loosely;
-use crate::patience::wants_much;
-use crate::place::{Place, after, one_less};
-use crate::scouting::found_freely;
-use crate::search::Search;
-use crate::stop::Stop;
+use dense_loose::{bound_loosely, note_leaf};
+use dense_place::{
+    Ahead, Lines, Place, Search, Stop, after, bound_by, bound_here, close_here, found_freely,
+    is_dead_end, is_opposed, is_settled, keep_alone, look_ahead, node_over, one_less, rival_below,
+    wants_much,
+};
 use joins::Found;
 use qc_model::{ScopeId, Sense, VarId};
 
@@ -135,7 +130,7 @@ fn part(search: &mut Search, depth: u32, place: Place) -> Result<bool, Stop> {
     if place.horizon.is_none() && bound_loosely(search, place.scope)? {
         return Ok(false);
     }
-    match search.board.first_open(place.scope) {
+    match search.board.first_open_from(place.scope, place.open_from) {
         None => leaf(search, depth, place),
         Some(x) => branch(search, depth, place, x),
     }
@@ -155,7 +150,7 @@ fn leaf(search: &mut Search, depth: u32, place: Place) -> Result<bool, Stop> {
     search.board.add_node(place.scope, found);
     search.note_reached(place.scope, before)?;
     let settled = is_settled(search, place);
-    search.note_leaf(place.scope, settled, found)?;
+    note_leaf(search, place.scope, settled, found)?;
     Ok(settled)
 }
 
@@ -176,6 +171,7 @@ fn below(search: &Search, place: Place) -> Place {
         rival: rival_below(search, place.scope),
         bounded: place.bounded && search.board.is_players(place.scope),
         horizon: place.horizon,
+        open_from: VarId(0),
     }
 }
 
@@ -264,6 +260,10 @@ fn case(search: &mut Search, depth: u32, place: Place, x: VarId, value: i64) -> 
     search.spend()?;
     search.save()?;
     let _ = search.board.keep(x, value);
+    let place = Place {
+        open_from: x,
+        ..place
+    };
     let settled = part(search, depth, place)?;
     search.board.restore();
     Ok(settled)
@@ -311,16 +311,5 @@ fn best_end(search: &Search, scope: ScopeId, x: VarId) -> Option<i64> {
     match first.sense {
         Sense::Min => None,
         Sense::Max => Some(search.board.greatest(x)),
-    }
-}
-
-impl<'p> Search<'p> {
-    /// Saves the box. Where a variable has no value left, the search is out of its way.
-    pub(crate) fn save(&mut self) -> Result<(), Stop> {
-        if self.board.save()? {
-            Ok(())
-        } else {
-            Err(Stop::Spent)
-        }
     }
 }
