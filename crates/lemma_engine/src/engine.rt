@@ -63,6 +63,8 @@ pub struct Engine<'p> {
     pub trail: Trail,
     pub known: Vec<Known>,
     pub scope: usize,
+    // All variables before this one have one value.
+    pub(crate) first_open: usize,
     /// The value that each variable had last.
     pub saved: Vec<Option<i64>>,
     // Constraints and lemmas that were looked at.
@@ -138,6 +140,7 @@ impl<'p> Engine<'p> {
             trail: Trail::new(alloc, facts.variables())?,
             known: Vec::new(alloc),
             scope: 0,
+            first_open: 0,
             saved,
             work: 0,
             passed_over: 0,

@@ -6,10 +6,12 @@ use qc_model::VarId;
 use std::alloc::AllocError;
 
 impl<'p> Engine<'p> {
-    fn is_chosen(&self, scope: usize) -> bool {
-        let (first, end) = self.facts.variables_at(scope);
-        for k in first..end {
+    // Whether all variables of the scope at hand have one value. Those before the first that was open last needn't be looked at again.
+    fn is_chosen(&mut self) -> bool {
+        let (first, end) = self.facts.variables_at(self.scope);
+        for k in first.max(self.first_open)..end {
             if !self.boxes.is_fixed(variable_at(k)) {
+                self.first_open = k;
                 return false;
             }
         }
@@ -21,7 +23,7 @@ impl<'p> Engine<'p> {
     pub fn advance(&mut self) -> Result<bool, AllocError> {
         let earlier = self.scope;
         for _ in 0..self.facts.goal() {
-            if self.scope >= self.facts.goal() || !self.is_chosen(self.scope) {
+            if self.scope >= self.facts.goal() || !self.is_chosen() {
                 break;
             }
             self.scope = self.scope.saturating_add(1);
@@ -109,6 +111,7 @@ impl<'p> Engine<'p> {
         }
         self.trail.forget_levels(levels);
         self.boxes.close_to(levels);
+        self.first_open = 0;
         self.waiting.clear();
     }
 

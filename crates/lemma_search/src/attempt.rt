@@ -12,13 +12,19 @@ use qc_model::{ConId, Problem};
 use std::alloc::{AllocError, Global};
 use std::mem;
 
+// The next of some numbers by chance is the one before by this, and this more (Knuth's choice for 64 bits).
+const FACTOR: u64 = 6_364_136_223_846_793_005;
+
+const SUMMAND: u64 = 1_442_695_040_888_963_407;
+
 /// What a search that begins again keeps of where it ended: the value that each variable had last, how much conflicts rested on
-/// each of late, or both.
+/// each of late, or both; or nothing, and it takes the variables of a scope in an order by chance, one for each number.
 #[derive(Clone, Copy)]
 pub(crate) enum Keeps {
     Values,
     Activity,
     Both,
+    Nothing(u64),
 }
 
 /// A search: what it goes over, and what analyses its conflicts.
@@ -76,6 +82,10 @@ impl<'p> Attempt<'p> {
                 self.engine.saved = first_values(self.alloc, &self.engine)?;
                 self.analyst.activity = activity;
             }
+            Keeps::Nothing(k) => {
+                self.engine.saved = first_values(self.alloc, &self.engine)?;
+                self.analyst.activity = by_chance(activity, k);
+            }
             Keeps::Both => {
                 self.engine.saved = values;
                 self.analyst.activity = activity;
@@ -120,6 +130,16 @@ impl<'p> Attempt<'p> {
     pub(crate) fn looks(&self) -> u64 {
         self.engine.looks().saturating_add(self.analyst.looks())
     }
+}
+
+// Numbers from 0 to 1 in place of these, by chance, and the same in each run.
+fn by_chance(mut activity: Vec<f64>, k: u64) -> Vec<f64> {
+    let mut state = k.wrapping_add(1);
+    for place in activity.iter_mut() {
+        state = state.wrapping_mul(FACTOR).wrapping_add(SUMMAND);
+        *place = (state >> 40) as f64 / (1u64 << 24) as f64;
+    }
+    activity
 }
 
 // Leaves out the loser's constraints that a list doesn't name.

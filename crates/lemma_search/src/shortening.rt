@@ -2,6 +2,8 @@
 //!
 //! A search goes many ways before it finds how a side wins, and what it has learnt on some of them stands in the list. One that
 //! begins with the values with which it ended comes to the same end soon, and mostly by other lemmas; the shortest list is kept.
+//! Every fourth one begins with nothing of that, in an order by chance, so that it doesn't go round in a circle. One that takes much
+//! longer than the first is given up.
 //!
 //! Of the constraints that the loser has to keep a list mostly names a few. The game without the others is lost as well, by the
 //! same list, so every other time the search goes over those alone: it is quicker then, and its list rests on no others.
@@ -19,7 +21,12 @@ const TIMES: usize = 40;
 const PART: u64 = 500;
 
 /// So many looks, those of the first search among them, are few, and may be taken where as many are left.
-const FEW: u64 = 90_000;
+const FEW: u64 = 160_000;
+
+/// One that begins again takes at most so many times the looks of the first, or this part of all that there are.
+const AS_FIRST: u64 = 3;
+
+const PART_EACH: u64 = 4;
 
 /// Which part of these is kept at most to show the lemmas of the shortest list anew, and how many looks for each lemma.
 const TRIMMING: u64 = 4;
@@ -44,16 +51,20 @@ pub(crate) fn shortest(
     let extra = (budget / PART).max(more.min(budget));
     let trimming = looks_for_trimming(attempt, &found, extra);
     let mut left = extra.saturating_sub(trimming);
+    let most = most_of_one(attempt.looks(), extra);
     for k in 0..TIMES {
         if found.shown.len() < 2 {
             return Ok(found);
         }
         let named = if k % 2 == 0 { Some(&found) } else { None };
-        attempt.begin_again(kept_at(k), named, left)?;
+        attempt.begin_again(kept_at(k), named, left.min(most))?;
         let again = attempt.list()?;
         left = left.saturating_sub(attempt.looks());
         let Some(list) = again else {
-            break;
+            if left == 0 {
+                break;
+            }
+            continue;
         };
         let other = size_of(&list);
         if other < size && list.loser == found.loser {
@@ -70,6 +81,11 @@ pub(crate) fn shortest(
     Ok(found)
 }
 
+// How many looks one search takes at most, after the looks of the first and of so many in all.
+fn most_of_one(first: u64, all: u64) -> u64 {
+    first.saturating_mul(AS_FIRST).max(all / PART_EACH)
+}
+
 // How many of so many looks are kept to show a list's lemmas anew.
 fn looks_for_trimming(attempt: &Attempt, list: &List, looks: u64) -> u64 {
     if !attempt.can_trim() {
@@ -83,8 +99,9 @@ fn looks_for_trimming(attempt: &Attempt, list: &List, looks: u64) -> u64 {
 fn kept_at(k: usize) -> Keeps {
     match k % 4 {
         0 => Keeps::Values,
+        1 => Keeps::Both,
         2 => Keeps::Activity,
-        _ => Keeps::Both,
+        _ => Keeps::Nothing(k as u64),
     }
 }
 
