@@ -14,9 +14,9 @@ use std::alloc::{AllocError, Global};
 /// isn't plain, where the search gives up, where it has looked at as many constraints and lemmas as the budget says, and where
 /// it keeps too much. Nothing is promised of a list that comes. It fails only where memory runs out.
 ///
-/// Once it is known who wins, it is found again from the values with which the search ended, as long as that is quick and looks
-/// are left, every other time without the loser's constraints that the shortest list doesn't name. The lemmas of the shortest list
-/// are shown anew then, where no scope is restricted.
+/// Once it is known who wins, it is found again, as long as that is quick and looks are left: from the values with which the search
+/// ended, or what conflicts rested on, every fourth time from nothing in an order by chance, and every other time without the loser's
+/// constraints that the shortest list doesn't name. The lemmas of the shortest list are shown anew then, where no scope is restricted.
 ///
 /// What is gone over besides counts for the budget too, so much of it for a look as takes about as long. All lemmas learnt are
 /// kept with the steps that show them, up to 12,000,000 literals, sums and steps, where each lemma counts as 16 more: together
