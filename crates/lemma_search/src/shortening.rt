@@ -21,7 +21,7 @@ const TIMES: usize = 40;
 const PART: u64 = 500;
 
 /// So many looks, those of the first search among them, are few, and may be taken where as many are left.
-const FEW: u64 = 160_000;
+const FEW: u64 = 120_000;
 
 /// One that begins again takes at most so many times the looks of the first, or this part of all that there are.
 const AS_FIRST: u64 = 3;
