@@ -1,30 +1,39 @@
 """Proves and builds a program, with the crates that it stands on.
 
-The crates are proved one after the other, each with as many processors as `rt` takes for it: it locks all crates below the
-one that it works in, so few could be proved side by side. Two callers build once: the second waits for the first. The program
-that was there before is kept aside while it is built anew, and put back, though it isn't run, where that fails.
+The kit's `rt ci` proves them side by side, as many as there are processors and memory, over a copy that has these crates alone,
+and keeps what passed: the next time only what changed is proved, and what stands above it. Two callers build once: the second
+waits for the first. The program that was there before is kept aside while it is built anew, and put back, though it isn't run,
+where that fails.
 """
 import fcntl
 import os
+import re
+import select
 import shutil
 import subprocess
 import tempfile
 import time
 
-from .crates import files, folder_of, is_current, order_of
+from .crates import CRATES, TOP, files, folder_of, is_current, order_of
 from .terminal import LiveLine, duration, say
 
 # How long the dearest crates take, in minutes of one processor. Of the others it is told by their lines.
 MEASURED = {
-    "search_walk": 15, "game_search": 13, "qecode_commands": 5, "qc_play": 6, "check_lines": 6, "proof_text": 5, "qc_refuter": 5,
-    "prop_linear": 4, "qc_model": 4, "text_resolve": 4,
+    "game_search": 7, "search_walk": 5, "qecode_commands": 4, "qc_play": 3, "check_lines": 3, "proof_text": 3, "qc_refuter": 2,
+    "prop_linear": 2, "qc_model": 2, "text_resolve": 2,
 }
 LINES_A_MINUTE = 4_000
 # What is expected before anything was measured here: minutes of the clock for each minute of one processor, which counts as
 # much as so many minutes that were measured.
-PACE, TRUST = 0.6, 4
-# A crate that took less than this share of what was expected was found proved already, and tells nothing of the others.
-KEPT = 0.1
+PACE, TRUST = 1.2 / len(os.sched_getaffinity(0)), 4
+# The most that the check of a crate is likely to take.
+MEMORY = 4 << 30
+# What `rt ci` says of a crate that was proved now, that it had proved before, or that it could not prove.
+PROVED = re.compile(rb"^rt: (\w+) proved$")
+KEPT = re.compile(rb"^rt: (\w+) is kept: ")
+REFUSED = re.compile(rb"^rt: (\w+) NOT PROVED$")
+# What isn't needed to build a program: what its crates made before, and the edits that a check must refuse.
+LEFT_OUT = shutil.ignore_patterns("out", "must-fail")
 
 
 def weight(name):
@@ -48,9 +57,10 @@ class Progress:
         self.spent = self.took = 0.0
         self.now_since = self.began
 
-    def finish(self, name):
+    def finish(self, name, was_kept=False):
+        """What was kept from before took no time, and tells nothing of the others."""
         work, now = self.weights.pop(name), self.clock()
-        if now - self.now_since >= KEPT * PACE * 60 * work:
+        if not was_kept:
             self.spent += work
             self.took += now - self.now_since
         self.now_since = now
@@ -59,51 +69,99 @@ class Progress:
         return self.clock() - self.began
 
     def left(self):
-        """The seconds that are left, as far as can be told: at the pace so far, and for the crate in work never less than
-        none, however long it takes."""
-        if not self.weights:
-            return 0.0
+        """The seconds that are left, as far as can be told: at the pace so far, and never less than none."""
         pace = (self.took + TRUST * PACE * 60) / (self.spent + TRUST)
-        current = next(iter(self.weights.values()))
-        rest = sum(self.weights.values()) - current
-        return rest * pace + max(current * pace - (self.clock() - self.now_since), 0)
+        work = sum(self.weights.values())
+        return max(work * pace - (self.clock() - self.now_since), 0.0) if work else 0.0
 
     def text(self):
         return f"{duration(self.gone())} gone, about {duration(self.left())} left"
 
 
-def prove_one(program, name, log, tick):
-    # Without words a program writes its usage line, which nobody asked for here.
-    words = ["rt", "run", "--"] if name == program.crate else ["rt", "lib"]
-    with subprocess.Popen(words, cwd=folder_of(name), stdin=subprocess.DEVNULL, stdout=log, stderr=log) as work:
+def copy(order, room):
+    """Copies these crates alone, as a repository of their own."""
+    for name in order:
+        shutil.copytree(folder_of(name), os.path.join(room, "crates", name), ignore=LEFT_OUT)
+    with open(CRATES, encoding="utf-8") as lines, open(os.path.join(room, "crates.txt"), "w", encoding="utf-8") as to:
+        to.writelines(line for line in lines if line.partition(":")[0].split()[:1] in [[name] for name in order])
+    shutil.copy(os.path.join(TOP, "HANDLES"), room)
+
+
+class Report:
+    """Tells what `rt ci` says line by line, and writes all of it to the log."""
+
+    def __init__(self, line, order, log):
+        self.line, self.log, self.count, self.progress = line, log, len(order), Progress(order)
+        self.refused = None
+        self.rest = b""
+
+    def done(self):
+        return self.count - len(self.progress.weights)
+
+    def show(self):
+        self.line.show(f"{self.done()} of {self.count} crates, {self.progress.text()}")
+
+    def take(self, data):
+        self.log.write(data)
+        *whole, self.rest = (self.rest + data).split(b"\n")
+        for text in whole:
+            self.take_line(text)
+
+    def take_line(self, text):
+        refused, kept = REFUSED.match(text), KEPT.match(text)
+        ended = kept or PROVED.match(text)
+        if refused and not self.refused:
+            self.refused = refused[1].decode()
+        name = ended[1].decode() if ended else None
+        if name in self.progress.weights:
+            self.progress.finish(name, was_kept=kept is not None)
+            self.line.say(f"{self.done()} of {self.count}: {name}; {self.progress.text()}")
+
+
+def at_once():
+    """How many crates are proved at once: as many as there are processors, and memory."""
+    with open("/proc/meminfo", encoding="ascii") as lines:
+        free = next(int(line.split()[1]) << 10 for line in lines if line.startswith("MemAvailable:"))
+    return max(min(len(os.sched_getaffinity(0)), free // MEMORY), 1)
+
+
+def prove_in(room, report):
+    """Proves and builds what stands there. Whether all was proved, and what is built ran."""
+    env = {"RT_JOBS": str(at_once()), **os.environ}
+    how = {"cwd": room, "env": env, "stdin": subprocess.DEVNULL, "stdout": subprocess.PIPE, "stderr": subprocess.STDOUT, "bufsize": 0}
+    with subprocess.Popen(["rt", "ci"], **how) as work:
         try:
             while True:
-                try:
-                    status = work.wait(1)
-                    break
-                except subprocess.TimeoutExpired:
-                    tick()
+                if not select.select([work.stdout], [], [], 1)[0]:
+                    report.show()
+                    continue
+                data = os.read(work.stdout.fileno(), 1 << 16)
+                if not data:
+                    return work.wait() == 0
+                report.take(data)
         except BaseException:
             work.terminate()
             raise
-    # A program itself ends with the status of its usage line.
-    return status == 0 or (name == program.crate and os.access(program.built, os.X_OK))
 
 
 def prove(program, order, log):
-    """Proves the crates in this order. Whether all were."""
-    line, progress = LiveLine(program.name), Progress(order)
-    for done, name in enumerate(order, start=1):
-        began = time.monotonic()
+    """Proves the crates and puts the program in its place, of the time at which they were copied. Whether all were proved."""
+    line = LiveLine(program.name)
+    report = Report(line, order, log)
+    with tempfile.TemporaryDirectory(prefix=f"{program.name}-build-") as room:
+        when = time.time()
+        copy(order, room)
         try:
-            proved = prove_one(program, name, log, lambda: line.show(f"{name} ({done} of {len(order)}), {progress.text()}"))
+            proved = prove_in(room, report)
         finally:
             line.remove()
-        if not proved:
-            line.say(f"{name} could not be proved")
+        made = os.path.join(room, "crates", program.crate, "out", program.crate)
+        if report.refused:
+            line.say(f"{report.refused} could not be proved")
+        if not proved or not os.access(made, os.X_OK):
             return False
-        progress.finish(name)
-        line.say(f"{done} of {len(order)}: {name}, {duration(time.monotonic() - began)}; {progress.text()}")
+        shutil.copy(made, program.built)
+        os.utime(program.built, (when, when))
     return True
 
 
@@ -115,11 +173,11 @@ def build(program, order):
     if os.path.exists(program.built):
         os.replace(program.built, aside)
     handle, path = tempfile.mkstemp(prefix=f"{program.name}-build-", suffix=".log")
-    say(program.name, f"proving and building {len(order)} crates; a first time takes about an hour on four processors")
+    say(program.name, f"proving and building {len(order)} crates; a first time takes some twenty minutes on four processors")
     say(program.name, f"what the proofs say is written to {path}; {program.launcher} --now answers before, by a build of which nothing is proved")
     proved = False
     try:
-        with os.fdopen(handle, "w") as log:
+        with os.fdopen(handle, "wb") as log:
             proved = prove(program, order, log) and os.access(program.built, os.X_OK)
     finally:
         if os.path.exists(aside):

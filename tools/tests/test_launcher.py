@@ -31,13 +31,22 @@ problem=$2
 case $problem in */*) ;; *) problem=./$problem ;; esac
 . "$problem" || exit 7
 """
-# Proves nothing; what it was called with is noted, and `rt run` makes the program. A crate with a file `wrong` fails.
+# Proves nothing; what it was called with is noted, and the crates that `rt ci` found, of which it makes the program. A crate
+# with a file `wrong` fails, and one with a file `kept` was proved before.
 RT = """#!/bin/sh
-echo "$(basename "$PWD") $*" >> "{top}/proofs"
-[ -e wrong ] && exit 1
+echo "$*" >> "{top}/proofs"
 case $1 in
 version) echo "fake kit" ;;
-run) cp "{top}/program" out/qc_program; exit 3 ;;
+ci) status=0
+    for name in $(sed 's/:.*//' crates.txt); do
+        [ -e "crates/$name/out" ] && exit 2
+        if [ -e "crates/$name/wrong" ]; then echo "rt: $name NOT PROVED"; status=1
+        elif [ -e "crates/$name/kept" ]; then echo "rt: $name is kept: an earlier run proved it"
+        else echo "== $name"; echo "fn $name::it: proved"; echo "rt: $name proved"; fi
+        echo "  $name" >> "{top}/proofs"
+    done
+    mkdir crates/qc_program/out && cp "{top}/program" crates/qc_program/out/qc_program
+    exit $status ;;
 try) folder=$(mktemp -d) && cd "$folder" || exit 1
     echo short > module.bc; "$(dirname "$0")/../toolchain/bin/clang" module.bc -o tried
     cp "{top}/module.bc" module.bc; "$(dirname "$0")/../toolchain/bin/clang" module.bc -o program
@@ -103,6 +112,7 @@ class LauncherCase(unittest.TestCase):
         shutil.copytree(os.path.join(TOP, "tools", "launcher"), os.path.join(self.top, "tools", "launcher"))
         for name in ("qecode", "tools/build", "tools/where", "tools/play"):
             shutil.copy(os.path.join(TOP, name), os.path.join(self.top, name))
+        write(self.at("HANDLES"), "Handles allowed: none.\n")
         write(self.at("crates.txt"), "# a comment\nqc_io: thiserror\nqc_program: qc_io thiserror\n")
         for name in ("qc_io/src/lib.rt", "qc_program/src/main.rt", "qc_program/proofs/Main.antt"):
             write(self.at("crates", name), "one\ntwo\n")
@@ -458,16 +468,27 @@ class Building(LauncherCase):
         os.remove(self.built)
         status, out, err = self.run_plain("solve", self.game)
         self.assertEqual((status, out), (0, CERTIFICATE))
-        self.assertEqual(self.proofs(), ["qc_io lib", "qc_program run --"])
-        self.assertRegex(err.decode(), r"qecode: 1 of 2: qc_io, 0 s; 0 s gone, about \d+ s left\nqecode: 2 of 2: qc_program, 0 s; 0 s gone, about 0 s left\n$")
+        self.assertEqual(self.proofs(), ["ci", "  qc_io", "  qc_program"])
+        self.assertRegex(err.decode(), r"qecode: 1 of 2: qc_io; 0 s gone, about \d+ s left\nqecode: 2 of 2: qc_program; 0 s gone, about 0 s left\n$")
         self.assertEqual(self.run_plain("solve", self.game), (0, CERTIFICATE, b""))
-        self.assertEqual(len(self.proofs()), 2)
+        self.assertEqual(len(self.proofs()), 3)
         self.assert_nothing_left()
 
     def test_it_is_built_where_it_is_older(self):
         self.make_stale()
+        write(self.at("crates/qc_io/kept"), b"")
         self.assertEqual(self.run_plain("solve", self.game)[0], 0)
-        self.assertEqual(len(self.proofs()), 2)
+        self.assertEqual(len(self.proofs()), 3)
+        self.assertFalse(os.path.exists(self.built + ".before"))
+
+    def test_it_is_as_old_as_the_sources_that_were_read(self):
+        """What changes while it is proved makes it stale."""
+        self.make_stale()
+        changing = read(self.at("kit/bin/rt")).replace(b"ci) ", f'ci) sleep 0.05; touch "{self.at("crates/qc_io/src/lib.rt")}"; '.encode())
+        write(self.at("kit/bin/rt"), changing, 0o755)
+        self.assertEqual(self.run_plain("solve", self.game)[0], 0)
+        self.assertEqual(self.run_plain("solve", self.game)[0], 0)
+        self.assertEqual(len(self.proofs()), 6)
 
     def test_a_crate_that_isnt_proved(self):
         self.make_stale()
@@ -495,12 +516,12 @@ class Building(LauncherCase):
         self.assertAlmostEqual(progress.left(), 10 * prove.PACE * 60)
         now[0] = 10.0
         self.assertAlmostEqual(progress.left(), 10 * prove.PACE * 60 - 10)
-        now[0] = 1_000.0
-        self.assertAlmostEqual(progress.left(), 9 * prove.PACE * 60)  # the crate in work is never owed less than nothing
+        now[0] = 10_000.0
+        self.assertEqual(progress.left(), 0.0)  # never less than nothing
         progress.finish("a")
         slower = progress.left()
         self.assertGreater(slower, 9 * prove.PACE * 60)
-        progress.finish("b")  # it was proved before, so the pace stays
+        progress.finish("b", was_kept=True)  # it was proved before, so the pace stays
         self.assertAlmostEqual(progress.left(), slower * 7 / 9)
         progress.finish("c")
         self.assertEqual(progress.left(), 0.0)
@@ -524,7 +545,7 @@ class Now(LauncherCase):
         self.assertEqual((status, out), (0, CERTIFICATE), err)
         self.assertIn(b"building without proofs", err)
         self.assertTrue(err.endswith(b"qecode: nothing is proved of the build that answers now\n"))
-        self.assertEqual(self.proofs(), ["qc_program try --"])
+        self.assertEqual(self.proofs(), ["try --"])
         self.assertEqual(self.runs(), [f"{self.unproved} solve {self.game}"])
         status, out, err = self.run_plain("--now", "solve", self.game)
         self.assertEqual((status, out, err), (0, CERTIFICATE, b"qecode: nothing is proved of the build that answers now\n"))

@@ -158,12 +158,12 @@ fn answer(
 // What is known of the reply at this answer.
 fn sought_at(tally: &Tally) -> Sought {
     match tally.replied.get(tally.leaf) {
-        None => Sought::Not,
+        None => Sought::Unsought,
         Some(replied) => {
             if *replied {
                 Sought::Found
             } else {
-                Sought::None
+                Sought::Missing
             }
         }
     }

@@ -9,13 +9,15 @@ use qc_model::{Condition, ScopeId, Sense, Target, VarId};
 /// How many values of one variable are tried for a reply.
 const MOST_TRIES: u32 = 10_000;
 
-/// What is known of the follower's best reply at an answer of the opponent: it is the one that is kept, there is none, or it wasn't looked
-/// for in this box.
+/// What is known of the follower's best reply at an answer of the opponent.
 #[derive(Clone, Copy, PartialEq, Eq)]
 pub(crate) enum Sought {
+    /// it is the one that is kept
     Found,
-    None,
-    Not,
+    /// there is none
+    Missing,
+    /// it wasn't looked for in this box
+    Unsought,
 }
 
 /// What became of the follower's reply.
@@ -56,9 +58,9 @@ pub(crate) fn put_reply(
     sought: Sought,
 ) -> Result<Put, Stop> {
     match sought {
-        Sought::None => Ok(Put::None),
+        Sought::Missing => Ok(Put::None),
         Sought::Found => put_kept(search, follower, answer),
-        Sought::Not => put_best(search, follower, answer),
+        Sought::Unsought => put_best(search, follower, answer),
     }
 }
 

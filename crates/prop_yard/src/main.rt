@@ -124,6 +124,3 @@ fn tell<R: Print>(rt: &R, problem: &Problem, left: &Option<Store>) -> io::Result
         }
     }
 }
-
-#[cfg(test)]
-mod tests;

@@ -1,6 +1,5 @@
 use Rattle.std.proofs.Common.{◌≡◌, ◌∙◌, ◌+◌, ap, subst, suc, arith}
 use Rattle.qc_model.specs.Block.{constraints_within}
-use Rattle.qc_model.specs.Game.{restriction}
 use Rattle.fd_store.specs.Held.{Held}
 use Rattle.dense_tree.specs.Tuples.{some_fails}
 use Rattle.dense_box.proofs.Rows.{own_rules}
