@@ -27,6 +27,7 @@ use Rattle.lemma_list.specs.Entailment.{is_settled, entailed_by_index, is_entail
 use Rattle.proof_alike.specs.Alike.{is_among, is_looked_at, sees}
 use Rattle.proof_alike.specs.Reading.{Reading, as_sum, as_plus, as_clause, by_value, reading, reading_of, left_sum, left_over, known_sum, known_plus, known_value, is_known_as, is_satisfied, own_values, seen_as}
 use Rattle.proof_alike.proofs.Arrays.{items_of, numbers_of, many_filled, numbers_same}
+use Rattle.proof_alike.proofs.Meanings.{sums_only, plus_only, clause_only}
 use Rattle.proof_alike.proofs.Terms.{total, products_total, range_total, balance, cancel, one_product}
 use Rattle.likeness.specs.Seeing.{is_telling, tells}
 use Rattle.dense_alike.specs.Laid.{laid, viewed}
@@ -93,13 +94,8 @@ sum_literal : (xs : List Variable) (c : Rule) → is_constraint xs c ≡ true �
 sum_literal xs c valid e =
     let shape = first (are_of_sorts xs (arg_kinds_of c.pred) c.args && have_lengths (meaning_of c.pred) c.args) (list_all (argument_sees xs c.owner.0) c.args) valid in
     let lengths = second (are_of_sorts xs (arg_kinds_of c.pred) c.args) (have_lengths (meaning_of c.pred) c.args) shape in
-    second (item_count (slice_get c.args 0) == item_count (slice_get c.args 1)) (is_literal (slice_get c.args 2)) (by (meaning_of c.pred) e lengths)
-  where
-    by : (m : Meaning) → reading_of m ≡ as_sum → have_lengths m c.args ≡ true → is_sum c.args ≡ true
-    by sum_equal e h = h
-    by sum_different e h = h
-    by sum_at_most e h = h
-    by m e h = cc
+    second (item_count (slice_get c.args 0) == item_count (slice_get c.args 1)) (is_literal (slice_get c.args 2))
+    (sums_only (λ m. have_lengths m c.args ≡ true → is_sum c.args ≡ true) (λ h. h) (λ h. h) (λ h. h) (meaning_of c.pred) e lengths)
 
 -- two positions of as many variables
 module _ (g : Game) (here there : List ℤ) (size : length here ≡ length there) where
@@ -216,7 +212,11 @@ module _ (g : Game) (here there : List ℤ) (size : length here ≡ length there
     range_is f = ap (λ us. sum_range us (many (map (fill f) args) 1)) (numbers_same f args 0) ∙ ap (sum_range ns) (many_filled f args 1)
 
     sum_entails : left_sum (map (fill (arg_value here)) args) ≡ left_sum (map (fill (arg_value there)) args) → is_literal (slice_get args 2) ≡ true → (m : Meaning) → reading_of m ≡ as_sum → is_entailed m us ≡ is_entailed m bs
-    sum_entails k l m e = by m e
+    sum_entails k l =
+        sums_only (λ m. is_entailed m us ≡ is_entailed m bs)
+        (entailed_by_parts sum_equal us bs equal_to refl (settled_alike args) missing)
+        (entailed_by_parts sum_different us bs missing refl (settled_alike args) equal_to)
+        (entailed_by_parts sum_at_most us bs below refl (settled_alike args) above)
       where
         ranges : sum_at us ≡ sum_at bs
         ranges = range_is (left_to a) ∙ (ranges_same ns xs (sym (sum_is (arg_value here)) ∙ (k ∙ sum_is (arg_value there))) ∙ sym (range_is (left_to b)))
@@ -236,14 +236,8 @@ module _ (g : Game) (here there : List ℤ) (size : length here ≡ length there
         above : int_lt (greatest_value (left_at us 2)) (sum_at us).from ≡ int_lt (greatest_value (left_at bs 2)) (sum_at bs).from
         above = ap (λ r. int_lt (greatest_value (left_at us 2)) r.from) ranges ∙ ap (λ d. int_lt (greatest_value d) (sum_at bs).from) bound
 
-        by : (m : Meaning) → reading_of m ≡ as_sum → is_entailed m us ≡ is_entailed m bs
-        by sum_equal e = entailed_by_parts sum_equal us bs equal_to refl (settled_alike args) missing
-        by sum_different e = entailed_by_parts sum_different us bs missing refl (settled_alike args) equal_to
-        by sum_at_most e = entailed_by_parts sum_at_most us bs below refl (settled_alike args) above
-        by m e = cc
-
     plus_entails : left_over (map (fill (arg_value here)) args) ≡ left_over (map (fill (arg_value there)) args) → (m : Meaning) → reading_of m ≡ as_plus → is_entailed m us ≡ is_entailed m bs
-    plus_entails k m e = by m e
+    plus_entails k = plus_only (λ m. is_entailed m us ≡ is_entailed m bs) (entailed_by_parts plus us bs refl refl (settled_alike args) missing)
       where
         at : (f : Values → ℤ) → ((z : ℤ) → f (z ∷ []) ≡ z) → (ys : List Argument) (j : ℕ) →
             IsShifted (f (left_at (map (fill (left_to a)) ys) j)) (f (left_at (map (fill (left_to b)) ys) j)) (value_at (map (fill (arg_value here)) ys) j) (value_at (map (fill (arg_value there)) ys) j)
@@ -275,10 +269,6 @@ module _ (g : Game) (here there : List ℤ) (size : length here ≡ length there
         missing =
             ap (λ p. p || int_lt (greatest_value (left_at us 2)) (least_value (left_at us 0) +ℤ least_value (left_at us 1))) below
             ∙ ap (λ p. int_lt (greatest_value (left_at bs 0) +ℤ greatest_value (left_at bs 1)) (least_value (left_at bs 2)) || p) above
-
-        by : (m : Meaning) → reading_of m ≡ as_plus → is_entailed m us ≡ is_entailed m bs
-        by plus e = entailed_by_parts plus us bs refl refl (settled_alike args) missing
-        by m e = cc
 
 -- a literal that is known to be true has its value alone
 module _ (g : Game) (p : ℕ → Bool) (vs : List ℤ) where
@@ -322,10 +312,6 @@ module _ (g : Game) (p : ℕ → Bool) (vs : List ℤ) where
         | inl k ↦ or_left (list_any (is_only (pos 1)) (many us 0)) (list_any (is_only (pos 0)) (many us 1)) (array_only (pos 1) c.args 0 k)
         | inr k ↦ or_right (list_any (is_only (pos 1)) (many us 0)) (list_any (is_only (pos 0)) (many us 1)) (array_only (pos 0) c.args 1 k)
       ]))
-
-clause_only : (m : Meaning) → reading_of m ≡ as_clause → m ≡ clause
-clause_only clause e = refl
-clause_only m e = cc
 
 none_of : (f : ℕ → ℤ) (xs : List ℕ) (x : ℕ) → map f xs ≡ [] → is_among xs x ≡ true → ⊥
 none_of f [] x e m = cc

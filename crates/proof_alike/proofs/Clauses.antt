@@ -14,7 +14,7 @@ use Rattle.qc_model.specs.Domains.{Values, Box, values_left, is_single, least_va
 use Rattle.qc_model.specs.Game.{before}
 use Rattle.qc_model.specs.Holds.{arg_value, is_one, is_zero, holds_as}
 use Rattle.qc_model.specs.Left.{is_only}
-use Rattle.qc_model.specs.Meaning.{Meaning, clause, meaning_of}
+use Rattle.qc_model.specs.Meaning.{clause, meaning_of}
 use Rattle.qc_model.specs.Refuted.{left_to, refuted_as}
 use Rattle.proof_tree.specs.Place.{position}
 use Rattle.proof_alike.specs.Alike.{is_among, is_looked_at, AreAlike}
@@ -22,6 +22,7 @@ use Rattle.proof_alike.specs.Reading.{as_clause, reading_of, known_value, is_kno
 use Rattle.proof_alike.proofs.Arrays.{items_of, many_filled}
 use Rattle.proof_alike.proofs.Boxes.{Varied, SameRule}
 use Rattle.proof_alike.proofs.ByValue.{same_by_value}
+use Rattle.proof_alike.proofs.Meanings.{clause_only}
 use Rattle.proof_alike.proofs.Positions.{early_value, has_value_at}
 use Rattle.proof_alike.proofs.Starting.{early, least_same}
 
@@ -113,10 +114,6 @@ module _ (g : Game) (i : ℕ) (a u : Box) (single : (x : ℕ) → x < length a �
         | inl e ↦ or_left (list_any is_one (map f (items c 0))) (list_any is_zero (map f (items c 1))) (some_value (pos 1) k (items c 0) p e)
         | inr e ↦ or_right (list_any is_one (map f (items c 0))) (list_any is_zero (map f (items c 1))) (some_value (pos 0) k (items c 1) p e)
       ]
-
-clause_only : (m : Meaning) → reading_of m ≡ as_clause → m ≡ clause
-clause_only clause e = refl
-clause_only m e = cc
 
 equal_numbers : (j k : ℕ) → (j == k) ≡ true → j ≡ k
 equal_numbers j k e = grind (arith, nat_tests)

@@ -5,6 +5,7 @@ pub mod ByValue
 pub mod Arrays
 pub mod Terms
 pub mod Starting
+pub mod Meanings
 pub mod Sums
 pub mod Pluses
 pub mod Clauses

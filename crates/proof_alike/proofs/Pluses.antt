@@ -22,6 +22,7 @@ use Rattle.proof_tree.specs.Place.{position}
 use Rattle.proof_alike.specs.Alike.{is_looked_at, AreAlike}
 use Rattle.proof_alike.specs.Reading.{as_plus, reading_of, left_over, known_plus}
 use Rattle.proof_alike.proofs.Boxes.{or_both, Varied, SameRule}
+use Rattle.proof_alike.proofs.Meanings.{plus_only}
 use Rattle.proof_alike.proofs.Positions.{early_value, value_same}
 use Rattle.proof_alike.proofs.Starting.{early, one_left}
 use Rattle.proof_alike.proofs.Sums.{swapped, first_known, second_known, known_same, first_left, second_left}
@@ -151,8 +152,9 @@ module _ (g : Game) (i : ℕ) (a b : Box) (l : AreAlike g i a b) (u w : Box) (v 
         (more_shifted (low u (at 0) +ℤ low u (at 1)) (low w (at 0) +ℤ low w (at 1)) (high u (at 2)) (high w (at 2)) (together (low u) (low w) (high u) (high w) least_reads greatest_reads))
 
     plus_refutes : (m : Meaning) → reading_of m ≡ as_plus → refuted_as m (map (fill (left_to u)) args) ≡ refuted_as m (map (fill (left_to w)) args)
-    plus_refutes plus e = refuted_is u ∙ misses_same ∙ sym (refuted_is w)
-    plus_refutes m e = cc
+    plus_refutes =
+        plus_only (λ m. refuted_as m (map (fill (left_to u)) args) ≡ refuted_as m (map (fill (left_to w)) args))
+        (refuted_is u ∙ misses_same ∙ sym (refuted_is w))
 
     holds_is : (vs : List ℤ) → holds_as plus (map (fill (arg_value vs)) args) ≡ int_eq (arg_value vs (at 0) +ℤ arg_value vs (at 1)) (arg_value vs (at 2))
     holds_is vs =
@@ -162,13 +164,13 @@ module _ (g : Game) (i : ℕ) (a b : Box) (l : AreAlike g i a b) (u w : Box) (v 
 
     plus_holds : (k : ℕ) → before g i ≤ before g k → (m : Meaning) → reading_of m ≡ as_plus →
         holds_as m (map (fill (arg_value (position g k u))) args) ≡ holds_as m (map (fill (arg_value (position g k w))) args)
-    plus_holds k h plus e =
+    plus_holds k h =
         let p = arg_value (position g k u) in
         let q = arg_value (position g k w) in
-        holds_is (position g k u)
+        plus_only (λ m. holds_as m (map (fill p) args) ≡ holds_as m (map (fill q) args))
+        (holds_is (position g k u)
         ∙ equal_shifted (p (at 0) +ℤ p (at 1)) (q (at 0) +ℤ q (at 1)) (p (at 2)) (q (at 2)) (together p q p q (values_read k h) (values_read k h))
-        ∙ sym (holds_is (position g k w))
-    plus_holds k h m e = cc
+        ∙ sym (holds_is (position g k w)))
 
   pub same_plus : (c : Rule) → reading_of (meaning_of c.pred) ≡ as_plus → known_plus (position g i a) c ≡ known_plus (position g i b) c → SameRule g i c u w
   same_plus c e known = record {

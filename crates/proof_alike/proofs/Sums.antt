@@ -12,7 +12,7 @@ use Rattle.qc_model.specs.Domains.{Values, Box, values_left, least_value, greate
 use Rattle.qc_model.specs.Game.{before}
 use Rattle.qc_model.specs.Holds.{arg_value, sum_of_products, value_at, holds_as}
 use Rattle.qc_model.specs.Left.{span, sum_range, sum_at, left_at}
-use Rattle.qc_model.specs.Meaning.{Meaning, sum_equal, sum_different, sum_at_most, meaning_of}
+use Rattle.qc_model.specs.Meaning.{Meaning, meaning_of}
 use Rattle.qc_model.specs.Ranges.{Range, range_of, point, is_point, ranges_miss, range_sum, product}
 use Rattle.qc_model.specs.Refuted.{left_to, refuted_as}
 use Rattle.proof_tree.specs.Place.{position}
@@ -20,6 +20,7 @@ use Rattle.proof_alike.specs.Alike.{is_among, is_looked_at, AreAlike}
 use Rattle.proof_alike.specs.Reading.{as_sum, reading_of, left_sum, known_sum}
 use Rattle.proof_alike.proofs.Arrays.{items_of, numbers_of, many_filled, numbers_same, third_same}
 use Rattle.proof_alike.proofs.Boxes.{Varied, SameRule}
+use Rattle.proof_alike.proofs.Meanings.{sums_only}
 use Rattle.proof_alike.proofs.Positions.{early_value, value_same}
 use Rattle.proof_alike.proofs.Starting.{early, one_left}
 use Rattle.proof_alike.proofs.Terms.{total, products_total, range_total, balance, cancel, one_product}
@@ -158,29 +159,25 @@ module _ (g : Game) (i : ℕ) (a b : Box) (l : AreAlike g i a b) (u w : Box) (v 
         (record { number = λ n. refl; variable = λ x m. value_same (before g k) x.0 u w (v.same x.0 (looks x.0 m)) })
 
     pub sum_refutes : (m : Meaning) → reading_of m ≡ as_sum → refuted_as m (map (fill (left_to u)) args) ≡ refuted_as m (map (fill (left_to w)) args)
-    sum_refutes sum_equal e =
-        ap (λ r. ranges_miss r (span (left_at (map (fill (left_to u)) args) 2))) range_same
-        ∙ ap (λ d. ranges_miss (sum_at (map (fill (left_to w)) args)) (span d)) bound_left
-    sum_refutes sum_different e =
-        ap (λ r. is_point (least_value (left_at (map (fill (left_to u)) args) 2)) r) range_same
-        ∙ ap (λ d. is_point (least_value d) (sum_at (map (fill (left_to w)) args))) bound_left
-    sum_refutes sum_at_most e =
-        ap (λ r. int_lt (greatest_value (left_at (map (fill (left_to u)) args) 2)) r.from) range_same
-        ∙ ap (λ d. int_lt (greatest_value d) (sum_at (map (fill (left_to w)) args)).from) bound_left
-    sum_refutes m e = cc
+    sum_refutes =
+        sums_only (λ m. refuted_as m (map (fill (left_to u)) args) ≡ refuted_as m (map (fill (left_to w)) args))
+        (ap (λ r. ranges_miss r (span (left_at (map (fill (left_to u)) args) 2))) range_same
+        ∙ ap (λ d. ranges_miss (sum_at (map (fill (left_to w)) args)) (span d)) bound_left)
+        (ap (λ r. is_point (least_value (left_at (map (fill (left_to u)) args) 2)) r) range_same
+        ∙ ap (λ d. is_point (least_value d) (sum_at (map (fill (left_to w)) args))) bound_left)
+        (ap (λ r. int_lt (greatest_value (left_at (map (fill (left_to u)) args) 2)) r.from) range_same
+        ∙ ap (λ d. int_lt (greatest_value d) (sum_at (map (fill (left_to w)) args)).from) bound_left)
 
     pub sum_holds : (k : ℕ) → before g i ≤ before g k → (m : Meaning) → reading_of m ≡ as_sum →
         holds_as m (map (fill (arg_value (position g k u))) args) ≡ holds_as m (map (fill (arg_value (position g k w))) args)
-    sum_holds k h sum_equal e =
-        ap (λ z. int_eq z (value_at (map (fill (arg_value (position g k u))) args) 2)) (sum_same k h)
-        ∙ ap (λ z. int_eq (left_sum (map (fill (arg_value (position g k w))) args)) z) (bound_value k)
-    sum_holds k h sum_different e =
-        ap (λ z. not (int_eq z (value_at (map (fill (arg_value (position g k u))) args) 2))) (sum_same k h)
-        ∙ ap (λ z. not (int_eq (left_sum (map (fill (arg_value (position g k w))) args)) z)) (bound_value k)
-    sum_holds k h sum_at_most e =
-        ap (λ z. int_le z (value_at (map (fill (arg_value (position g k u))) args) 2)) (sum_same k h)
-        ∙ ap (λ z. int_le (left_sum (map (fill (arg_value (position g k w))) args)) z) (bound_value k)
-    sum_holds k h m e = cc
+    sum_holds k h =
+        sums_only (λ m. holds_as m (map (fill (arg_value (position g k u))) args) ≡ holds_as m (map (fill (arg_value (position g k w))) args))
+        (ap (λ z. int_eq z (value_at (map (fill (arg_value (position g k u))) args) 2)) (sum_same k h)
+        ∙ ap (λ z. int_eq (left_sum (map (fill (arg_value (position g k w))) args)) z) (bound_value k))
+        (ap (λ z. not (int_eq z (value_at (map (fill (arg_value (position g k u))) args) 2))) (sum_same k h)
+        ∙ ap (λ z. not (int_eq (left_sum (map (fill (arg_value (position g k w))) args)) z)) (bound_value k))
+        (ap (λ z. int_le z (value_at (map (fill (arg_value (position g k u))) args) 2)) (sum_same k h)
+        ∙ ap (λ z. int_le (left_sum (map (fill (arg_value (position g k w))) args)) z) (bound_value k))
 
   pub same_sum : (c : Rule) → reading_of (meaning_of c.pred) ≡ as_sum → ((x : ℕ) → is_among (variables_of (drop 2 c.args)) x ≡ true → is_looked_at g i x ≡ true) →
       known_sum (position g i a) c ≡ known_sum (position g i b) c → SameRule g i c u w
