@@ -1,5 +1,5 @@
 -- Lists in the order of a number: where those of one number begin and end.
-use Rattle.std.proofs.Common.{◌≡◌, ◌∙◌, sym, ap, refl, ◌<◌, ◌≤◌, ◌+◌, ◌-◌, ℕ, zero, suc, Bool, true, false, ◌&&◌, List, [], ◌∷◌, length, map, filter, take, drop, get_or, cond, arith, zero-add, leb-true, lt-ltb, le-ltb, subst, inl, inr, slice_get, Some}
+use Rattle.std.proofs.Common.{◌≡◌, ◌∙◌, sym, ap, refl, ◌<◌, ◌≤◌, ◌+◌, ◌-◌, ℕ, zero, suc, Bool, true, false, List, [], ◌∷◌, length, map, filter, take, drop, get_or, cond, arith, zero-add, leb-true, lt-ltb, le-ltb, subst, inl, inr, slice_get, Some}
 use Rattle.std.specs.Prelude.{nat_lt, nat_le, ◌==◌, count_by}
 use Rattle.std.specs.List.Sorted.{IsNonDecreasingBy}
 use Rattle.std.proofs.lemmas.List.Sums.{sum_by-cons, sum_by-le-sum_by}

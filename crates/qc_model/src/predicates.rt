@@ -95,45 +95,86 @@ pub(crate) struct Row {
     pub(crate) family: Family,
 }
 
-#[inline(always)]
-fn plain(name: &'static str, kinds: &'static [ArgKind], meaning: Meaning, family: Family) -> Row
-    ensures name { result.name.now ≡ name.now }
-    ensures kinds { result.kinds.now ≡ kinds.now }
-    ensures said { result.said ≡ record { meaning = meaning; reified = false } }
-    ensures family { result.family ≡ family }
-{
-    let said = Said {
-        meaning,
-        reified: false,
+macro_rules! row {
+    ($name:literal; $($kind:ident),*; $meaning:path; $reified:literal; $family:path) => {
+        Row {
+            name: $name,
+            kinds: &[$($kind),*],
+            said: Said {
+                meaning: $meaning,
+                reified: $reified,
+            },
+            family: $family,
+        }
     };
-    Row {
-        name,
-        kinds,
-        said,
-        family,
-    }
 }
 
-#[inline(always)]
-fn told(name: &'static str, kinds: &'static [ArgKind], meaning: Meaning, family: Family) -> Row
-    ensures name { result.name.now ≡ name.now }
-    ensures kinds { result.kinds.now ≡ kinds.now }
-    ensures said { result.said ≡ record { meaning = meaning; reified = true } }
-    ensures family { result.family ≡ family }
-{
-    let said = Said {
-        meaning,
-        reified: true,
+/// The row of a predicate that says its meaning.
+macro_rules! plain {
+    ($name:literal; $($kind:ident),*; $meaning:path; $family:path) => {
+        row!($name; $($kind),*; $meaning; false; $family)
     };
-    Row {
-        name,
-        kinds,
-        said,
-        family,
-    }
 }
 
-/// The table of predicates.
+/// The row of a predicate whose last argument tells whether its meaning holds.
+macro_rules! told {
+    ($name:literal; $($kind:ident),*; $meaning:path; $family:path) => {
+        row!($name; $($kind),*; $meaning; true; $family)
+    };
+}
+
+/// The table of predicates, in the order of `Pred`: name, kinds, meaning and family.
+static ROWS: [Row; 47] = [
+    plain!("int_eq"; Integer, Integer; Equal; Linear),
+    plain!("int_ne"; Integer, Integer; Different; Linear),
+    plain!("int_le"; Integer, Integer; AtMost; Linear),
+    plain!("int_lt"; Integer, Integer; Below; Linear),
+    plain!("int_lin_eq"; Numbers, Integers, Integer; SumEqual; Linear),
+    plain!("int_lin_ne"; Numbers, Integers, Integer; SumDifferent; Linear),
+    plain!("int_lin_le"; Numbers, Integers, Integer; SumAtMost; Linear),
+    plain!("int_plus"; Integer, Integer, Integer; Plus; Arith),
+    plain!("int_times"; Integer, Integer, Integer; Times; Arith),
+    plain!("int_abs"; Integer, Integer; AbsoluteValue; Arith),
+    plain!("int_min"; Integer, Integer, Integer; Smaller; Arith),
+    plain!("int_max"; Integer, Integer, Integer; Greater; Arith),
+    plain!("int_div"; Integer, Integer, Integer; Quotient; Arith),
+    plain!("int_mod"; Integer, Integer, Integer; Remainder; Arith),
+    plain!("bool_eq"; Boolean, Boolean; Equal; Bool),
+    plain!("bool2int"; Boolean, Integer; Equal; Bool),
+    plain!("bool_not"; Boolean, Boolean; Different; Bool),
+    plain!("bool_le"; Boolean, Boolean; AtMost; Bool),
+    plain!("bool_lt"; Boolean, Boolean; Below; Bool),
+    plain!("array_int_element"; Integer, Numbers, Integer; Element; Family::Element),
+    plain!("array_bool_element"; Integer, Truths, Boolean; Element; Family::Element),
+    plain!("array_var_int_element"; Integer, Integers, Integer; VariableElement; Family::Element),
+    plain!("array_var_bool_element"; Integer, Booleans, Boolean; VariableElement; Family::Element),
+    plain!("array_int_minimum"; Integer, Integers; Minimum; Family::Element),
+    plain!("array_int_maximum"; Integer, Integers; Maximum; Family::Element),
+    plain!("set_in"; Integer, Members; Member; Family::Element),
+    plain!("bool_and"; Boolean, Boolean, Boolean; Both; Bool),
+    plain!("bool_or"; Boolean, Boolean, Boolean; Either; Bool),
+    plain!("bool_xor"; Boolean, Boolean, Boolean; ExactlyOne; Bool),
+    plain!("array_bool_and"; Booleans, Boolean; AllItems; Bool),
+    plain!("array_bool_or"; Booleans, Boolean; SomeItem; Bool),
+    plain!("array_bool_xor"; Booleans; OddItems; Bool),
+    plain!("bool_clause"; Booleans, Booleans; Clause; Bool),
+    plain!("all_different_int"; Integers; AllDifferent; Family::Element),
+    plain!("table_int"; Integers, Numbers; Table; Family::Element),
+    told!("int_eq_reif"; Integer, Integer, Boolean; Equal; Linear),
+    told!("int_ne_reif"; Integer, Integer, Boolean; Different; Linear),
+    told!("int_le_reif"; Integer, Integer, Boolean; AtMost; Linear),
+    told!("int_lt_reif"; Integer, Integer, Boolean; Below; Linear),
+    told!("int_lin_eq_reif"; Numbers, Integers, Integer, Boolean; SumEqual; Linear),
+    told!("int_lin_ne_reif"; Numbers, Integers, Integer, Boolean; SumDifferent; Linear),
+    told!("int_lin_le_reif"; Numbers, Integers, Integer, Boolean; SumAtMost; Linear),
+    told!("set_in_reif"; Integer, Members, Boolean; Member; Family::Element),
+    told!("bool_eq_reif"; Boolean, Boolean, Boolean; Equal; Bool),
+    told!("bool_le_reif"; Boolean, Boolean, Boolean; AtMost; Bool),
+    told!("bool_lt_reif"; Boolean, Boolean, Boolean; Below; Bool),
+    told!("bool_clause_reif"; Booleans, Booleans, Boolean; Clause; Bool),
+];
+
+/// The row of a predicate.
 #[inline(always)]
 pub(crate) fn row_of(pred: Pred) -> Row
     ensures name { result.name.now ≡ (row_in_spec pred).name }
@@ -141,135 +182,7 @@ pub(crate) fn row_of(pred: Pred) -> Row
     ensures meaning { row_meaning result.said ≡ (row_in_spec pred).meaning }
     ensures family { result.family ≡ (row_in_spec pred).family }
 {
-    match pred {
-        Pred::IntEq => plain("int_eq", &[Integer, Integer], Equal, Linear),
-        Pred::IntNe => plain("int_ne", &[Integer, Integer], Different, Linear),
-        Pred::IntLe => plain("int_le", &[Integer, Integer], AtMost, Linear),
-        Pred::IntLt => plain("int_lt", &[Integer, Integer], Below, Linear),
-        Pred::IntLinEq => plain(
-            "int_lin_eq",
-            &[Numbers, Integers, Integer],
-            SumEqual,
-            Linear,
-        ),
-        Pred::IntLinNe => plain(
-            "int_lin_ne",
-            &[Numbers, Integers, Integer],
-            SumDifferent,
-            Linear,
-        ),
-        Pred::IntLinLe => plain(
-            "int_lin_le",
-            &[Numbers, Integers, Integer],
-            SumAtMost,
-            Linear,
-        ),
-        Pred::IntPlus => plain("int_plus", &[Integer, Integer, Integer], Plus, Arith),
-        Pred::IntTimes => plain("int_times", &[Integer, Integer, Integer], Times, Arith),
-        Pred::IntAbs => plain("int_abs", &[Integer, Integer], AbsoluteValue, Arith),
-        Pred::IntMin => plain("int_min", &[Integer, Integer, Integer], Smaller, Arith),
-        Pred::IntMax => plain("int_max", &[Integer, Integer, Integer], Greater, Arith),
-        Pred::IntDiv => plain("int_div", &[Integer, Integer, Integer], Quotient, Arith),
-        Pred::IntMod => plain("int_mod", &[Integer, Integer, Integer], Remainder, Arith),
-        Pred::BoolEq => plain("bool_eq", &[Boolean, Boolean], Equal, Bool),
-        Pred::Bool2int => plain("bool2int", &[Boolean, Integer], Equal, Bool),
-        Pred::BoolNot => plain("bool_not", &[Boolean, Boolean], Different, Bool),
-        Pred::BoolLe => plain("bool_le", &[Boolean, Boolean], AtMost, Bool),
-        Pred::BoolLt => plain("bool_lt", &[Boolean, Boolean], Below, Bool),
-        Pred::ArrayIntElement => plain(
-            "array_int_element",
-            &[Integer, Numbers, Integer],
-            Element,
-            Family::Element,
-        ),
-        Pred::ArrayBoolElement => plain(
-            "array_bool_element",
-            &[Integer, Truths, Boolean],
-            Element,
-            Family::Element,
-        ),
-        Pred::ArrayVarIntElement => plain(
-            "array_var_int_element",
-            &[Integer, Integers, Integer],
-            VariableElement,
-            Family::Element,
-        ),
-        Pred::ArrayVarBoolElement => plain(
-            "array_var_bool_element",
-            &[Integer, Booleans, Boolean],
-            VariableElement,
-            Family::Element,
-        ),
-        Pred::ArrayIntMinimum => plain(
-            "array_int_minimum",
-            &[Integer, Integers],
-            Minimum,
-            Family::Element,
-        ),
-        Pred::ArrayIntMaximum => plain(
-            "array_int_maximum",
-            &[Integer, Integers],
-            Maximum,
-            Family::Element,
-        ),
-        Pred::SetIn => plain("set_in", &[Integer, Members], Member, Family::Element),
-        Pred::BoolAnd => plain("bool_and", &[Boolean, Boolean, Boolean], Both, Bool),
-        Pred::BoolOr => plain("bool_or", &[Boolean, Boolean, Boolean], Either, Bool),
-        Pred::BoolXor => plain("bool_xor", &[Boolean, Boolean, Boolean], ExactlyOne, Bool),
-        Pred::ArrayBoolAnd => plain("array_bool_and", &[Booleans, Boolean], AllItems, Bool),
-        Pred::ArrayBoolOr => plain("array_bool_or", &[Booleans, Boolean], SomeItem, Bool),
-        Pred::ArrayBoolXor => plain("array_bool_xor", &[Booleans], OddItems, Bool),
-        Pred::BoolClause => plain("bool_clause", &[Booleans, Booleans], Clause, Bool),
-        Pred::AllDifferentInt => plain(
-            "all_different_int",
-            &[Integers],
-            AllDifferent,
-            Family::Element,
-        ),
-        Pred::TableInt => plain("table_int", &[Integers, Numbers], Table, Family::Element),
-        Pred::IntEqReif => told("int_eq_reif", &[Integer, Integer, Boolean], Equal, Linear),
-        Pred::IntNeReif => told(
-            "int_ne_reif",
-            &[Integer, Integer, Boolean],
-            Different,
-            Linear,
-        ),
-        Pred::IntLeReif => told("int_le_reif", &[Integer, Integer, Boolean], AtMost, Linear),
-        Pred::IntLtReif => told("int_lt_reif", &[Integer, Integer, Boolean], Below, Linear),
-        Pred::IntLinEqReif => told(
-            "int_lin_eq_reif",
-            &[Numbers, Integers, Integer, Boolean],
-            SumEqual,
-            Linear,
-        ),
-        Pred::IntLinNeReif => told(
-            "int_lin_ne_reif",
-            &[Numbers, Integers, Integer, Boolean],
-            SumDifferent,
-            Linear,
-        ),
-        Pred::IntLinLeReif => told(
-            "int_lin_le_reif",
-            &[Numbers, Integers, Integer, Boolean],
-            SumAtMost,
-            Linear,
-        ),
-        Pred::SetInReif => told(
-            "set_in_reif",
-            &[Integer, Members, Boolean],
-            Member,
-            Family::Element,
-        ),
-        Pred::BoolEqReif => told("bool_eq_reif", &[Boolean, Boolean, Boolean], Equal, Bool),
-        Pred::BoolLeReif => told("bool_le_reif", &[Boolean, Boolean, Boolean], AtMost, Bool),
-        Pred::BoolLtReif => told("bool_lt_reif", &[Boolean, Boolean, Boolean], Below, Bool),
-        Pred::BoolClauseReif => told(
-            "bool_clause_reif",
-            &[Booleans, Booleans, Boolean],
-            Clause,
-            Bool,
-        ),
-    }
+    ROWS[pred as usize]
 }
 
 /// Each predicate, in the order of the table.
