@@ -1,5 +1,5 @@
 -- Variables that have one value left.
-use Rattle.std.proofs.Common.{◌≡◌, ◌∙◌, ap, ℕ, zero, suc, Bool, true, ◌&&◌, [], ◌∷◌, take, drop, ℤ}
+use Rattle.std.proofs.Common.{◌≡◌, ℕ, zero, suc, true, [], ◌∷◌, take, drop, ℤ}
 use Rattle.std.specs.List.{list_all}
 use Rattle.std.proofs.lemmas.Bool.{and_parts, and_from}
 use Rattle.qc_model.specs.Domains.{Box, is_single, box_at}
