@@ -4,6 +4,7 @@ pub mod ExistsVerdicts
 pub mod Gathered
 pub mod ForallVerdicts
 pub mod DemandSteps
+mod ScopesJoined
 pub mod Takings
 pub mod Placed
 pub mod AtScope
