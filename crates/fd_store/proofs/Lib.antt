@@ -1,6 +1,7 @@
 mod Masks
 mod Counts
 mod Runs
+mod Finding
 mod Values
 mod Past
 mod Cells
@@ -18,6 +19,8 @@ mod Listing
 mod ListSpan
 mod Ranged
 mod CutEnds
+mod AtEnds
+mod CellPlaces
 mod Building
 pub mod FullDomains
 mod Nexts

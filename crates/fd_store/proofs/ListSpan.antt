@@ -1,6 +1,6 @@
 -- A listed domain: its ends, and the values of its cell.
-use Rattle.std.proofs.Common.{◌≡◌, ◌⊎◌, inl, inr, ℕ, zero, suc, ◌+◌, ◌-◌, ◌*◌, ◌/◌, ◌%◌, ◌<◌, ◌≤◌, Bool, true, false, ◌&&◌, ◌||◌, List, [], ◌∷◌, length, get_or, refl, sym, ap, subst, ◌∙◌, arith, ℤ}
-use Rattle.std.specs.Prelude.{pos, negsuc, ◌+ℤ◌, ◌-ℤ◌, ◌≤ℤ◌, ◌<ℤ◌, nat_abs, unsigned_abs, int_lt, ◌==◌, All}
+use Rattle.std.proofs.Common.{◌≡◌, ◌⊎◌, inl, inr, ℕ, zero, suc, ◌+◌, ◌-◌, ◌*◌, ◌/◌, ◌%◌, ◌<◌, ◌≤◌, Bool, true, false, not, ◌&&◌, ◌||◌, List, [], ◌∷◌, length, get_or, refl, sym, ap, subst, ◌∙◌, arith, ℤ}
+use Rattle.std.specs.Prelude.{pos, negsuc, ◌+ℤ◌, ◌-ℤ◌, ◌≤ℤ◌, ◌<ℤ◌, nat_abs, unsigned_abs, int_lt, nat_lt, nat_le, ◌==◌, All}
 use Rattle.std.specs.Int.{bit_at}
 use Rattle.std.specs.List.{list_all}
 use Rattle.std.specs.Ordering.{int_eq}
@@ -12,7 +12,7 @@ use mir.Val.{SFits}
 use mir.Syntax.{w64}
 use Rattle.qc_model.specs.Domains.{Values, is_ascending, is_none_left, has_value, least_value, greatest_value}
 use Rattle.qc_model.specs.declared.problem.Domain.TheVariants.{Listed}
-use Rattle.qc_model.specs.Valid.{is_domain, is_number, width_of}
+use Rattle.qc_model.specs.Valid.{is_domain, is_number, is_listed, has_gap, width_of}
 use Rattle.qc_model.proofs.DomainValues.{domain_full, domain_fits}
 use Rattle.qc_model.proofs.Widths.{least_is_first, greatest_is_last, listed_ascends, listed_domain, listed_width}
 use Rattle.fd_store.specs.declared.table.Cell.{Cell}
@@ -216,3 +216,29 @@ greatest_fits ns e = let s = list_span ns e in fits_of (greatest_value ns) (low_
 
     high_of : (l g : ℤ) (n : ℕ) → g ≡ l +ℤ pos (n - 1) → (l +ℤ pos n) ≤ℤ pos 1000000001 → g ≤ℤ pos 1000000001
     high_of l g n e h = omega (arith, ints)
+
+-- there are few of them, and the width is small
+pub few_numbers : (ns : Values) → is_domain (Listed ns) ≡ true → length ns < 4294967296
+few_numbers ns e =
+    let p = and_parts (not (is_none_left ns) && is_listed ns && has_gap ns) (nat_le (width_of ns) 1048576) e in
+    let q = and_parts (not (is_none_left ns) && is_listed ns) (has_gap ns) p.0 in
+    small (length ns) (width_of ns) q.1 (listed_width ns e)
+  where
+    small : (n w : ℕ) → nat_lt n w ≡ true → w ≤ 1048576 → n < 4294967296
+    small n w h l = grind (arith, nat_tests)
+
+pub width_narrow : (w n : ℕ) → w ≡ n → n ≤ 1048576 → w ≤ 1048576
+width_narrow w n e h = omega arith
+
+pub width_fits : (w n : ℕ) → w ≡ n → n ≤ 1048576 → w < 18446744073709551616
+width_fits w n e h = omega arith
+
+pub width_more_fits : (w n : ℕ) → w ≡ n → n ≤ 1048576 → w + 63 < 18446744073709551616
+width_more_fits w n e h = omega arith
+
+-- the words that were added for it
+pub longer_few : (words now w n : ℕ) → now ≡ words + (w + 63) / 64 → w ≡ n → words + (n + 63) / 64 ≤ 100000 → now ≤ 100000
+longer_few words now w n l e h = omega arith
+
+pub longer_inside : (words now start w : ℕ) → now ≡ words + (w + 63) / 64 → start ≡ words → 64 * start + w ≤ 64 * now
+longer_inside words now start w l e = omega arith

@@ -1,3 +1,7 @@
+use Rattle.std.proofs.Math.Nat.{le_of_lt}
+use Rattle.std.proofs.Common.{length, refl}
+use Rattle.std.proofs.lemmas.List.{length-set}
+use Rattle.fd_store.proofs.CellPlaces.{word_inside, in_word, in_order, end_fits, one_more, put_at}
 use Rattle.std.proofs.Common.{◌≡◌, ◌+◌, ◌-◌, ◌/◌, ◌%◌, ◌∙◌, ap, get_or, arith}
 use Rattle.std.specs.Prelude.{◌&&◌, ◌==◌, not}
 use Rattle.std.specs.Int.{bit_at}
@@ -58,3 +62,38 @@ returns-then-gone-eq0-clause-takes c =
 pub returns-clause-right : goal.returns-clause-right
 returns-clause-right c =
     cell_of_sound c.rewrite.new.self c.args.x _ c.args.self.now.cells.items (returns-clause-takes c).sound c.requires.var c.rewrite.ensures.cells
+
+pub rewrite-requires-clause-word : goal.rewrite-requires-clause-word
+rewrite-requires-clause-word c = word_inside c.args.self.now.words.items c.args.cell c.args.a c.args.e c.requires.right c.requires.order c.requires.high
+
+pub cleared-requires-clause-inside : goal.cleared-requires-clause-inside
+cleared-requires-clause-inside c = in_word c.args.a c.args.e c.requires.order c.requires.word
+
+pub cleared-requires-clause-order : goal.cleared-requires-clause-order
+cleared-requires-clause-order c = in_order c.args.a c.args.e c.requires.order
+
+pub count_in_word-gone-requires-clause-inside : goal.count_in_word-gone-requires-clause-inside
+count_in_word-gone-requires-clause-inside c = in_word c.args.a c.args.e c.requires.order c.requires.word
+
+pub count_in_word-gone-requires-clause-order : goal.count_in_word-gone-requires-clause-order
+count_in_word-gone-requires-clause-order c = in_order c.args.a c.args.e c.requires.order
+
+pub overflow_add-to : goal.overflow_add-to
+overflow_add-to c = record { fits = end_fits c.args.a c.args.e c.requires.order c.requires.word }
+
+pub overflow_sub-to : goal.overflow_sub-to
+overflow_sub-to c = le_of_lt c.requires.order
+
+pub returns-clause-step : goal.returns-clause-step
+returns-clause-step c = one_more c.args.self.now.trail.items c.rewrite.new.self.trail.items _ c.rewrite.ensures.trail
+
+pub returns-clause-long : goal.returns-clause-long
+returns-clause-long c = ap length c.rewrite.ensures.cells ∙ length-set c.args.self.now.cells.items c.args.x _
+
+pub returns-clause-at : goal.returns-clause-at
+returns-clause-at c = put_at c.args.self.now.cells.items c.rewrite.new.self.cells.items c.args.x _ c.rewrite.ensures.cells c.requires.var
+
+pub returns-clause-same : goal.returns-clause-same
+returns-clause-same c =
+    let fits : SFits w64 c.args.cell.base = base_fits c.args.self.now.words.items c.args.cell c.requires.right in
+    record { base = simp to_z-of_z; start = refl; width = refl; first = refl; end = refl }
