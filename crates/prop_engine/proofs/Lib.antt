@@ -12,3 +12,4 @@ mod Since
 mod Declared
 pub mod Means
 pub mod Room
+mod Waits

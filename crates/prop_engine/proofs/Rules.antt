@@ -1,6 +1,6 @@
 -- Constraints by their numbers, and steps of several constraints.
 use Rattle.std.proofs.Common.{◌≡◌, ℕ, zero, suc, ◌<◌, ◌+◌, Bool, true, false, ◌&&◌, ◌||◌, List, [], ◌∷◌, ◌++◌, length, take, get_or, ◌≢◌, ◌⊎◌, inl, inr, append-nil, length-append, refl, sym, ap, ◌∙◌, subst, arith}
-use Rattle.std.specs.Prelude.{slice_get, Some, ◌==◌, Result, Ok, Err, IfOk}
+use Rattle.std.specs.Prelude.{slice_get, nat_lt, Some, ◌==◌, Result, Ok, Err, IfOk}
 use Rattle.std.specs.declared.alloc.AllocError.{AllocError}
 use Rattle.std.specs.List.{list_all}
 use Rattle.std.proofs.lemmas.Bool.Decides.{nat_tests}
@@ -45,6 +45,15 @@ pub has_at : (cs : List ConId) (i : ℕ) (d : ConId) → i < length cs → has_c
 has_at [] i d h = absurd (omega arith)
 has_at (c ∷ cs) zero d h = ap (λ b. b || has_constraint cs c.0) (same_number c.0)
 has_at (c ∷ cs) (suc i) d h = or_right (c.0 == (get_or cs i d).0) (has_constraint cs (get_or cs i d).0) (has_at cs i d (omega arith))
+
+below_number : (k n : ℕ) → nat_lt k n ≡ true → k < n
+below_number k n h = grind (arith, nat_tests)
+
+-- each of the list is a constraint where all are
+pub exist_at : (cs : List ConId) (i : ℕ) (d : ConId) (n : ℕ) → i < length cs → list_all (λ c. nat_lt c.0 n) cs ≡ true → (get_or cs i d).0 < n
+exist_at [] i d n l h = absurd (omega arith)
+exist_at (c ∷ cs) zero d n l h = below_number c.0 n (first (nat_lt c.0 n) (list_all (λ e. nat_lt e.0 n) cs) h)
+exist_at (c ∷ cs) (suc i) d n l h = exist_at cs i d n (omega (arith, l)) (second (nat_lt c.0 n) (list_all (λ e. nat_lt e.0 n) cs) h)
 
 -- steps of one of the constraints are steps of them all
 step_weaker : (p q : ℕ → Bool) (g : Game) (s : Step) (box : Box) → ((k : ℕ) → p k ≡ true → q k ≡ true) → is_pruned_by p g s box ≡ true → is_pruned_by q g s box ≡ true

@@ -1,5 +1,5 @@
 -- The lists of constraints by variables, as they grow.
-use Rattle.std.proofs.Common.{◌≡◌, ℕ, zero, suc, ◌<◌, ◌+◌, Bool, true, ◌&&◌, ◌||◌, List, [], ◌∷◌, ◌++◌, length, take, set, get_or, refl, sym, ap, ◌∙◌, subst, arith, ◌⊎◌, inl, inr}
+use Rattle.std.proofs.Common.{◌≡◌, ℕ, zero, suc, ◌<◌, ◌≤◌, ◌+◌, Bool, true, ◌&&◌, ◌||◌, List, [], ◌∷◌, ◌++◌, length, length-append, take, set, get_or, refl, sym, ap, ◌∙◌, subst, arith, ◌⊎◌, inl, inr}
 use Rattle.std.specs.Prelude.{nat_le, flat_map, slice_get, ◌==◌, false, Some, Result, Ok, Err, OnOk, OnErr}
 use Rattle.std.specs.List.{list_all}
 use Rattle.std.proofs.lemmas.Bool.Decides.{nat_tests}
@@ -7,6 +7,7 @@ use Rattle.std.proofs.lemmas.Option.{same_Some}
 use Rattle.qc_model.specs.declared.problem.Arg.{Arg}
 use Rattle.qc_model.specs.declared.problem.Argument.{Argument}
 use Rattle.qc_model.specs.declared.problem.Argument.TheVariants.{Many}
+use Rattle.std.proofs.lemmas.List.{take_all}
 use Rattle.std.proofs.lemmas.List.Folds.{list_all-append, list_any-append}
 use Rattle.std.proofs.lemmas.Bool.{or_left, or_right, and_from}
 use Rattle.qc_model.specs.Arguments.{arg_variables, argument_variables, variables_of}
@@ -52,6 +53,20 @@ watched_more f xs i d k ws vs l g h e =
     all_more (λ a. list_all (is_watched vs k) (f a)) xs i d l
     (all_weaker (λ a. list_all (is_watched ws k) (f a)) (λ a. list_all (is_watched vs k) (f a)) (take i xs) (λ a m. all_weaker (is_watched ws k) (is_watched vs k) (f a) (λ x n. g.kept k x n) m) h)
     e
+
+-- each item passes where all do
+pub item_passes : {X : Type 0} (p : X → Bool) (xs : List X) (i : ℕ) (d : X) → i < length xs → list_all p xs ≡ true → p (get_or xs i d) ≡ true
+item_passes p [] i d l h = absurd (omega arith)
+item_passes p (x ∷ xs) zero d l h = first (p x) (list_all p xs) h
+item_passes p (x ∷ xs) (suc i) d l h = item_passes p xs i d (omega (arith, l)) (second (p x) (list_all p xs) h)
+
+-- all pass where as many as there are do
+pub all_passed : {X : Type 0} (p : X → Bool) (xs : List X) (i : ℕ) → length xs ≤ i → list_all p (take i xs) ≡ true → list_all p xs ≡ true
+all_passed p xs i l h = ap (list_all p) (sym (take_all i xs l)) ∙ h
+
+-- lists that stay as they are
+pub grown_none : (a : Watches) → HasGrown a a
+grown_none a = record { count = refl; kept = λ k x h. h }
 
 pub all_flat : {X : Type 0} (p : ℕ → Bool) (f : X → List ℕ) (xs : List X) → list_all (λ a. list_all p (f a)) xs ≡ true → list_all p (flat_map f xs) ≡ true
 all_flat p f [] h = refl
@@ -142,6 +157,10 @@ right_one g k c h x e i r s = subst (λ z. IsHeld h z x) (same_Some c r (sym e �
 
 pub none_right : (g : Game) (ws : Watches) → ((x : ℕ) → watchers ws x ≡ []) → AreRight g ws
 none_right g ws n x i w h = let e = ap (λ l. slice_get l i) (sym (n x)) ∙ h in cc
+
+-- as many lists as before and one more
+pub count_more : (ws : Watches) (n : ℕ) → length ws ≡ n → length (ws ++ [] ∷ []) ≡ n + 1
+count_more ws n e = omega (arith, e, length-append ws ([] ∷ []))
 
 pub none_more : (ws : Watches) → ((x : ℕ) → watchers ws x ≡ []) → (x : ℕ) → watchers (ws ++ [] ∷ []) x ≡ []
 none_more [] n zero = refl

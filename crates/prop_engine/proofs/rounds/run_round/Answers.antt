@@ -4,7 +4,7 @@ use Rattle.qc_model.specs.Closed.{keeps_ends}
 use Rattle.prop_base.specs.Pruning.{is_just}
 use Rattle.prop_base.proofs.Steps.{pruning_more}
 use Rattle.prop_engine.specs.Closing.{has_constraint, EachRule, IsRun}
-use Rattle.prop_engine.proofs.Rules.{has_at, each_of, each_more, pruning_of}
+use Rattle.prop_engine.proofs.Rules.{has_at, exist_at, each_of, each_more, pruning_of}
 use Rattle.prop_engine.proofs.rounds.run_round.Goals.{in-Stable, in-Changed}
 use Rattle.prop_engine.proofs.rounds.run_round.Goals as goal
 
@@ -64,3 +64,6 @@ loop-c-preserved g c =
             grown = λ e. omega (arith, i.longer, a.1);
           })
     ]
+
+pub run_filter-requires-clause-c : goal.run_filter-requires-clause-c
+run_filter-requires-clause-c g c = exist_at c.args.cons.now c.loop-c.c-index (record { 0 = 0 }) (length c.args.problem.now.constraints) c.loop-c-test.true c.requires.exist
