@@ -3,6 +3,7 @@ ghost use Rattle.std.specs.Prelude.{◌≡◌, ◌≤◌, length, None};
 
 use qc_io::{Failed, MemorySink, Shelf};
 use qecode_commands::{Status, run as run_over};
+use std::alloc::Global;
 use std::test::Fail;
 
 const HEAD: &[u8] = b"qcert 1\ntrue\n";
@@ -56,6 +57,11 @@ fn copy_from(file: &[u8], at: u64, into: &mut [u8]) -> usize
     count
 }
 
+// A run over such a shelf. It promises nothing, so that the test isn't shown all that `run` promises.
+fn run(alloc: Global, words: &[&str], shelf: &mut EndlessShelf, sink: &mut MemorySink) -> Status {
+    run_over(alloc, words, shelf, sink)
+}
+
 // The lines nest too deep long before; but a file that is too long is told first.
 #[test]
 fn an_endless_certificate_is_refused(rt: HostRuntime) -> Result<(), Fail> {
@@ -70,7 +76,7 @@ fn an_endless_certificate_is_refused(rt: HostRuntime) -> Result<(), Fail> {
         given: 0,
     };
     let mut sink = MemorySink::new(alloc, 65_536, 65_536)?;
-    let answer = run_over(alloc, &["check", "p", "c"], &mut shelf, &mut sink);
+    let answer = run(alloc, &["check", "p", "c"], &mut shelf, &mut sink);
     assert_eq!(rt; answer, Status::TooLong);
     assert!(rt; sink.bytes() == b"too long: c\n".as_slice());
     Ok(())
