@@ -4,6 +4,12 @@ pub mod Ready
 pub mod ItemEnds
 pub mod Places
 pub mod Walks
+mod ItemWalks
+mod SumPlaces
+mod LowPlaces
+mod ReadAt
+mod Remainders
+mod WidestRanges
 pub mod Results
 pub mod Fill
 pub mod Domains

@@ -1,6 +1,7 @@
 use Rattle.std.proofs.Common.{◌≡◌, ◌+◌, take, get_or, subst, arith}
 use Rattle.std.proofs.lemmas.List.{take_all}
 use Rattle.qc_refuter.specs.declared.stretches.Ends.{Ends}
+use Rattle.qc_refuter.proofs.LowPlaces.{some_low}
 use Rattle.qc_refuter.proofs.Seated.{AreUncrowded, began, none_seated, one_began, more_seated, crowd_seated, first_skips, fuller_skips}
 use Rattle.qc_refuter.proofs.stretches.are_too_many.Goals as goal
 
@@ -38,3 +39,21 @@ pub returns-clause-none : goal.returns-clause-none
 returns-clause-none c e =
     let all : take c.loop-item.item-index c.args.items.now ≡ c.args.items.now = take_all c.loop-item.item-index c.args.items.now (omega arith) in
     subst (AreUncrowded c.args.lows.now) all c.loop-item.invariant.seated.none
+
+pub returns-clause-crowd : goal.returns-clause-crowd
+returns-clause-crowd c = λ e. cc
+
+pub returns-then-not-take_number-clause-none : goal.returns-then-not-take_number-clause-none
+returns-then-not-take_number-clause-none c = λ e. cc
+
+pub stretch_from-stretch-requires-clause-some : goal.stretch_from-stretch-requires-clause-some
+stretch_from-stretch-requires-clause-some c = some_low c.args.lows.now _ (c.requires.placed c.loop-item.item-index (record { low = 0; high = 0 }) c.loop-item-test.true)
+
+pub take_number-requires-clause-small : goal.take_number-requires-clause-small
+take_number-requires-clause-small c = (c.requires.placed c.loop-item.item-index (record { low = 0; high = 0 }) c.loop-item-test.true).small
+
+pub take_number-requires-clause-open : goal.take_number-requires-clause-open
+take_number-requires-clause-open c = c.stretch_from-stretch.ensures.stretch.next.left
+
+pub stretch_from-stretch-requires-clause-skips : goal.stretch_from-stretch-requires-clause-skips
+stretch_from-stretch-requires-clause-skips c = c.loop-item.invariant.skips

@@ -8,7 +8,8 @@ use Rattle.qc_model.specs.declared.problem.Arg.TheVariants.{Var}
 use Rattle.qc_model.specs.Left.{span, sum_range}
 use Rattle.qc_model.specs.Ranges.{point, product}
 use Rattle.qc_model.specs.Refuted.{left_to}
-use Rattle.qc_refuter.proofs.Terms.{sum_step, sum_end, sum_more, sum_none, item_left, abs_sum, at_end}
+use Rattle.qc_refuter.proofs.Terms.{sum_step, sum_end, sum_more, sum_none, item_left, abs_sum, at_end, open_at}
+use Rattle.qc_refuter.proofs.SumPlaces.{within_first, within_second, number_at, term_wide, more_wide}
 use Rattle.qc_refuter.proofs.sums.sum_extent.Goals as goal
 
 pub loop-k-preserved : goal.loop-k-preserved
@@ -52,3 +53,33 @@ returns-clause-value c =
     let as_many : length ds ≡ length items = length-map items (left_to box) in
     let end = sum_end ns ds k (at_end (length ns) (length ds) k (omega (arith, c.min-count.ensures, as_many))) in
     sum_none (to_z w128 c.loop-k.from-bits) (to_z w128 c.loop-k.to-bits) (sum_range (drop k ns) (drop k ds)) (sum_range ns ds) c.loop-k.invariant.sum end
+
+pub term_left-one-requires-clause-factor : goal.term_left-one-requires-clause-factor
+term_left-one-requires-clause-factor c =
+    let n_fits : SFits w64 (get_or c.args.factors.now c.loop-k.k (pos 0)) = search rules in
+    simp to_z-of_z (number_at c.args.factors.now c.loop-k.k (pos 0) (within_first _ _ _ _ c.min-count.ensures c.loop-k-test.true) c.requires.factors)
+
+pub term_left-one-requires-clause-open : goal.term_left-one-requires-clause-open
+term_left-one-requires-clause-open c = open_at c.args.store.now.box c.args.items.now c.loop-k.k (Var (record { 0 = 0 })) (within_second _ _ _ _ c.min-count.ensures c.loop-k-test.true) c.requires.items
+
+pub overflow_cast-from : goal.overflow_cast-from
+overflow_cast-from c =
+    let fits : SFits w64 c.term_left-one.result.from = search rules in
+    simp to_z-of_z (term_wide c.term_left-one.result.from c.term_left-one.ensures.small_from)
+
+pub overflow_add-from : goal.overflow_add-from
+overflow_add-from c =
+    let fits : SFits w64 c.term_left-one.result.from = search rules in
+    let wide : SFits w128 c.term_left-one.result.from = term_wide c.term_left-one.result.from c.term_left-one.ensures.small_from in
+    simp to_z-of_z (more_wide (to_z w128 c.loop-k.from-bits) c.term_left-one.result.from _ _ _ c.loop-k.k c.min-count.ensures c.loop-k-test.true c.requires.few c.loop-k.invariant.small_from c.term_left-one.ensures.small_from)
+
+pub overflow_cast-to : goal.overflow_cast-to
+overflow_cast-to c =
+    let fits : SFits w64 c.term_left-one.result.to = search rules in
+    simp to_z-of_z (term_wide c.term_left-one.result.to c.term_left-one.ensures.small_to)
+
+pub overflow_add-to : goal.overflow_add-to
+overflow_add-to c =
+    let fits : SFits w64 c.term_left-one.result.to = search rules in
+    let wide : SFits w128 c.term_left-one.result.to = term_wide c.term_left-one.result.to c.term_left-one.ensures.small_to in
+    simp to_z-of_z (more_wide (to_z w128 c.loop-k.to-bits) c.term_left-one.result.to _ _ _ c.loop-k.k c.min-count.ensures c.loop-k-test.true c.requires.few c.loop-k.invariant.small_to c.term_left-one.ensures.small_to)

@@ -7,7 +7,7 @@ use Rattle.qc_model.specs.Ranges.{range_of}
 use Rattle.qc_model.specs.Refuted.{left_to}
 use Rattle.qc_model.specs.Valid.{is_number}
 use Rattle.qc_refuter.specs.Met.{is_open}
-use Rattle.qc_refuter.proofs.Terms.{term_range, least_small, greatest_small}
+use Rattle.qc_refuter.proofs.Terms.{term_range, least_small, greatest_small, some_left}
 use Rattle.qc_refuter.proofs.sums.term_left.Goals as goal
 
 pub product-requires-clause-b : goal.product-requires-clause-b
@@ -38,3 +38,46 @@ returns-in-Var-clause-value c =
     let q = simp to_z-of_z at c.product-in-Var.ensures.value in
     let e = simp to_z-of_z at c.ordered.ensures.value in
     term_range c.args.factor c.min.result c.max.result c.product.result c.product-in-Var.result (range_of c.ordered.result.from c.ordered.result.to) d low high p q e
+
+pub ordered-requires-clause-p : goal.ordered-requires-clause-p
+ordered-requires-clause-p c =
+    let fits : SFits w64 c.product.result = record { sfits = c.product.type_inv } in
+    simp to_z-of_z c.product.ensures.small
+
+pub ordered-requires-clause-q : goal.ordered-requires-clause-q
+ordered-requires-clause-q c =
+    let fits : SFits w64 c.product-in-Var.result = record { sfits = c.product-in-Var.type_inv } in
+    simp to_z-of_z c.product-in-Var.ensures.small
+
+pub returns-in-Num-clause-small_from : goal.returns-in-Num-clause-small_from
+returns-in-Num-clause-small_from c =
+    let fits : SFits w64 c.product-only.result = record { sfits = c.product-only.type_inv } in
+    simp to_z-of_z c.product-only.ensures.small
+
+pub returns-in-Num-clause-small_to : goal.returns-in-Num-clause-small_to
+returns-in-Num-clause-small_to c =
+    let fits : SFits w64 c.product-only.result = record { sfits = c.product-only.type_inv } in
+    simp to_z-of_z c.product-only.ensures.small
+
+pub product-only-requires-clause-a : goal.product-only-requires-clause-a
+product-only-requires-clause-a c =
+    let fits : SFits w64 c.args.factor = c.ranges.factor in
+    simp to_z-of_z c.requires.factor
+
+pub product-requires-clause-a : goal.product-requires-clause-a
+product-requires-clause-a c =
+    let fits : SFits w64 c.args.factor = c.ranges.factor in
+    simp to_z-of_z c.requires.factor
+
+pub product-requires-in-Var-clause-a : goal.product-requires-in-Var-clause-a
+product-requires-in-Var-clause-a c =
+    let fits : SFits w64 c.args.factor = c.ranges.factor in
+    simp to_z-of_z c.requires.factor
+
+pub min-requires-clause-left : goal.min-requires-clause-left
+min-requires-clause-left c =
+    some_left (values_left c.args.store.now.box c.in-Var.x.0) (subst (λ a. is_open c.args.store.now.box a ≡ true) c.in-Var.is c.requires.open)
+
+pub max-requires-clause-left : goal.max-requires-clause-left
+max-requires-clause-left c =
+    some_left (values_left c.args.store.now.box c.in-Var.x.0) (subst (λ a. is_open c.args.store.now.box a ≡ true) c.in-Var.is c.requires.open)
