@@ -1,5 +1,5 @@
 -- The least of a term and of a sum, by one end of each item.
-use Rattle.std.proofs.Common.{◌≡◌, ℕ, suc, ◌+◌, ◌*◌, ◌<◌, Bool, true, false, List, [], ◌∷◌, length, map, drop, get_or, refl, sym, ap, ◌∙◌, arith, ℤ}
+use Rattle.std.proofs.Common.{◌≡◌, ℕ, zero, suc, ◌+◌, ◌*◌, ◌<◌, ◌≤◌, inl, Bool, true, false, List, [], ◌∷◌, length, map, drop, get_or, refl, sym, ap, ◌∙◌, arith, ℤ}
 use Rattle.std.specs.Prelude.{pos, negsuc, ◌+ℤ◌, ◌-ℤ◌, ◌*ℤ◌, int_lt, nat_abs}
 use Rattle.std.specs.Int.{int_min}
 use Rattle.std.specs.List.{list_all}
@@ -11,7 +11,7 @@ use Rattle.qc_model.specs.Left.{sum_range}
 use Rattle.qc_model.specs.Ranges.{Range}
 use Rattle.qc_model.specs.Valid.{is_number}
 use Rattle.qc_model.proofs.Readable.{first, second}
-use Rattle.qc_refuter.proofs.Terms.{sum_step}
+use Rattle.qc_refuter.proofs.Terms.{sum_step, sum_end}
 use Rattle.prop_linear.specs.Tightening.{term_of}
 use Rattle.prop_linear.specs.Sides.{opposite, signed}
 use Rattle.prop_linear.proofs.Spread.{low_of, up_gap, down_gap}
@@ -51,6 +51,19 @@ signed_numbers true (n ∷ ns) h =
 pub signed_number : (b : Bool) (ns : List ℤ) (k : ℕ) → k < length ns → list_all is_number ns ≡ true → is_number (get_or (signed b ns) k (pos 0)) ≡ true
 signed_number b ns k l h =
     and_at (list_all is_number) is_number refl (λ _ _. refl) (signed b ns) k (pos 0) (omega (arith, signed_length b ns, l)) (signed_numbers b ns h)
+
+-- the opposite of a factor at a place
+pub opposite_at : (ns : List ℤ) (k : ℕ) → k < length ns → get_or (signed true ns) k (pos 0) ≡ opposite (get_or ns k (pos 0))
+opposite_at [] k l = absurd (omega (arith, l))
+opposite_at (n ∷ ns) zero l = refl
+opposite_at (n ∷ ns) (suc k) l = opposite_at ns k (omega (arith, l))
+
+-- past the last term nothing is left to add
+pub least_whole : (ns : List ℤ) (ds : List Values) (k : ℕ) (least all : ℤ) → length ns ≤ k → least +ℤ (sum_range (drop k ns) (drop k ds)).from ≡ all → least ≡ all
+least_whole ns ds k least all l h = by least (sum_range (drop k ns) (drop k ds)).from all (ap (λ (r : Range). r.from) (sum_end ns ds k (inl l))) h
+  where
+    by : (a b all : ℤ) → b ≡ pos 0 → a +ℤ b ≡ all → a ≡ all
+    by a b all e h = omega (arith, ints, e, h)
 
 -- one term more
 pub least_more : (ns : List ℤ) (ds : List Values) (k : ℕ) (least term all : ℤ) → k < length ns → k < length ds → term ≡ (term_of (get_or ns k (pos 0)) (get_or ds k [])).from →

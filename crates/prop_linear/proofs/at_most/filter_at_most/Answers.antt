@@ -53,3 +53,15 @@ tighten_all-requires-clause-bounded c =
     let e = simp to_z-of_z at c.slack-s.ensures in
     let B : ℤ → Type 0 = IsBounded c.args.asked.rule.now c.args.store.now.box (signed c.args.negative c.args.factors.now) c.args.items.now in
     subst B (e ∙ ap (λ z. z +ℤ pos s) c.least_of-least.ensures.value) c.requires.bounded
+
+pub overflow_cast-bound : goal.overflow_cast-bound
+overflow_cast-bound c = search rules
+
+pub slack-s-requires-clause-least : goal.slack-s-requires-clause-least
+slack-s-requires-clause-least c = search rules
+
+pub slack-s-requires-clause-order : goal.slack-s-requires-clause-order
+slack-s-requires-clause-order c = search rules
+
+pub overflow_cast-least : goal.overflow_cast-least
+overflow_cast-least c = search rules

@@ -123,3 +123,18 @@ returns-then-bound-sum-clause-alike c = never_changed (AlikeOutside c.args.items
 
 pub returns-then-sum-bound-clause-alike : goal.returns-then-sum-bound-clause-alike
 returns-then-sum-bound-clause-alike c = never_changed (AlikeOutside c.args.items.now c.args.store.now.box c.empty_last-then-sum-bound.new.store.box) c.empty_last-then-sum-bound.result c.empty_last-then-sum-bound.ensures.whole
+
+pub overflow_cast-bound : goal.overflow_cast-bound
+overflow_cast-bound c = search rules
+
+pub overflow_cast-bound-2 : goal.overflow_cast-bound-2
+overflow_cast-bound-2 c = search rules
+
+pub slack-s-requires-clause-least : goal.slack-s-requires-clause-least
+slack-s-requires-clause-least c = search rules
+
+pub slack-s-requires-clause-order : goal.slack-s-requires-clause-order
+slack-s-requires-clause-order c = search rules
+
+pub excess-t-requires-clause-order : goal.excess-t-requires-clause-order
+excess-t-requires-clause-order c = search rules

@@ -1,4 +1,4 @@
-use Rattle.std.proofs.Common.{◌≡◌, ◌<◌, add-one, rules, arith, length, map, get_or, [], true, sym, subst, ℤ}
+use Rattle.std.proofs.Common.{◌≡◌, ◌<◌, ◌≤◌, add-one, rules, arith, length, map, get_or, [], true, sym, subst, ℤ, ◌∙◌}
 use Rattle.std.specs.Prelude.{pos, ◌+ℤ◌}
 use Rattle.std.proofs.lemmas.Int.{to_z-of_z, fits_signed_from_abs}
 use Rattle.std.proofs.lemmas.List.{length-map}
@@ -12,7 +12,7 @@ use Rattle.qc_refuter.proofs.Terms.{item_left, abs_sum, open_at}
 use Rattle.prop_linear.specs.Sides.{signed}
 use Rattle.prop_linear.specs.Tightening.{IsNear, least_sum, term_of}
 use Rattle.prop_linear.proofs.Moves.{near_more}
-use Rattle.prop_linear.proofs.Lows.{signed_number, least_more}
+use Rattle.prop_linear.proofs.Lows.{signed_number, least_more, least_whole}
 use Rattle.prop_linear.proofs.Sides.{signed_length}
 use Rattle.prop_linear.proofs.least.least_of.Goals as goal
 
@@ -63,3 +63,14 @@ loop-k-preserved c =
           (near_more s ns items k box (pos 0) (Var (record { 0 = 0 })) (omega (arith, signed_length c.args.negative c.args.factors.now, c.requires.equal, c.loop-k-test.true)) (omega (arith, c.loop-k-test.true))
           (c.loop-k.invariant.near s (omega (arith, c.wider-widest.ensures.first, e))) (subst N c.factor_at-factor.ensures here));
     })
+
+pub least_term-requires-clause-open : goal.least_term-requires-clause-open
+least_term-requires-clause-open c =
+    open_at c.args.store.now.box c.args.items.now c.loop-k.k (Var (record { 0 = 0 })) c.loop-k-test.true c.requires.open
+
+pub returns-clause-value : goal.returns-clause-value
+returns-clause-value c =
+    let ns = signed c.args.negative c.args.factors.now in
+    let ds = map (left_to c.args.store.now.box) c.args.items.now in
+    let as_many = signed_length c.args.negative c.args.factors.now ∙ c.requires.equal in
+    least_whole ns ds c.loop-k.k (to_z w128 c.loop-k.least-bits) (least_sum ns c.args.items.now c.args.store.now.box) (subst (λ n. n ≤ c.loop-k.k) (sym as_many) c.loop-k-test.false) c.loop-k.invariant.sum

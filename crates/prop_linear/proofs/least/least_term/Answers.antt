@@ -9,6 +9,7 @@ use Rattle.qc_model.specs.Valid.{is_number}
 use Rattle.qc_refuter.specs.Met.{is_open}
 use Rattle.qc_refuter.proofs.Terms.{least_small, greatest_small}
 use Rattle.prop_linear.proofs.Lows.{rising_term, falling_term}
+use Rattle.prop_compare.proofs.Sides.{open_place}
 use Rattle.prop_linear.proofs.least.least_term.Goals as goal
 
 pub product-requires-then-factor-lt0-clause-b : goal.product-requires-then-factor-lt0-clause-b
@@ -44,3 +45,9 @@ returns-else-factor-lt0-clause-value c =
     let end = c.min.ensures ∙ ap (λ a. least_value (left_to box a)) (sym c.in-Var.is) in
     let p = simp to_z-of_z at c.product-in-Var.ensures.value in
     simp to_z-of_z (p ∙ (ap (λ z. c.args.factor *ℤ z) end ∙ rising_term c.args.factor (left_to box c.args.item) rises))
+
+pub min-requires-clause-var : goal.min-requires-clause-var
+min-requires-clause-var c = open_place c.args.store.now.box c.in-Var.x (subst (λ a. is_open c.args.store.now.box a ≡ true) c.in-Var.is c.requires.open)
+
+pub max-requires-clause-var : goal.max-requires-clause-var
+max-requires-clause-var c = open_place c.args.store.now.box c.in-Var.x (subst (λ a. is_open c.args.store.now.box a ≡ true) c.in-Var.is c.requires.open)

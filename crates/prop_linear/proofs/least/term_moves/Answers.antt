@@ -13,6 +13,7 @@ use Rattle.qc_refuter.proofs.Terms.{least_small, greatest_small}
 use Rattle.prop_linear.specs.Tightening.{IsNear}
 use Rattle.prop_linear.proofs.Ends.{near_of}
 use Rattle.prop_linear.proofs.Moves.{near_number}
+use Rattle.prop_compare.proofs.Sides.{open_place}
 use Rattle.prop_linear.proofs.least.term_moves.Goals as goal
 
 pub width-requires-clause-low : goal.width-requires-clause-low
@@ -55,3 +56,9 @@ returns-in-Var c s e =
     let w = simp to_z-of_z at c.width.ensures.value in
     let v = simp to_z-of_z at c.short_moves.ensures in
     subst (λ a. IsNear c.args.factor s (left_to c.args.store.now.box a)) (sym c.in-Var.is) (near_of c.args.factor s c.width.result d o (omega (arith, v, e)) (omega (arith, ints, l, g, w)))
+
+pub min-requires-clause-var : goal.min-requires-clause-var
+min-requires-clause-var c = open_place c.args.store.now.box c.in-Var.x (subst (λ a. is_open c.args.store.now.box a ≡ true) c.in-Var.is c.requires.open)
+
+pub max-requires-clause-var : goal.max-requires-clause-var
+max-requires-clause-var c = open_place c.args.store.now.box c.in-Var.x (subst (λ a. is_open c.args.store.now.box a ≡ true) c.in-Var.is c.requires.open)

@@ -113,3 +113,18 @@ returns-else-has-clause-none c w h k =
     let down = simp to_z-of_z at c.stepped-v.ensures.down in
     let not : has_value d v ≡ false = simp to_z-of_z at (sym c.has.ensures ∙ c.if-has.false) in
     none_stepped c.args.least c.args.factor d c.args.bound v w c.slack.result c.in-Some.steps c.requires.factor s n (λ p. up p ∙ ap (λ z. z +ℤ pos c.in-Some.steps) l) (λ p. down p ∙ g) not h k
+
+pub overflow_cast-bound : goal.overflow_cast-bound
+overflow_cast-bound c = search rules
+
+pub slack-requires-clause-least : goal.slack-requires-clause-least
+slack-requires-clause-least c = search rules
+
+pub slack-requires-clause-order : goal.slack-requires-clause-order
+slack-requires-clause-order c = search rules
+
+pub whole_steps-requires : goal.whole_steps-requires
+whole_steps-requires c = search rules
+
+pub stepped-v-requires-clause-steps : goal.stepped-v-requires-clause-steps
+stepped-v-requires-clause-steps c = search rules

@@ -8,6 +8,7 @@ use Rattle.qc_model.specs.Refuted.{left_to}
 use Rattle.qc_model.specs.Valid.{is_number}
 use Rattle.qc_refuter.specs.Met.{is_open}
 use Rattle.qc_refuter.proofs.Terms.{term_range, least_small, greatest_small}
+use Rattle.prop_compare.proofs.Sides.{open_place}
 use Rattle.prop_linear.proofs.sums.term_left.Goals as goal
 
 pub product-requires-clause-b : goal.product-requires-clause-b
@@ -38,3 +39,9 @@ returns-in-Var-clause-value c =
     let q = simp to_z-of_z at c.product-in-Var.ensures.value in
     let e = simp to_z-of_z at c.ordered.ensures.value in
     term_range c.args.factor c.min.result c.max.result c.product.result c.product-in-Var.result (range_of c.ordered.result.from c.ordered.result.to) d low high p q e
+
+pub min-requires-clause-var : goal.min-requires-clause-var
+min-requires-clause-var c = open_place c.args.store.now.box c.in-Var.x (subst (λ a. is_open c.args.store.now.box a ≡ true) c.in-Var.is c.requires.open)
+
+pub max-requires-clause-var : goal.max-requires-clause-var
+max-requires-clause-var c = open_place c.args.store.now.box c.in-Var.x (subst (λ a. is_open c.args.store.now.box a ≡ true) c.in-Var.is c.requires.open)
