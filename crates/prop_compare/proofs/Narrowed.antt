@@ -13,7 +13,7 @@ use Rattle.qc_model.specs.Refuted.{left_to, refuted_by}
 use Rattle.qc_model.specs.Valid.{is_number}
 use Rattle.qc_model.proofs.Readable.{second}
 use Rattle.model_arguments.proofs.Values.{ascending_kept, all_kept, has_least, has_greatest}
-use Rattle.model_arguments.proofs.Bools.{not_false}
+use Rattle.model_arguments.proofs.Bools.{clash, not_false}
 use Rattle.qc_refuter.proofs.Domains.{some_left, ascending_left, small_left}
 use Rattle.proof_tree.specs.declared.tree.Step.{Step}
 use Rattle.fd_store.specs.Held.{values_from, least_of}
@@ -174,6 +174,10 @@ narrowed c box one two a lo hi l u o g n p e f i j h k =
 -- steps of two calls
 pub grown_last : (q : Bool) (a b c : List Step) → b ≡ a → (q ≡ true → length b < length c) → (q ≡ false → c ≡ b) → (q ≡ true → length a < length c) × (q ≡ false → c ≡ a)
 grown_last q a b c g h k = (λ e. omega (arith, h e, ap length g), λ e. k e ∙ g)
+
+pub grown_first : (u o : Bool) (a b c : List Step) → u ≡ true → length b ≡ length a + 1 → (o ≡ true → length c ≡ length b + 1) → (o ≡ false → c ≡ b) → (u ≡ true → length a < length c) × (u ≡ false → c ≡ a)
+grown_first u true a b c t h f g = (λ e. omega (arith, h, f refl), λ e. absurd (clash u t e))
+grown_first u false a b c t h f g = (λ e. omega (arith, h, ap length (g refl)), λ e. absurd (clash u t e))
 
 pub step_grown : (p : Bool) (a b : List Step) → (p ≡ true → length b ≡ length a + 1) → p ≡ true → length a < length b
 step_grown p a b f e = omega (arith, f e)

@@ -3,29 +3,20 @@ use Rattle.std.proofs.lemmas.Int.{to_z-of_z}
 use mir.Val.{SFits}
 use mir.Syntax.{w64}
 use Rattle.qc_model.specs.Refuted.{left_to}
-use Rattle.prop_compare.proofs.Narrowed.{least_reach, greatest_reach, before_reach, after_reach, under_refuted, over_refuted, open_after, full_after, narrowed, grown_last, step_grown}
+use Rattle.prop_compare.proofs.Narrowed.{least_reach, greatest_reach, before_reach, after_reach, under_refuted, over_refuted, open_after, full_after, narrowed, grown_last, step_grown, grown_first}
 use Rattle.prop_base.proofs.Prunings.{prunes_more, fits_after}
 use Rattle.prop_compare.proofs.narrowing.narrow.Goals as goal
 
 pub take_out-requires-clause-low : goal.take_out-requires-clause-low
 take_out-requires-clause-low c =
     let low_fits : SFits w64 c.least-low.result = search rules in
-    let high_fits : SFits w64 c.greatest-high.result = search rules in
-    let u_fits : SFits w64 c.before-under.result = search rules in
-    let o_fits : SFits w64 c.after-over.result = search rules in
-    let lo_fits : SFits w64 c.args.keep.lo = search rules in
-    let hi_fits : SFits w64 c.args.keep.hi = search rules in
     let box = c.args.store.now.box in
     simp to_z-of_z (least_reach (left_to box c.args.a) c.least-low.result c.requires.open c.least-low.ensures)
 
 pub take_out-requires-clause-high : goal.take_out-requires-clause-high
 take_out-requires-clause-high c =
-    let low_fits : SFits w64 c.least-low.result = search rules in
-    let high_fits : SFits w64 c.greatest-high.result = search rules in
     let u_fits : SFits w64 c.before-under.result = search rules in
-    let o_fits : SFits w64 c.after-over.result = search rules in
     let lo_fits : SFits w64 c.args.keep.lo = search rules in
-    let hi_fits : SFits w64 c.args.keep.hi = search rules in
     let u = simp to_z-of_z at c.before-under.ensures in
     let n = c.requires.narrowing in
     simp to_z-of_z (before_reach c.args.keep.lo c.before-under.result n.small_low u)
@@ -33,11 +24,8 @@ take_out-requires-clause-high c =
 pub take_out-requires-clause-refuted : goal.take_out-requires-clause-refuted
 take_out-requires-clause-refuted c x q s =
     let low_fits : SFits w64 c.least-low.result = search rules in
-    let high_fits : SFits w64 c.greatest-high.result = search rules in
     let u_fits : SFits w64 c.before-under.result = search rules in
-    let o_fits : SFits w64 c.after-over.result = search rules in
     let lo_fits : SFits w64 c.args.keep.lo = search rules in
-    let hi_fits : SFits w64 c.args.keep.hi = search rules in
     let box = c.args.store.now.box in
     let u = simp to_z-of_z at c.before-under.ensures in
     let n = c.requires.narrowing in
@@ -47,11 +35,8 @@ take_out-requires-clause-refuted c x q s =
 pub take_out-requires-2-clause-fits : goal.take_out-requires-2-clause-fits
 take_out-requires-2-clause-fits c =
     let low_fits : SFits w64 c.least-low.result = search rules in
-    let high_fits : SFits w64 c.greatest-high.result = search rules in
     let u_fits : SFits w64 c.before-under.result = search rules in
-    let o_fits : SFits w64 c.after-over.result = search rules in
     let lo_fits : SFits w64 c.args.keep.lo = search rules in
-    let hi_fits : SFits w64 c.args.keep.hi = search rules in
     let box = c.args.store.now.box in
     let u = simp to_z-of_z at c.before-under.ensures in
     let n = c.requires.narrowing in
@@ -61,11 +46,8 @@ take_out-requires-2-clause-fits c =
 pub take_out-requires-2-clause-open : goal.take_out-requires-2-clause-open
 take_out-requires-2-clause-open c =
     let low_fits : SFits w64 c.least-low.result = search rules in
-    let high_fits : SFits w64 c.greatest-high.result = search rules in
     let u_fits : SFits w64 c.before-under.result = search rules in
-    let o_fits : SFits w64 c.after-over.result = search rules in
     let lo_fits : SFits w64 c.args.keep.lo = search rules in
-    let hi_fits : SFits w64 c.args.keep.hi = search rules in
     let box = c.args.store.now.box in
     let u = simp to_z-of_z at c.before-under.ensures in
     let n = c.requires.narrowing in
@@ -74,11 +56,7 @@ take_out-requires-2-clause-open c =
 
 pub take_out-requires-2-clause-low : goal.take_out-requires-2-clause-low
 take_out-requires-2-clause-low c =
-    let low_fits : SFits w64 c.least-low.result = search rules in
-    let high_fits : SFits w64 c.greatest-high.result = search rules in
-    let u_fits : SFits w64 c.before-under.result = search rules in
     let o_fits : SFits w64 c.after-over.result = search rules in
-    let lo_fits : SFits w64 c.args.keep.lo = search rules in
     let hi_fits : SFits w64 c.args.keep.hi = search rules in
     let o = simp to_z-of_z at c.after-over.ensures in
     let n = c.requires.narrowing in
@@ -86,12 +64,7 @@ take_out-requires-2-clause-low c =
 
 pub take_out-requires-2-clause-high : goal.take_out-requires-2-clause-high
 take_out-requires-2-clause-high c =
-    let low_fits : SFits w64 c.least-low.result = search rules in
     let high_fits : SFits w64 c.greatest-high.result = search rules in
-    let u_fits : SFits w64 c.before-under.result = search rules in
-    let o_fits : SFits w64 c.after-over.result = search rules in
-    let lo_fits : SFits w64 c.args.keep.lo = search rules in
-    let hi_fits : SFits w64 c.args.keep.hi = search rules in
     let box = c.args.store.now.box in
     simp to_z-of_z (greatest_reach (left_to box c.args.a) c.greatest-high.result c.requires.open c.greatest-high.ensures)
 
@@ -161,3 +134,9 @@ returns-else-some_under-clause-grown c =
     let s = c.in_ok-some_over.ensures.grown in
     grown_last c.in_ok-some_over.some_over c.args.steps.now c.take_out.new.steps c.take_out-2.new.steps (f.1 c.if-some_under.false)
     (step_grown c.in_ok-some_over.some_over c.take_out.new.steps c.take_out-2.new.steps s.0) s.1
+
+pub returns-then-some_under-clause-grown : goal.returns-then-some_under-clause-grown
+returns-then-some_under-clause-grown c =
+    let f = c.in_ok-some_under.ensures.grown in
+    let s = c.in_ok-some_over.ensures.grown in
+    grown_first c.in_ok-some_under.some_under c.in_ok-some_over.some_over c.args.steps.now c.take_out.new.steps c.take_out-2.new.steps c.if-some_under.true (f.0 c.if-some_under.true) s.0 s.1
