@@ -1,9 +1,10 @@
 -- A variable that has other values, and the items of an array.
-use Rattle.std.proofs.Common.{◌≡◌, ℕ, zero, suc, ◌<◌, ◌⊎◌, inl, inr, Bool, true, false, not, ◌&&◌, List, [], ◌∷◌, length, set, refl, sym, ap, ◌∙◌, subst, arith, ℤ}
+use Rattle.std.proofs.Common.{◌≡◌, ℕ, zero, suc, ◌<◌, ◌+◌, ◌⊎◌, inl, inr, Bool, true, false, not, List, [], ◌∷◌, length, take, get_or, set, refl, sym, ap, ◌∙◌, subst, arith, ℤ}
 use Rattle.std.specs.Prelude.{◌==◌, ◌≤ℤ◌, ◌<ℤ◌, int_le, int_lt}
 use Rattle.std.specs.List.{list_any, list_all}
 use Rattle.std.proofs.lemmas.Int.{ints}
 use Rattle.std.proofs.lemmas.List.{get_or-set_same}
+use Rattle.std.proofs.lemmas.List.Folds.{list_all_more}
 use Rattle.std.proofs.lemmas.Bool.Decides.{nat_tests}
 use Rattle.std.proofs.lemmas.Bool.{or_left, or_right, or_from, and_left, and_right, and_from}
 use Rattle.qc_model.specs.declared.problem.Arg.{Arg}
@@ -131,6 +132,24 @@ part_of d l h n =
 -- items and ends of open arguments
 pub open_item : (box : Box) (items : List Arg) (k : ℕ) → list_all (is_open box) items ≡ true → k < length items → is_open box (item_at items k) ≡ true
 open_item box items k o h = open_at box items k (Var (record { 0 = 0 })) h o
+
+-- one item more passes
+pub more_pass : {X : Type 0} (p : X → Bool) (xs : List X) (i : ℕ) (d : X) → i < length xs → list_all p (take i xs) ≡ true → p (get_or xs i d) ≡ true → list_all p (take (i + 1) xs) ≡ true
+more_pass p xs i d l h e = list_all_more p xs i d l ∙ and_from (list_all p (take i xs)) (p (get_or xs i d)) h e
+
+-- all of no items pass, and where some are, the first place is one of theirs
+pub none_there : {X : Type 0} (p : X → Bool) (xs : List X) → (length xs == 0) ≡ true → list_all p xs ≡ true
+none_there p [] h = refl
+none_there p (x ∷ xs) h = absurd (not_none (length xs) h)
+  where
+    not_none : (n : ℕ) → (suc n == 0) ≡ true → ⊥
+    not_none n h = grind (arith, nat_tests)
+
+pub some_there : {X : Type 0} (xs : List X) → (length xs == 0) ≡ false → 0 < length xs
+some_there xs h = some (length xs) h
+  where
+    some : (n : ℕ) → (n == 0) ≡ false → 0 < n
+    some n h = grind (arith, nat_tests)
 
 pub small_least : (box : Box) (a : Arg) → is_open box a ≡ true → is_number (least_value (left_to box a)) ≡ true
 small_least box a o = small_left (left_to box a) (least_value (left_to box a)) o (has_least (left_to box a) (some_left (left_to box a) o))

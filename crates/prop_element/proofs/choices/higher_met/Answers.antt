@@ -6,6 +6,7 @@ use mir.Syntax.{w64}
 use Rattle.qc_model.specs.Domains.{has_value}
 use Rattle.qc_model.specs.Refuted.{left_to}
 use Rattle.prop_element.proofs.ChosenItems.{higher_kept, higher_under, higher_none, higher_some}
+use Rattle.prop_element.proofs.Moved.{open_item}
 use Rattle.prop_element.proofs.choices.higher_met.Goals as goal
 
 pub returns-then-greatest-best : goal.returns-then-greatest-best
@@ -34,3 +35,9 @@ returns-else-best-v c =
     let best_fits : SFits w64 c.args.best = search rules in
     let v_fits : SFits w64 c.in-Some.v = search rules in
     simp to_z-of_z (higher_kept c.args.store.now.box c.args.a c.args.items.now c.args.r c.args.best c.args.k c.in-Some.v c.requires.best c.in-Some.ensures.some (simp to_z-of_z at c.if-best-v.false))
+
+pub greatest-requires : goal.greatest-requires
+greatest-requires c = open_item c.args.store.now.box c.args.items.now c.args.k c.requires.items c.requires.place
+
+pub greatest_common-requires-clause-a : goal.greatest_common-requires-clause-a
+greatest_common-requires-clause-a c = open_item c.args.store.now.box c.args.items.now c.args.k c.requires.items c.requires.place

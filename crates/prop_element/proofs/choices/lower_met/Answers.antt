@@ -3,6 +3,7 @@ use Rattle.std.proofs.lemmas.Int.{to_z-of_z}
 use mir.Val.{SFits}
 use mir.Syntax.{w64}
 use Rattle.prop_element.proofs.ChosenItems.{lower_kept, lower_over, lower_unfit, lower_taken}
+use Rattle.prop_element.proofs.Moved.{open_item}
 use Rattle.prop_element.proofs.choices.lower_met.Goals as goal
 
 pub returns-then-best-least : goal.returns-then-best-least
@@ -27,3 +28,6 @@ returns-else-v-best c =
     let best_fits : SFits w64 c.args.best = search rules in
     let v_fits : SFits w64 c.in-Some.v = search rules in
     simp to_z-of_z (lower_kept c.args.store.now.box c.args.a c.args.items.now c.args.r c.args.best c.args.k c.in-Some.v c.requires.best c.in-Some.ensures.some (simp to_z-of_z at c.if-v-best.false))
+
+pub least-requires : goal.least-requires
+least-requires c = open_item c.args.store.now.box c.args.items.now c.args.k c.requires.items c.requires.place

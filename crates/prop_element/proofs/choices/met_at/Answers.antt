@@ -10,6 +10,7 @@ use Rattle.prop_different.proofs.Options.{some_so}
 use Rattle.prop_element.specs.Choices.{IsLeastMet}
 use Rattle.prop_element.specs.Extremes.{item_at}
 use Rattle.prop_element.proofs.ChosenItems.{place_gone, least_met}
+use Rattle.prop_element.proofs.Moved.{open_item}
 use Rattle.prop_element.proofs.choices.met_at.Goals as goal
 
 pub returns-then-not-has-clause-none : goal.returns-then-not-has-clause-none
@@ -24,3 +25,6 @@ returns-clause-some c =
     let h : c.has.result ≡ has_value (left_to c.args.store.now.box c.args.a) c.counted.result = simp to_z-of_z at c.has.ensures in
     let left : has_value (left_to c.args.store.now.box c.args.a) (pos (c.args.k + 1)) ≡ true = ap (has_value (left_to c.args.store.now.box c.args.a)) (sym c.counted.ensures) ∙ (sym h ∙ c.if-not-has.false) in
     some_so c.least_of_both.result (IsLeastCommon (left_to c.args.store.now.box (item_at c.args.items.now c.args.k)) (left_to c.args.store.now.box c.args.r)) (IsLeastMet c.args.store.now.box c.args.a c.args.items.now c.args.r c.args.k) (λ v m. least_met c.args.store.now.box c.args.a c.args.items.now c.args.r c.args.k v left m) c.least_of_both.ensures.some
+
+pub least_of_both-requires-clause-item : goal.least_of_both-requires-clause-item
+least_of_both-requires-clause-item c = open_item c.args.store.now.box c.args.items.now c.args.k c.requires.items c.requires.place

@@ -9,7 +9,7 @@ use Rattle.qc_refuter.specs.Met.{is_open}
 use Rattle.model_arguments.proofs.Kept.{through}
 use Rattle.prop_element.specs.Hulls.{IsHull}
 use Rattle.prop_element.specs.Extremes.{IsGreatest, item_at}
-use Rattle.prop_element.proofs.Moved.{less_by, most_by}
+use Rattle.prop_element.proofs.Moved.{less_by, most_by, open_item}
 use Rattle.prop_element.proofs.GreatestHulls.{high_refuted, low_refuted, m_hull}
 use Rattle.prop_element.proofs.greatest.greatest_cut.Goals as goal
 
@@ -62,3 +62,9 @@ items_cut-requires-clause-ready c =
       under = λ j h. through (least_value (left_to box (item_at items j))) top (greatest_value m) (c.highest_bottom-q.ensures.all j h) (most_by c.greatest.result c.least-low.result (greatest_value m) top c.greatest.ensures c.least-low.ensures u);
       kept = c.in_default.ensures.none;
     }
+
+pub greatest-high-requires : goal.greatest-high-requires
+greatest-high-requires c = open_item c.args.store.now.box c.args.items.now c.highest-p.result c.requires.open c.highest-p.ensures.place
+
+pub least-low-requires : goal.least-low-requires
+least-low-requires c = open_item c.args.store.now.box c.args.items.now c.highest_bottom-q.result c.requires.open c.highest_bottom-q.ensures.place

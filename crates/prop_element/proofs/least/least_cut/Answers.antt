@@ -9,7 +9,7 @@ use Rattle.qc_refuter.specs.Met.{is_open}
 use Rattle.model_arguments.proofs.Kept.{through}
 use Rattle.prop_element.specs.Hulls.{IsHull}
 use Rattle.prop_element.specs.Extremes.{IsLeast, item_at}
-use Rattle.prop_element.proofs.Moved.{less_by, most_by}
+use Rattle.prop_element.proofs.Moved.{less_by, most_by, open_item}
 use Rattle.prop_element.proofs.LeastHulls.{low_refuted, high_refuted, m_hull}
 use Rattle.prop_element.proofs.least.least_cut.Goals as goal
 
@@ -62,3 +62,9 @@ items_cut-requires-clause-ready c =
       over = λ j h. through (least_value m) top (greatest_value (left_to box (item_at items j))) (most_by c.greatest-high.result c.least.result top (least_value m) c.greatest-high.ensures c.least.ensures u) (c.lowest_top-q.ensures.all j h);
       kept = c.in_default.ensures.none;
     }
+
+pub least-low-requires : goal.least-low-requires
+least-low-requires c = open_item c.args.store.now.box c.args.items.now c.lowest-p.result c.requires.open c.lowest-p.ensures.place
+
+pub greatest-high-requires : goal.greatest-high-requires
+greatest-high-requires c = open_item c.args.store.now.box c.args.items.now c.lowest_top-q.result c.requires.open c.lowest_top-q.ensures.place

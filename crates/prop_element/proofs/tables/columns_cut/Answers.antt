@@ -1,4 +1,4 @@
-use Rattle.std.proofs.Common.{◌≡◌, rules, subst, true, arith, get_or, length, map}
+use Rattle.std.proofs.Common.{◌≡◌, rules, subst, true, arith, get_or, length, map, sym, ◌∙◌}
 use Rattle.std.specs.Prelude.{pos}
 use Rattle.std.proofs.lemmas.Int.{to_z-of_z}
 use mir.Val.{SFits}
@@ -9,7 +9,7 @@ use Rattle.qc_model.specs.Refuted.{left_to}
 use Rattle.qc_refuter.specs.Met.{is_open}
 use Rattle.qc_refuter.proofs.Terms.{open_at}
 use Rattle.prop_base.specs.Closed.{keeps_arg}
-use Rattle.prop_element.proofs.Moved.{all_each}
+use Rattle.prop_element.proofs.Moved.{all_each, open_item, none_there, some_there}
 use Rattle.prop_element.proofs.Rows.{none_refuted, column_hull, lowest_of_all, highest_of_all}
 use Rattle.prop_element.proofs.tables.columns_cut.Goals as goal
 
@@ -37,3 +37,12 @@ arg_cut-requires-clause-hull c x e =
     simp to_z-of_z (column_hull c.args.rule.now box items rs x k low high (subst (λ z. is_open box z ≡ true) e o) c.requires.table (omega arith) e
     (lowest_of_all ds k low first rs later c.in-Some.ensures.some c.end_rows.ensures.lowest)
     (highest_of_all ds k high first rs later c.in-Some.ensures.some c.end_rows.ensures.highest))
+
+pub arg_cut-requires-clause-open : goal.arg_cut-requires-clause-open
+arg_cut-requires-clause-open c = open_item c.args.store.now.box c.args.items.now c.loop-k.k c.requires.items c.loop-k-test.true
+
+pub returns-then-is_empty-clause-none : goal.returns-then-is_empty-clause-none
+returns-then-is_empty-clause-none c = none_there (keeps_arg c.args.rule.now c.args.store.now.box) c.args.items.now (sym c.is_empty.ensures ∙ c.if-is_empty.true)
+
+pub any_cut-requires-clause-first : goal.any_cut-requires-clause-first
+any_cut-requires-clause-first c = open_item c.args.store.now.box c.args.items.now 0 c.requires.items (some_there c.args.items.now (sym c.is_empty.ensures ∙ c.if-is_empty.false))

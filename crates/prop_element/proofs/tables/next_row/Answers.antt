@@ -6,6 +6,7 @@ use Rattle.qc_model.specs.Holds.{rows}
 use Rattle.qc_model.specs.Refuted.{left_to}
 use Rattle.prop_element.specs.Tables.{IsNext, NoneIs, has_entry, fits_beyond}
 use Rattle.prop_element.proofs.Rows.{none_beyond, has_key, walk_past, walk_to, walk_out}
+use Rattle.prop_element.proofs.Moved.{open_item}
 use Rattle.prop_element.proofs.tables.next_row.Goals as goal
 
 pub returns-then-is_spanned-clause-none : goal.returns-then-is_spanned-clause-none
@@ -75,3 +76,12 @@ returns-clause-none c =
     let to_fits : SFits w64 to = search rules in
     let n : NoneIs q rest = simp to_z-of_z at c.in_default.ensures.none in
     walk_out p q (rows w c.args.numbers.now) rest (has_key box items c.args.key c.args.k c.args.low c.args.high from to c.requires.key c.least-from.ensures c.greatest-to.ensures) n (simp to_z-of_z at c.loop-row.invariant.walk)
+
+pub is_spanned-requires : goal.is_spanned-requires
+is_spanned-requires c = open_item c.args.store.now.box c.args.items.now c.args.k c.requires.items c.requires.place
+
+pub least-from-requires : goal.least-from-requires
+least-from-requires c = open_item c.args.store.now.box c.args.items.now c.args.key c.requires.items c.requires.key
+
+pub greatest-to-requires : goal.greatest-to-requires
+greatest-to-requires c = open_item c.args.store.now.box c.args.items.now c.args.key c.requires.items c.requires.key

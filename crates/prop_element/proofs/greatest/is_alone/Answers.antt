@@ -1,0 +1,5 @@
+use Rattle.prop_element.proofs.Moved.{open_item}
+use Rattle.prop_element.proofs.greatest.is_alone.Goals as goal
+
+pub greatest-requires : goal.greatest-requires
+greatest-requires c = open_item c.args.store.now.box c.args.items.now c.loop-k.k c.requires.open c.loop-k-test.true
