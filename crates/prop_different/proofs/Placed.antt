@@ -1,5 +1,5 @@
 -- The variable at a place of the items.
-use Rattle.std.proofs.Common.{◌≡◌, ℕ, ◌<◌, true, List, length, map, get_or, refl, sym, ap, ◌∙◌, []}
+use Rattle.std.proofs.Common.{◌≡◌, ℕ, ◌<◌, true, List, length, map, get_or, refl, sym, ap, ◌∙◌, [], arith}
 use Rattle.std.specs.List.{list_all}
 use Rattle.std.proofs.lemmas.List.Recursion.{and_at}
 use Rattle.std.proofs.lemmas.List.{get_or-map}
@@ -30,6 +30,10 @@ open_there g c box items k x e s a d l q = var_open g box s a.declared a.full x.
 
 pub open_item : (g : Game) (c : Rule) (box : Box) (items : List Arg) (k : ℕ) (e : Arg) → IsAsked g c box → IsDifferent g c items → k < length items → is_open box (get_or items k e) ≡ true
 open_item g c box items k e a d l = and_at (list_all (is_open box)) (is_open box) refl (λ _ _. refl) items k e l (d.opens box a)
+
+-- what is before a place is a place
+pub earlier : (j k n : ℕ) → j < k → k < n → j < n
+earlier j k n h l = omega (arith, h, l)
 
 -- what is left to the item there
 pub left_there : (box : Box) (items : List Arg) (k : ℕ) (e a : Arg) → k < length items → get_or items k e ≡ a → left_to box a ≡ get_or (map (left_to box) items) k []

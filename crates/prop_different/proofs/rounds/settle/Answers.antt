@@ -16,6 +16,9 @@ returns-then-branch-clause-pruning c = prunes_more c.args.asked c.loop-cut.invar
 pub loop-cut-smaller : goal.loop-cut-smaller
 loop-cut-smaller c = pruning_step (is_just c.args.asked.c.0) c.args.asked.problem.now _ _ _ _ c.prune.ensures.pruning c.in_ok-prune.ensures.grown
 
+not_false : true ≡ false → ⊥
+not_false e = cc
+
 -- steps were appended before, or none
 longer : (b : Bool) (n m k : ℕ) → (b ≡ false → m ≡ n) → (b ≡ true → n < m) → k ≡ m + 1 → n < k
 longer true n m k p q h = omega (arith, q refl)
@@ -27,8 +30,8 @@ loop-cut-preserved c =
     record {
       pruning = prunes_more c.args.asked i.pruning c.prune.ensures.pruning;
       fits = fits_after c.args.asked i.fits c.prune.ensures.pruning (sym c.in_ok-prune.ensures.emptied ∙ c.if-branch.false);
-      kept = λ e. cc;
-      same = λ e. cc;
+      kept = λ e. absurd (not_false e);
+      same = λ e. absurd (not_false e);
       grown = λ e. longer c.loop-cut.changed _ _ _ (λ f. ap length (i.same f)) i.grown c.in_ok-prune.ensures.grown;
     }
 

@@ -26,6 +26,9 @@ loop-changed-smaller c =
     let a = subst A c.in-Changed.is c.in_ok-round.ensures.answer in
     omega (arith, a.1, pruning_total (is_just c.args.asked.c.0) c.args.asked.problem.now _ _ _ _ c.round.ensures.pruning)
 
+not_false : true ≡ false → ⊥
+not_false e = cc
+
 -- steps were appended before, or none
 longer : (b : Bool) (n m k : ℕ) → (b ≡ false → m ≡ n) → (b ≡ true → n < m) → m < k → n < k
 longer true n m k p q h = omega (arith, q refl, h)
@@ -39,7 +42,7 @@ loop-changed-preserved c =
     record {
       pruning = prunes_more c.args.asked i.pruning c.round.ensures.pruning;
       fits = fits_after c.args.asked i.fits c.round.ensures.pruning a.0;
-      same = λ e. cc;
+      same = λ e. absurd (not_false e);
       grown = λ e. longer c.loop-changed.changed _ _ _ (λ f. ap length (i.same f)) i.grown a.1;
     }
 

@@ -74,3 +74,9 @@ returns-then-last-eq0-clause-none c =
     let rooms = rooms_at ds (least_value first) (least_value first) c.widest_full.new.widest c.in-Some.last refl (c.in-Some.ensures.length ∙ sym (length-map xs (left_to box))) c.in-Some.ensures.some in
     let P : ℤ → Type 0 = λ l. IsQuiet ds l in
     subst P same (quiet_none ds (least_value first) c.widest_full.new.widest c.in-Some.last rooms c.if-last-eq0.true)
+
+pub least-low-requires : goal.least-low-requires
+least-low-requires c = open_item c.args.problem.now c.args.rule.now c.args.store.now.box c.args.items.now c.args.place (Var (record { 0 = 0 })) c.requires.asked c.requires.different c.requires.place
+
+pub widest_full-requires-clause-first : goal.widest_full-requires-clause-first
+widest_full-requires-clause-first c = open_item c.args.problem.now c.args.rule.now c.args.store.now.box c.args.items.now c.args.place (Var (record { 0 = 0 })) c.requires.asked c.requires.different c.requires.place
