@@ -1,7 +1,7 @@
 use Rattle.std.proofs.Common.{◌≡◌, ◌+◌, ◌∙◌, length, replicate, pos, sym, ap, subst, arith}
 use Rattle.check_assignment.specs.Keeping.{Keeps}
 use Rattle.check_assignment.proofs.Told.{constraint_at}
-use Rattle.check_assignment.proofs.Building.{Termed, Stood, termed_more, stood_more, keeps}
+use Rattle.check_assignment.proofs.Building.{Termed, Stood, termed_none, stood_none, termed_more, stood_more, keeps}
 use Rattle.check_assignment.proofs.assignment.Assignment.new.Goals as goal
 
 pub first_standing-standing-requires : goal.first_standing-standing-requires
@@ -24,6 +24,17 @@ loop-k-preserved c =
       terms = termed_more g k r c.loop-k.terms c.add_rule.new.self i.terms (constraint_at g k r c.known.ensures c.constraint-rule.ensures) c.constraint-rule.ensures c.in_ok-add_rule.ensures.added c.in_ok-add_rule.ensures.length;
       standings = subst (λ ss. Stood g (k + 1) ss) (sym c.in_ok-push.ensures.items) (stood_more g k r c.loop-k.standings.items s i.standings c.constraint-rule.ensures (c.first_standing-standing.ensures (length g.variables)));
     }
+
+pub loop-k-init : goal.loop-k-init
+loop-k-init c =
+    let g = c.args.problem.now in
+    record {
+      terms = termed_none g c.in_ok-terms.terms (c.in_ok-terms.ensures.count ∙ c.variables.ensures) c.in_ok-terms.ensures.empty;
+      standings = subst (λ ss. Stood g 0 ss) (sym c.in_ok-standings.ensures.items) (stood_none g);
+    }
+
+pub returns-clause-zeros : goal.returns-clause-zeros
+returns-clause-zeros c = c.in_ok-values.ensures.items_if_clones_equal (λ y e. e) ∙ ap (λ n. replicate n (pos 0)) c.variables-2.ensures
 
 pub invariant_of-result : goal.invariant_of-result
 invariant_of-result c =

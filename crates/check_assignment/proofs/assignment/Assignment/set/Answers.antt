@@ -1,9 +1,9 @@
-use Rattle.std.proofs.Common.{◌≡◌, ◌<◌, ◌∙◌, sym, ap, subst, arith, ℕ, List, length, get_or, set, take, drop, ◌++◌, slice_get, Some}
+use Rattle.std.proofs.Common.{◌≡◌, ◌≤◌, ℤ, ◌<◌, ◌∙◌, sym, ap, subst, arith, ℕ, List, length, get_or, set, take, drop, ◌++◌, slice_get, Some}
 use Rattle.std.specs.Prelude.{pos, ◌-ℤ◌, unsigned_abs}
 use Rattle.std.proofs.lemmas.Bool.{leb-true}
 use Rattle.std.proofs.lemmas.Int.{to_z-of_z, fits_signed_from_abs}
-use Rattle.std.proofs.lemmas.List.{take_at}
-use mir.Val.{SFits}
+use Rattle.std.proofs.lemmas.List.{take_at, set-get_or}
+use mir.Val.{SFits, to_z}
 use mir.Syntax.{w64}
 use Rattle.check_assignment.specs.Assigned.{Assigned}
 use Rattle.check_assignment.specs.declared.term.Term.{Term}
@@ -12,6 +12,38 @@ use Rattle.check_assignment.specs.Terms.{moved}
 use Rattle.check_assignment.specs.Keeping.{Keeps, AreSmall}
 use Rattle.check_assignment.proofs.Changed.{small_standings, value_small, changed, value_at, step_small}
 use Rattle.check_assignment.proofs.assignment.Assignment.set.Goals as goal
+
+-- numbers this small fit
+value_fits : (z : ℤ) → unsigned_abs z ≤ 1000000000 → SFits w64 z
+value_fits z h = fits_signed_from_abs w64 z (omega (arith, h))
+
+step_fits : (z : ℤ) → unsigned_abs z ≤ 2000000000 → SFits w64 z
+step_fits z h = fits_signed_from_abs w64 z (omega (arith, h))
+
+pub overflow_sub-value : goal.overflow_sub-value
+overflow_sub-value c =
+    let vs = c.self.inside.values.items in
+    let P : Assigned → Type 0 = λ a. c.args.x.0 < length a.items in
+    let within = subst P (sym c.self.view_is) c.requires.var in
+    let u = c.args.value in
+    let v = c.index-last.result.now in
+    let near = value_small vs c.args.x.0 v c.self.invariant.numbers within c.index-last.ensures in
+    let u_fits : SFits w64 u = c.ranges.value in
+    let v_fits : SFits w64 v = value_fits v near in
+    simp to_z-of_z (step_fits (u -ℤ v) (step_small u v (leb-true (unsigned_abs u) 1000000000 c.requires.number) near))
+
+pub returns-then-last-value-clause-items : goal.returns-then-last-value-clause-items
+returns-then-last-value-clause-items c =
+    let vs = c.self.inside.values.items in
+    let x = c.args.x.0 in
+    let v = c.index-last.result.now in
+    let P : Assigned → Type 0 = λ a. x < length a.items in
+    let within = subst P (sym c.self.view_is) c.requires.var in
+    let u_fits : SFits w64 c.args.value = c.ranges.value in
+    let v_fits : SFits w64 v = value_fits v (value_small vs x v c.self.invariant.numbers within c.index-last.ensures) in
+    let same : v ≡ c.args.value = simp to_z-of_z at (ap (to_z w64) c.if-last-value.true) in
+    let kept : vs ≡ set vs x c.args.value = sym (set-get_or vs x v) ∙ ap (set vs x) (sym c.index-last.ensures ∙ same) in
+    subst (λ (a : Assigned). a.items ≡ set a.items x c.args.value) c.self.view_is kept
 
 pub move_terms-requires-clause-step : goal.move_terms-requires-clause-step
 move_terms-requires-clause-step c =
@@ -23,8 +55,8 @@ move_terms-requires-clause-step c =
     let near = value_small vs c.args.x.0 v c.self.invariant.numbers within c.index-last.ensures in
     let small = step_small u v (leb-true (unsigned_abs u) 1000000000 c.requires.number) near in
     let u_fits : SFits w64 u = c.ranges.value in
-    let v_fits : SFits w64 v = fits_signed_from_abs w64 v (omega (arith, near)) in
-    let step_fits : SFits w64 (u -ℤ v) = fits_signed_from_abs w64 (u -ℤ v) (omega (arith, small)) in
+    let v_fits : SFits w64 v = value_fits v near in
+    let moved_fits : SFits w64 (u -ℤ v) = step_fits (u -ℤ v) small in
     simp to_z-of_z small
 
 pub move_terms-requires-clause-small : goal.move_terms-requires-clause-small
@@ -46,8 +78,8 @@ invariant_of-self c =
     let near = value_small vs x v c.self.invariant.numbers within c.index-last.ensures in
     let small = step_small u v (leb-true (unsigned_abs u) 1000000000 c.requires.number) near in
     let u_fits : SFits w64 u = c.ranges.value in
-    let v_fits : SFits w64 v = fits_signed_from_abs w64 v (omega (arith, near)) in
-    let step_fits : SFits w64 (u -ℤ v) = fits_signed_from_abs w64 (u -ℤ v) (omega (arith, small)) in
+    let v_fits : SFits w64 v = value_fits v near in
+    let moved_fits : SFits w64 (u -ℤ v) = step_fits (u -ℤ v) small in
     let step : u -ℤ v ≡ u -ℤ get_or vs x (pos 0) = ap (λ z. u -ℤ z) (value_at vs x v within c.index-last.ensures) in
     let now = c.move_terms.new.standings in
     let is_now : take c.self.inside.standings.len (now ++ drop (length now) ss) ≡ now = take_at now (drop (length now) ss) c.self.inside.standings.len (c.move_terms.ensures.length ∙ c.as_mut_slice.ensures.len) in
