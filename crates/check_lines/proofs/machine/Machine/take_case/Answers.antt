@@ -1,15 +1,18 @@
-use Rattle.std.proofs.Common.{◌≡◌, ◌∙◌, sym, ap, subst, rules, length, ◌∷◌}
-use Rattle.std.specs.Prelude.{pos, ◌+ℤ◌}
+use Rattle.std.proofs.Common.{◌≡◌, ◌<◌, ◌∙◌, ℕ, List, sym, ap, subst, rules, arith, length, set, ◌∷◌}
+use Rattle.std.proofs.Math.Seq.{lt-length-set}
+use Rattle.std.specs.Prelude.{ℤ, pos, ◌+ℤ◌, IsTrue}
 use Rattle.std.proofs.lemmas.Int.{to_z-of_z}
-use mir.Val.{SFits}
+use mir.Val.{SFits, to_z, of_z}
 use mir.Syntax.{w64}
-use Rattle.qc_model.specs.Domains.{values_left, box_within, declared_box}
+use Rattle.qc_model.specs.Domains.{Box, Values, values_left, box_within, declared_box}
+use Rattle.qc_model.specs.Valid.{is_number}
 use Rattle.fd_store.specs.Held.{Held}
 use Rattle.check_box.specs.Cases.{IsCase}
+use Rattle.check_lines.specs.declared.open.Open.{Open}
 use Rattle.check_lines.specs.declared.open.Open.TheVariants.{Branch}
 use Rattle.check_lines.specs.Places.{rest}
 use Rattle.check_lines.specs.Machine.{game_of}
-use Rattle.box_laws.proofs.Numbers.{passed_after}
+use Rattle.box_laws.proofs.Numbers.{passed_number, passed_after, fits_after}
 use Rattle.check_lines.proofs.Forks.{take_yes, take_no, take_within, take_into, variable_inside, inside_there}
 use Rattle.check_lines.proofs.machine.Machine.take_case.Goals as goal
 use Rattle.check_lines.proofs.machine.Machine.take_case.Goals.{After-keep, After-size, After-set_top}
@@ -18,6 +21,41 @@ pub case_ends-requires : goal.case_ends-requires
 case_ends-requires c =
     let m = c.args.self.now in
     record { var = inside_there c.store.result.now m.remains c.args.x.0 c.store.ensures (variable_inside m c.args.x c.args.mark c.args.from (rest m.nesting) c.requires.top c.requires.fork) }
+
+pub overflow_add-ends : goal.overflow_add-ends
+overflow_add-ends c = fits_after c.in-Some.ends.last c.in-Some.ensures.some.last_number
+
+-- a nesting with a part on top isn't empty
+some_open : (opens rest : List Open) (top : Open) → opens ≡ top ∷ rest → 0 < length opens
+some_open opens rest top e = subst (λ os. 0 < length os) (sym e) (omega arith)
+
+pub set_top-requires : goal.set_top-requires
+set_top-requires c = some_open c.args.self.now.nesting _ _ c.requires.top
+
+pub size-before-requires : goal.size-before-requires
+size-before-requires c =
+    let m = c.args.self.now in
+    inside_there c.store-2.result.now m.remains c.args.x.0 c.store-2.ensures (variable_inside m c.args.x c.args.mark c.args.from (rest m.nesting) c.requires.top c.requires.fork)
+
+-- a number within the limit is still one where it is passed on
+number_passed : (v : ℤ) → IsTrue (is_number v) → IsTrue (is_number (to_z w64 (of_z w64 v)))
+number_passed v n = subst (λ z. IsTrue (is_number z)) (sym (passed_number v n)) n
+
+pub keep-requires-clause-first : goal.keep-requires-clause-first
+keep-requires-clause-first c = number_passed c.in-Some.ends.first c.in-Some.ensures.some.first_number
+
+pub keep-requires-clause-last : goal.keep-requires-clause-last
+keep-requires-clause-last c = number_passed c.in-Some.ends.last c.in-Some.ensures.some.last_number
+
+-- a box has as many variables after the values of one are changed
+still_there : (box new : Box) (x : ℕ) (vs : Values) → new ≡ set box x vs → x < length box → x < length new
+still_there box new x vs e h = subst (λ (b : Box). x < length b) (sym e) (lt-length-set box x vs h)
+
+pub size-requires : goal.size-requires
+size-requires c =
+    let m = c.args.self.now in
+    let x = c.args.x in
+    inside_there c.store-3.result.now c.keep.new.self x.0 c.store-3.ensures (still_there m.remains.box c.keep.new.self.box x.0 _ c.keep.ensures.content (variable_inside m x c.args.mark c.args.from (rest m.nesting) c.requires.top c.requires.fork))
 
 found : (c : After-set_top) → IsCase (values_left c.args.self.now.remains.box c.args.x.0) c.args.from c.args.upto c.in-Some.ends.first c.in-Some.ends.last
 found c =
