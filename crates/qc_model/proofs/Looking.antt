@@ -5,6 +5,7 @@ use Rattle.std.specs.List.{slice_index_or}
 use Rattle.std.proofs.lemmas.Bool.Decides.{nat_tests}
 use Rattle.std.proofs.lemmas.Option.{slice_get_read, slice_get_past}
 
+-- a place that the test finds below the length, and one that it doesn't
 below : (n k : ℕ) → true ≡ nat_lt n k → n < k
 below n k h = grind (arith, nat_tests)
 

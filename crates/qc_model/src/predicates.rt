@@ -1,6 +1,6 @@
 //! The table of predicates: each predicate's name, arguments, meaning and family. Predicates of the
 //! same meaning hold alike, and a reified predicate has the meaning of its plain one.
-ghost use Rattle.std.specs.Prelude.{◌≡◌, true, false};
+ghost use Rattle.std.specs.Prelude.{◌≡◌};
 ghost use Rattle.qc_model.specs.RowMeaning.{row_meaning};
 ghost use Rattle.qc_model.specs.Meaning.{all_predicates as each_predicate, meaning_of as meaning_in_spec, row_of as row_in_spec};
 

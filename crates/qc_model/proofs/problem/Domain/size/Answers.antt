@@ -13,13 +13,15 @@ use Rattle.qc_model.proofs.problem.Domain.size.Goals as goal
 width : (low high : ℤ) → Ends low high → to_z w64 (of_z w64 (to_z w64 (of_z w64 high) -ℤ to_z w64 (of_z w64 low))) ≡ high -ℤ low
 width low high r = omega (arith, ints, r.low_fits, r.high_fits)
 
--- the difference of a domain's ends fits, as a signed and as an unsigned number
+-- the difference of a domain's ends fits
 difference_fits : (low high : ℤ) → Ends low high → SFits w64 (to_z w64 (of_z w64 high) -ℤ to_z w64 (of_z w64 low))
 difference_fits low high r = omega (arith, ints, r.low_fits, r.high_fits)
 
+-- it isn't negative
 not_negative : (low high : ℤ) → Ends low high → T (non_neg (high -ℤ low))
 not_negative low high r = omega (arith, ints, r.rises)
 
+-- with one more it fits 32 bits
 width_fits : (low high : ℤ) → Ends low high → Fits w32 (nat_abs (high -ℤ low) + 1)
 width_fits low high r = omega (arith, ints, r.low_fits, r.high_fits)
 
