@@ -24,7 +24,6 @@ returns-in-Dot-clause-tells c =
     let m = c.args.self.now in
     subst (λ l. NodeTells m c.seen_dot.new.self (λ d. ledger_prune (game_of m) d c.args.k (past_box m.remains c.args.mark.at) l)) (sym c.in-Dot.is) c.seen_dot.ensures.tells
 
-
 -- a line that stands in no horizon is out of place
 out_of_place : (m : Machine) (k : ℕ) (box : Box) (line found : Line) → line ≡ found → ((d : Ledger) → ledger_prune (game_of m) d k box found ≡ None) → NodeTells m (record m { due = due.Wrong }) (λ d. ledger_prune (game_of m) d k box line)
 out_of_place m k box line found e none = λ n d es u few node keeps. ap (ledger_prune (game_of m) (node_at m d es u) k box) e ∙ none (node_at m d es u)
