@@ -7,9 +7,9 @@ this: the prover writes a file there as it ends with each module, and the time b
 the shares of each kind of module, then the modules that took so many seconds or more (1 where nothing else is asked for).
 
 What no proof changes: `front` (reading what lies below), `facade` (what others can name), `Lts` (lifetimes), `Tie`, `Reads`,
-`Kinds`, `contracts` and the other parts that are made of a function; `end` is what comes after the last module. What a proof
-changes: `Proof` (goals that are left to the prover), `Answers`, and `lemma`. A `Proof` that is dear has a goal without an answer
-at which the first search fails (`docs/traps.md`).
+`Kinds`, `contracts` and the other parts that are made of a function. What a proof changes: `Proof` (goals that are left to the
+prover), `Answers`, and `lemma`. A `Proof` that is dear has a goal without an answer at which the first search fails
+(`docs/traps.md`).
 """
 import argparse
 import os
