@@ -1,11 +1,9 @@
 -- What no line changes.
-use Rattle.std.proofs.Common.{◌≡◌, ◌≤◌, ◌∙◌, ℕ, refl, sym, ap, subst}
+use Rattle.std.proofs.Common.{◌≡◌, ℕ, refl, ap}
 use Rattle.qc_model.specs.Content.{Game}
 use Rattle.qc_model.specs.Domains.{Box}
-use Rattle.fd_store.specs.Held.{Held, past_box, Follows, IsUndone}
 use Rattle.check_lines.specs.declared.bounds.Bounds.{Bounds}
 use Rattle.check_lines.specs.Machine.{Base}
-use Rattle.std.specs.Prelude.{zero}
 
 abbrev pub base_with : Box → Bounds → Game → Game → ℕ → Base
 base_with x b j v m = record { first = x; bounds = b; joined = j; valued = v; marks = m }

@@ -1,12 +1,10 @@
 -- The numbers that a ledger keeps are no larger than the ends so far make them.
-use Rattle.std.proofs.Common.{◌≡◌, ◌≤◌, ◌<◌, ◌+◌, ◌-◌, ◌∙◌, ℕ, zero, suc, Bool, true, false, not, ◌&&◌, cond, List, [], ◌∷◌, ◌++◌, length, map, drop, set, refl, sym, ap, subst, arith, length-set, append-nil, ℤ, Some, None, Option}
-use Rattle.std.specs.Prelude.{unsigned_abs, nat_le}
+use Rattle.std.proofs.Common.{◌≡◌, ◌≤◌, ◌<◌, ◌+◌, ◌-◌, ◌∙◌, ℕ, zero, suc, Bool, true, false, not, ◌&&◌, cond, List, [], ◌∷◌, ◌++◌, length, map, set, refl, sym, subst, arith, length-set, append-nil, ℤ, Some, None, Option}
 use Rattle.std.specs.List.{list_all}
 use Rattle.std.proofs.lemmas.List.{length-map}
 use Rattle.std.proofs.lemmas.Bool.{and_parts}
 use Rattle.qc_model.specs.Content.{Game}
-use Rattle.qc_model.specs.Demands.{demands}
-use Rattle.qc_model.specs.Domains.{Values, Box, values_left, values_outside, domain_values, has_empty, is_none_left, declared_box}
+use Rattle.qc_model.specs.Domains.{Values, Box, values_left, values_outside, domain_values, has_empty, is_none_left}
 use Rattle.qc_model.specs.Game.{allows}
 use Rattle.qc_model.specs.Valid.{IsValid, is_number}
 use Rattle.qc_model.specs.Verdict.{Verdict, Seen, seen_barred, seen_skipped, seen_bound, seen_node}
@@ -19,17 +17,17 @@ use Rattle.proof_tree.specs.Cover.{cover, covered, is_cover}
 use Rattle.proof_tree.specs.Place.{Tracked, position, list_after, tracked_variable}
 use Rattle.proof_tree.specs.Steps.{after_step, step_marks, is_legal}
 use Rattle.joins.specs.Verdicts.{verdict_at}
-use Rattle.joins.specs.Sizes.{IsSized, AreNumbers, marks_at, nodes_at}
+use Rattle.joins.specs.Sizes.{IsSized, AreNumbers, nodes_at}
 use Rattle.joins.specs.Ends.{HasEnds, IsOfEnds, HasPart, tells_nothing}
 use Rattle.joins.proofs.Ends.{ends_more, ends_sizes, verdict_of_ends, open_join, ends_none, ends_join, ends_node}
 use Rattle.check_lines.specs.State.{Fork, fork_on, fork_after, bars, goes_on, may_branch, may_see, may_take, is_own_step}
 use Rattle.check_lines.specs.Awaited.{Awaited, node_awaited, prune_awaited, body_awaited, part_awaited, case_awaited, ranged_awaited, none_awaited}
 use Rattle.check_lines.specs.Ledger.{Ledger, Entry, next_entry, branch_entry, part_closed, node_closed, part_close, node_close, spot_on, space_left, no_scope_left, sees_horizon, marks_of, ledger_end, may_begin, begun, begins, ledger_body, ledger_node, ledger_prune, passed_over, gone_into, ledger_case, ledger_fork, at_entry, goes_at, goes}
-use Rattle.check_lines.specs.LedgerHeld.{first_ledger, goes_through}
-use Rattle.check_lines.specs.LedgerSizes.{HasNumbers, VerdictLaws, ScopeKeeps, EntriesKeep, PartKeeps, NodeKeeps, EndKeeps, AwaitedKeeps, KeepsSizes, KeepsSizesAt}
-use Rattle.check_lines.specs.EndSizes.{ends_after, ends_through, IsWide, EntriesEnds, PartEnds, HasTried, CaseEnds, AwaitedEnds, EndsSoFar, EndsAt}
+use Rattle.check_lines.specs.LedgerHeld.{first_ledger}
+use Rattle.check_lines.specs.LedgerSizes.{HasNumbers, VerdictLaws, EntriesKeep, PartKeeps, NodeKeeps, AwaitedKeeps, KeepsSizesAt}
+use Rattle.check_lines.specs.EndSizes.{ends_after, IsWide, EntriesEnds, PartEnds, CaseEnds, AwaitedEnds, EndsSoFar, EndsAt}
 use Rattle.check_lines.proofs.Parts.{branch_inside, branch_full}
-use Rattle.check_lines.proofs.LedgerSizes.{all_set, left_numbers, step_numbers, position_numbers, OneMark, one_mark, sized_more, keeps_one}
+use Rattle.check_lines.proofs.LedgerSizes.{all_set, position_numbers, one_mark, sized_more}
 use Rattle.box_laws.proofs.Filters.{all_take, all_drop}
 
 -- ---- boxes

@@ -1,21 +1,18 @@
 -- What is open, as the trail grows and is undone, and as joins and values change that it doesn't ask for.
-use Rattle.std.proofs.Common.{◌≡◌, ℕ, zero, suc, ◌<◌, ◌≤◌, ◌-◌, List, [], ◌∷◌, length, take, map, refl, sym, ap, ◌∙◌, subst, arith, ℤ}
-use Rattle.std.specs.Prelude.{slice_index_or}
+use Rattle.std.proofs.Common.{◌≡◌, ℕ, ◌<◌, ◌≤◌, ◌-◌, List, [], ◌∷◌, sym, ap, ◌∙◌, subst, arith, ℤ}
 use Rattle.qc_model.specs.declared.problem.VarId.{VarId}
 use Rattle.qc_model.specs.Content.{Game}
 use Rattle.qc_model.specs.Domains.{Box, values_left}
-use Rattle.qc_model.specs.Game.{before}
 use Rattle.qc_model.specs.Verdict.{Seen}
-use Rattle.qc_model.proofs.Before.{before_up}
 use Rattle.joins.specs.Joins.{StandsAt}
 use Rattle.joins.specs.declared.joins.Joins.{Joins}
-use Rattle.fd_store.specs.Held.{Held, trail_len, past_box, values_from}
+use Rattle.fd_store.specs.Held.{Held, past_box, values_from}
 use Rattle.check_lines.specs.declared.open.Open.{Open}
 use Rattle.check_lines.specs.declared.open.Open.TheVariants.{Next, Branch}
 use Rattle.check_lines.specs.State.{Fork}
 use Rattle.check_lines.specs.Ledger.{Entry, next_entry, branch_entry}
 use Rattle.check_lines.specs.Machine.{IsFull, AreFrames}
-use Rattle.check_box.specs.Placed.{values_to, IsAt, only}
+use Rattle.check_box.specs.Placed.{values_to}
 use Rattle.check_lines.specs.Telling.{AreEntries}
 use Rattle.check_box.proofs.Fewer.{at_values, fewer_values}
 

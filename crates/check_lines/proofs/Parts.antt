@@ -1,13 +1,12 @@
 -- What the machine tells after a line in a scope's own tree.
 use Rattle.std.proofs.Common.{◌≡◌, ℕ, suc, ◌<◌, ◌+◌, ◌-◌, Bool, true, false, not, ◌&&◌, cond, List, [], ◌∷◌, ◌++◌, length, drop, set, append-nil, refl, sym, ap, ◌∙◌, subst, arith, ℤ, Option, Some, None}
-use Rattle.std.specs.Prelude.{nat_lt, nat_le, IsSome, filter, int_le, negsuc}
+use Rattle.std.specs.Prelude.{nat_lt, nat_le, IsSome, filter, negsuc}
 use Rattle.std.specs.List.{list_all}
-use Rattle.std.proofs.lemmas.Int.{ints}
 use Rattle.std.proofs.lemmas.Bool.Decides.{nat_tests}
 use Rattle.qc_model.specs.declared.problem.VarId.{VarId}
 use Rattle.qc_model.specs.declared.problem.ConId.{ConId}
 use Rattle.qc_model.specs.Content.{Game}
-use Rattle.qc_model.specs.Domains.{Box, Values, values_left, has_empty, box_without, is_within, domain_values}
+use Rattle.qc_model.specs.Domains.{Box, values_left, has_empty, box_without, is_within, domain_values}
 use Rattle.qc_model.specs.Block.{force_stop}
 use Rattle.qc_model.specs.Game.{allows, before, is_of_scope}
 use Rattle.qc_model.specs.Valid.{is_number}

@@ -1,19 +1,15 @@
 -- What the constraints of a span tell of a removal.
-use Rattle.std.proofs.Common.{◌≡◌, ℕ, zero, suc, ◌<◌, ◌≤◌, ◌+◌, Bool, true, false, not, ◌&&◌, cond, List, [], ◌∷◌, length, take, drop, set, refl, sym, ap, ◌∙◌, subst, arith, ℤ, Some, None, Option, add-one, w64, to_z, of_z}
-use Rattle.std.specs.Prelude.{slice_get, unsigned_abs, int_lt, filter, ◌==◌, pos, ◌+ℤ◌, ◌-ℤ◌}
+use Rattle.std.proofs.Common.{◌≡◌, ℕ, zero, suc, ◌<◌, ◌≤◌, Bool, true, false, not, ◌&&◌, List, [], ◌∷◌, refl, sym, ap, ◌∙◌, subst, arith, ℤ, Some, None, Option}
+use Rattle.std.specs.Prelude.{slice_get}
 use Rattle.std.specs.List.{list_all}
-use Rattle.std.proofs.lemmas.Int.{ints}
 use Rattle.std.proofs.lemmas.Bool.Decides.{nat_tests}
-use Rattle.std.proofs.lemmas.List.{length-map}
 use Rattle.qc_model.specs.declared.problem.VarId.{VarId}
 use Rattle.qc_model.specs.declared.problem.ConId.{ConId}
 use Rattle.qc_model.specs.Content.{Game, Rule}
-use Rattle.qc_model.specs.Domains.{Values, Box, values_left, values_within, box_within, box_values, is_none_left, is_single, has_empty, least_from, least_value, declared_box, domain_values}
+use Rattle.qc_model.specs.Domains.{Box, values_left, values_within, box_within, is_none_left, has_empty}
 use Rattle.qc_model.specs.Refuted.{refuted_by}
-use Rattle.qc_model.specs.Valid.{is_number, is_constraint, is_domain}
+use Rattle.qc_model.specs.Valid.{is_constraint}
 use Rattle.qc_model.proofs.Readable.{first, second}
-use Rattle.qc_model.specs.Game.{restriction}
-use Rattle.model_arguments.proofs.Boxes.{sub_length, left_small}
 use Rattle.model_arguments.specs.Asked.{IsAsked, is_box_of}
 use Rattle.model_levels.specs.Spans.{IsSpanOf, is_between, is_rule_within}
 use Rattle.proof_tree.specs.Steps.{removes_some, is_refuted_within}
@@ -42,3 +38,36 @@ legal_is g box start end i stop x lo hi c r span full some low high says =
     by (Some rule) e k =
         says rule e
         ∙ sym (ap (λ o. is_refuted_within i stop o (box_within box x.0 lo hi)) e ∙ ap (λ b. b && refuted_by rule (box_within box x.0 lo hi)) (sym (ap (is_rule_within i stop) e) ∙ k))
+
+-- a removal from a box in which a variable has no value isn't legal
+pub empty_illegal : (g : Game) (box : Box) (i stop : ℕ) (x : VarId) (lo hi : ℤ) (c : ConId) → has_empty box ≡ true → false ≡ (removes_some box x.0 lo hi && is_refuted_within i stop (slice_get g.constraints c.0) (box_within box x.0 lo hi))
+empty_illegal g box i stop x lo hi c e = sym (ap (λ b. (not b && not (is_none_left (values_within lo hi (values_left box x.0)))) && is_refuted_within i stop (slice_get g.constraints c.0) (box_within box x.0 lo hi)) e)
+
+-- nor is one of no values
+pub none_illegal : (g : Game) (box : Box) (i stop : ℕ) (x : VarId) (lo hi : ℤ) (c : ConId) → not (is_none_left (values_within lo hi (values_left box x.0))) ≡ false → false ≡ (removes_some box x.0 lo hi && is_refuted_within i stop (slice_get g.constraints c.0) (box_within box x.0 lo hi))
+none_illegal g box i stop x lo hi c e = sym (ap (λ b. (not (has_empty box) && b) && is_refuted_within i stop (slice_get g.constraints c.0) (box_within box x.0 lo hi)) e ∙ by (has_empty box))
+  where
+    by : (b : Bool) → ((not b && false) && is_refuted_within i stop (slice_get g.constraints c.0) (box_within box x.0 lo hi)) ≡ false
+    by true = refl
+    by false = refl
+
+-- nor one by a constraint that isn't in the span
+pub outside_illegal : (g : Game) (box : Box) (start end i stop : ℕ) (x : VarId) (lo hi : ℤ) (c : ConId) → IsSpanOf g i stop start end → is_between start end c.0 ≡ false → false ≡ (removes_some box x.0 lo hi && is_refuted_within i stop (slice_get g.constraints c.0) (box_within box x.0 lo hi))
+outside_illegal g box start end i stop x lo hi c span e =
+    sym (ap (λ b. removes_some box x.0 lo hi && b) (by (slice_get g.constraints c.0) (sym (span.numbers c.0) ∙ e)) ∙ and_false (removes_some box x.0 lo hi))
+  where
+    by : (o : Option Rule) → is_rule_within i stop o ≡ false → is_refuted_within i stop o (box_within box x.0 lo hi) ≡ false
+    by None e = refl
+    by (Some rule) e = ap (λ b. b && refuted_by rule (box_within box x.0 lo hi)) e
+
+    and_false : (b : Bool) → (b && false) ≡ false
+    and_false true = refl
+    and_false false = refl
+
+-- a place before the span isn't between its ends
+pub before_span : (start end k : ℕ) → k < start → is_between start end k ≡ false
+before_span start end k h = grind (arith, nat_tests)
+
+-- nor is one behind it
+pub behind_span : (start end k : ℕ) → end ≤ k → is_between start end k ≡ false
+behind_span start end k h = grind (arith, nat_tests)

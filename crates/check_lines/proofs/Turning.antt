@@ -1,11 +1,9 @@
 -- What the machine tells before and after lines.
-use Rattle.std.proofs.Common.{◌≡◌, ℕ, zero, suc, ◌<◌, ◌≤◌, ◌+◌, true, false, List, [], ◌∷◌, length, drop, take, map, get_or, replicate, add-one, refl, sym, ap, ◌∙◌, subst, arith, ℤ, Option, Some, None}
-use Rattle.std.specs.Prelude.{pos}
+use Rattle.std.proofs.Common.{◌≡◌, ℕ, zero, suc, ◌<◌, ◌≤◌, ◌+◌, true, false, List, [], ◌∷◌, length, drop, get_or, add-one, refl, sym, ap, ◌∙◌, subst, arith, ℤ, Option, Some, None}
 use Rattle.std.specs.List.{list_all}
 use Rattle.qc_model.specs.Content.{Game}
 use Rattle.qc_model.specs.Domains.{Box, declared_box}
-use Rattle.qc_model.specs.Valid.{is_number, is_domain}
-use Rattle.qc_model.proofs.Before.{before-zero}
+use Rattle.qc_model.specs.Valid.{is_domain}
 use Rattle.proof_tree.specs.declared.line.Line.{Line}
 use Rattle.check_lines.specs.declared.machine.Machine.{Machine}
 use Rattle.check_lines.specs.Awaited.{Awaited, node_awaited, prune_awaited, body_awaited, part_awaited, case_awaited, ranged_awaited}
@@ -13,7 +11,6 @@ use Rattle.check_lines.specs.Ledger.{Ledger, Entry, goes, ledger_node, ledger_pr
 use Rattle.check_lines.specs.LedgerHeld.{first_ledger, goes_through}
 use Rattle.check_lines.specs.LedgerSizes.{VerdictLaws, KeepsSizes, KeepsSizesAt}
 use Rattle.check_lines.specs.Machine.{game_of}
-use Rattle.check_box.specs.Placed.{only, IsAt}
 use Rattle.check_lines.specs.Telling.{AreEntries, IsNode, node_at, part_at, Tells, TellsNode, TellsPart, TellsAfter, NodeTells, PartTells}
 use Rattle.check_lines.proofs.LedgerSizes.{keeps_one, first_keeps}
 

@@ -1,5 +1,5 @@
-use Rattle.std.proofs.Common.{◌≡◌, ◌∙◌, sym, ap, subst, refl, length, arith, true}
-use Rattle.std.specs.Prelude.{pos}
+use Rattle.std.proofs.Common.{◌≡◌, ◌∙◌, sym, ap, subst, refl, length, arith, true, Result, Ok, Err}
+use Rattle.std.specs.Prelude.{pos, IsErr, IfOk}
 use Rattle.std.specs.List.{list_all}
 use Rattle.std.proofs.lemmas.List.{length-replicate}
 use Rattle.qc_model.specs.Valid.{is_number}
@@ -48,3 +48,29 @@ returns-clause-ready c =
       };
       full = ap has_empty box ∙ declared_full g c.known.ensures.domains;
     }
+
+-- an error is no machine
+no_machine : {T E : Type 0} (r : Result T E) (P : T → Type 0) → IsErr r → IfOk r P
+no_machine (Ok x) P e = absurd (cc)
+no_machine (Err y) P e = tt
+
+pub returns-in_err-levels : goal.returns-in_err-levels
+returns-in_err-levels c = let e = c.from_residual.ensures.0 in record { tells = no_machine _ _ e; ready = no_machine _ _ e; same = no_machine _ _ e; begins = no_machine _ _ e }
+
+pub returns-in_err-bounds : goal.returns-in_err-bounds
+returns-in_err-bounds c = let e = c.from_residual-in_err-bounds.ensures.0 in record { tells = no_machine _ _ e; ready = no_machine _ _ e; same = no_machine _ _ e; begins = no_machine _ _ e }
+
+pub returns-in_err-remains : goal.returns-in_err-remains
+returns-in_err-remains c = let e = c.from_residual-in_err-remains.ensures.0 in record { tells = no_machine _ _ e; ready = no_machine _ _ e; same = no_machine _ _ e; begins = no_machine _ _ e }
+
+pub returns-in_err-joins : goal.returns-in_err-joins
+returns-in_err-joins c = let e = c.from_residual-in_err-joins.ensures.0 in record { tells = no_machine _ _ e; ready = no_machine _ _ e; same = no_machine _ _ e; begins = no_machine _ _ e }
+
+pub returns-in_err-values : goal.returns-in_err-values
+returns-in_err-values c = let e = c.from_residual-in_err-values.ensures.0 in record { tells = no_machine _ _ e; ready = no_machine _ _ e; same = no_machine _ _ e; begins = no_machine _ _ e }
+
+pub returns-in_err-reads : goal.returns-in_err-reads
+returns-in_err-reads c = let e = c.from_residual-in_err-reads.ensures.0 in record { tells = no_machine _ _ e; ready = no_machine _ _ e; same = no_machine _ _ e; begins = no_machine _ _ e }
+
+pub returns-in_err-nesting : goal.returns-in_err-nesting
+returns-in_err-nesting c = let e = c.from_residual-in_err-nesting.ensures.0 in record { tells = no_machine _ _ e; ready = no_machine _ _ e; same = no_machine _ _ e; begins = no_machine _ _ e }

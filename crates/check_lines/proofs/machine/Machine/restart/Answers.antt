@@ -1,10 +1,6 @@
-use Rattle.std.proofs.Common.{◌≡◌, ◌∙◌, sym, ap, subst, refl, length, arith, true}
-use Rattle.std.specs.List.{list_all}
-use Rattle.qc_model.specs.Valid.{is_number}
+use Rattle.std.proofs.Common.{◌∙◌, sym, ap, subst, refl, length, arith}
 use Rattle.qc_model.specs.Content.{Game}
 use Rattle.qc_model.specs.Domains.{has_empty}
-use Rattle.model_arguments.specs.Asked.{is_box_of}
-use Rattle.fd_store.specs.Held.{trail_len}
 use Rattle.check_lines.specs.Machine.{game_of, AreFrames}
 use Rattle.box_laws.proofs.Declared.{declared_full, declared_is}
 use Rattle.check_lines.proofs.LedgerSizes.{verdict_laws}

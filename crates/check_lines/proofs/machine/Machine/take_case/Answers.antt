@@ -1,19 +1,21 @@
-use Rattle.std.proofs.Common.{◌≡◌, ◌<◌, ◌∙◌, ℕ, List, sym, ap, subst, rules, arith, length, set, ◌∷◌}
+use Rattle.std.proofs.Common.{◌≡◌, ◌&&◌, false, ◌<◌, ◌∙◌, ℕ, List, sym, ap, subst, rules, arith, length, set, ◌∷◌}
 use Rattle.std.proofs.Math.Seq.{lt-length-set}
-use Rattle.std.specs.Prelude.{ℤ, pos, ◌+ℤ◌, IsTrue}
+use Rattle.std.specs.Prelude.{ℤ, nat_lt, pos, ◌+ℤ◌, IsTrue}
 use Rattle.std.proofs.lemmas.Int.{to_z-of_z}
 use mir.Val.{SFits, to_z, of_z}
 use mir.Syntax.{w64}
 use Rattle.qc_model.specs.Domains.{Box, Values, values_left, box_within, declared_box}
 use Rattle.qc_model.specs.Valid.{is_number}
-use Rattle.fd_store.specs.Held.{Held}
+use Rattle.fd_store.specs.Held.{Held, Follows, past_box, values_from}
+use Rattle.proof_tree.specs.Cover.{covered, is_cover}
 use Rattle.check_box.specs.Cases.{IsCase}
 use Rattle.check_lines.specs.declared.open.Open.{Open}
 use Rattle.check_lines.specs.declared.open.Open.TheVariants.{Branch}
 use Rattle.check_lines.specs.Places.{rest}
 use Rattle.check_lines.specs.Machine.{game_of}
 use Rattle.box_laws.proofs.Numbers.{passed_number, passed_after, fits_after}
-use Rattle.check_lines.proofs.Forks.{take_yes, take_no, take_within, take_into, variable_inside, inside_there}
+use Rattle.check_lines.proofs.Bases.{base_boxed}
+use Rattle.check_lines.proofs.Forks.{is_back, take_yes, take_no, take_within, take_into, variable_inside, inside_there}
 use Rattle.check_lines.proofs.machine.Machine.take_case.Goals as goal
 use Rattle.check_lines.proofs.machine.Machine.take_case.Goals.{After-keep, After-size, After-set_top}
 
@@ -108,3 +110,28 @@ returns-clause-within c = λ yes.
     let at = goal.at.returns-clause-within c in
     take_within m c.args.x c.args.mark c.args.from (rest m.nesting) c.requires.top c.requires.fork c.args.upto c.in-Some.ends.first c.in-Some.ends.last (found at.After-set_top) c.keep.new.self c.set_top.new.self c.saturating_add-self.result
     c.keep.ensures.past (c.keep.ensures.fewer (declared_box (game_of m)) c.requires.fork.sound.declared) (kept at.After-keep) (top at.After-set_top) c.saturating_add-self.ensures
+
+pub returns-in_default-clause-taken : goal.returns-in_default-clause-taken
+returns-in_default-clause-taken c =
+    let m = c.args.self.now in
+    let x = c.args.x.0 in
+    let from = c.args.from in
+    let past = past_box m.remains c.args.mark.at in
+    let from_fits : SFits w64 from = search rules in
+    let seen : is_cover c.args.upto (values_from from (values_left c.store.result.now.box x)) ≡ false = simp to_z-of_z at c.in_default.ensures.none in
+    let now = subst (λ (h : Held). is_cover c.args.upto (values_from from (values_left h.box x)) ≡ false) c.store.ensures seen in
+    let there = subst (λ b. is_cover c.args.upto (values_from from (values_left b x)) ≡ false) (is_back m c.args.x c.args.mark from (rest m.nesting) c.requires.top c.requires.fork) now in
+    sym (ap (λ b. b && nat_lt (length (covered c.args.upto (values_from from (values_left past x)))) (length (values_left past x))) there)
+
+pub keep-requires-clause-var : goal.keep-requires-clause-var
+keep-requires-clause-var c = let m = c.args.self.now in variable_inside m c.args.x c.args.mark c.args.from (rest m.nesting) c.requires.top c.requires.fork
+
+-- the box at the beginning stays as it was
+first_box : (s t : Held) → Follows s t → past_box t 0 ≡ past_box s 0
+first_box s t f = f.boxes 0 (omega arith)
+
+pub returns-then-size-before-clause-base : goal.returns-then-size-before-clause-base
+returns-then-size-before-clause-base c = base_boxed _ _ _ _ _ _ (first_box c.args.self.now.remains c.keep.new.self c.keep.ensures.past)
+
+pub returns-clause-base : goal.returns-clause-base
+returns-clause-base c = base_boxed _ _ _ _ _ _ (first_box c.args.self.now.remains c.keep.new.self c.keep.ensures.past)
