@@ -5,3 +5,4 @@ mod OneEnd
 pub mod Whole
 mod SameValues
 pub mod Prunings
+mod Walked

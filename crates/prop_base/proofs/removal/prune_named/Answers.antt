@@ -1,4 +1,4 @@
-use Rattle.std.proofs.Common.{◌∙◌, ap, rules}
+use Rattle.std.proofs.Common.{◌∙◌, ap, rules, ◌≡◌, ◌+◌, List, [], ◌∷◌, ◌++◌, length, length-append, arith}
 use Rattle.std.proofs.lemmas.Int.{to_z-of_z}
 use mir.Val.{SFits}
 use mir.Syntax.{w64}
@@ -26,3 +26,10 @@ returns-clause-emptied c =
     let e = simp to_z-of_z at c.remove.ensures.content in
     let f = e ∙ ap (λ b. box_without b k.x.0 k.lo k.hi) c.reserve_trail.ensures.content in
     cut_emptied c.args.store.now.box c.remove.new.self.box k.x.0 k.lo k.hi c.size.result c.requires.full c.requires.cut.x f c.size.ensures
+
+-- one step more at the end
+one_longer : {X : Type 0} (old new : List X) (x : X) → new ≡ old ++ x ∷ [] → length new ≡ length old + 1
+one_longer old new x e = omega (arith, ap length e, length-append old (x ∷ []))
+
+pub returns-clause-grown : goal.returns-clause-grown
+returns-clause-grown c = one_longer c.args.steps.now c.push.new.self _ c.in_ok-push.ensures.ok
