@@ -1,6 +1,7 @@
 -- Boxes that constraints of two spans keep their ends in.
-use Rattle.std.proofs.Common.{◌≡◌, ℕ, suc, Bool, true, false, ◌||◌, List, [], ◌∷◌, ◌++◌, length, drop, refl, sym, ap, subst, ◌∙◌, ◌<◌, ◌≤◌, ◌+◌, ◌-◌, arith, length-append, length-drop}
+use Rattle.std.proofs.Common.{◌≡◌, ℕ, zero, suc, Bool, true, false, ◌||◌, List, [], ◌∷◌, ◌++◌, length, drop, take, get_or, refl, sym, ap, subst, ◌∙◌, ◌<◌, ◌≤◌, ◌+◌, ◌-◌, arith, length-append, length-drop}
 use Rattle.std.specs.Prelude.{◌==◌}
+use Rattle.std.proofs.lemmas.List.{take_all}
 use Rattle.std.proofs.lemmas.Bool.Decides.{nat_tests}
 use Rattle.std.proofs.lemmas.Bool.{or_left, or_right}
 use Rattle.qc_model.specs.declared.problem.VarId.{VarId}
@@ -14,7 +15,7 @@ use Rattle.prop_base.proofs.Steps.{pruning_more, pruning_sub, pruning_total}
 use Rattle.model_arguments.specs.declared.spans.Span.{Span}
 use Rattle.model_arguments.specs.Asked.{is_box_of}
 use Rattle.prop_engine.specs.Closing.{EachRule, is_between}
-use Rattle.prop_engine.specs.Watching.{WasKept, names, changed_by}
+use Rattle.prop_engine.specs.Watching.{WasKept, names, changed_by, step_variable}
 use Rattle.prop_engine.proofs.Own.{keeps_same, after_length, after_others}
 use Rattle.qc_cascade.specs.Adding.{is_either}
 use Rattle.qc_cascade.proofs.Pruned.{pruning_weaker}
@@ -44,6 +45,24 @@ each_either s t g p e f k c o l = by (is_between s.first s.end k) refl o
 drop_whole : {X : Type 0} (xs ys : List X) → drop (length xs) (xs ++ ys) ≡ ys
 drop_whole [] ys = refl
 drop_whole (x ∷ xs) ys = drop_whole xs ys
+
+-- the variables of the steps up to a place, and of one step more
+changed_last : (steps : List Step) (i : ℕ) (d : Step) → i < length steps → changed_by (take (suc i) steps) ≡ changed_by (take i steps) ++ step_variable (get_or steps i d) ∷ []
+changed_last [] i d l = absurd (omega (arith, l))
+changed_last (s ∷ steps) zero d l = refl
+changed_last (s ∷ steps) (suc i) d l = ap (λ xs. step_variable s ∷ xs) (changed_last steps i d (omega (arith, l)))
+
+pub changed_more : (steps : List Step) (i : ℕ) (d : Step) (old new : List VarId) (x : VarId) → i < length steps → old ≡ changed_by (take i steps) → new ≡ old ++ x ∷ [] → x ≡ step_variable (get_or steps i d) → new ≡ changed_by (take (i + 1) steps)
+changed_more steps i d old new x l e f g =
+    f ∙ (ap (λ xs. xs ++ x ∷ []) e ∙ (ap (λ y. changed_by (take i steps) ++ y ∷ []) g ∙ (sym (changed_last steps i d l) ∙ ap (λ n. changed_by (take n steps)) (next i))))
+  where
+    next : (i : ℕ) → suc i ≡ i + 1
+    next i = omega arith
+
+-- the variables of all steps from a place on
+pub changed_whole : (steps : List Step) (from i : ℕ) (xs : List VarId) → length (take (length steps - from) (drop from steps)) ≤ i → xs ≡ changed_by (take i (take (length steps - from) (drop from steps))) → xs ≡ changed_by (drop from steps)
+changed_whole steps from i xs l e =
+    e ∙ (ap changed_by (take_all i (take (length steps - from) (drop from steps)) l) ∙ ap changed_by (take_all (length steps - from) (drop from steps) (omega (arith, length-drop from steps))))
 
 -- what kept its ends before some steps
 pub kept_before : (ok p : ℕ → Bool) (g : Game) (s t : Held) (xs ys : List Step) → is_box_of g s.box ≡ true → EachRule ok g (keeps_ends s.box) → IsPruning p g s t xs ys → WasKept ok g (changed_by (drop (length xs) ys)) t.box
