@@ -12,3 +12,4 @@ pub mod Junctions
 pub mod Counting
 pub mod Odds
 pub mod Xors
+mod Places
