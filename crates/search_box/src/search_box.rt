@@ -77,11 +77,11 @@ impl<'p> SearchBox<'p> {
         ensures here { IfOk result (λ b. IsEntered problem.now 0 b) }
     {
         problem.known();
+        let all_shown = all_shown(alloc, problem)?;
+        let values = vec![in alloc; 0i64; problem.variables()]?;
         let store = Store::new(alloc, problem)?;
         let engine = Engine::new(alloc, problem)?;
         let joint = Joint::new(alloc, problem)?;
-        let values = vec![in alloc; 0i64; problem.variables()]?;
-        let all_shown = all_shown(alloc, problem)?;
         Ok(SearchBox {
             problem,
             alloc,
