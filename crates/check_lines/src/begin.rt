@@ -27,13 +27,13 @@ impl<'p> Machine<'p> {
         ensures begins { IfOk result (λ m. CanBegin m) }
     {
         problem.known();
-        let levels = Levels::new(alloc, problem)?;
+        let nesting = Nesting::new(alloc)?;
+        let reads = Reads::new(alloc, problem.variables())?;
         let bounds = Bounds::new(alloc, problem)?;
+        let levels = Levels::new(alloc, problem)?;
+        let values = Assignment::new(alloc, problem)?;
         let remains = Remains::new(alloc, problem)?;
         let joins = Joins::new(alloc, problem)?;
-        let values = Assignment::new(alloc, problem)?;
-        let reads = Reads::new(alloc, problem.variables())?;
-        let nesting = Nesting::new(alloc)?;
         Ok(Machine {
             levels,
             bounds,

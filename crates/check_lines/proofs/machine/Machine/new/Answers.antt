@@ -55,7 +55,7 @@ no_machine (Ok x) P e = absurd (cc)
 no_machine (Err y) P e = tt
 
 pub returns-in_err-levels : goal.returns-in_err-levels
-returns-in_err-levels c = let e = c.from_residual.ensures.0 in record { tells = no_machine _ _ e; ready = no_machine _ _ e; same = no_machine _ _ e; begins = no_machine _ _ e }
+returns-in_err-levels c = let e = c.from_residual-in_err-levels.ensures.0 in record { tells = no_machine _ _ e; ready = no_machine _ _ e; same = no_machine _ _ e; begins = no_machine _ _ e }
 
 pub returns-in_err-bounds : goal.returns-in_err-bounds
 returns-in_err-bounds c = let e = c.from_residual-in_err-bounds.ensures.0 in record { tells = no_machine _ _ e; ready = no_machine _ _ e; same = no_machine _ _ e; begins = no_machine _ _ e }
@@ -73,4 +73,4 @@ pub returns-in_err-reads : goal.returns-in_err-reads
 returns-in_err-reads c = let e = c.from_residual-in_err-reads.ensures.0 in record { tells = no_machine _ _ e; ready = no_machine _ _ e; same = no_machine _ _ e; begins = no_machine _ _ e }
 
 pub returns-in_err-nesting : goal.returns-in_err-nesting
-returns-in_err-nesting c = let e = c.from_residual-in_err-nesting.ensures.0 in record { tells = no_machine _ _ e; ready = no_machine _ _ e; same = no_machine _ _ e; begins = no_machine _ _ e }
+returns-in_err-nesting c = let e = c.from_residual.ensures.0 in record { tells = no_machine _ _ e; ready = no_machine _ _ e; same = no_machine _ _ e; begins = no_machine _ _ e }
