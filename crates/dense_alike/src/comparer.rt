@@ -52,13 +52,13 @@ impl<'p> Comparer<'p> {
         ensures { IfOk result (λ comparer. comparer ≡ levels.now.problem.now) }
     {
         let problem = levels.problem;
-        let reads = Reads::new(alloc, levels)?;
-        let starts = starts_of(alloc, problem)?;
-        let unseen = unseen_of(alloc, problem, &reads)?;
-        let declared = Remains::new(alloc, problem)?;
         let here = vec![in alloc; 0i64; problem.variables()]?;
         let holds_here = vec![in alloc; false; problem.constraints()]?;
         let holds_there = vec![in alloc; false; problem.constraints()]?;
+        let starts = starts_of(alloc, problem)?;
+        let reads = Reads::new(alloc, levels)?;
+        let unseen = unseen_of(alloc, problem, &reads)?;
+        let declared = Remains::new(alloc, problem)?;
         Ok(Comparer {
             problem,
             reads,

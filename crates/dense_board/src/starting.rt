@@ -72,16 +72,16 @@ impl<'p> Board<'p> {
         ensures same { IfOk result (λ board. board.levels.problem.now ≡ problem.now) }
     {
         problem.known();
-        let levels = Levels::new(alloc, problem)?;
-        let demands = Demands::new(alloc, problem)?;
-        let mut remains = Remains::new(alloc, problem)?;
-        let mut freedom = Freedom::new(alloc, &levels)?;
-        let wishes = Wishes::new(alloc, problem)?;
-        let joins = Joins::new(alloc, problem)?;
-        let likeness = Likeness::new(alloc, &levels)?;
-        let moves_end = end_of_moves(&levels);
+        // those that have most to let go where a later one fails come last
         let values = vec![in alloc; 0; problem.variables()]?;
-        // last, since it has most to let go where a later one fails
+        let levels = Levels::new(alloc, problem)?;
+        let mut freedom = Freedom::new(alloc, &levels)?;
+        let moves_end = end_of_moves(&levels);
+        let wishes = Wishes::new(alloc, problem)?;
+        let demands = Demands::new(alloc, problem)?;
+        let likeness = Likeness::new(alloc, &levels)?;
+        let mut remains = Remains::new(alloc, problem)?;
+        let joins = Joins::new(alloc, problem)?;
         let closer = Closer::new(alloc, problem)?;
         give_each(&levels, &mut remains, &mut freedom, given);
         Ok(Board {

@@ -17,9 +17,9 @@ impl<'p> DenseMachine<'p> {
         ensures tells { IfOk result (λ m. Tells m (first_ledger problem.now)) }
         ensures same { IfOk result (λ m. game_of m ≡ problem.now) }
     {
+        let wishes = Wishes::new(alloc, problem)?;
         let nest = Nest::new(alloc, problem)?;
         let freedom = Freedom::new(alloc, &nest.levels)?;
-        let wishes = Wishes::new(alloc, problem)?;
         let positions = Positions::new(alloc, &nest.levels)?;
         // last, since it has most to let go where a later one fails
         let closer = Closer::new(alloc, problem)?;

@@ -20,16 +20,17 @@ impl<'p> Nest<'p> {
         ensures same { IfOk result (λ m. game_of m ≡ problem.now) }
     {
         problem.known();
-        let levels = Levels::new(alloc, problem)?;
-        let demands = Demands::new(alloc, problem)?;
-        let remains = Remains::new(alloc, problem)?;
-        let joins = Joins::new(alloc, problem)?;
+        // those that have most to let go where a later one fails come last
         let tallies = vec![in alloc; Tally {
             size: 0,
             best: None,
             mixed: false
         }; problem.scopes()]?;
         let values = vec![in alloc; 0; problem.variables()]?;
+        let levels = Levels::new(alloc, problem)?;
+        let demands = Demands::new(alloc, problem)?;
+        let remains = Remains::new(alloc, problem)?;
+        let joins = Joins::new(alloc, problem)?;
         let spot = Spot {
             number: 0,
             horizon: None,

@@ -31,13 +31,38 @@ pub struct Search<'p> {
     pub patience: Patience,
 }
 
+// What a search learns of its game.
+#[derive(Drop)]
+struct Learnt {
+    hints: Hints,
+    known: KnownNodes,
+    shapes: Vec<Shape>,
+    pools: Pools,
+}
+
+// Apart from who owns the board, which would have it to let go at each of these calls.
+fn nothing_learnt(alloc: Global, board: &Board<'_>) -> Result<Learnt, Stop> {
+    let known = KnownNodes::new(alloc)?;
+    let hints = Hints::new(alloc, board)?;
+    let shapes = shapes_of(alloc, board)?;
+    let pools = Pools::new(alloc, board)?;
+    Ok(Learnt {
+        hints,
+        known,
+        shapes,
+        pools,
+    })
+}
+
 impl<'p> Search<'p> {
     /// A search of the board's game that has so many turns, and has written nothing.
     pub fn new(alloc: Global, board: Board<'p>, turns: u64) -> Result<Search<'p>, Stop> {
-        let hints = Hints::new(alloc, &board)?;
-        let known = KnownNodes::new(alloc)?;
-        let shapes = shapes_of(alloc, &board)?;
-        let pools = Pools::new(alloc, &board)?;
+        let Learnt {
+            hints,
+            known,
+            shapes,
+            pools,
+        } = nothing_learnt(alloc, &board)?;
         Ok(Search {
             alloc,
             board,

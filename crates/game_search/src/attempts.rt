@@ -148,10 +148,10 @@ pub(crate) fn begin<'p>(
     ensures lines { IfOk result (λ walk. walk.lines ≡ []) }
     ensures left { IfOk result (λ walk. walk.left ≡ turns) }
 {
-    let remains = SearchBox::new(alloc, levels.problem)?;
     let joins = Joins::new(alloc, levels.problem)?;
-    let advice = Advice::new(alloc, levels, cuts)?;
     let known = KnownNodes::new(alloc, levels, cuts)?;
+    let remains = SearchBox::new(alloc, levels.problem)?;
+    let advice = Advice::new(alloc, levels, cuts)?;
     Ok(Walk {
         alloc,
         remains,

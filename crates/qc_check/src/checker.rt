@@ -49,9 +49,9 @@ impl<'p> Checker<'p> {
         ensures answer { IfOk result (λ c. answered c ≡ fed_as.More) }
     {
         each_standing_is_right();
+        let starts = Starts::new(alloc, problem.scopes(), problem.variables())?;
         let machine = Machine::new(alloc, problem)?;
         let memory = NodeMemory::new(alloc, machine.levels())?;
-        let starts = Starts::new(alloc, problem.scopes(), problem.variables())?;
         Ok(Checker {
             problem,
             reader: LineReader::new(),

@@ -51,14 +51,14 @@ impl<'p> Advice<'p> {
     pub fn new(alloc: Global, levels: &Levels<'p>, tries: bool) -> Result<Advice<'p>, AllocError> {
         levels.problem.known();
         let values = vec![in alloc; 0i64; levels.problem.variables()]?;
+        let signs = Signs::new(alloc, levels)?;
+        let mut scopes = vec![in alloc; Standing::new(); levels.problem.scopes()]?;
+        trust_signs(scopes.as_mut_slice(), levels, &signs);
         let tuples = Tuples::new(alloc, levels.problem.variables())?;
         let rated = Rated::new(alloc, levels.problem.variables(), levels.problem.scopes())?;
-        let mut scopes = vec![in alloc; Standing::new(); levels.problem.scopes()]?;
         let wanted = wanted_scopes(alloc, levels, tries)?;
-        let residues = Residues::new(alloc, levels, wanted.as_slice())?;
         let positions = Positions::new(alloc, widest(levels, wanted.as_slice()))?;
-        let signs = Signs::new(alloc, levels)?;
-        trust_signs(scopes.as_mut_slice(), levels, &signs);
+        let residues = Residues::new(alloc, levels, wanted.as_slice())?;
         let looks = Looks::new(alloc, levels, tries);
         let bests = Bests::new(alloc, levels, tries);
         Ok(Advice {
