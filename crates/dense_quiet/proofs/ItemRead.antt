@@ -1,5 +1,5 @@
 -- The item at a place that is counted from 1, as the code reads it.
-use Rattle.std.proofs.Common.{◌≡◌, ◌∙◌, ℕ, ◌-◌, ◌<◌, ◌≤◌, true, false, cond, List, length, get_or, Option, Some, None, sym, ap, subst, ℤ}
+use Rattle.std.proofs.Common.{◌≡◌, ◌∙◌, ℕ, ◌-◌, ◌<◌, ◌≤◌, true, false, cond, List, length, get_or, Some, None, sym, ap, subst, ℤ}
 use Rattle.std.specs.Prelude.{pos, int_lt, slice_get, unsigned_abs}
 use Rattle.std.specs.List.{list_all}
 use Rattle.std.proofs.lemmas.Option.{slice_get_past, same_Some}

@@ -1,5 +1,5 @@
 -- How many steps fit into the room, as the code counts them.
-use Rattle.std.proofs.Common.{◌≡◌, ◌≢◌, ◌∙◌, ℕ, Bool, zero, suc, ◌≤◌, ◌<◌, ◌+◌, ◌*◌, ◌/◌, true, false, sym, ap, subst, arith, ℤ}
+use Rattle.std.proofs.Common.{◌≡◌, ◌≢◌, ◌∙◌, ℕ, Bool, ◌≤◌, ◌<◌, ◌+◌, ◌*◌, ◌/◌, true, false, sym, ap, subst, arith, ℤ}
 use Rattle.std.specs.Prelude.{pos, negsuc, ◌+ℤ◌, ◌-ℤ◌, ◌*ℤ◌, neg_ℤ, ◌≤ℤ◌, ◌<ℤ◌, int_lt}
 use Rattle.std.specs.Int.Signed.{quot_z}
 use Rattle.std.proofs.Math.Nat.{mul-le-mul_left}

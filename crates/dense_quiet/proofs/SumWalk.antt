@@ -6,12 +6,12 @@ use Rattle.std.specs.Int.{int_min, int_max}
 use Rattle.std.proofs.lemmas.Int.{ints, clamps, fits_signed_from_abs}
 use Rattle.std.proofs.lemmas.List.Recursion.{and_at}
 use mir.Val.{SFits}
-use mir.Syntax.{w128}
+use mir.Syntax.{w64, w128}
 use Rattle.qc_model.specs.Domains.{Values, least_value, greatest_value}
 use Rattle.qc_model.specs.Left.{span}
 use Rattle.qc_model.specs.Ranges.{Range, range_of, range_sum, point, product}
 use Rattle.qc_model.specs.Valid.{is_number}
-use Rattle.qc_refuter.proofs.Terms.{abs_sum, term_range}
+use Rattle.qc_refuter.proofs.Terms.{abs_sum, product_small, term_range}
 use Rattle.dense_quiet.specs.Slack.{IsNear}
 
 -- a place of both lists, and the number that is read there
@@ -23,6 +23,13 @@ within_second a b n k e h = omega arith
 
 pub number_read : (ns : List ℤ) (k : ℕ) (d : ℤ) → k < length ns → list_all is_number ns ≡ true → is_number (get_or ns k d) ≡ true
 number_read ns k d h t = and_at (list_all is_number) is_number refl (λ _ _. refl) ns k d h t
+
+-- a product fits
+pub product_fits : (a b : ℤ) → is_number a ≡ true → is_number b ≡ true → SFits w64 (a *ℤ b)
+product_fits a b h k = fits_signed_from_abs w64 (a *ℤ b) (under (unsigned_abs (a *ℤ b)) (product_small a b h k))
+  where
+    under : (n : ℕ) → n ≤ 10 ^ 18 → n < 2 ^ 63
+    under n h = omega arith
 
 -- a term fits, and so does a sum of few terms with one more
 pub term_wide : (z : ℤ) → unsigned_abs z ≤ 10 ^ 18 → SFits w128 z

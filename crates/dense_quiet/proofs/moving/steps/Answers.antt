@@ -1,4 +1,3 @@
-use Rattle.std.specs.Prelude.{◌≤ℤ◌}
 use Rattle.dense_quiet.proofs.RoomSteps.{passed_above, passed_most, not_below, may_divide, count_some, count_fits, count_past, count_below, width_fits_room}
 use Rattle.dense_quiet.proofs.moving.steps.Goals as goal
 

@@ -1,5 +1,3 @@
-use mir.Val.{SFits}
-use mir.Syntax.{w64}
 use Rattle.model_arguments.proofs.Bools.{clash}
 use Rattle.dense_quiet.proofs.RoomLeft.{room_under, room_over, tight_under, tight_over}
 use Rattle.dense_quiet.proofs.slack.room_of.Goals as goal

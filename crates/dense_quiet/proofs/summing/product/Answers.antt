@@ -4,6 +4,7 @@ use Rattle.std.proofs.lemmas.Int.{to_z-of_z, fits_signed_from_abs}
 use mir.Val.{SFits}
 use mir.Syntax.{w64}
 use Rattle.qc_refuter.proofs.Terms.{product_small}
+use Rattle.dense_quiet.proofs.SumWalk.{product_fits}
 use Rattle.dense_quiet.proofs.summing.product.Goals as goal
 
 pub returns-clause-value : goal.returns-clause-value
@@ -21,3 +22,9 @@ returns-clause-small c =
     let small = product_small c.args.a c.args.b c.requires.a c.requires.b in
     let fits : SFits w64 (c.args.a *ℤ c.args.b) = fits_signed_from_abs w64 (c.args.a *ℤ c.args.b) (omega (arith, small)) in
     simp to_z-of_z small
+
+pub overflow_mul-result : goal.overflow_mul-result
+overflow_mul-result c =
+    let a_fits : SFits w64 c.args.a = c.ranges.a in
+    let b_fits : SFits w64 c.args.b = c.ranges.b in
+    simp to_z-of_z (product_fits c.args.a c.args.b c.requires.a c.requires.b)

@@ -1,4 +1,4 @@
-use Rattle.std.proofs.Common.{◌≡◌, ◌<◌, ◌+◌, rules, arith, length, map, drop, get_or, [], sym, ap, subst, ◌∙◌, ℕ, ℤ, true}
+use Rattle.std.proofs.Common.{◌≡◌, ◌<◌, ◌+◌, rules, length, map, drop, get_or, [], sym, ap, subst, ◌∙◌, ℕ, ℤ, true}
 use Rattle.std.proofs.Math.Nat.{le_refl}
 use Rattle.std.specs.Prelude.{pos, ◌+ℤ◌, ◌-ℤ◌, ◌≤ℤ◌, slice_get, Some}
 use Rattle.std.proofs.lemmas.Int.{to_z-of_z}
