@@ -1,5 +1,5 @@
 -- A text that goes to a sink part by part, behind the bytes that are held.
-use Rattle.std.proofs.Common.{◌≡◌, ◌<◌, ◌+◌, length, take, drop, get_or, ◌∙◌, sym, ap, subst, [], ℕ, List, ◌∷◌, ◌++◌, append_assoc, append-nil, Option, Result, Ok, Err, OnOk, OnErr, flat_map}
+use Rattle.std.proofs.Common.{◌≡◌, ◌<◌, ◌+◌, length, take, drop, get_or, ◌∙◌, sym, ap, subst, [], ℕ, List, ◌∷◌, ◌++◌, append_assoc, append-nil, Option, flat_map}
 use Rattle.std.proofs.lemmas.Grind.{flat_map-append}
 use Rattle.std.proofs.lemmas.List.{take_more, drop_more, take-append-drop}
 use Rattle.std.specs.Io.KnownBytes.{Appends}

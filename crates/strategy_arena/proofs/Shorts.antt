@@ -1,6 +1,6 @@
 -- Short lines stand for the same when wide ones are appended, and when they are taken apart and put together.
 use Rattle.std.proofs.Common.{◌≡◌, ◌∙◌, refl, sym, ap, ℕ, ◌≤◌, ◌<◌, ◌+◌, ◌-◌, zero, suc, List, [], ◌∷◌, ◌++◌, length, map, take, drop, arith, subst, get_or, set, flat_map, append_assoc, Result, OnOk}
-use Rattle.std.proofs.lemmas.List.{get_or-take, length-take, length-drop, map-append, take-map, drop-map, take_more, take_all, take-append-le}
+use Rattle.std.proofs.lemmas.List.{append-nil, get_or-take, length-take, length-drop, map-append, take-map, drop-map, take_more, take_all, take-append-le}
 use Rattle.std.proofs.lemmas.List.Edits.{paste_more}
 use Rattle.proof_tree.specs.declared.line.Line.{Line}
 use Rattle.proof_tree.specs.declared.line.Line.TheVariants.{Dot as DotLine}
@@ -184,3 +184,30 @@ one_more_carried known after before old from k d p e f =
     let more : lines_of known (take (k + 1) from) ≡ lines_of known (take k from) ++ line ∷ [] =
     ap (λ ss. lines_of known ss) (take_more from k d p) ∙ map-append (line_of known) (take k from) (get_or from k d ∷ []) in
     e ∙ (ap (λ ls. ls ++ line ∷ []) f ∙ (append_assoc old (lines_of known (take k from)) (line ∷ []) ∙ ap (λ ls. old ++ ls) (sym more)))
+
+-- before the first line that is gone over, and after the last
+pub none_put : (old : List Line) (with : List Line) → old ≡ old ++ take 0 with
+none_put old with = sym (append-nil old)
+
+pub none_carried : (known old : List Line) (from : List Short) → old ≡ old ++ lines_of known (take 0 from)
+none_carried known old from = sym (append-nil old)
+
+pub all_kept : (all with : List Line) (k : ℕ) → length with ≤ k → all ≡ take k with → all ≡ with
+all_kept all with k h e = e ∙ take_all k with h
+
+pub all_put : (all old with : List Line) (k : ℕ) → length with ≤ k → all ≡ old ++ take k with → all ≡ old ++ with
+all_put all old with k h e = e ∙ ap (λ ls. old ++ ls) (take_all k with h)
+
+pub all_carried : (known all old : List Line) (from : List Short) (k : ℕ) → length from ≤ k → all ≡ old ++ lines_of known (take k from) → all ≡ old ++ lines_of known from
+all_carried known all old from k h e = e ∙ ap (λ ss. old ++ lines_of known ss) (take_all k from h)
+
+-- a list begins with itself
+pub begins_same : {X : Type 0} (xs : List X) → xs ≡ take (length xs) xs
+begins_same xs = sym (take_all (length xs) xs (same (length xs)))
+  where
+    same : (n : ℕ) → n ≤ n
+    same n = omega arith
+
+-- room for one line more
+pub room_first : (len n capacity : ℕ) → len + n ≤ capacity → len + n ≤ capacity + 0
+room_first len n capacity h = omega arith

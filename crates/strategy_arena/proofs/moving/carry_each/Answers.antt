@@ -1,7 +1,7 @@
 use Rattle.std.proofs.Common.{arith, get_or}
 use Rattle.strategy_arena.specs.Short.{line_of, lines_of}
 use Rattle.strategy_arena.specs.declared.short.Short.TheVariants.{Horizon}
-use Rattle.strategy_arena.proofs.Shorts.{carried_all, stand_carried, no_shorter, stand_kept, stand_one, put_one, extends_twice, still_first, one_more_carried}
+use Rattle.strategy_arena.proofs.Shorts.{carried_all, stand_carried, no_shorter, stand_kept, stand_one, put_one, extends_twice, still_first, one_more_carried, none_carried, all_carried, begins_same, room_first}
 use Rattle.strategy_arena.proofs.moving.carry_each.Goals as goal
 
 pub loop-short-preserved : goal.loop-short-preserved
@@ -35,3 +35,18 @@ pub returns-then-known-eq0-clause-stand : goal.returns-then-known-eq0-clause-sta
 returns-then-known-eq0-clause-stand c =
     let none = c.if-known-eq0.true in
     stand_carried c.args.known.now _ c.args.from.now c.args.lines.now.items _ (omega (arith, none)) c.requires.known c.requires.stand c.in_ok-extend_from_slice.ensures.items
+
+pub loop-short-init : goal.loop-short-init
+loop-short-init c = record {
+  put = none_carried c.args.known.now (lines_of c.args.wide.now.items c.args.lines.now.items) c.args.from.now;
+  stand = c.requires.stand;
+  first = begins_same c.args.lines.now.items;
+  grown = begins_same c.args.wide.now.items;
+  room = room_first _ _ _ c.requires.room;
+}
+
+pub returns-clause-put : goal.returns-clause-put
+returns-clause-put c = all_carried c.args.known.now _ (lines_of c.args.wide.now.items c.args.lines.now.items) c.args.from.now c.loop-short.short-index c.loop-short-test.false c.loop-short.invariant.put
+
+pub returns-in_err-carried-clause-grown : goal.returns-in_err-carried-clause-grown
+returns-in_err-carried-clause-grown c = extends_twice _ _ _ c.loop-short.invariant.grown c.carry.ensures.grown

@@ -1,4 +1,4 @@
-use Rattle.std.proofs.Common.{◌∙◌, sym, ap, subst, length, ◌++◌, drop, take}
+use Rattle.std.proofs.Common.{◌∙◌, sym, ap, subst, length}
 use Rattle.qc_io.proofs.Known.{on_err}
 use Rattle.strategy_arena.specs.Short.{AllStand, lines_of}
 use Rattle.strategy_arena.proofs.Shorts.{no_shorter, stand_kept, lines_kept, moved, stand_replaced, put_between}
