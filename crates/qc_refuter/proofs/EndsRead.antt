@@ -1,10 +1,10 @@
 -- Where items begin and end, counted from the least number that there is.
-use Rattle.std.proofs.Common.{◌≡◌, ℕ, suc, ◌+◌, ◌<◌, ◌≤◌, Bool, true, false, ◌&&◌, cond, List, [], ◌∷◌, length, map, get_or, nat_le, refl, sym, ap, ◌∙◌, subst, arith, ℤ, IsPermutation}
+use Rattle.std.proofs.Common.{◌≡◌, ℕ, suc, ◌+◌, ◌<◌, ◌≤◌, Bool, true, false, ◌&&◌, cond, List, [], ◌∷◌, length, map, get_or, set, nat_le, refl, sym, ap, ◌∙◌, subst, arith, ℤ, IsPermutation}
 use Rattle.std.specs.Prelude.{pos, negsuc, ◌+ℤ◌, ◌-ℤ◌, ◌≤ℤ◌, int_le, int_lt, nat_abs}
 use Rattle.std.specs.List.{All, Contains, count_by, list_all}
 use Rattle.std.proofs.lemmas.Bool.Decides.{nat_tests}
 use Rattle.std.proofs.lemmas.Int.{ints}
-use Rattle.std.proofs.lemmas.List.{length-map, get_or_default}
+use Rattle.std.proofs.lemmas.List.{length-map, get_or_default, get_or-set_same, get_or-set_other}
 use Rattle.std.proofs.lemmas.List.Elements.{All-from_get_or, Contains-get_or}
 use Rattle.std.proofs.lemmas.List.Sorted.{All-permutation, Contains-permutation, sum_by-IsPermutation}
 use Rattle.std.proofs.lemmas.List.Sums.{sum_by-cons}
@@ -20,7 +20,7 @@ use Rattle.model_table.proofs.CrowdEnds.{crowd_of_ends}
 use Rattle.qc_refuter.specs.declared.stretches.Ends.{Ends}
 use Rattle.qc_refuter.specs.Met.{is_open, is_domain_left}
 use Rattle.qc_refuter.specs.Stretches.{lies, AreEndsOf, IsPlaced}
-use Rattle.qc_refuter.proofs.Fill.{least_to_greatest, none_any, IsUncrowded, uncrowded}
+use Rattle.qc_refuter.proofs.Fill.{least_to_greatest, none_any, IsUncrowded, uncrowded, one_more}
 use Rattle.qc_refuter.proofs.Seated.{AreUncrowded}
 use Rattle.qc_refuter.proofs.Terms.{greatest_small, open_at, item_left}
 
@@ -157,3 +157,24 @@ pub told : (box : Box) (items : List Arg) (ends sorted : List Ends) (lows ordere
     (b ≡ true → (l : ℕ) × (h : ℕ) × (l ≤ h) × (h + 1 < l + count_by (lies l h) sorted)) → (b ≡ false → AreUncrowded ordered sorted) → b ≡ has_crowd (map (left_to box) items)
 told box items ends sorted lows ordered r true f g = sym (crowd_read box items ends sorted lows ordered r (f refl))
 told box items ends sorted lows ordered r false f g = sym (none_read box items ends sorted lows ordered r (g refl))
+
+-- the ends of one item more were read, and put at the next place
+pub ends_more : (box : Box) (items : List Arg) (ends : List Ends) (k : ℕ) (r : Ends) → k < length items → k < length ends → AreEndsOf (left_to box (get_or items k (Var (record { 0 = 0 })))) r →
+    ((j : ℕ) (e : Ends) → j < k → AreEndsOf (get_or (map (left_to box) items) j []) (get_or ends j e)) →
+    (j : ℕ) (e : Ends) → j < k + 1 → AreEndsOf (get_or (map (left_to box) items) j []) (get_or (set ends k r) j e)
+ends_more box items ends k r h m a told j e l =
+    one_more (λ i. AreEndsOf (get_or (map (left_to box) items) i []) (get_or (set ends k r) i e)) k
+    (λ i n. subst (AreEndsOf (get_or (map (left_to box) items) i [])) (sym (get_or-set_other ends k i r e (λ q. omega (arith, q, n)))) (told i e n))
+    (subst (λ d. AreEndsOf d (get_or (set ends k r) k e)) (sym (item_left box items k (Var (record { 0 = 0 })) h))
+    (subst (AreEndsOf (left_to box (get_or items k (Var (record { 0 = 0 }))))) (sym (get_or-set_same ends k r e m)) a))
+    j l
+
+-- where they begin was put at the same place
+pub lows_more : (ends : List Ends) (lows : List ℕ) (k : ℕ) (r : Ends) → k < length ends → k < length lows →
+    ((j : ℕ) (e : Ends) → j < k → get_or lows j 0 ≡ (get_or ends j e).low) →
+    (j : ℕ) (e : Ends) → j < k + 1 → get_or (set lows k r.low) j 0 ≡ (get_or (set ends k r) j e).low
+lows_more ends lows k r h m told j e l =
+    one_more (λ i. get_or (set lows k r.low) i 0 ≡ (get_or (set ends k r) i e).low) k
+    (λ i n. get_or-set_other lows k i r.low 0 (λ q. omega (arith, q, n)) ∙ (told i e n ∙ sym (ap (λ (o : Ends). o.low) (get_or-set_other ends k i r e (λ q. omega (arith, q, n))))))
+    (get_or-set_same lows k r.low 0 m ∙ sym (ap (λ (o : Ends). o.low) (get_or-set_same ends k r e h)))
+    j l

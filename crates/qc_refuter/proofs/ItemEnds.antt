@@ -59,3 +59,17 @@ greatest_step box items k x from to one all h i e =
     ap (λ r. greatest_range (greater_range (range_of from to) r) rest) e
     ∙ (greatest_move (range_of from to) d rest
     ∙ (sym (at_drop_more (λ l. greatest_range (range_of from to) (map (left_to box) l)) items k x h) ∙ i))
+
+-- the ends of the smaller of two
+pub smaller_ends : (d e : Values) (from to l m g h : ℤ) → from ≡ int_min l m → to ≡ int_min g h → l ≡ least_value d → m ≡ least_value e → g ≡ greatest_value d → h ≡ greatest_value e →
+    range_of from to ≡ smaller_range (span d) (span e)
+smaller_ends d e from to l m g h p q a b x y =
+    ap (λ z. range_of z to) (p ∙ (ap (λ z. int_min z m) a ∙ ap (λ z. int_min (least_value d) z) b))
+    ∙ ap (λ z. range_of (int_min (least_value d) (least_value e)) z) (q ∙ (ap (λ z. int_min z h) x ∙ ap (λ z. int_min (greatest_value d) z) y))
+
+-- the ends of the greater of two
+pub greater_ends : (d e : Values) (from to l m g h : ℤ) → from ≡ int_max l m → to ≡ int_max g h → l ≡ least_value d → m ≡ least_value e → g ≡ greatest_value d → h ≡ greatest_value e →
+    range_of from to ≡ greater_range (span d) (span e)
+greater_ends d e from to l m g h p q a b x y =
+    ap (λ z. range_of z to) (p ∙ (ap (λ z. int_max z m) a ∙ ap (λ z. int_max (least_value d) z) b))
+    ∙ ap (λ z. range_of (int_max (least_value d) (least_value e)) z) (q ∙ (ap (λ z. int_max z h) x ∙ ap (λ z. int_max (greatest_value d) z) y))

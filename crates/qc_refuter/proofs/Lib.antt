@@ -13,6 +13,7 @@ mod WidestRanges
 pub mod Results
 pub mod Fill
 pub mod Domains
+pub mod Bits
 pub mod Commons
 pub mod Taken
 pub mod Seated

@@ -87,6 +87,17 @@ item_missed box b c items k x h f =
     ∙ sym (item_at_place box b c items k x h
     ∙ ap (λ t. (t && not (misses (left_to box (get_or items k x)) c)) || some_item_meets (pos (k + 1) +ℤ pos 1) b (map (left_to box) (drop (k + 1) items)) c) f)
 
+pub item_found : (box : Box) (b c : Values) (items : List Arg) (k : ℕ) (x : Arg) → k < length items → true ≡ (has_value b (pos (k + 1)) && not (misses (left_to box (get_or items k x)) c)) →
+    true ≡ some_item_meets (pos (k + 1)) b (map (left_to box) (drop k items)) c
+item_found box b c items k x h f = ap (λ t. t || some_item_meets (pos (k + 1) +ℤ pos 1) b (map (left_to box) (drop (k + 1) items)) c) f ∙ sym (item_at_place box b c items k x h)
+
+-- an item that doesn't meet c at its place
+pub item_past : (box : Box) (b c : Values) (items : List Arg) (k : ℕ) (x : Arg) → k < length items → false ≡ (has_value b (pos (k + 1)) && not (misses (left_to box (get_or items k x)) c)) →
+    some_item_meets (pos ((k + 1) + 1)) b (map (left_to box) (drop (k + 1) items)) c ≡ some_item_meets (pos (k + 1)) b (map (left_to box) (drop k items)) c
+item_past box b c items k x h f =
+    ap (λ z. some_item_meets z b (map (left_to box) (drop (k + 1) items)) c) (next_place (k + 1))
+    ∙ (ap (λ t. t || some_item_meets (pos (k + 1) +ℤ pos 1) b (map (left_to box) (drop (k + 1) items)) c) f ∙ sym (item_at_place box b c items k x h))
+
 pub items_before : (box : Box) (b c : Values) (items : List Arg) (x : Arg) (n : ℕ) → n ≤ length items → ((j : ℕ) → j < n → has_value b (pos (j + 1)) ≡ false) →
     some_item_meets (pos (n + 1)) b (map (left_to box) (drop n items)) c ≡ some_item_meets (pos 1) b (map (left_to box) items) c
 items_before box b c items x zero h f = refl

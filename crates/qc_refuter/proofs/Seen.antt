@@ -1,12 +1,15 @@
 -- What a view shows of one variable.
-use Rattle.std.proofs.Common.{◌≡◌, ◌≢◌, inl, inr, ℕ, Bool, true, false, not, ◌&&◌, ◌||◌, cond, [], ◌∷◌, refl, sym, ap, ◌∙◌, arith, ℤ}
+use Rattle.std.proofs.Common.{◌≡◌, ◌≢◌, inl, inr, ℕ, Bool, true, false, not, ◌&&◌, ◌||◌, cond, [], ◌∷◌, length, nat_eq, of_z, w64, ltb, ◌<◌, ◌≤◌, refl, sym, ap, ◌∙◌, arith, ℤ}
 use Rattle.std.specs.Prelude.{pos, negsuc, int_lt, int_le, ◌≤ℤ◌}
 use Rattle.std.specs.List.{list_any, list_all}
 use Rattle.std.proofs.lemmas.Bool.Decides.{nat_tests}
 use Rattle.std.proofs.lemmas.Int.{ints}
-use Rattle.std.proofs.lemmas.List.{get_or-set_other}
+use Rattle.std.proofs.lemmas.List.{get_or-set_other, get_or_past, length-set}
+use Rattle.std.proofs.lemmas.Bool.{ltb-true, ltb-false}
+use mir.Val.{SFits}
+use Rattle.std.specs.Ordering.{int_eq}
 use Rattle.qc_model.specs.declared.problem.Arg.{Arg}
-use Rattle.qc_model.specs.declared.problem.Arg.TheVariants.{Var}
+use Rattle.qc_model.specs.declared.problem.Arg.TheVariants.{Num, Var}
 use Rattle.qc_model.specs.declared.problem.VarId.{VarId}
 use Rattle.qc_model.specs.Domains.{Values, Box, values_left, values_within, box_within, is_within, has_value, is_single, is_none_left, is_ascending, least_value, greatest_value, misses}
 use Rattle.qc_model.specs.Refuted.{left_to}
@@ -15,7 +18,8 @@ use Rattle.qc_model.specs.Lists.{Among}
 use Rattle.qc_model.proofs.Sound.{lo_of, hi_of, has_it}
 use Rattle.qc_model.proofs.Readable.{first, second}
 use Rattle.model_arguments.proofs.Kept.{within_at, has_kept}
-use Rattle.qc_refuter.specs.Met.{is_domain_left}
+use Rattle.qc_refuter.specs.Met.{is_domain_left, is_open}
+use Rattle.qc_refuter.proofs.Bits.{same_bits}
 
 pub left_here : (box : Box) (x : ℕ) (lo hi : ℤ) (a : Arg) (y : VarId) → a ≡ Var y → y.0 ≡ x → left_to (box_within box x lo hi) a ≡ values_within lo hi (values_left box y.0)
 left_here box x lo hi a y e f =
@@ -103,3 +107,26 @@ all_within (v ∷ vs) h =
   where
     inside : (v : ℤ) → is_number v ≡ true → is_within (negsuc 999999999) (pos 1000000000) v ≡ true
     inside v h = grind (arith, nat_tests, ints)
+
+-- a variable of which something is left stands in the box
+pub stands : (box : Box) (x : ℕ) (lo hi : ℤ) (a : Arg) (y : VarId) → a ≡ Var y → is_open (box_within box x lo hi) a ≡ true → y.0 < length box
+stands box x lo hi a y e h = by (ltb y.0 (length box)) refl
+  where
+    none : length box ≤ y.0 → left_to (box_within box x lo hi) a ≡ []
+    none m = ap (left_to (box_within box x lo hi)) e ∙ get_or_past (box_within box x lo hi) y.0 [] (omega (arith, m, length-set box x (values_within lo hi (values_left box x))))
+
+    past : (d : Values) → d ≡ [] → is_domain_left d ≡ true → ⊥
+    past [] q k = cc
+    past (v ∷ d) q k = cc
+
+    by : (b : Bool) → ltb y.0 (length box) ≡ b → y.0 < length box
+    by true q = ltb-true y.0 (length box) q
+    by false q = absurd (past (left_to (box_within box x lo hi) a) (none (ltb-false y.0 (length box) q)) h)
+
+-- a number that is written is the one value
+pub has_written : (box : Box) (a : Arg) (n v : ℤ) → a ≡ Num n → SFits w64 v → SFits w64 n → nat_eq (of_z w64 v) (of_z w64 n) ≡ has_value (left_to box a) v
+has_written box a n v e f g = same_bits v n f g ∙ (alone (int_eq v n) ∙ sym (ap (λ b. has_value (left_to box b) v) e))
+  where
+    alone : (b : Bool) → b ≡ (b || false)
+    alone true = refl
+    alone false = refl

@@ -21,3 +21,11 @@ returns-clause-small c =
     let small = product_small c.args.a c.args.b c.requires.a c.requires.b in
     let fits : SFits w64 (c.args.a *ℤ c.args.b) = fits_signed_from_abs w64 (c.args.a *ℤ c.args.b) (omega (arith, small)) in
     simp to_z-of_z small
+
+pub overflow_mul-result : goal.overflow_mul-result
+overflow_mul-result c =
+    let a_fits : SFits w64 c.args.a = search rules in
+    let b_fits : SFits w64 c.args.b = search rules in
+    let small = product_small c.args.a c.args.b c.requires.a c.requires.b in
+    let fits : SFits w64 (c.args.a *ℤ c.args.b) = fits_signed_from_abs w64 (c.args.a *ℤ c.args.b) (omega (arith, small)) in
+    simp to_z-of_z fits
