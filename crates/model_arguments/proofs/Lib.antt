@@ -7,3 +7,4 @@ pub mod Bools
 pub mod Kept
 pub mod Items
 mod Marks
+pub mod Growing
