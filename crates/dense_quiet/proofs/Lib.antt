@@ -25,4 +25,3 @@ pub mod Spread
 mod SumWalk
 pub mod Sums
 pub mod ToldLaws
-mod WidestRanges

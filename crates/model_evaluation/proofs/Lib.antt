@@ -4,5 +4,4 @@ pub mod Items
 pub mod Places
 pub mod Distinct
 pub mod Tables
-pub mod Bits
 pub mod Steps

@@ -14,7 +14,7 @@ use Rattle.qc_model.specs.declared.problem.Arg.{Arg}
 use Rattle.qc_model.specs.Holds.{same_truth, odd_ones, is_one}
 use Rattle.qc_model.specs.Lists.{same_values}
 use Rattle.model_evaluation.specs.Evaluation.{is_some_item}
-use Rattle.model_evaluation.proofs.Bits.{same_bits, one_bit, bits_same, bits_differ}
+use Rattle.qc_model.proofs.Bits.{same_bits, one_bit, bits_same, bits_differ}
 
 -- the value of an item that the array has at a place, and none past its end
 pub value_there : (f : Arg → ℤ) (items : List Arg) (k : ℕ) (x : Arg) (v n : ℤ) → true ≡ ltb k (length items) → x ≡ get_or items k x → v ≡ f x → SFits w64 v → SFits w64 n →

@@ -9,7 +9,7 @@ mod SumPlaces
 mod LowPlaces
 mod ReadAt
 mod Remainders
-mod WidestRanges
+pub mod WidestRanges
 pub mod Results
 pub mod Fill
 pub mod Domains

@@ -19,7 +19,7 @@ use Rattle.qc_model.proofs.Sound.{lo_of, hi_of, has_it}
 use Rattle.qc_model.proofs.Readable.{first, second}
 use Rattle.model_arguments.proofs.Kept.{within_at, has_kept}
 use Rattle.qc_refuter.specs.Met.{is_domain_left, is_open}
-use Rattle.qc_refuter.proofs.Bits.{same_bits}
+use Rattle.qc_model.proofs.Bits.{same_bits}
 
 pub left_here : (box : Box) (x : ℕ) (lo hi : ℤ) (a : Arg) (y : VarId) → a ≡ Var y → y.0 ≡ x → left_to (box_within box x lo hi) a ≡ values_within lo hi (values_left box y.0)
 left_here box x lo hi a y e f =

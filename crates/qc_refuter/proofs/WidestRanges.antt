@@ -5,13 +5,15 @@ use Rattle.std.proofs.lemmas.List.{get_or-set_same, get_or-set_other}
 use Rattle.qc_refuter.specs.Full.{first_sum, IsWidest, AreWidest}
 use Rattle.qc_refuter.proofs.Fill.{one_more, widest_same}
 
+-- one count more in a sum
 sum_next : (ns : List ℕ) (k : ℕ) → k < length ns → first_sum ns (k + 1) ≡ first_sum ns k + get_or ns k 0
 sum_next ns k h = grind (arith, common_steps)
 
--- the sum with one count more
+-- the sum with what stands at the next place
 pub sum_more : (ns counts : List ℕ) (k s : ℕ) → k < length ns → s ≡ first_sum ns k → get_or counts k 0 ≡ get_or ns k 0 → s + get_or counts k 0 ≡ first_sum ns (k + 1)
 sum_more ns counts k s h e f = ap (λ m. m + get_or counts k 0) e ∙ (ap (λ m. first_sum ns k + m) f ∙ sym (sum_next ns k h))
 
+-- where the next range isn't full, the widest stays
 pub same_more : (f : ℕ → ℕ) (k j s : ℕ) → IsWidest f k j → s ≡ f (k + 1) → s ≤ k + 1 → s ≢ k + 1 → IsWidest f (k + 1) j
 same_more f k j s w e l n = widest_same f k j w (less s (f (k + 1)) (k + 1) e l n)
   where
@@ -55,5 +57,6 @@ all_widest f counts k w n e l m last each = record {
 pub too_many : (f : ℕ → ℕ) (k n s : ℕ) → k < n → s ≡ f (k + 1) → k + 1 < s → (m : ℕ) × (m ≤ n) × (m < f m)
 too_many f k n s h e l = (k + 1, omega arith, omega arith)
 
+-- before the first place
 pub none_widest : (f : ℕ → ℕ) (counts : List ℕ) (j : ℕ) → j < 0 → IsWidest f j (get_or counts j 0)
 none_widest f counts j h = absurd (omega arith)

@@ -2,7 +2,7 @@ use Rattle.std.proofs.Common.{◌≡◌, ◌+◌, get_or, refl, sym, subst, ◌�
 use Rattle.std.proofs.Math.Nat.{le_refl}
 use Rattle.qc_refuter.specs.Full.{first_sum, IsWidest}
 use Rattle.qc_refuter.proofs.Fill.{widest_none, widest_here}
-use Rattle.dense_quiet.proofs.WidestRanges.{sum_more, same_more, each_more, later_more, all_widest, too_many, none_widest}
+use Rattle.qc_refuter.proofs.WidestRanges.{sum_more, same_more, each_more, later_more, all_widest, too_many, none_widest}
 use Rattle.dense_quiet.proofs.differing.widest_of.Goals as goal
 use Rattle.dense_quiet.proofs.differing.widest_of.Goals.{then-sum-k-2, else-sum-k-2}
 

@@ -1,7 +1,7 @@
 use Rattle.std.proofs.Common.{◌≡◌, ◌||◌, int_eq, w64, rules, arith}
 use mir.Val.{SFits}
 use Rattle.std.proofs.lemmas.Int.{to_z-of_z}
-use Rattle.model_evaluation.proofs.Bits.{same_bits}
+use Rattle.qc_model.proofs.Bits.{same_bits}
 use Rattle.qc_model.specs.declared.problem.Arg.TheVariants.{Var}
 use Rattle.qc_model.specs.Holds.{arg_value}
 use Rattle.model_evaluation.proofs.Steps.{reached_before, reached_now, greatest_more, greatest_past, greatest_end}

@@ -6,7 +6,7 @@ use Rattle.qc_model.specs.Domains.{Values, is_single, least_value}
 use Rattle.qc_model.specs.Holds.{same_truth, is_one}
 use Rattle.qc_model.specs.Left.{left_at}
 use Rattle.qc_refuter.specs.Met.{seen, lefts}
-use Rattle.qc_refuter.proofs.Bits.{same_bits, one_bit}
+use Rattle.qc_model.proofs.Bits.{same_bits, one_bit}
 use Rattle.qc_refuter.proofs.truths.exactly_one_refuted.Goals as goal
 
 same_word : (a b : Bool) → beq a b ≡ same_truth a b
