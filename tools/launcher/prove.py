@@ -160,6 +160,8 @@ def prove(program, order, log):
             line.say(f"{report.refused} could not be proved")
         if not proved or not os.access(made, os.X_OK):
             return False
+        # (a gate that runs in this checkout meanwhile moves the folder aside)
+        os.makedirs(os.path.dirname(program.built), exist_ok=True)
         shutil.copy(made, program.built)
         os.utime(program.built, (when, when))
     return True
@@ -173,12 +175,14 @@ def build(program, order):
     if os.path.exists(program.built):
         os.replace(program.built, aside)
     handle, path = tempfile.mkstemp(prefix=f"{program.name}-build-", suffix=".log")
-    say(program.name, f"proving and building {len(order)} crates; a first time takes some twenty minutes on four processors")
+    say(program.name, f"proving and building {len(order)} crates; a first time takes half an hour to an hour on four processors")
     say(program.name, f"what the proofs say is written to {path}; {program.launcher} --now answers before, by a build of which nothing is proved")
     proved = False
     try:
         with os.fdopen(handle, "wb") as log:
             proved = prove(program, order, log) and os.access(program.built, os.X_OK)
+    except OSError as why:
+        say(program.name, f"a file could not be read or written: {why}")
     finally:
         if os.path.exists(aside):
             if proved:
