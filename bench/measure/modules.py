@@ -27,7 +27,7 @@ PARTS = (
 
 
 def written(folder):
-    """The files of the prover's folder and when each was written, in that order."""
+    """When each file of the prover's folder was written, and its path there."""
     for at, _, names in os.walk(folder):
         for name in names:
             path = os.path.join(at, name)

@@ -175,7 +175,7 @@ def build(program, order):
     if os.path.exists(program.built):
         os.replace(program.built, aside)
     handle, path = tempfile.mkstemp(prefix=f"{program.name}-build-", suffix=".log")
-    say(program.name, f"proving and building {len(order)} crates; a first time takes half an hour to an hour on four processors")
+    say(program.name, f"proving and building {len(order)} crates; a first time takes up to an hour on four processors")
     say(program.name, f"what the proofs say is written to {path}; {program.launcher} --now answers before, by a build of which nothing is proved")
     proved = False
     try:
