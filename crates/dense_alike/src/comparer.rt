@@ -52,6 +52,7 @@ impl<'p> Comparer<'p> {
         ensures { IfOk result (λ comparer. comparer ≡ levels.now.problem.now) }
     {
         let problem = levels.problem;
+        // those that have most to let go where a later one fails come last
         let here = vec![in alloc; 0i64; problem.variables()]?;
         let holds_here = vec![in alloc; false; problem.constraints()]?;
         let holds_there = vec![in alloc; false; problem.constraints()]?;

@@ -148,6 +148,7 @@ pub(crate) fn begin<'p>(
     ensures lines { IfOk result (λ walk. walk.lines ≡ []) }
     ensures left { IfOk result (λ walk. walk.left ≡ turns) }
 {
+    // those that have most to let go where a later one fails come last
     let joins = Joins::new(alloc, levels.problem)?;
     let known = KnownNodes::new(alloc, levels, cuts)?;
     let remains = SearchBox::new(alloc, levels.problem)?;
