@@ -1,5 +1,4 @@
 pub mod Answered
-pub mod Ended
 pub mod Kept
 pub mod RootTold
 pub mod Rooted

@@ -21,6 +21,7 @@ use search_box::SearchBox;
 use search_kept::{AsideNodes, KnownNodes, is_decided};
 use search_walk::{Stop, Walk, node};
 use std::alloc::{AllocError, Global};
+use std::mem::replace;
 use strategy_arena::{Arena, lines_fit};
 
 /// The outcome, the best value of the first scope where it optimises and the game is won, and the lines that show it.
@@ -124,14 +125,27 @@ pub(crate) fn attempt(alloc: Global, levels: &Levels, turns: u64, cuts: bool) ->
     ensures attempted { IfOk result (λ root. Attempted cuts levels.now.problem.now turns root.found root.own root.arena) }
     ensures stops { IfErr result (MayStop cuts) }
 {
-    let mut walk = begin(alloc, levels, turns, cuts)?;
-    let found = node(levels, cuts, None, 0, &mut walk)?;
+    // a `?` on what owns so much would cost the proof minutes
+    match begin(alloc, levels, turns, cuts) {
+        Ok(mut walk) => go_through(levels, cuts, &mut walk),
+        Err(refused) => Err(Stop::Memory(refused)),
+    }
+}
+
+/// Goes through the game by a walk that hasn't gone anywhere, and takes its lines.
+fn go_through(levels: &Levels, cuts: bool, walk: &mut Walk) -> Result<Root, Stop>
+    requires declared { walk.old.remains.store.box ≡ declared_box levels.now.problem.now }
+    requires here { IsEntered levels.now.problem.now 0 walk.old.remains }
+    requires joins { game_of walk.old.joins ≡ levels.now.problem.now }
+    requires lines { walk.old.lines ≡ [] }
+    requires turns { walk.old.left ≤ 10000000 }
+    ensures attempted { IfOk result (λ root. Attempted cuts levels.now.problem.now walk.old.left root.found root.own root.arena) }
+    ensures stops { IfErr result (MayStop cuts) }
+{
+    let found = node(levels, cuts, None, 0, walk)?;
     let own = first_own(levels.problem, &walk.joins);
-    Ok(Root {
-        found,
-        own,
-        arena: walk.lines,
-    })
+    let arena = replace(&mut walk.lines, Arena::new(walk.alloc));
+    Ok(Root { found, own, arena })
 }
 
 /// A walk that hasn't gone anywhere: each variable has its declared values, no line is written, and all turns are left. It fails

@@ -11,19 +11,18 @@ ghost use Rattle.joins.specs.Seen.{verdict_of};
 ghost use Rattle.search_box.specs.Entered.{IsEntered};
 ghost use Rattle.search_parts.specs.Settled.{beats_none, is_vague_verdict};
 ghost use Rattle.game_search.specs.Beside.{PieceTried};
-ghost use Rattle.game_search.specs.Ends.{IsRootWith, IsWithLines};
 ghost use Rattle.game_search.specs.Pieces.{AreKeeps, IsKeep, IsReached, PieceLines, is_no_better as is_no_better_by, kept_box, kept_from, optimum_beside, outcome_beside};
 ghost use Rattle.search_walk.specs.Stops.{MayStop};
 
 use crate::attempts::{Flat, Root, answer, begin, decided, first_own};
 use crate::beside::root;
-use joins::Found;
 use model_levels::Levels;
 use proof_tree::{Outcome, StepList};
 use qc_model::{Problem, Sense, VarId, limits};
 use search_box::SearchBox;
 use search_walk::{Stop, Walk};
 use std::alloc::{AllocError, Global};
+use std::mem::replace;
 use strategy_arena::{Arena, lines_fit};
 
 /// The largest value that a variable can have.
@@ -154,57 +153,29 @@ fn try_piece(
     ensures none { IfOk result (λ o. IfNone o (IsTrue (has_empty (kept_box levels.now.problem.now keeps.now)))) }
     ensures stops { IfErr result (MayStop cuts) }
 {
-    let mut walk = begin(alloc, levels, turns, cuts)?;
-    let end = go_through(levels, keeps, reached, cuts, &mut walk);
-    with_lines(end, walk.lines)
-}
-
-/// The root with its lines.
-fn with_lines(end: Result<Option<RootEnd>, Stop>, lines: Arena) -> Result<Option<Root>, Stop>
-    ensures { IsWithLines end lines result }
-{
-    match end {
-        Err(stop) => Err(stop),
-        Ok(end) => Ok(root_with(end, lines)),
+    // a `?` on what owns so much would cost the proof minutes
+    match begin(alloc, levels, turns, cuts) {
+        Ok(mut walk) => go_through(levels, keeps, reached, cuts, &mut walk),
+        Err(refused) => Err(Stop::Memory(refused)),
     }
 }
 
-fn root_with(end: Option<RootEnd>, lines: Arena) -> Option<Root>
-    ensures { IsRootWith end lines result }
-{
-    match end {
-        None => None,
-        Some(end) => Some(Root {
-            found: end.found,
-            own: end.own,
-            arena: lines,
-        }),
-    }
-}
-
-/// What the root came to, and the value of the first scope's own condition.
-#[derive(Clone, Copy)]
-pub(crate) struct RootEnd {
-    pub(crate) found: Found,
-    pub(crate) own: Option<i64>,
-}
-
-/// Goes through the piece by a walk that hasn't gone anywhere.
+/// Goes through the piece by a walk that hasn't gone anywhere, and takes its lines.
 fn go_through(
     levels: &Levels,
     keeps: &[Keep],
     reached: Option<i64>,
     cuts: bool,
     walk: &mut Walk,
-) -> Result<Option<RootEnd>, Stop>
+) -> Result<Option<Root>, Stop>
     requires here { IsEntered levels.now.problem.now 0 walk.old.remains }
     requires joins { game_of walk.old.joins ≡ levels.now.problem.now }
     requires lines { walk.old.lines ≡ [] }
     requires turns { walk.old.left ≤ 10000000 }
     requires keeps { AreKeeps levels.now.problem.now keeps.now }
     requires reached { IfSome reached (λ r. IsReached levels.now.problem.now r) }
-    ensures tried { IfOk result (λ o. IfSome o (λ end. PieceTried cuts levels.now.problem.now (kept_from walk.old.remains.store.box keeps.now) reached walk.old.left end.found end.own walk.new.lines)) }
-    ensures full { IfOk result (λ o. IfSome o (λ end. IsFalse (has_empty (kept_from walk.old.remains.store.box keeps.now)))) }
+    ensures tried { IfOk result (λ o. IfSome o (λ root. PieceTried cuts levels.now.problem.now (kept_from walk.old.remains.store.box keeps.now) reached walk.old.left root.found root.own root.arena)) }
+    ensures full { IfOk result (λ o. IfSome o (λ root. IsFalse (has_empty (kept_from walk.old.remains.store.box keeps.now)))) }
     ensures none { IfOk result (λ o. IfNone o (IsTrue (has_empty (kept_from walk.old.remains.store.box keeps.now)))) }
     ensures stops { IfErr result (MayStop cuts) }
 {
@@ -213,7 +184,8 @@ fn go_through(
     }
     let found = root(levels, cuts, reached, walk)?;
     let own = first_own(levels.problem, &walk.joins);
-    Ok(Some(RootEnd { found, own }))
+    let arena = replace(&mut walk.lines, Arena::new(walk.alloc));
+    Ok(Some(Root { found, own, arena }))
 }
 
 /// Leaves variables the values that are kept, one keep after the other, until a variable has none left: whether each has one.
