@@ -125,9 +125,13 @@ pub(crate) fn attempt(alloc: Global, levels: &Levels, turns: u64, cuts: bool) ->
     ensures attempted { IfOk result (λ root. Attempted cuts levels.now.problem.now turns root.found root.own root.arena) }
     ensures stops { IfErr result (MayStop cuts) }
 {
-    // a `?` on what owns so much would cost the proof minutes
+    // (what owns so much costs the proof minutes by a `?`, or let go without a word)
     match begin(alloc, levels, turns, cuts) {
-        Ok(mut walk) => go_through(levels, cuts, &mut walk),
+        Ok(mut walk) => {
+            let root = go_through(levels, cuts, &mut walk);
+            drop(walk);
+            root
+        }
         Err(refused) => Err(Stop::Memory(refused)),
     }
 }
@@ -166,7 +170,10 @@ pub(crate) fn begin<'p>(
     let joins = Joins::new(alloc, levels.problem)?;
     let known = KnownNodes::new(alloc, levels, cuts)?;
     let remains = SearchBox::new(alloc, levels.problem)?;
-    let advice = Advice::new(alloc, levels, cuts)?;
+    let Ok(advice) = Advice::new(alloc, levels, cuts) else {
+        drop(remains);
+        return Err(AllocError);
+    };
     Ok(Walk {
         alloc,
         remains,

@@ -153,9 +153,12 @@ fn try_piece(
     ensures none { IfOk result (λ o. IfNone o (IsTrue (has_empty (kept_box levels.now.problem.now keeps.now)))) }
     ensures stops { IfErr result (MayStop cuts) }
 {
-    // a `?` on what owns so much would cost the proof minutes
     match begin(alloc, levels, turns, cuts) {
-        Ok(mut walk) => go_through(levels, keeps, reached, cuts, &mut walk),
+        Ok(mut walk) => {
+            let root = go_through(levels, keeps, reached, cuts, &mut walk);
+            drop(walk);
+            root
+        }
         Err(refused) => Err(Stop::Memory(refused)),
     }
 }
