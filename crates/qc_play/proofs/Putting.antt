@@ -4,7 +4,7 @@ use Rattle.std.proofs.lemmas.List.{drop_more, drop_all}
 use Rattle.proof_tree.specs.declared.line.Line.{Line}
 use Rattle.proof_tree.specs.declared.tree.Step.{Step}
 use Rattle.proof_tree.specs.declared.tree.Piece.{Piece}
-use Rattle.proof_tree.specs.Counts.{branch_weight}
+use Rattle.proof_tree.specs.Counts.{branch_weight, case_weight}
 use Rattle.proof_tree.specs.Lines.{step_line, upto_lines, case_lines, branches_lines}
 use Rattle.proof_tree.specs.Shape.{branches_of, case_of}
 
@@ -36,3 +36,10 @@ pieces_put old ps k h = subst (λ xs. IsPut old old (branches_lines (branches_of
 
 pub pieces_fewer : (ps : List Piece) (k : ℕ) (d : Piece) → k < length ps → branch_weight (branches_of (drop (k + 1) ps)) ≤ branch_weight (branches_of (drop k ps))
 pieces_fewer ps k d h = let e = ap (λ xs. branch_weight (branches_of xs)) (drop_more ps k d h) in omega (arith, e)
+
+pub piece_less : (ps : List Piece) (k : ℕ) (p : Piece) → k < length ps → p ≡ get_or ps k p →
+    case_weight (case_of p.case) < branch_weight (branches_of (drop k ps))
+piece_less ps k p h e =
+    let all = ap (λ xs. branch_weight (branches_of xs)) (drop_more ps k p h) in
+    let same = ap (λ (q : Piece). case_weight (case_of q.case)) e in
+    omega (arith, all, same)

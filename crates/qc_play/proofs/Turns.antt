@@ -1,23 +1,25 @@
 -- One turn, and the play after it.
-use Rattle.std.proofs.Common.{◌≡◌, ℕ, suc, ◌<◌, ◌≤◌, true, false, List, ◌++◌, length, take, drop, sym, subst, Some, ℤ}
+use Rattle.std.proofs.Common.{◌≡◌, ℕ, suc, ◌<◌, ◌≤◌, Bool, true, false, List, ◌++◌, length, take, drop, refl, sym, ap, ◌∙◌, subst, Some, ℤ}
 use Rattle.std.specs.Prelude.{Result, Ok, Err, MatchResult, nat_lt}
 use Rattle.std.specs.List.{list_all}
 use Rattle.std.proofs.lemmas.Bool.Decides.{nat_tests}
+use Rattle.std.proofs.lemmas.List.{at_drop_all}
 use Rattle.qc_model.specs.declared.problem.Kind.{Kind}
 use Rattle.qc_model.specs.Content.{Game}
-use Rattle.qc_model.specs.Game.{scope_domains}
+use Rattle.qc_model.specs.Game.{scope_domains, allows}
 use Rattle.qc_model.specs.Plan.{Plan, choose}
 use Rattle.qc_model.specs.Valid.{IsValid, is_number}
 use Rattle.qc_play.specs.declared.fault.PlayFault.{PlayFault}
-use Rattle.qc_play.specs.Play.{Play, after_turn, is_move, reply_to, answers_of}
-use Rattle.qc_play.specs.PlayText.{turn_line}
-use Rattle.qc_play.specs.Playing.{IsFaultOf, IsToldAfter}
+use Rattle.qc_play.specs.declared.fault.PlayFault.TheVariants.{Missing, NotAllowed, Memory}
+use Rattle.qc_play.specs.Play.{Play, at_goal, ends, play_from, after_turn, is_move, reply_to, answers_of}
+use Rattle.qc_play.specs.PlayText.{turn_line, ending_line, unused_line}
+use Rattle.qc_play.specs.Playing.{IsFaultOf, IsToldAfter, IsWant}
 use Rattle.qc_play.specs.Sides.{is_same, has_entries}
 use Rattle.qc_play.specs.Ends.{MayGoOn, kind_at}
 use Rattle.qc_play.proofs.Endings.{move_true}
 use Rattle.qc_play.proofs.Going.{own_may, other_may}
 use Rattle.qc_play.proofs.Ranges.{move_numbers, numbers_both}
-use Rattle.qc_play.proofs.Telling.{play_at, rest_of, own_goes, other_goes, told_turn, fault_turn}
+use Rattle.qc_play.proofs.Telling.{play_at, rest_of, own_goes, other_goes, told_end, told_turn, fault_turn}
 use Rattle.std.proofs.Common.{arith}
 
 match_turn : {X : Type 0} (res : Result X PlayFault) (i : ℕ) (p rest : Play) (k : Kind) (t : List ℤ) (before between after : List ℕ) → p ≡ after_turn k t rest → between ≡ before ++ turn_line i k t →
@@ -27,6 +29,26 @@ match_turn (Err f) i p rest k t before between after q b h = fault_turn p rest k
 
 abbrev pub Goes : {X : Type 0} → Result X PlayFault → Game → Kind → ℕ → List ℤ → Plan → List ℤ → List ℕ → List ℕ → Type 0
 Goes res g own i a s ms before after = MatchResult res (λ u. IsToldAfter i (play_at g own i a s ms) before after) (IsFaultOf (play_at g own i a s ms))
+
+-- at the goal the play ends
+ends_there : {X : Type 0} (res : Result X PlayFault) (i : ℕ) (p : Play) (b : Bool) (ms : List ℤ)
+    (before after : List ℕ) → p ≡ ends (at_goal b) ms →
+    MatchResult res (λ u. after ≡ before ++ (ending_line (at_goal b) ++ unused_line (length ms))) IsWant →
+    MatchResult res (λ u. IsToldAfter i p before after) (IsFaultOf p)
+ends_there (Ok u) i p b ms before after q h = told_end i p (at_goal b) ms before after q refl h
+ends_there (Err (Missing j)) i p b ms before after q h = absurd h
+ends_there (Err (NotAllowed j)) i p b ms before after q h = absurd h
+ends_there (Err (Memory e)) i p b ms before after q h = tt
+
+pub goal_told : {X : Type 0} (res : Result X PlayFault) (g : Game) (own : Kind) (i : ℕ) (a : List ℤ) (s : Plan)
+    (ms : List ℤ) (before after : List ℕ) → i ≡ length g.scopes →
+    MatchResult res (λ u. after ≡ before
+    ++ (ending_line (at_goal (allows g (length g.scopes) a)) ++ unused_line (length ms))) IsWant →
+    Goes res g own i a s ms before after
+goal_told res g own i a s ms before after e h =
+    ends_there res i (play_at g own i a s ms) (allows g (length g.scopes) a) ms before after
+    (at_drop_all (λ ss. play_from g own ss i a s ms) g.scopes i (omega (arith, e))
+    ∙ ap (λ j. ends (at_goal (allows g j a)) ms) e) h
 
 -- the position after a turn, as the code names it
 abbrev pub Stands : Game → Kind → ℕ → List ℤ → Plan → Type 0

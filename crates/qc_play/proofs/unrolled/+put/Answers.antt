@@ -7,7 +7,7 @@ use Rattle.proof_tree.specs.Shape.{tree_of, body_of, ending_of, branches_of, cas
 use Rattle.proof_tree.specs.Counts.{ending_weight, branch_weight}
 use Rattle.proof_tree.specs.Lines.{step_line, horizon_lines, body_lines, branches_lines, ending_lines, case_lines, upto_lines}
 use Rattle.proof_tree.proofs.Shapes.{ending_branch}
-use Rattle.qc_play.proofs.Putting.{IsPut, both_put, piece_put, pieces_put, pieces_fewer}
+use Rattle.qc_play.proofs.Putting.{IsPut, both_put, piece_put, pieces_put, pieces_fewer, piece_less}
 use Rattle.qc_play.proofs.unrolled.+put.Goals as goal
 
 -- a node's lines are those of its horizon and then those of its body
@@ -63,3 +63,10 @@ put_cases-loop-piece-preserved t c =
 
 pub put_cases-returns : goal.put_cases-returns
 put_cases-returns t c = c.loop-piece.invariant.put _ (pieces_put c.loop-piece.lines.items c.args.cases.now c.loop-piece.piece-index (omega (arith, c.loop-piece-test.false)))
+
+pub put_cases-put_case-requires : goal.put_cases-put_case-requires
+put_cases-put_case-requires t c =
+    let now = c.loop-piece.invariant.less in
+    let k = c.loop-piece.piece-index in
+    let less = piece_less c.args.cases.now k c.piece-item.result c.loop-piece-test.true c.piece-item.is in
+    omega (arith, now, less)

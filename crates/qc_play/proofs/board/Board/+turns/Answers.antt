@@ -4,7 +4,7 @@ use Rattle.qc_play.specs.Play.{is_move, reply_to, answers_of, stuck_at, hopeless
 use Rattle.qc_play.specs.Sides.{kind_of, choices_of}
 use Rattle.qc_play.proofs.Telling.{play_at, own_stuck, other_stuck, other_missing, other_wrong, other_hopeless, told_end, told_hopeless}
 use Rattle.qc_play.specs.PlayText.{turn_line, ending_line, unused_line}
-use Rattle.qc_play.proofs.Turns.{Goes, own_stands, own_told, other_stands, other_told, are_left, are_missing}
+use Rattle.qc_play.proofs.Turns.{Goes, goal_told, own_stands, own_told, other_stands, other_told, are_left, are_missing}
 use Rattle.qc_play.proofs.board.Board.+turns.Goals as goal
 
 pub other_turn-returns-then-not-has_answers : goal.other_turn-returns-then-not-has_answers
@@ -115,3 +115,10 @@ own_turn-returns t c =
     own_told g own (kind_of c.in-Some.choice.after) c.args.owner i (i + 1) a c.extend_from_slice.new.self.items s (choices_of c.in-Some.choice.after) ms (add-one i) c.in-Some.ensures.kind c.requires.owner
     c.in-Some.choice.tuple.now c.requires.own c.in-Some.ensures.tree taken c.go_on.result c.args.self.now.text.items c.put_turn.new.out.items c.go_on.new.self.text.items
     (c.in_ok-put_turn.ensures ∙ ap (λ u. c.args.self.now.text.items ++ turn_line i c.args.owner u) c.items-tuple.ensures) c.go_on.ensures
+
+pub go_on-returns-then-i-scopes : goal.go_on-returns-then-i-scopes
+go_on-returns-then-i-scopes t c =
+    let w = c.args.self.now in
+    goal_told c.reach_goal.result w.problem.now (kind_of c.args.side) c.args.i w.values.items (choices_of c.args.side)
+    c.args.moves.now w.text.items c.reach_goal.new.self.text.items
+    (c.if-i-scopes.true ∙ c.scopes.ensures) c.reach_goal.ensures

@@ -17,7 +17,7 @@ use Rattle.proof_tree.specs.Tree.{tree, cases}
 use Rattle.qc_play.specs.Shown.{Shows}
 use Rattle.qc_play.specs.Beginnings.{BeginsPart}
 use Rattle.qc_play.specs.Walk.{game_of, node_finding, part_leaves, CanReadNode, CanReadPart, CanReadEnd, CanReadCase, IsBack, HasSeen, Tells}
-use Rattle.qc_play.proofs.Backs.{back_self, back_then, back_below, within_back, within_kept_box}
+use Rattle.qc_play.proofs.Backs.{follows_then, past_before, back_self, back_then, back_below, within_back, within_kept_box}
 use Rattle.model_arguments.proofs.Boxes.{left_small}
 use Rattle.box_laws.proofs.Firsts.{from_least}
 use Rattle.qc_play.proofs.CaseLines.{CasesLeft, no_case_walked, begun_back, begun_cases, begins_case, one_case_walked, case_walked_shorter, all_cases_walked}
@@ -98,6 +98,48 @@ own_tree-returns-clause-shows t c =
       λ few. own_shows g i c.clear.new.self c.part.new.self.joins x.result c.part.new.leaves w.remains.box c.undo_to.new.self.box _ (part_leaves g steps e i w.remains.box) (out_of c.close.new.self.joins) s back.box none k.1 few answered h,
     ))
     c.close.ensures.shows
+
+pub own_tree-returns-clause-back : goal.own_tree-returns-clause-back
+own_tree-returns-clause-back t c =
+    let g = game_of c.args.tables.now in
+    let i = c.args.i.0 in
+    let w = c.args.self.now in
+    let b = c.part.new.self in
+    let back =
+    own_back g i w c.requires.within c.clear.new.self c.clear.ensures.same c.clear.ensures.others b
+    c.in_ok-part.ensures.on c.undo_to.new.self c.mark-mark.result.at c.mark-mark.ensures c.undo_to.ensures.past
+    c.undo_to.ensures.content in
+    on_ok_weaker c.close.result (back_then g i w (record b { remains = c.undo_to.new.self }) c.close.new.self back)
+    c.close.ensures.back
+
+pub own_tree-undo_to-requires-clause-full : goal.own_tree-undo_to-requires-clause-full
+own_tree-undo_to-requires-clause-full t c =
+    let w = c.args.self.now in
+    let b = c.part.new.self in
+    let past = c.in_ok-part.ensures.on.past in
+    ap has_empty (past_before w.remains b.remains c.mark-mark.result.at c.mark-mark.ensures past)
+    ∙ c.requires.full
+
+pub own_tree-close-requires-clause-full : goal.own_tree-close-requires-clause-full
+own_tree-close-requires-clause-full t c =
+    let w = c.args.self.now in
+    let b = c.part.new.self in
+    let past = c.in_ok-part.ensures.on.past in
+    ap has_empty
+    (c.undo_to.ensures.content ∙ past_before w.remains b.remains c.mark-mark.result.at c.mark-mark.ensures past)
+    ∙ c.requires.full
+
+pub own_tree-close-requires-clause-within : goal.own_tree-close-requires-clause-within
+own_tree-close-requires-clause-within t c =
+    let g = game_of c.args.tables.now in
+    let i = c.args.i.0 in
+    let w = c.args.self.now in
+    let b = c.part.new.self in
+    let back =
+    own_back g i w c.requires.within c.clear.new.self c.clear.ensures.same c.clear.ensures.others b
+    c.in_ok-part.ensures.on c.undo_to.new.self c.mark-mark.result.at c.mark-mark.ensures c.undo_to.ensures.past
+    c.undo_to.ensures.content in
+    within_back g i w (record b { remains = c.undo_to.new.self }) c.requires.within back
 
 -- a part
 pub part-end-requires : goal.part-end-requires
@@ -214,6 +256,15 @@ end-unreachable-requires t c =
     no_ending b.ending b.rest c.args.lines.now c.args.line c.in_default.not-Empty c.in_default.not-Barred c.in_default.not-Next c.in_default.not-Branch b.is
 
 -- the node after a tuple
+pub next-add_node-requires-clause-within : goal.next-add_node-requires-clause-within
+next-add_node-requires-clause-within t c =
+    let g = game_of c.args.tables.now in
+    let i = c.args.i.0 in
+    let a = c.read_tuple.new.self in
+    let b = c.node.new.self in
+    within_back g (suc i) a b c.read_tuple.ensures.within
+    (subst (λ j. IsBack g j a b) (add-one i) c.in_ok-shown.ensures.back)
+
 pub next-returns-clause-back : goal.next-returns-clause-back
 next-returns-clause-back t c =
     let g = game_of c.args.tables.now in
@@ -318,6 +369,13 @@ taken-part-requires t c =
         ),
       ),
     )
+
+pub taken-undo_to-requires-clause-full : goal.taken-undo_to-requires-clause-full
+taken-undo_to-requires-clause-full t c =
+    let w = c.args.self.now in
+    let b = c.part.new.self in
+    let past = follows_then w.remains c.keep.new.self b.remains c.keep.ensures.past c.in_ok-part.ensures.on.past in
+    ap has_empty (past_before w.remains b.remains c.mark-mark.result.at c.mark-mark.ensures past) ∙ c.requires.full
 
 pub taken-returns-clause-back : goal.taken-returns-clause-back
 taken-returns-clause-back t c =
