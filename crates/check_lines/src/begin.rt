@@ -27,6 +27,7 @@ impl<'p> Machine<'p> {
         ensures begins { IfOk result (λ m. CanBegin m) }
     {
         problem.known();
+        // what owns most is made last: each `?` lets go of all that is there by then, which the proof pays for
         let nesting = Nesting::new(alloc)?;
         let reads = Reads::new(alloc, problem.variables())?;
         let bounds = Bounds::new(alloc, problem)?;
