@@ -14,3 +14,4 @@ mod Valid
 mod Positive
 mod Made
 mod Once
+mod Steps
