@@ -37,20 +37,18 @@ pub(crate) struct Attempt<'p> {
 }
 
 impl<'p> Attempt<'p> {
-    /// A search that begins with what clauses say of values, or with values that make all of them true, where a walk finds some.
-    /// It gives up after so many looks.
-    pub(crate) fn first(
+    /// A search that gives up after so many looks. It has no values to begin with yet.
+    pub(crate) fn new(
         alloc: Global,
         problem: &'p Problem,
         budget: u64,
     ) -> Result<Attempt<'p>, AllocError> {
-        let mut engine = Engine::new(alloc, problem)?;
-        let mut analyst = Analyst::new(alloc, problem, &engine, budget)?;
-        let walk = walk_from(alloc, &engine, first_values(alloc, &engine)?)?;
-        analyst.go_over(walk.gone_over);
-        engine.saved = match walk.values {
-            Some(values) => values,
-            None => first_values(alloc, &engine)?,
+        // (a `?` on what owns so much costs its proof minutes)
+        let Ok(engine) = Engine::new(alloc, problem) else {
+            return Err(AllocError);
+        };
+        let Ok(analyst) = Analyst::new(alloc, problem, &engine, budget) else {
+            return Err(AllocError);
         };
         Ok(Attempt {
             problem,
@@ -58,6 +56,11 @@ impl<'p> Attempt<'p> {
             engine,
             analyst,
         })
+    }
+
+    /// Begins with what clauses say of values, or with values that make all of them true, where a walk finds some.
+    pub(crate) fn set_out(&mut self) -> Result<(), AllocError> {
+        walk_first(self.alloc, &mut self.engine, &mut self.analyst)
     }
 
     /// Searches anew, without the lemmas, with what it keeps, and without the loser's constraints that a list doesn't name. It
@@ -68,30 +71,26 @@ impl<'p> Attempt<'p> {
         core: Option<&List>,
         budget: u64,
     ) -> Result<(), AllocError> {
-        self.engine.go_back(0);
-        let values = mem::replace(&mut self.engine.saved, Vec::new(self.alloc));
+        let values = take_values(self.alloc, &mut self.engine);
         let activity = self.analyst.take_activity(self.alloc);
-        self.engine = Engine::new(self.alloc, self.problem)?;
-        self.analyst = Analyst::new(self.alloc, self.problem, &self.engine, budget)?;
+        self.renew(budget)?;
         if let Some(list) = core {
             keep_named(self.alloc, &mut self.engine, list)?;
         }
-        match keeps {
-            Keeps::Values => self.engine.saved = values,
-            Keeps::Activity => {
-                self.engine.saved = first_values(self.alloc, &self.engine)?;
-                self.analyst.activity = activity;
-            }
-            Keeps::Nothing(k) => {
-                self.engine.saved = first_values(self.alloc, &self.engine)?;
-                self.analyst.activity = by_chance(activity, k);
-            }
-            Keeps::Both => {
-                self.engine.saved = values;
-                self.analyst.activity = activity;
-            }
-        }
+        keep_values(self.alloc, &mut self.engine, keeps, values)?;
+        keep_activity(&mut self.analyst, keeps, activity);
         Ok(())
+    }
+
+    fn renew(&mut self, budget: u64) -> Result<(), AllocError> {
+        renew_engine(self.alloc, self.problem, &mut self.engine)?;
+        renew_analyst(
+            self.alloc,
+            self.problem,
+            &self.engine,
+            budget,
+            &mut self.analyst,
+        )
     }
 
     /// The list, where it came to be known who wins.
@@ -129,6 +128,70 @@ impl<'p> Attempt<'p> {
     /// How many looks it took.
     pub(crate) fn looks(&self) -> u64 {
         self.engine.looks().saturating_add(self.analyst.looks())
+    }
+}
+
+// Takes the values that a walk finds, or what clauses say of values.
+fn walk_first(alloc: Global, engine: &mut Engine, analyst: &mut Analyst) -> Result<(), AllocError> {
+    let walk = walk_from(alloc, engine, first_values(alloc, engine)?)?;
+    analyst.go_over(walk.gone_over);
+    engine.saved = match walk.values {
+        Some(values) => values,
+        None => first_values(alloc, engine)?,
+    };
+    Ok(())
+}
+
+// The value that each variable had last. They aren't kept there any more.
+fn take_values(alloc: Global, engine: &mut Engine) -> Vec<Option<i64>> {
+    engine.go_back(0);
+    mem::replace(&mut engine.saved, Vec::new(alloc))
+}
+
+fn renew_engine<'p>(
+    alloc: Global,
+    problem: &'p Problem,
+    engine: &mut Engine<'p>,
+) -> Result<(), AllocError> {
+    let Ok(other) = Engine::new(alloc, problem) else {
+        return Err(AllocError);
+    };
+    *engine = other;
+    Ok(())
+}
+
+fn renew_analyst<'p>(
+    alloc: Global,
+    problem: &'p Problem,
+    engine: &Engine,
+    budget: u64,
+    analyst: &mut Analyst<'p>,
+) -> Result<(), AllocError> {
+    let Ok(other) = Analyst::new(alloc, problem, engine, budget) else {
+        return Err(AllocError);
+    };
+    *analyst = other;
+    Ok(())
+}
+
+fn keep_values(
+    alloc: Global,
+    engine: &mut Engine,
+    keeps: Keeps,
+    values: Vec<Option<i64>>,
+) -> Result<(), AllocError> {
+    engine.saved = match keeps {
+        Keeps::Values | Keeps::Both => values,
+        Keeps::Activity | Keeps::Nothing(_) => first_values(alloc, engine)?,
+    };
+    Ok(())
+}
+
+fn keep_activity(analyst: &mut Analyst, keeps: Keeps, activity: Vec<f64>) {
+    match keeps {
+        Keeps::Values => {}
+        Keeps::Activity | Keeps::Both => analyst.activity = activity,
+        Keeps::Nothing(k) => analyst.activity = by_chance(activity, k),
     }
 }
 

@@ -42,12 +42,26 @@ pub(crate) fn listed(
         return Ok(None);
     };
     let mut uses = uses_of(alloc, known)?;
-    let forgets = count_used(&uses) > FEW_LEMMAS;
-    let mut bench = Boxes::new(alloc, problem)?;
+    // (a `?` on what owns so much costs its proof minutes)
+    let Ok(mut bench) = Boxes::new(alloc, problem) else {
+        return Err(AllocError);
+    };
+    shown_on(alloc, &mut bench, last.loser, known, &mut uses)
+}
+
+// The list of those lemmas that are used, by steps taken again.
+fn shown_on(
+    alloc: Global,
+    bench: &mut Boxes,
+    loser: Kind,
+    known: &[Known],
+    uses: &mut [Use],
+) -> Result<Option<List>, AllocError> {
+    let forgets = count_used(uses) > FEW_LEMMAS;
     let mut shown: Vec<Shown> = Vec::new(alloc);
     for (k, lemma) in known.iter().enumerate() {
         let is_last = k.saturating_add(1) == known.len();
-        if !is_last && !is_used(&uses, k) {
+        if !is_last && !is_used(uses, k) {
             continue;
         }
         let Ok(number) = u32::try_from(shown.len()) else {
@@ -56,16 +70,13 @@ pub(crate) fn listed(
         if let Some(it) = uses.get_mut(k) {
             it.number = Some(LemmaId(number));
         }
-        let mut entry = replayed(alloc, &mut bench, lemma, &uses)?;
+        let mut entry = replayed(alloc, bench, lemma, uses)?;
         if forgets && !is_last {
-            forget(alloc, &mut entry, &uses, lemma, k)?;
+            forget(alloc, &mut entry, uses, lemma, k)?;
         }
         shown.push(entry)?;
     }
-    Ok(Some(List {
-        loser: last.loser,
-        shown,
-    }))
+    Ok(Some(List { loser, shown }))
 }
 
 fn is_used(uses: &[Use], k: usize) -> bool {

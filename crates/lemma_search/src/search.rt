@@ -4,7 +4,7 @@ use crate::deciding::next_choice;
 use crate::listing::List;
 use crate::ordering::Order;
 use crate::pacing::Pace;
-use crate::shortening::shortest;
+use crate::shortening::shorten;
 use lemma_analysis::Analyst;
 use lemma_engine::{Cause, Conflict, Engine};
 use qc_model::{Kind, Problem};
@@ -26,12 +26,22 @@ pub fn learn(alloc: Global, problem: &Problem, budget: u64) -> Result<Option<Lis
     if !is_plain(problem) {
         return Ok(None);
     }
-    let mut attempt = Attempt::first(alloc, problem, budget)?;
-    let Some(list) = attempt.list()? else {
+    // (a `?` on what owns so much costs its proof minutes)
+    let Ok(mut attempt) = Attempt::new(alloc, problem, budget) else {
+        return Err(AllocError);
+    };
+    shortest(&mut attempt, budget)
+}
+
+// The shortest list that a new search leads to, within so many looks.
+fn shortest(attempt: &mut Attempt, budget: u64) -> Result<Option<List>, AllocError> {
+    attempt.set_out()?;
+    let Some(mut list) = attempt.list()? else {
         return Ok(None);
     };
     let left = budget.saturating_sub(attempt.looks());
-    Ok(Some(shortest(&mut attempt, list, left)?))
+    shorten(attempt, &mut list, left)?;
+    Ok(Some(list))
 }
 
 fn is_plain(problem: &Problem) -> bool {
@@ -97,17 +107,10 @@ fn one_turn(
         return Ok(Turn::Spent);
     }
     if engine.advance()? {
-        return match engine.visit_new_lemmas()? {
-            Some(conflict) => Ok(Turn::Met(conflict)),
-            None => Ok(Turn::Goes),
-        };
+        return Ok(turn_by(engine.visit_new_lemmas()?));
     }
     if engine.scope >= engine.facts.goal() {
-        return Ok(Turn::Met(Conflict {
-            loser: Kind::Forall,
-            cause: Cause::Goal,
-            choices: Vec::new(engine.alloc),
-        }));
+        return Ok(Turn::Met(met_goal(engine.alloc)));
     }
     if pace.is_over() && engine.trail.levels() > 0 {
         engine.go_back(0);
@@ -119,6 +122,22 @@ fn one_turn(
         None => return Ok(Turn::Spent),
     }
     Ok(Turn::Goes)
+}
+
+fn turn_by(met: Option<Conflict>) -> Turn {
+    match met {
+        Some(conflict) => Turn::Met(conflict),
+        None => Turn::Goes,
+    }
+}
+
+// The opponent has lost where all scopes have values and the goal holds.
+fn met_goal(alloc: Global) -> Conflict {
+    Conflict {
+        loser: Kind::Forall,
+        cause: Cause::Goal,
+        choices: Vec::new(alloc),
+    }
 }
 
 // What a conflict comes to: a lemma more, the last lemma, or the analysis gives up.

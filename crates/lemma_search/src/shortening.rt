@@ -11,6 +11,7 @@
 //! At the end the lemmas of the shortest list are shown anew, by those that are needed anyhow.
 use crate::attempt::{Attempt, Keeps};
 use crate::listing::{List, Shown};
+use lemma_engine::Known;
 use lemma_list::{Ending, Step};
 use std::alloc::AllocError;
 
@@ -33,52 +34,60 @@ const TRIMMING: u64 = 4;
 
 const FOR_EACH: u64 = 200;
 
-/// The shortest of this list and those that are found by searching again, within a small part of so many looks, or few, and
-/// then by showing its lemmas anew.
-pub(crate) fn shortest(
+/// Puts the shortest of those lists in its place that are found by searching again, within a small part of so many looks, or
+/// few, and then by showing its lemmas anew.
+pub(crate) fn shorten(
     attempt: &mut Attempt,
-    first: List,
+    found: &mut List,
     budget: u64,
-) -> Result<List, AllocError> {
-    let mut found = first;
-    let mut size = size_of(&found);
+) -> Result<(), AllocError> {
     // what needs one lemma alone is short
     if found.shown.len() < 2 {
-        return Ok(found);
+        return Ok(());
     }
     let mut core = attempt.take_core()?;
     let more = FEW.saturating_sub(attempt.looks());
     let extra = (budget / PART).max(more.min(budget));
-    let trimming = looks_for_trimming(attempt, &found, extra);
+    let trimming = looks_for_trimming(attempt, found, extra);
     let mut left = extra.saturating_sub(trimming);
     let most = most_of_one(attempt.looks(), extra);
     for k in 0..TIMES {
         if found.shown.len() < 2 {
-            return Ok(found);
+            return Ok(());
         }
-        let named = if k % 2 == 0 { Some(&found) } else { None };
-        attempt.begin_again(kept_at(k), named, left.min(most))?;
-        let again = attempt.list()?;
+        let is_found = search_again(attempt, found, &mut core, k, left.min(most))?;
         left = left.saturating_sub(attempt.looks());
-        let Some(list) = again else {
-            if left == 0 {
-                break;
-            }
-            continue;
-        };
-        let other = size_of(&list);
-        if other < size && list.loser == found.loser {
-            found = list;
-            size = other;
-            core = attempt.take_core()?;
+        if !is_found && left == 0 {
+            break;
         }
     }
-    if let Some(list) = attempt.trimmed(core, trimming.saturating_add(left))?
-        && size_of(&list) < size
+    let trimmed = attempt.trimmed(core, trimming.saturating_add(left))?;
+    if let Some(list) = trimmed
+        && size_of(&list) < size_of(found)
     {
-        found = list;
+        *found = list;
     }
-    Ok(found)
+    Ok(())
+}
+
+// Searches again for the k-th time, and keeps the list and its lemmas where it is shorter. Whether there is one.
+fn search_again(
+    attempt: &mut Attempt,
+    found: &mut List,
+    core: &mut Vec<Known>,
+    k: usize,
+    looks: u64,
+) -> Result<bool, AllocError> {
+    let named: Option<&List> = if k % 2 == 0 { Some(found) } else { None };
+    attempt.begin_again(kept_at(k), named, looks)?;
+    let Some(list) = attempt.list()? else {
+        return Ok(false);
+    };
+    if size_of(&list) < size_of(found) && list.loser == found.loser {
+        *found = list;
+        *core = attempt.take_core()?;
+    }
+    Ok(true)
 }
 
 // How many looks one search takes at most, after the looks of the first and of so many in all.

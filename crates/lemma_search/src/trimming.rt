@@ -11,6 +11,7 @@ use lemma_engine::{Cause, Conflict, Engine, Finish, Known, Taken};
 use lemma_ground::{Why, rule_at};
 use qc_model::{Kind, Problem};
 use std::alloc::{AllocError, Global};
+use std::mem;
 
 /// How often the lemmas are gone over at most.
 const PASSES: usize = 5;
@@ -49,20 +50,46 @@ pub(crate) fn trimmed(
         if left == 0 {
             break;
         }
-        let mut trimmer = Trimmer::new(alloc, problem, known, left)?;
-        if pass % 2 == 0 {
-            trimmer.go_down()?;
-        } else {
-            trimmer.go_up()?;
-        }
-        left = left.saturating_sub(trimmer.looks());
-        let is_done = pass > 0 && trimmer.bettered == 0;
-        known = core_of(alloc, trimmer.into_known())?;
-        if is_done {
+        let bettered = trim_once(alloc, problem, pass, &mut known, &mut left)?;
+        known = core_of(alloc, known)?;
+        if pass > 0 && bettered == 0 {
             break;
         }
     }
     Ok(known)
+}
+
+// Goes over the lemmas once, within the looks that are left, and says how many got a better proof.
+fn trim_once(
+    alloc: Global,
+    problem: &Problem,
+    pass: usize,
+    known: &mut Vec<Known>,
+    left: &mut u64,
+) -> Result<usize, AllocError> {
+    // (a `?` on what owns so much costs its proof minutes)
+    let Ok(mut trimmer) = Trimmer::new(alloc, problem, *left) else {
+        return Err(AllocError);
+    };
+    go_over(alloc, &mut trimmer, pass, known, left)
+}
+
+fn go_over(
+    alloc: Global,
+    trimmer: &mut Trimmer,
+    pass: usize,
+    known: &mut Vec<Known>,
+    left: &mut u64,
+) -> Result<usize, AllocError> {
+    trimmer.set_out(mem::replace(known, Vec::new(alloc)), *left)?;
+    if pass % 2 == 0 {
+        trimmer.go_down()?;
+    } else {
+        trimmer.go_up()?;
+    }
+    *left = left.saturating_sub(trimmer.looks());
+    *known = trimmer.take_known();
+    Ok(trimmer.bettered)
 }
 
 /// Whether lemmas of this game can be shown anew: no scope is restricted.
@@ -76,40 +103,37 @@ pub(crate) fn can_trim(engine: &Engine) -> bool {
 }
 
 impl<'p> Trimmer<'p> {
-    // Looks at what the loser's constraints come to by themselves.
-    fn new(
-        alloc: Global,
-        problem: &'p Problem,
-        known: Vec<Known>,
-        budget: u64,
-    ) -> Result<Trimmer<'p>, AllocError> {
-        let mut engine = Engine::new(alloc, problem)?;
-        let analyst = Analyst::new(alloc, problem, &engine, budget)?;
-        let mut is_needed = vec![in alloc; false; known.len()]?;
-        if let Some(last) = known.last() {
-            leave_out_others(&mut engine, last.loser);
-        }
-        if let Some(needed) = is_needed.last_mut() {
-            *needed = true;
-        }
-        engine.known = known;
-        engine.propagate(budget)?;
+    // Without lemmas yet.
+    fn new(alloc: Global, problem: &'p Problem, budget: u64) -> Result<Trimmer<'p>, AllocError> {
+        let Ok(engine) = Engine::new(alloc, problem) else {
+            return Err(AllocError);
+        };
+        let Ok(analyst) = Analyst::new(alloc, problem, &engine, budget) else {
+            return Err(AllocError);
+        };
         Ok(Trimmer {
             alloc,
             engine,
             analyst,
-            is_needed,
+            is_needed: Vec::new(alloc),
             lone: Vec::new(alloc),
             bettered: 0,
         })
+    }
+
+    // Takes the lemmas, of which the last is needed, and looks at what the loser's constraints come to by themselves.
+    fn set_out(&mut self, known: Vec<Known>, budget: u64) -> Result<(), AllocError> {
+        self.is_needed = last_needed(self.alloc, known.len())?;
+        take_lemmas(&mut self.engine, known, budget)
     }
 
     fn looks(&self) -> u64 {
         self.engine.looks().saturating_add(self.analyst.looks())
     }
 
-    fn into_known(self) -> Vec<Known> {
-        self.engine.known
+    // The lemmas. They aren't at hand any more.
+    fn take_known(&mut self) -> Vec<Known> {
+        mem::replace(&mut self.engine.known, Vec::new(self.alloc))
     }
 
     // From the last lemma to the first, each with those before it that are needed by then.
@@ -118,9 +142,7 @@ impl<'p> Trimmer<'p> {
             if !self.has_needed(n) {
                 continue;
             }
-            if let Some(lemma) = self.engine.known.get_mut(n) {
-                lemma.is_dead = true;
-            }
+            mark(&mut self.engine.known, n, true);
             self.show_anew(n)?;
             self.need_named(n)?;
         }
@@ -129,9 +151,7 @@ impl<'p> Trimmer<'p> {
 
     // From the first lemma to the last, each with all before it.
     fn go_up(&mut self) -> Result<(), AllocError> {
-        for needed in self.is_needed.iter_mut() {
-            *needed = true;
-        }
+        need_all(&mut self.is_needed);
         for n in 0..self.engine.known.len() {
             self.show_anew(n)?;
             self.watch(n)?;
@@ -145,15 +165,9 @@ impl<'p> Trimmer<'p> {
 
     // What a lemma names is needed from now on.
     fn need_named(&mut self, n: usize) -> Result<(), AllocError> {
-        let mut named = Vec::new(self.alloc);
-        if let Some(lemma) = self.engine.known.get(n) {
-            add_named(lemma, &mut named)?;
-        }
+        let named = named_by(self.alloc, &self.engine.known, n)?;
         for m in named.as_slice() {
-            if let Some(needed) = self.is_needed.get_mut(*m)
-                && !*needed
-            {
-                *needed = true;
+            if is_newly_needed(&mut self.is_needed, *m) {
                 self.watch(*m)?;
             }
         }
@@ -161,13 +175,7 @@ impl<'p> Trimmer<'p> {
     }
 
     fn watch(&mut self, n: usize) -> Result<(), AllocError> {
-        if let Some(lemma) = self.engine.known.get_mut(n) {
-            lemma.is_dead = false;
-        }
-        if !self.engine.watch_open(n)? {
-            self.lone.push(n)?;
-        }
-        Ok(())
+        watch_again(&mut self.engine, &mut self.lone, n)
     }
 
     // The scope before a lemma's position. None where it isn't known, or ends with the goal.
@@ -199,12 +207,7 @@ impl<'p> Trimmer<'p> {
     }
 
     fn take_better(&mut self, n: usize, other: Known) {
-        if let Some(lemma) = self.engine.known.get_mut(n)
-            && cost_of(&other, &self.is_needed) < cost_of(lemma, &self.is_needed)
-        {
-            let is_dead = lemma.is_dead;
-            *lemma = other;
-            lemma.is_dead = is_dead;
+        if is_bettered(&mut self.engine.known, n, other, &self.is_needed) {
             self.bettered = self.bettered.saturating_add(1);
         }
     }
@@ -301,6 +304,75 @@ impl<'p> Trimmer<'p> {
         }
         self.propagate()
     }
+}
+
+// Of so many lemmas the last is needed.
+fn last_needed(alloc: Global, count: usize) -> Result<Vec<bool>, AllocError> {
+    let mut is_needed = vec![in alloc; false; count]?;
+    if let Some(needed) = is_needed.last_mut() {
+        *needed = true;
+    }
+    Ok(is_needed)
+}
+
+fn need_all(is_needed: &mut [bool]) {
+    for needed in is_needed.iter_mut() {
+        *needed = true;
+    }
+}
+
+// A lemma is needed from now on. Whether it wasn't before.
+fn is_newly_needed(is_needed: &mut [bool], n: usize) -> bool {
+    match is_needed.get_mut(n) {
+        Some(needed) => !mem::replace(needed, true),
+        None => false,
+    }
+}
+
+fn named_by(alloc: Global, known: &[Known], n: usize) -> Result<Vec<usize>, AllocError> {
+    let mut named = Vec::new(alloc);
+    if let Some(lemma) = known.get(n) {
+        add_named(lemma, &mut named)?;
+    }
+    Ok(named)
+}
+
+fn take_lemmas(engine: &mut Engine, known: Vec<Known>, budget: u64) -> Result<(), AllocError> {
+    if let Some(last) = known.last() {
+        leave_out_others(engine, last.loser);
+    }
+    engine.known = known;
+    engine.propagate(budget)?;
+    Ok(())
+}
+
+// A lemma is watched from now on, or among those that are too short for it.
+fn watch_again(engine: &mut Engine, lone: &mut Vec<usize>, n: usize) -> Result<(), AllocError> {
+    mark(&mut engine.known, n, false);
+    if !engine.watch_open(n)? {
+        lone.push(n)?;
+    }
+    Ok(())
+}
+
+fn mark(known: &mut [Known], n: usize, is_dead: bool) {
+    if let Some(lemma) = known.get_mut(n) {
+        lemma.is_dead = is_dead;
+    }
+}
+
+// Puts a proof in the place of a lemma's where it costs less. Whether it does.
+fn is_bettered(known: &mut [Known], n: usize, other: Known, is_needed: &[bool]) -> bool {
+    let Some(lemma) = known.get_mut(n) else {
+        return false;
+    };
+    if cost_of(&other, is_needed) >= cost_of(lemma, is_needed) {
+        return false;
+    }
+    let is_dead = lemma.is_dead;
+    *lemma = other;
+    lemma.is_dead = is_dead;
+    true
 }
 
 // The winner's constraints can't be reasons.

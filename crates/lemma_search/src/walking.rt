@@ -7,6 +7,7 @@ use lemma_engine::Engine;
 use lemma_ground::{TruthOf, rule_at, variable_at};
 use qc_model::{Kind, VarId};
 use std::alloc::{AllocError, Global};
+use std::mem;
 
 /// How many values are turned over at most.
 const MOST_TURNED: usize = 2000;
@@ -53,18 +54,22 @@ pub(crate) fn walk_from(
             gone_over: 0,
         });
     }
-    let mut walk = Walk::new(alloc, engine, values)?;
+    let mut walk = Walk::new(alloc, values);
+    take_walk(alloc, engine, &mut walk)
+}
+
+fn take_walk(alloc: Global, engine: &Engine, walk: &mut Walk) -> Result<Walked, AllocError> {
+    walk.add_variables(alloc, engine)?;
+    walk.add_clauses(alloc, engine)?;
     for turn in 0..MOST_TURNED {
         let Some(x) = walk.next_turned() else {
             break;
         };
         walk.turn_over(x, turn);
     }
-    let is_found = walk.open == 0;
-    let gone_over = walk.gone_over;
     Ok(Walked {
-        values: if is_found { Some(walk.values) } else { None },
-        gone_over,
+        values: walk.take_values(alloc),
+        gone_over: walk.gone_over,
     })
 }
 
@@ -88,38 +93,60 @@ fn is_of_clauses(engine: &Engine) -> bool {
     true
 }
 
+// The player's items of a clause.
+fn items_kept(alloc: Global, engine: &Engine, k: usize) -> Result<Vec<TruthOf>, AllocError> {
+    let mut items = Vec::new(alloc);
+    for item in engine.facts.items_of(rule_at(k)) {
+        if engine.facts.side_of(item.x) == Kind::Exists {
+            items.push(*item)?;
+        }
+    }
+    Ok(items)
+}
+
 impl Walk {
-    fn new(alloc: Global, engine: &Engine, values: Vec<Option<i64>>) -> Result<Walk, AllocError> {
-        let mut walk = Walk {
+    // Without variables and clauses yet.
+    fn new(alloc: Global, values: Vec<Option<i64>>) -> Walk {
+        Walk {
             items: Vec::new(alloc),
             counts: Vec::new(alloc),
             weights: Vec::new(alloc),
             mentions: Vec::new(alloc),
             values,
-            turned: vec![in alloc; 0usize; engine.facts.variables()]?,
+            turned: Vec::new(alloc),
             open: 0,
             next: 0,
             gone_over: 0,
-        };
+        }
+    }
+
+    fn add_variables(&mut self, alloc: Global, engine: &Engine) -> Result<(), AllocError> {
+        self.turned = vec![in alloc; 0usize; engine.facts.variables()]?;
         for k in 0..engine.facts.variables() {
-            walk.mentions.push(Vec::new(alloc))?;
-            if let Some(value) = walk.values.get_mut(k)
+            self.mentions.push(Vec::new(alloc))?;
+            if let Some(value) = self.values.get_mut(k)
                 && value.is_none()
             {
                 *value = Some(engine.facts.least_of(variable_at(k)));
             }
         }
+        Ok(())
+    }
+
+    fn add_clauses(&mut self, alloc: Global, engine: &Engine) -> Result<(), AllocError> {
         let (first, end) = engine.facts.rules_at(engine.facts.goal());
         for k in first..end {
-            let mut items = Vec::new(alloc);
-            for item in engine.facts.items_of(rule_at(k)) {
-                if engine.facts.side_of(item.x) == Kind::Exists {
-                    items.push(*item)?;
-                }
-            }
-            walk.add_clause(items)?;
+            self.add_clause(items_kept(alloc, engine, k)?)?;
         }
-        Ok(walk)
+        Ok(())
+    }
+
+    // The values, where they make all clauses true. They aren't kept there any more.
+    fn take_values(&mut self, alloc: Global) -> Option<Vec<Option<i64>>> {
+        if self.open > 0 {
+            return None;
+        }
+        Some(mem::replace(&mut self.values, Vec::new(alloc)))
     }
 
     fn add_clause(&mut self, items: Vec<TruthOf>) -> Result<(), AllocError> {
