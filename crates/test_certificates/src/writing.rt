@@ -1,11 +1,10 @@
-//! A certificate as a tree: written, it has the bytes that the command writes.
+//! A certificate as a tree: written, it has the bytes that the command writes, which `answers.rows` of `test_rows` has too.
 ghost use Rattle.std.specs.Prelude.{◌≤◌, length};
 
+use crate::checking::problem_of;
 use game_search::solve;
 use proof_text::write_cert;
-use qc_io::{MemoryShelf, MemorySink};
-use qc_syntax::read_problem;
-use qecode_commands::{Status, run as run_over};
+use qc_model::Problem;
 use std::alloc::{AllocError, Global};
 use std::test::Fail;
 
@@ -13,45 +12,44 @@ use std::test::Fail;
 const ODD: &[u8] =
     b"forall; var bool: a; var bool: b; exists; var bool: c; goal; constraint bool_xor(a,b,c); solve;";
 
-// A run over memory. It promises nothing, so that a test isn't shown all that `run` promises.
-fn run(alloc: Global, words: &[&str], shelf: &mut MemoryShelf, sink: &mut MemorySink) -> Status {
-    run_over(alloc, words, shelf, sink)
-}
+// Of c one value is cut for each two of the opponent; five turns leave open where both are true.
+const OPEN: &[u8] =
+    b"qcert 2\nopen 5\nv 1\nv 2\nn\np 3 1 1 1\nn\ng\nn\np 3 0 0 1\nn\ng\n.\nv 2\nn\np 3 0 0 1\nn\ng\no\n.\n.\n";
+
+// Six turns don't.
+const WON: &[u8] =
+    b"qcert 2\ntrue\nv 1\nv 2\nn\np 3 1 1 1\nn\ng\nn\np 3 0 0 1\nn\ng\n.\nv 2\nn\np 3 0 0 1\nn\ng\nn\np 3 1 1 1\nn\ng\n.\n.\n";
 
 // The bytes of the tree that a search within so many turns gives.
-fn written(alloc: Global, text: &[u8], turns: u64) -> Result<Vec<u8>, Fail>
-    requires text { length text.now ≤ 65536 }
+fn written(alloc: Global, problem: &Problem, turns: u64) -> Result<Vec<u8>, AllocError>
     requires some { 1 ≤ turns }
     requires most { turns ≤ 10000000 }
 {
-    let problem = read_problem(alloc, text).map_err(|_| Fail::from("no problem"))?;
-    let certificate = solve(alloc, &problem, turns)?;
-    Ok(write_cert(alloc, &certificate)?)
+    let Ok(certificate) = solve(alloc, problem, turns) else {
+        return Err(AllocError);
+    };
+    write_cert(alloc, &certificate)
 }
 
-// What the command answers and writes within so many turns.
-fn answered(alloc: Global, text: &[u8], turns: &str) -> Result<(Status, MemorySink), AllocError> {
-    let mut shelf = MemoryShelf::new(alloc);
-    shelf.add("p", text)?;
-    let mut sink = MemorySink::new(alloc, 65_536, 65_536)?;
-    let words = ["solve", "p", "--turns", turns];
-    let status = run(alloc, &words, &mut shelf, &mut sink);
-    Ok((status, sink))
+// Whether it has these bytes.
+fn is_written(
+    alloc: Global,
+    problem: &Problem,
+    turns: u64,
+    bytes: &[u8],
+) -> Result<bool, AllocError>
+    requires some { 1 ≤ turns }
+    requires most { turns ≤ 10000000 }
+{
+    let written = written(alloc, problem, turns)?;
+    Ok(written.as_slice() == bytes)
 }
 
-// Whether the tree and the command's answer have the same bytes.
-fn is_same(alloc: Global, written: &[u8], turns: &str, status: Status) -> Result<bool, AllocError> {
-    let (answer, sink) = answered(alloc, ODD, turns)?;
-    Ok(answer == status && sink.bytes() == written)
-}
-
-// What five turns leave open, and six don't.
 #[test]
 fn trees_are_written_as_by_the_command(rt: HostRuntime) -> Result<(), Fail> {
     let alloc = rt.alloc();
-    let five = written(alloc, ODD, 5)?;
-    assert!(rt; is_same(alloc, &five, "5", Status::Open)?);
-    let six = written(alloc, ODD, 6)?;
-    assert!(rt; is_same(alloc, &six, "6", Status::Done)?);
+    let problem = problem_of(alloc, ODD)?;
+    assert!(rt; is_written(alloc, &problem, 5, OPEN)?);
+    assert!(rt; is_written(alloc, &problem, 6, WON)?);
     Ok(())
 }

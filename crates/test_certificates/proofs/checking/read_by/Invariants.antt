@@ -1,6 +1,6 @@
 use Rattle.std.proofs.Common.{◌≤◌, ◌-◌, length}
 use Rattle.qc_check.specs.Keeping.{WasGiven}
-use Rattle.test_certificates.proofs.checking.checked.Given as goal
+use Rattle.test_certificates.proofs.checking.read_by.Given as goal
 
 abbrev pub invariant-loop-at : goal.invariant-loop-at
 invariant-loop-at l = record {
