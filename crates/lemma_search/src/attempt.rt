@@ -48,6 +48,7 @@ impl<'p> Attempt<'p> {
             return Err(AllocError);
         };
         let Ok(analyst) = Analyst::new(alloc, problem, &engine, budget) else {
+            drop(engine);
             return Err(AllocError);
         };
         Ok(Attempt {

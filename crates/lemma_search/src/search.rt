@@ -30,7 +30,9 @@ pub fn learn(alloc: Global, problem: &Problem, budget: u64) -> Result<Option<Lis
     let Ok(mut attempt) = Attempt::new(alloc, problem, budget) else {
         return Err(AllocError);
     };
-    shortest(&mut attempt, budget)
+    let found = shortest(&mut attempt, budget);
+    drop(attempt);
+    found
 }
 
 // The shortest list that a new search leads to, within so many looks.

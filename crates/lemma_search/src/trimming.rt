@@ -71,7 +71,9 @@ fn trim_once(
     let Ok(mut trimmer) = Trimmer::new(alloc, problem, *left) else {
         return Err(AllocError);
     };
-    go_over(alloc, &mut trimmer, pass, known, left)
+    let bettered = go_over(alloc, &mut trimmer, pass, known, left);
+    drop(trimmer);
+    bettered
 }
 
 fn go_over(
@@ -109,6 +111,7 @@ impl<'p> Trimmer<'p> {
             return Err(AllocError);
         };
         let Ok(analyst) = Analyst::new(alloc, problem, &engine, budget) else {
+            drop(engine);
             return Err(AllocError);
         };
         Ok(Trimmer {
