@@ -7,5 +7,6 @@ use Rattle.qdimacs.proofs.draft.positives.Goals as goal
 
 pub returns : goal.returns
 returns c =
-    ended (λ ls. map (arg_of (λ x. slice_index_or c.args.table.now x 0)) (positives (map literal_of ls))) c.args.literals.now c.loop-literal.literal-index
+    ended (λ ls. map (arg_of (λ x. slice_index_or c.args.table.now x 0)) (positives (map literal_of ls)))
+    c.args.literals.now c.loop-literal.literal-index
     c.loop-literal.args _ refl (omega arith) c.loop-literal.invariant
