@@ -49,8 +49,9 @@ impl<'p> DenseChecker<'p> {
         ensures read { IfOk result (λ c. c.read ≡ 0) }
     {
         each_standing_is_right();
-        let machine = DenseMachine::new(alloc, problem)?;
         let gather = Gather::new(alloc)?;
+        // last, since it has most to let go where a later one fails
+        let machine = DenseMachine::new(alloc, problem)?;
         Ok(DenseChecker {
             problem,
             reader: DenseReader::new(),

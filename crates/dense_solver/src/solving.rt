@@ -83,7 +83,13 @@ fn verdict_on(alloc: Global, problem: &Problem, text: &[u8]) -> Result<Checked, 
     requires { length text.now ≤ 1073741824 }
     ensures { IfOk result (λ verdict. Comes problem.now text.now verdict) }
 {
-    let mut checker = DenseChecker::new(alloc, problem)?;
-    checker.feed(text)?;
-    Ok(checker.finish())
+    let Ok(mut checker) = DenseChecker::new(alloc, problem) else {
+        return Err(AllocError);
+    };
+    let fed = checker.feed(text);
+    let verdict = checker.finish();
+    // (let go without a word it would cost the proof half a minute)
+    drop(checker);
+    fed?;
+    Ok(verdict)
 }
