@@ -19,7 +19,7 @@ from .terminal import LiveLine, duration, say
 
 # How long the dearest crates take, in minutes of one processor. Of the others it is told by their lines.
 MEASURED = {
-    "game_search": 7, "search_walk": 5, "qecode_commands": 4, "qc_play": 3, "check_lines": 3, "proof_text": 3, "qc_refuter": 2,
+    "search_walk": 5, "qecode_commands": 4, "game_search": 2, "qc_play": 3, "check_lines": 3, "proof_text": 3, "qc_refuter": 2,
     "prop_linear": 2, "qc_model": 2, "text_resolve": 2,
 }
 LINES_A_MINUTE = 4_000

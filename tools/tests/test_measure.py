@@ -33,6 +33,12 @@ TAKEN = [
     (2, "facade", "Rattle-stack.specs.Links"),
 ]
 
+# What a record of a function's goals has of two: one that was searched for, and one that was answered.
+RECORD = (
+    b'[{"calls":[["search",0,3500],["grind",1,70]],"goals":[],"kind":"definition","name":"returns-clause-size"}]'
+    b'[{"calls":[],"goals":[],"kind":"definition","name":"returns-clause-items"}]'
+)
+
 
 class Modules(unittest.TestCase):
     def test_each_module_took_the_time_since_the_one_before(self):
@@ -44,6 +50,14 @@ class Modules(unittest.TestCase):
                     pass
                 os.utime(path, (second, second))
             self.assertEqual(list(modules.taken("stack", folder)), TAKEN)
+
+    def test_goals_are_told_by_what_was_searched(self):
+        with tempfile.TemporaryDirectory(prefix="qecode-test-") as folder:
+            path = os.path.join(folder, "antt-checked", "records", "Rattle-stack-proofs.rows.Row.put.Proof.decls.oantt")
+            os.makedirs(os.path.dirname(path))
+            with open(path, "wb") as file:
+                file.write(RECORD)
+            self.assertEqual(list(modules.goals(folder)), [(3570, "rows.Row.put returns-clause-size", [("search", 3500), ("grind", 70)])])
 
     def test_a_crate_that_was_not_checked_is_told(self):
         words = [sys.executable, os.path.join(TOP, "bench", "run"), "modules", "no_such_crate"]
