@@ -1,4 +1,5 @@
 //! What leaves and nodes come to.
+use crate::lines::Lines;
 use crate::place::{Place, Rival, after};
 use crate::search::Search;
 use crate::stop::Stop;
@@ -119,18 +120,13 @@ pub fn keep_alone(
 ) -> Result<(), Stop> {
     let before = search.board.previous(x, value.saturating_sub(1));
     if before.is_some() || begin > body {
-        let case = search.lines.take_from(begin)?;
-        search.lines.drop_from(body);
-        if let Some(last) = before {
-            let first = search.board.least(x);
-            put_skipped(search, first, last)?;
-        }
-        search.lines.put(case.as_slice())?;
+        let least = search.board.least(x);
+        keep_case(&mut search.lines, least, before, body, begin)?;
     }
     let behind = search.board.next(x, value.saturating_add(1));
     if let Some(first) = behind {
         let last = search.board.greatest(x);
-        put_skipped(search, first, last)?;
+        search.lines.put_skipped(first, last)?;
     }
     search.board.add_skipped(scope);
     search.lines.put(b".\n")
@@ -138,10 +134,23 @@ pub fn keep_alone(
 
 /// Puts that the values from the first to the last are skipped.
 pub fn put_skipped(search: &mut Search, first: i64, last: i64) -> Result<(), Stop> {
-    if first < last {
-        search.lines.put_line(b"r", &[last])?;
+    search.lines.put_skipped(first, last)
+}
+
+// Of the cases put since `body` keeps that which begins at `begin`, with the values from the least to the one before skipped.
+fn keep_case(
+    lines: &mut Lines,
+    least: i64,
+    before: Option<i64>,
+    body: usize,
+    begin: usize,
+) -> Result<(), Stop> {
+    let case = lines.take_from(begin)?;
+    lines.drop_from(body);
+    if let Some(last) = before {
+        lines.put_skipped(least, last)?;
     }
-    search.lines.put(b"s\n")
+    lines.put(case.as_slice())
 }
 
 impl<'p> Search<'p> {

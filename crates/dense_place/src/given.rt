@@ -13,27 +13,45 @@ const DEEPEST: u32 = 1_100;
 
 /// A tuple for each scope of the opponent that has a restriction, where one was found that is always allowed.
 pub fn given_tuples(alloc: Global, problem: &Problem) -> Result<Vec<Given>, Stop> {
-    let mut board = Board::new(alloc, problem, &[])?;
+    // (a `?` on what owns so much costs its proof minutes)
+    let Ok(mut board) = Board::new(alloc, problem, &[]) else {
+        return Err(Stop::Memory);
+    };
+    let given = tuples_on(alloc, &mut board);
+    drop(board);
+    given
+}
+
+// The same on a board on which nothing was chosen.
+fn tuples_on(alloc: Global, board: &mut Board) -> Result<Vec<Given>, Stop> {
     let mut given = Vec::new(alloc);
     for i in 0..board.scopes() {
         let scope = ScopeId(i as u8);
         if board.is_free_at(scope) {
             continue;
         }
-        let mut tries = MOST_TRIES;
         if !board.save()? {
             return Ok(given);
         }
-        let found = fix_tuple(&mut board, DEEPEST, scope, &mut tries)?;
-        if found {
-            given.push(Given {
-                scope,
-                tuple: board.tuple(alloc, scope)?,
-            })?;
-        }
+        add_tuple(alloc, board, scope, &mut given)?;
         board.restore_to(0);
     }
     Ok(given)
+}
+
+// Adds a tuple of the scope that is always allowed, where one is found.
+fn add_tuple(
+    alloc: Global,
+    board: &mut Board,
+    scope: ScopeId,
+    given: &mut Vec<Given>,
+) -> Result<(), Stop> {
+    let mut tries = MOST_TRIES;
+    if fix_tuple(board, DEEPEST, scope, &mut tries)? {
+        let tuple = board.tuple(alloc, scope)?;
+        given.push(Given { scope, tuple })?;
+    }
+    Ok(())
 }
 
 // Takes values until the scope has a tuple with which its restriction holds throughout the box, and says whether there is one. Where

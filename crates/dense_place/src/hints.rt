@@ -11,11 +11,24 @@ pub struct Hints {
 }
 
 impl Hints {
-    pub fn new(alloc: Global, board: &Board) -> Result<Hints, AllocError> {
-        Ok(Hints {
-            values: vec![in alloc; 0; board.variables()]?,
-            has_tuple: vec![in alloc; false; board.scopes()]?,
-        })
+    /// Without room for a tuple.
+    pub fn new(alloc: Global) -> Hints {
+        Hints {
+            values: Vec::new(alloc),
+            has_tuple: Vec::new(alloc),
+        }
+    }
+
+    /// Makes room for a tuple of each of so many scopes, which have so many variables.
+    pub fn make_room(
+        &mut self,
+        alloc: Global,
+        variables: usize,
+        scopes: usize,
+    ) -> Result<(), AllocError> {
+        self.values = vec![in alloc; 0; variables]?;
+        self.has_tuple = vec![in alloc; false; scopes]?;
+        Ok(())
     }
 
     /// Keeps the least values left to the variables of the scope.

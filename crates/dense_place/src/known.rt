@@ -1,7 +1,9 @@
 //! Nodes that come again.
+use crate::lines::Lines;
 use crate::place::{Place, Rival};
 use crate::search::Search;
 use crate::stop::Stop;
+use dense_board::Board;
 use joins::Found;
 use std::alloc::{AllocError, Global};
 
@@ -32,11 +34,18 @@ pub struct KnownNodes {
 }
 
 impl KnownNodes {
-    pub fn new(alloc: Global) -> Result<KnownNodes, AllocError> {
-        Ok(KnownNodes {
-            places: vec![in alloc; 0u32; PLACES]?,
+    /// Without room for a node.
+    pub fn new(alloc: Global) -> KnownNodes {
+        KnownNodes {
+            places: Vec::new(alloc),
             nodes: Vec::new(alloc),
-        })
+        }
+    }
+
+    /// Makes room for the place of each number.
+    pub fn make_room(&mut self, alloc: Global) -> Result<(), AllocError> {
+        self.places = vec![in alloc; 0u32; PLACES]?;
+        Ok(())
     }
 
     // The node that stands at the place of a number.
@@ -44,6 +53,25 @@ impl KnownNodes {
         let at = *self.places.get(place_of(number))?;
         if at == 0 { None } else { Some(at as usize - 1) }
     }
+}
+
+// The node at a place, with the lines from `begin` on, which are taken out.
+fn node_from(
+    alloc: Global,
+    board: &Board,
+    lines: &mut Lines,
+    place: Place,
+    begin: usize,
+    found: Found,
+) -> Result<KnownNode, Stop> {
+    Ok(KnownNode {
+        scope: place.scope.0,
+        horizon: place.horizon,
+        position: Vec::from_slice(alloc, board.position())?,
+        found,
+        vector: Vec::from_slice(alloc, board.vector())?,
+        lines: lines.take_from(begin)?,
+    })
 }
 
 // Whether what a node came to tells all that counts beside what the scope above has reached. One that was left as of no use there tells
@@ -109,14 +137,14 @@ impl<'p> Search<'p> {
         if at >= PLACES {
             return Ok(());
         }
-        let node = KnownNode {
-            scope: place.scope.0,
-            horizon: place.horizon,
-            position: Vec::from_slice(self.alloc, self.board.position())?,
+        let node = node_from(
+            self.alloc,
+            &self.board,
+            &mut self.lines,
+            place,
+            begin,
             found,
-            vector: Vec::from_slice(self.alloc, self.board.vector())?,
-            lines: self.lines.take_from(begin)?,
-        };
+        )?;
         self.known.nodes.push(node)?;
         if let Some(kept) = self.known.places.get_mut(place_of(number)) {
             *kept = at as u32 + 1;

@@ -63,6 +63,14 @@ impl Lines {
         self.put_line(b"v", &[i64::from(x.0) + 1])
     }
 
+    /// Puts that the values from the first to the last are skipped.
+    pub fn put_skipped(&mut self, first: i64, last: i64) -> Result<(), Stop> {
+        if first < last {
+            self.put_line(b"r", &[last])?;
+        }
+        self.put(b"s\n")
+    }
+
     /// Drops what was put from a place on.
     pub fn drop_from(&mut self, at: usize) {
         self.bytes.truncate(at);

@@ -1,7 +1,7 @@
 //! Tuples that were of use to bound a leader's choices while they are open.
 use crate::lines::Lines;
 use crate::stop::Stop;
-use dense_board::{Board, Needs};
+use dense_board::Needs;
 use qc_model::ScopeId;
 use std::alloc::{AllocError, Global};
 
@@ -27,12 +27,19 @@ pub struct Pools {
 }
 
 impl Pools {
-    pub fn new(alloc: Global, board: &Board) -> Result<Pools, AllocError> {
-        let mut pools = Vec::new(alloc);
-        for _ in 0..board.scopes() {
-            pools.push(Vec::new(alloc))?;
+    /// Without room for a scope.
+    pub fn new(alloc: Global) -> Pools {
+        Pools {
+            pools: Vec::new(alloc),
         }
-        Ok(Pools { pools })
+    }
+
+    /// Makes room for so many scopes.
+    pub fn make_room(&mut self, alloc: Global, scopes: usize) -> Result<(), AllocError> {
+        for _ in 0..scopes {
+            self.pools.push(Vec::new(alloc))?;
+        }
+        Ok(())
     }
 
     /// The tuples of the scope.

@@ -5,7 +5,7 @@ use crate::lines::Lines;
 use crate::patience::Patience;
 use crate::pools::Pools;
 use crate::replies::Replies;
-use crate::shape::{Shape, shapes_of};
+use crate::shape::{Shape, note_shapes};
 use crate::stop::Stop;
 use dense_board::Board;
 use qc_model::ScopeId;
@@ -31,52 +31,44 @@ pub struct Search<'p> {
     pub patience: Patience,
 }
 
-// What a search learns of its game.
-#[derive(Drop)]
-struct Learnt {
-    hints: Hints,
-    known: KnownNodes,
-    shapes: Vec<Shape>,
-    pools: Pools,
-}
-
-// Apart from who owns the board, which would have it to let go at each of these calls.
-fn nothing_learnt(alloc: Global, board: &Board<'_>) -> Result<Learnt, Stop> {
-    let known = KnownNodes::new(alloc)?;
-    let hints = Hints::new(alloc, board)?;
-    let shapes = shapes_of(alloc, board)?;
-    let pools = Pools::new(alloc, board)?;
-    Ok(Learnt {
-        hints,
-        known,
-        shapes,
-        pools,
-    })
-}
-
 impl<'p> Search<'p> {
     /// A search of the board's game that has so many turns, and has written nothing.
     pub fn new(alloc: Global, board: Board<'p>, turns: u64) -> Result<Search<'p>, Stop> {
-        let Learnt {
-            hints,
-            known,
-            shapes,
-            pools,
-        } = nothing_learnt(alloc, &board)?;
-        Ok(Search {
+        let mut search = Search::without_room(alloc, board, turns);
+        match search.make_room() {
+            Ok(()) => Ok(search),
+            Err(stop) => Err(stop),
+        }
+    }
+
+    // The same, without room for what it learns.
+    fn without_room(alloc: Global, board: Board<'p>, turns: u64) -> Search<'p> {
+        Search {
             alloc,
             board,
             lines: Lines::new(alloc),
-            hints,
-            known,
-            shapes,
-            pools,
+            hints: Hints::new(alloc),
+            known: KnownNodes::new(alloc),
+            shapes: Vec::new(alloc),
+            pools: Pools::new(alloc),
             replies: Replies::new(alloc),
             turns,
             own: None,
             replied: false,
             patience: Patience::new(),
-        })
+        }
+    }
+
+    // Apart from who owns the search, which would have it to let go at each of these calls.
+    fn make_room(&mut self) -> Result<(), Stop> {
+        let alloc = self.alloc;
+        let variables = self.board.variables();
+        let scopes = self.board.scopes();
+        self.known.make_room(alloc)?;
+        self.hints.make_room(alloc, variables, scopes)?;
+        note_shapes(&mut self.shapes, &self.board)?;
+        self.pools.make_room(alloc, scopes)?;
+        Ok(())
     }
 
     /// Saves the box. Where a variable has no value left, the search is out of its way.

@@ -3,7 +3,7 @@ use crate::endings::is_opposed;
 use crate::place::after;
 use dense_board::Board;
 use qc_model::{Condition, Fold, ScopeId, Sense, Target};
-use std::alloc::{AllocError, Global};
+use std::alloc::AllocError;
 
 /// The three shapes of games in which they are, and the one of sums that no part makes worse: a follower who wants the opposite answers
 /// at once; the opponent picks what is worst for the leader, and a follower answers; or what follows is summed over the opponent's choices.
@@ -17,13 +17,12 @@ pub enum Shape {
     GrowingSum,
 }
 
-/// The shape of each scope.
-pub fn shapes_of(alloc: Global, board: &Board) -> Result<Vec<Shape>, AllocError> {
-    let mut shapes = Vec::new(alloc);
+/// Adds the shape of each scope.
+pub fn note_shapes(shapes: &mut Vec<Shape>, board: &Board) -> Result<(), AllocError> {
     for i in 0..board.scopes() {
         shapes.push(shape_of(board, ScopeId(i as u8)))?;
     }
-    Ok(shapes)
+    Ok(())
 }
 
 fn shape_of(board: &Board, scope: ScopeId) -> Shape {

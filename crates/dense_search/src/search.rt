@@ -29,8 +29,22 @@ fn written(alloc: Global, problem: &Problem, turns: u64) -> Result<Option<Vec<u8
         return Ok(None);
     }
     let given = given_tuples(alloc, problem)?;
-    let board = Board::new(alloc, problem, given.as_slice())?;
-    let mut search = Search::new(alloc, board, turns)?;
+    let Ok(board) = Board::new(alloc, problem, given.as_slice()) else {
+        return Err(Stop::Memory);
+    };
+    // (what owns so much costs the proof minutes by a `?`, or let go without a word)
+    match Search::new(alloc, board, turns) {
+        Ok(mut search) => {
+            let text = searched(alloc, &mut search, given.as_slice());
+            drop(search);
+            text
+        }
+        Err(stop) => Err(stop),
+    }
+}
+
+// The text that a search comes to.
+fn searched(alloc: Global, search: &mut Search, given: &[Given]) -> Result<Option<Vec<u8>>, Stop> {
     let root = Place {
         scope: ScopeId(0),
         rival: None,
@@ -38,8 +52,8 @@ fn written(alloc: Global, problem: &Problem, turns: u64) -> Result<Option<Vec<u8
         horizon: None,
         open_from: VarId(0),
     };
-    let found = node(&mut search, DEPTH, root)?;
-    text_of(alloc, &search, given.as_slice(), found)
+    let found = node(search, DEPTH, root)?;
+    text_of(alloc, search, given, found)
 }
 
 // The text, where the root came to an outcome.
