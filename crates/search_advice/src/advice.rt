@@ -50,7 +50,6 @@ impl<'p> Advice<'p> {
     /// runs out.
     pub fn new(alloc: Global, levels: &Levels<'p>, tries: bool) -> Result<Advice<'p>, AllocError> {
         levels.problem.known();
-        // those that have most to let go where a later one fails come last
         let values = vec![in alloc; 0i64; levels.problem.variables()]?;
         let signs = Signs::new(alloc, levels)?;
         let mut scopes = vec![in alloc; Standing::new(); levels.problem.scopes()]?;

@@ -5,7 +5,6 @@ use Rattle.std.specs.List.{list_all}
 use Rattle.std.specs.declared.alloc.AllocError.{AllocError}
 use Rattle.std.proofs.lemmas.Bool.Decides.{nat_tests}
 use Rattle.std.proofs.lemmas.Bool.{and_from}
-use Rattle.qc_model.specs.declared.problem.ConId.{ConId}
 use Rattle.qc_model.specs.declared.problem.VarId.{VarId}
 use Rattle.qc_model.specs.Block.{force_stop, is_owned_within}
 use Rattle.qc_model.specs.Closed.{keeps_ends}
@@ -98,13 +97,6 @@ some_place (vs ∷ box) (suc x) low high e = let h = some_place box x low high e
 not_false : (b : Bool) → not b ≡ true → b ≡ false
 not_false true h = cc
 not_false false h = refl
-
-pub step_place : (ok : ℕ → Bool) (g : Game) (s : Step) (x : VarId) (low high : ℤ) (c : ConId) (box : Box) →
-    s ≡ Prune x low high c → is_pruned_by ok g s box ≡ true → x.0 < length box
-step_place ok g s x low high c box e h =
-    let m = removal_is ok g x.0 low high c.0 box (ap (λ (t : Step). is_pruned_by ok g t box) (sym e) ∙ h) in
-    let n = is_none_left (values_within low high (values_left box x.0)) in
-    some_place box x.0 low high (not_false n (second (not (has_empty box)) (not n) m.some))
 
 some_rule : (cs : List Rule) (c : ℕ) (box : Box) → is_refuted_by (slice_get cs c) box ≡ true → c < length cs
 some_rule [] zero box h = cc

@@ -77,7 +77,6 @@ impl<'p> SearchBox<'p> {
         ensures here { IfOk result (λ b. IsEntered problem.now 0 b) }
     {
         problem.known();
-        // what owns most is made last: each `?` lets go of all that is there by then, which the proof pays for
         let all_shown = all_shown(alloc, problem)?;
         let values = vec![in alloc; 0i64; problem.variables()]?;
         let store = Store::new(alloc, problem)?;

@@ -324,7 +324,3 @@ longer old mid new first second start e p q =
     let m = ap length p ∙ length-append old first in
     let n = ap length q ∙ length-append mid second in
     omega (arith, e, m, n)
-
--- a place where lines began, once more of them stand
-pub reaches : (old new more : List Line) (start : ℕ) → start ≡ length old → new ≡ old ++ more → start ≤ length new
-reaches old new more start e h = omega (arith, e, ap length h ∙ length-append old more)

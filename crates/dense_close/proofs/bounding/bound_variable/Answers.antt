@@ -1,6 +1,3 @@
-use Rattle.std.proofs.Common.{◌≡◌, sym, subst}
-use Rattle.dense_close.specs.Cutting.{HasCut}
-use Rattle.dense_close.specs.Narrowing.{OthersSettled}
 use Rattle.dense_close.proofs.AtMost.{item_own, cut_narrows}
 use Rattle.dense_close.proofs.Narrowed.{others_told}
 use Rattle.dense_close.proofs.Own.{own_within}
@@ -24,23 +21,3 @@ pub returns-then-cut_far-clause-others : goal.returns-then-cut_far-clause-others
 returns-then-cut_far-clause-others c =
     let t = c.args.task.now in
     others_told t.taking t.problem.now t.index.now t.span.first t.span.end c.args.c.0 c.args.x.0 c.args.list.now c.wake_others.new.list c.args.remains.now.box c.cut_far.new.remains.box t.index_is c.cut_far.ensures.cut c.wake_others.ensures.kept c.wake_others.ensures.woken c.requires.others
-
-pub returns-clause-narrowed : goal.returns-clause-narrowed
-returns-clause-narrowed c =
-    let t = c.args.task.now in
-    let r = c.constraint.result.now in
-    let at = c.requires.place r c.constraint.ensures in
-    let own = item_own r.args 1 at.place c.args.x at.item in
-    cut_narrows t.taking t.problem.now t.from t.stop t.span.first t.span.end c.args.c.0 c.args.x.0 r
-    c.args.remains.now.box c.cut_far.new.remains.box t.span_is c.requires.inside c.constraint.ensures own
-    (c.requires.taken r c.constraint.ensures) c.cut_far.ensures.cut
-
-pub returns-clause-others : goal.returns-clause-others
-returns-clause-others c =
-    let t = c.args.task.now in
-    let box = c.args.remains.now.box in
-    let now = c.cut_far.new.remains.box in
-    let same : now ≡ box = subst (λ b. HasCut b box now) c.if-cut_far.false c.cut_far.ensures.gone in
-    let list = c.args.list.now in
-    subst (λ b. OthersSettled c.args.c.0 t.taking t.problem.now t.span.first t.span.end list b) (sym same)
-    c.requires.others

@@ -4,7 +4,7 @@ use Rattle.std.proofs.lemmas.Int.{ints, to_z-of_z}
 use mir.Val.{SFits}
 use mir.Syntax.{w64}
 use Rattle.fd_store.specs.Held.{Held}
-use Rattle.qc_model.specs.Domains.{values_left, box_without, least_value, greatest_value, has_empty, is_none_left}
+use Rattle.qc_model.specs.Domains.{values_left, box_without, least_value, greatest_value, has_empty}
 use Rattle.model_arguments.proofs.Boxes.{some_left}
 use Rattle.model_arguments.proofs.Kept.{lower, reaches}
 use Rattle.dense_quiet.specs.Slack.{IsMeasured, IsNear, IsBounded, IsFar}
@@ -171,15 +171,3 @@ returns-clause-bounded c = λ r there.
     let order : s.low ≤ℤ s.high = reaches s.high s.low (simp to_z-of_z at c.if-high-low.false) in
     let bounded : IsBounded r c.args.room c.cut.new.self.box = subst (λ b. IsBounded r c.args.room b) (sym content) (bounded_far g c.known.ensures c.args.c.0 box c.args.x c.args.factor c.args.room s.low s.high c.requires.declared c.requires.full c.requires.x c.requires.c c.requires.bounded c.requires.place far r there) in
     bounded
-
-pub min-least-requires-clause-left : goal.min-least-requires-clause-left
-min-least-requires-clause-left c =
-    let box = c.args.remains.now.box in
-    let some = some_left box c.args.x.0 c.requires.full c.requires.x in
-    subst (λ (h : Held). is_none_left (values_left h.box c.args.x.0) ≡ false) (sym c.store.ensures) some
-
-pub max-greatest-requires-clause-left : goal.max-greatest-requires-clause-left
-max-greatest-requires-clause-left c =
-    let box = c.args.remains.now.box in
-    let some = some_left box c.args.x.0 c.requires.full c.requires.x in
-    subst (λ (h : Held). is_none_left (values_left h.box c.args.x.0) ≡ false) (sym c.store-2.ensures) some

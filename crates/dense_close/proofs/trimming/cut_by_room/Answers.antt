@@ -1,10 +1,9 @@
-use Rattle.std.proofs.Common.{rules, ◌≡◌, sym, subst, false}
+use Rattle.std.proofs.Common.{rules, ◌≡◌, subst}
 use Rattle.std.proofs.lemmas.Int.{to_z-of_z}
 use mir.Val.{SFits}
 use mir.Syntax.{w64}
 use Rattle.fd_store.specs.Held.{Held}
-use Rattle.qc_model.specs.Domains.{values_left, declared_box, least_value, greatest_value, is_none_left}
-use Rattle.model_arguments.proofs.Boxes.{some_left}
+use Rattle.qc_model.specs.Domains.{values_left, declared_box, least_value, greatest_value}
 use Rattle.dense_closing.proofs.Within.{sub_self}
 use Rattle.dense_quiet.specs.Slack.{IsMeasured, IsPast}
 use Rattle.dense_close.proofs.Barred.{measured, barred_over, barred_under, barred_after}
@@ -77,15 +76,3 @@ cut_stretch-from_above-requires-clause-barred c =
     let cut = c.cut_stretch-from_below.ensures.cut in
     barred_after g c.args.c.0 c.args.x.0 box c.cut_stretch-from_below.new.remains.box s.low s.high cut.count cut.others (cut.fewer box (sub_self box (declared_box g) c.requires.declared))
     (barred_over g c.args.c.0 box c.args.x c.args.factor c.args.room v s.low s.high c.requires.x c.requires.tells c.requires.place is past)
-
-pub min-least-requires-clause-left : goal.min-least-requires-clause-left
-min-least-requires-clause-left c =
-    let box = c.args.remains.now.box in
-    let some = some_left box c.args.x.0 c.requires.full c.requires.x in
-    subst (λ (h : Held). is_none_left (values_left h.box c.args.x.0) ≡ false) (sym c.store.ensures) some
-
-pub max-greatest-requires-clause-left : goal.max-greatest-requires-clause-left
-max-greatest-requires-clause-left c =
-    let box = c.args.remains.now.box in
-    let some = some_left box c.args.x.0 c.requires.full c.requires.x in
-    subst (λ (h : Held). is_none_left (values_left h.box c.args.x.0) ≡ false) (sym c.store-2.ensures) some

@@ -31,18 +31,3 @@ returns-in-Open-clause-foreseen g c = λ known.
     (subst (λ a. IsClosing a ok game closed.box) c.in-Open.is c.in_ok-closed.ensures.answer)
     (box_back before closed after c.mark-mark.result.at here pruning.follows c.undo_to.ensures.past)
     (past_back before closed after c.mark-mark.result.at here pruning.follows c.undo_to.ensures.past) c.mark-mark.ensures refl
-
-pub returns-in_err-closed-clause-content : goal.returns-in_err-closed-clause-content
-returns-in_err-closed-clause-content g c =
-    box_back c.args.store.now c.close_span-closed.new.store c.undo_to.new.self c.mark-mark.result.at (sym c.mark-mark.ensures)
-    c.close_span-closed.ensures.pruning.follows c.undo_to.ensures.past
-
-pub returns-in-Open-clause-content : goal.returns-in-Open-clause-content
-returns-in-Open-clause-content g c =
-    box_back c.args.store.now c.close_span-closed.new.store c.undo_to.new.self c.mark-mark.result.at (sym c.mark-mark.ensures)
-    c.close_span-closed.ensures.pruning.follows c.undo_to.ensures.past
-
-pub returns-in-Empty-clause-content : goal.returns-in-Empty-clause-content
-returns-in-Empty-clause-content g c =
-    box_back c.args.store.now c.close_span-closed.new.store c.undo_to.new.self c.mark-mark.result.at (sym c.mark-mark.ensures)
-    c.close_span-closed.ensures.pruning.follows c.undo_to.ensures.past

@@ -62,15 +62,3 @@ returns-clause-rest g c =
       stacked = subst (λ (l : List Entry). IsStacked game c.close_inside.new.store l) (sym c.in_ok-push.ensures.items)
           (stacked_more game c.close_inside.new.store es entry on c.mark.ensures inside.declared (closed_of_span game c.args.i.0 c.args.stop span.first span.end c.close_inside.new.store.box all inside.closed));
     }
-
-pub returns-clause-answer : goal.returns-clause-answer
-returns-clause-answer g c = λ t.
-    let game = c.args.levels.now.problem.now in
-    let span = c.constraints_between-span.result in
-    let all : IsSpanOf game c.args.i.0 c.args.stop span.first span.end = subst (λ n. IsSpanOf game c.args.i.0 n span.first span.end) (counted c.args.stop (omega (arith, c.requires.ahead))) c.constraints_between-span.ensures in
-    let inside = c.in_ok-close_inside.ensures.answer c.if-not-branch.false in
-    record {
-      declared = inside.declared;
-      inside = inside.inside;
-      closed = closed_of_span game c.args.i.0 c.args.stop span.first span.end c.close_inside.new.store.box all inside.closed;
-    }

@@ -116,8 +116,3 @@ pub returns-in-Values-clause-on : goal.returns-in-Values-clause-on
 returns-in-Values-clause-on c =
     let b = c.args.walk.now.remains in
     leads_further b c.give_up.new.walk.remains c.close_after-in-Values.new.self (leads_further b c.take.new.self c.give_up.new.walk.remains c.take.ensures.on c.give_up.ensures.on) c.close_after-in-Values.ensures.on
-
-pub give_up-requires-clause-here : goal.give_up-requires-clause-here
-give_up-requires-clause-here c =
-    let l = c.args.stage.now.level.now in
-    c.take.ensures.here l.problem.now l.number c.requires.going.within.here

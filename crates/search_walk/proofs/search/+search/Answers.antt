@@ -1,4 +1,4 @@
-use Rattle.std.proofs.Common.{rules, add-one, take, ℤ, ◌≡◌, ◌∙◌, sym, ap, refl, subst, ◌+◌, ◌-◌, ◌≤◌, suc, length, drop, w64, to_z, of_z, arith, true, false, [], ◌∷◌, ◌++◌, Option, None, Some, IfSome, map}
+use Rattle.std.proofs.Common.{rules, add-one, take, ℤ, ◌≡◌, ◌∙◌, sym, ap, refl, subst, ◌+◌, ◌-◌, suc, length, drop, w64, to_z, of_z, arith, true, false, [], ◌∷◌, ◌++◌, Option, None, Some, IfSome, map}
 use Rattle.std.proofs.lemmas.Int.{to_z-of_z}
 use Rattle.std.proofs.lemmas.List.{append-nil}
 use Rattle.std.proofs.lemmas.Result.{on_ok_weaker, IfOk-weaker}
@@ -47,7 +47,7 @@ use Rattle.search_walk.proofs.Here.{outdone_ends, empty_told, barred_told, few_t
 use Rattle.search_walk.proofs.Knowing.{kept_told, node_finished, told_ends}
 use Rattle.search_parts.proofs.Marks.{firsts_marks}
 use Rattle.search_walk.proofs.Places.{goal_closed}
-use Rattle.search_walk.proofs.Remains.{as_many, none_back, both_back, back_after, back_below, back_more, case_back, cut_back, cut_front, cut_length, dropped_back, entered_back, going_back, later_back, line_back, longer, lines_both, reaches, one_fewer, taken_back, told_back, tuple_back, undone_back, back_from, same_back}
+use Rattle.search_walk.proofs.Remains.{as_many, none_back, both_back, back_after, back_below, back_more, case_back, cut_back, cut_front, cut_length, dropped_back, entered_back, going_back, later_back, line_back, longer, lines_both, one_fewer, taken_back, told_back, tuple_back, undone_back, back_from, same_back}
 use Rattle.search_walk.proofs.Branching.{IsGone, HasAround, alone_ended, alone_settled, case_passed, cases_begun, cases_ended, left_open, left_outdone, left_settled}
 use Rattle.search_walk.specs.Later.{SoFar, cut_to}
 use Rattle.search_walk.proofs.OwnTrees.{bounded_ended, case_by_part, may_branch, part_again, searched_at, tree_again, tree_ended}
@@ -1063,47 +1063,3 @@ cases_ahead-later_cases-requires t c =
       omega arith,
       (c.requires.var, (going_back g l.number x a w back c.requires.going, (subst (λ (d : Box). is_single (values_left d x) ≡ false) (sym back.box) c.requires.free, (subst (λ (d : Box). has_value (values_left d x) (to_z w64 (of_z w64 n)) ≡ true) (sym back.box) has, (back.game ∙ c.requires.joins, longer a.lines w.lines c.bring_back.new.self back.written _ c.len-start.result c.len-start.ensures back.lines c.in_ok-bring_back.ensures.back))))),
     )
-
--- ---- the places of lines that are taken out or put elsewhere
-pub cases_ahead-put_by-requires : goal.cases_ahead-put_by-requires
-cases_ahead-put_by-requires t c =
-    let part = c.in_ok-with_value.ensures.back in
-    reaches c.skip_between.new.lines c.with_value.new.walk.lines part.written c.len-at.result c.len-at.ensures part.lines
-
-pub cases_ahead-cut-requires : goal.cases_ahead-cut-requires
-cases_ahead-cut-requires t c =
-    let part = c.in_ok-with_value.ensures.back in
-    let mid = c.skip_between.new.lines in
-    let kept = c.in_ok-put_by.ensures.left ∙ taken_back mid c.with_value.new.walk.lines part.written c.len-at.result part.lines c.len-at.ensures in
-    reaches c.args.walk.now.lines c.put_by.new.self _ c.len-start.result c.len-start.ensures (kept ∙ c.in_ok-skip_between.ensures)
-
-pub cases_ahead-drop_before-requires-clause-start : goal.cases_ahead-drop_before-requires-clause-start
-cases_ahead-drop_before-requires-clause-start t c =
-    let back = c.earlier.invariant.back in
-    subst (λ n. c.len-start.result ≤ n) (sym c.len-at-in-earlier.ensures) (reaches c.args.walk.now.lines c.earlier.walk.lines back.written c.len-start.result c.len-start.ensures back.lines)
-
-pub cases_ahead-drop_before-requires-clause-place : goal.cases_ahead-drop_before-requires-clause-place
-cases_ahead-drop_before-requires-clause-place t c =
-    let part = c.in_ok-with_value-2.ensures.back in
-    reaches c.earlier.walk.lines c.with_value-in-earlier.new.walk.lines part.written c.len-at-in-earlier.result c.len-at-in-earlier.ensures part.lines
-
-pub later_cases-drop_before-requires-clause-start : goal.later_cases-drop_before-requires-clause-start
-later_cases-drop_before-requires-clause-start t c =
-    let a = c.args.walk.now in
-    let back = c.values.invariant.back in
-    subst (λ n. c.args.start ≤ n) (sym c.len-at.ensures) (reaches (take c.args.start a.lines) c.values.walk.lines back.written c.args.start (cut_length a c.args.start c.requires.start) back.lines)
-
-pub later_cases-drop_before-requires-clause-place : goal.later_cases-drop_before-requires-clause-place
-later_cases-drop_before-requires-clause-place t c =
-    let part = c.in_ok-with_value.ensures.back in
-    reaches c.values.walk.lines c.with_value.new.walk.lines part.written c.len-at.result c.len-at.ensures part.lines
-
-pub advised_tree-cut-requires : goal.advised_tree-cut-requires
-advised_tree-cut-requires t c =
-    let back = c.in_ok-found.ensures.back in
-    reaches c.args.walk.now.lines c.bounded_tree.new.walk.lines back.written c.len-begun.result c.len-begun.ensures back.lines
-
-pub shortened_part-cut-requires : goal.shortened_part-cut-requires
-shortened_part-cut-requires t c =
-    let back = c.in_ok-closed_part.ensures.back in
-    reaches c.args.walk.now.lines c.closed_part.new.walk.lines back.written c.len-start.result c.len-start.ensures back.lines

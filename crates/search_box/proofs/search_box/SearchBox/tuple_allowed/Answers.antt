@@ -1,4 +1,4 @@
-use Rattle.std.proofs.Common.{◌≡◌, ◌∙◌, suc, sym, ap, take, length}
+use Rattle.std.proofs.Common.{◌≡◌, ◌∙◌, suc, sym, ap, take}
 use Rattle.std.specs.List.{list_all}
 use Rattle.std.proofs.lemmas.List.{with_items_is}
 use Rattle.qc_model.specs.Domains.{box_values, is_single}
@@ -27,28 +27,3 @@ returns-clause-entered c =
     ap (λ n. take n new) (sym l.has_stop) ∙ (c.read_tuple.ensures.stand ∙ ap (λ n. box_values (take n box)) l.has_stop) in
     entered_next l.problem.now l.number c.args.self.now _ c.requires.here c.requires.fixed (ap (λ (b : Boxed). b.game) c.self.view_is) (ap (λ (b : Boxed). b.store.box) c.self.view_is)
     (ap (take (before l.problem.now (suc l.number))) (with_items_is c.self.inside.values new (c.read_tuple.ensures.each ∙ c.deref_mut.ensures.len)) ∙ (stand ∙ ap (λ (b : Boxed). position l.problem.now (suc l.number) b.store.box) c.self.view_is))
-
-pub invariant_of-self : goal.invariant_of-self
-invariant_of-self c =
-    let each = c.read_tuple.ensures.each in
-    let is = with_items_is c.self.inside.values c.read_tuple.new.values (each ∙ c.deref_mut.ensures.len) in
-    record {
-      declared = c.self.invariant.declared;
-      ready = c.self.invariant.ready;
-      same = c.self.invariant.same;
-      value_each = ap length is ∙ (each ∙ (ap length c.deref_mut.ensures.value ∙ c.self.invariant.value_each));
-      foreseen = c.self.invariant.foreseen;
-      shown = c.self.invariant.shown;
-    }
-
-pub returns-clause-kept : goal.returns-clause-kept
-returns-clause-kept c =
-    let l = c.args.level.now in
-    let first = before l.problem.now l.number in
-    let new = c.read_tuple.new.values in
-    let old = c.self.inside.values in
-    ap (take first) (with_items_is old new (c.read_tuple.ensures.each ∙ c.deref_mut.ensures.len))
-    ∙ (ap (λ n. take n new) (sym l.has_from)
-    ∙ (c.read_tuple.ensures.kept
-    ∙ (ap (take l.from) c.deref_mut.ensures.value
-    ∙ (ap (λ n. take n old.items) l.has_from ∙ ap (λ (b : Boxed). take first b.values) c.self.view_is))))
